@@ -1,0 +1,5 @@
+pub mod DigitPlaces
+pub mod JoinLemmas
+pub mod ProfileTexts
+pub mod TableLemmas
+pub mod TextLemmas
