@@ -1,5 +1,5 @@
 -- Pieces are cut off one after the other.
-use Rattle.std.proofs.Common.{◌≡◌, ◌≢◌, ℕ, suc, ◌<◌, List, ◌∷◌, ◌++◌, get_or, length, take, drop, Option, None, Some, Bor, sym, ap, subst, ◌∙◌, append_assoc, take-append-drop, drop-cons}
+use Rattle.std.proofs.Common.{◌≡◌, ℕ, suc, ◌<◌, List, ◌++◌, get_or, length, take, drop, Option, None, Some, Bor, sym, ap, subst, ◌∙◌, append_assoc, take-append-drop, drop-cons}
 use Rattle.std.proofs.lemmas.Grind.{flat_map-append}
 use Rattle.std.proofs.lemmas.List.{append_cancel_left}
 use Rattle.std.specs.List.{flat_map}
@@ -27,4 +27,4 @@ pub cut_none_at : {X : Type 0} (f : X → List ℕ) (xs : List X) (i : ℕ) (x :
 cut_none_at f xs i x text rest within is split none =
     let parts : flat_map f (take i xs) ++ (f x ++ flat_map f (drop (suc i) xs)) ≡ flat_map f xs = sym (at_item f xs i x within is) in
     subst (λ (pieces : List ℕ). IsCut text pieces None) parts (
-        cut_next text (flat_map f (take i xs)) rest (f x ++ flat_map f (drop (suc i) xs)) None split (cut_none rest (f x) (flat_map f (drop (suc i) xs)) none))
+    cut_next text (flat_map f (take i xs)) rest (f x ++ flat_map f (drop (suc i) xs)) None split (cut_none rest (f x) (flat_map f (drop (suc i) xs)) none))

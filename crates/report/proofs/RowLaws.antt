@@ -1,5 +1,5 @@
 -- Rows of a table: what a row begins with decides it, and two tables at the front of one text are one.
-use Rattle.std.proofs.Common.{◌≡◌, refl, sym, ap, ◌∙◌, ℕ, zero, suc, ◌+◌, ◌<◌, Bool, true, false, ◌&&◌, List, [], ◌∷◌, ◌++◌, map, length, arith, true≢false, ltb-true, lt-ltb, append_assoc, append-nil, add-zero}
+use Rattle.std.proofs.Common.{◌≡◌, refl, sym, ap, subst, ◌∙◌, ℕ, suc, ◌+◌, ◌<◌, Bool, true, List, [], ◌∷◌, ◌++◌, map, length, Option, None, Some, Bor, arith, ltb-true, lt-ltb, append_assoc, add-zero}
 use Rattle.std.specs.Prelude.{nat_lt}
 use Rattle.std.specs.List.{list_all}
 use Rattle.std.proofs.lemmas.Bool.{and_parts, and_from}
@@ -11,6 +11,7 @@ use Rattle.vocab.specs.Size.{Extent, outcome_count}
 use Rattle.meaning.specs.Space.{ranking, ranking_number}
 use Rattle.meaning.specs.Texts.{letter, profile_text, outcome_text_of, outcome_text}
 use Rattle.meaning.proofs.RankingLaws.{are_rankings}
+use Rattle.report.specs.Cutting.{IsOutcomeCut, IsRowCut}
 use Rattle.report.specs.Lines.{Line, Row, line_text, lines_text}
 use Rattle.report.specs.Report.{row_lines}
 
@@ -57,11 +58,25 @@ until_end (c ∷ x) (d ∷ y) a b h k e =
     (rw (first, rest.0) refl, rest.1)
 
 -- a row is the text of its profile, a blank, the text of its outcome and a line end
-pub row_split : (size : Extent) (p o : ℕ) (after : List ℕ) → line_text size (Row p o) ++ after ≡ profile_text size p ++ (32 ∷ (outcome_text size o ++ (10 ∷ after)))
+row_split : (size : Extent) (p o : ℕ) (after : List ℕ) → line_text size (Row p o) ++ after ≡ profile_text size p ++ (32 ∷ (outcome_text size o ++ (10 ∷ after)))
 row_split size p o after =
     let profile = profile_text size p in
     let outcome = outcome_text size o in
     append_assoc (profile ++ (32 ∷ outcome)) (10 ∷ []) after ∙ append_assoc profile (32 ∷ outcome) (10 ∷ after)
+
+choice_row : (size : Extent) (p x : ℕ) (after : List ℕ) → size.kind ≡ Choice → line_text size (Row p x) ++ after ≡ profile_text size p ++ (32 ∷ letter x ∷ 10 ∷ after)
+choice_row size p x after choice = row_split size p x after ∙ ap (λ (k : Kind). profile_text size p ++ (32 ∷ (outcome_text_of size k x ++ (10 ∷ after)))) choice
+
+-- behind the text of its profile a row is its outcome and its end
+pub row_cut : (size : Extent) (p : ℕ) (text between : List ℕ) (cut : Option (ℕ × Bor (List ℕ))) → size.kind ≡ Choice → text ≡ profile_text size p ++ between
+    → IsOutcomeCut size.alternatives between cut → IsRowCut size p text cut
+row_cut size p text between None choice split none = λ o after below same.
+    none o after (subst (λ (k : Kind). o < outcome_count k size.alternatives) choice below)
+    (append_cancel_left (profile_text size p) between _ (sym split ∙ same ∙ choice_row size p o after choice))
+row_cut size p text between (Some row) choice split found = (
+  subst (λ (k : Kind). row.0 < outcome_count k size.alternatives) (sym choice) found.0,
+  split ∙ ap (λ (rest : List ℕ). profile_text size p ++ rest) found.1 ∙ sym (choice_row size p row.0 row.1.now choice),
+)
 
 -- two rows of one profile at the front of one text are one
 row_same : (size : Extent) (p o o' : ℕ) (a b : List ℕ) → o < outcome_count size.kind size.alternatives → o' < outcome_count size.kind size.alternatives
@@ -92,7 +107,7 @@ rows_same size p (o ∷ t) (o' ∷ u) a b long h k e =
     let fits = and_parts (nat_lt o count) (are_outcomes size t) h in
     let fits' = and_parts (nat_lt o' count) (are_outcomes size u) k in
     let here = row_same size p o o' (others ++ a) (others' ++ b) (ltb-true o count fits.0) (ltb-true o' count fits'.0)
-        (sym (append_assoc first others a) ∙ e ∙ append_assoc first' others' b) in
+    (sym (append_assoc first others a) ∙ e ∙ append_assoc first' others' b) in
     let rest = rows_same size (p + 1) t u a b (omega arith) fits.1 fits'.1 here.1 in
     (rw (here.0, rest.0) refl, rest.1)
 

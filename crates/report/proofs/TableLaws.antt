@@ -1,7 +1,6 @@
 -- Tables: the rows that are read so far, and the report behind its head.
-use Rattle.std.proofs.Common.{◌≡◌, ◌≢◌, refl, sym, ap, subst, ◌∙◌, ℕ, suc, ◌+◌, ◌<◌, ◌≤◌, Bool, true, ◌&&◌, List, [], ◌∷◌, ◌++◌, length, take, drop, get_or, codes, Option, None, Some, MatchOption, Bor, arith, eqb-true, eq-eqb, lt-ltb, ltb-true, append_assoc, append-nil, length-append, length-take-le, take-append-drop, drop-cons}
-use Rattle.std.specs.Prelude.{nat_lt, ◌==◌, IsTrue}
-use Rattle.std.specs.List.{list_all}
+use Rattle.std.proofs.Common.{◌≡◌, ◌≢◌, refl, sym, ap, subst, ◌∙◌, ℕ, suc, ◌+◌, ◌<◌, true, List, [], ◌∷◌, ◌++◌, length, take, drop, get_or, codes, Option, None, Some, MatchOption, arith, eqb-true, eq-eqb, lt-ltb, ltb-true, append_assoc, append-nil, length-append, length-take-le, take-append-drop, drop-cons}
+use Rattle.std.specs.Prelude.{◌==◌, IsTrue}
 use Rattle.std.proofs.lemmas.Bool.{and_parts, and_from}
 use Rattle.std.proofs.lemmas.List.{append_cancel_left}
 use Rattle.std.proofs.lemmas.List.Folds.{list_all-append}
@@ -9,10 +8,10 @@ use Rattle.vocab.specs.declared.kinds.Sort.TheVariants.{Profile}
 use Rattle.vocab.specs.Size.{Extent, sort_count, outcome_count}
 use Rattle.vocab.specs.Study.{Question}
 use Rattle.meaning.specs.Truth.{is_rule}
-use Rattle.report.specs.Cutting.{IsCut, IsRowCut, verdict_text}
+use Rattle.report.specs.Cutting.{IsCut, IsRowCut, IsTable, verdict_text, front_text}
 use Rattle.report.specs.Laws.{AreDistinct}
 use Rattle.report.specs.Lines.{Line, Row, End, line_text, lines_text}
-use Rattle.report.specs.Report.{row_lines, IsTable, head_lines, verdict_lines, rule_report, IsRuleReport}
+use Rattle.report.specs.Report.{row_lines, head_lines, verdict_lines, rule_report, IsRuleReport}
 use Rattle.report.proofs.RowLaws.{are_outcomes, rows_same, row_lines-append, lines_text-append}
 
 -- the outcomes that were read are the rows of the text so far
@@ -83,13 +82,13 @@ row_more size text table rest after p o read below row =
     let from : 0 + length table ≡ p = omega (arith, read.long) in
     let rows : lines_text size (row_lines 0 (table ++ o ∷ [])) ≡ lines_text size (row_lines 0 table) ++ line_text size (Row p o)
     = ap (lines_text size) (row_lines-append 0 table (o ∷ [])) ∙ lines_text-append size (row_lines 0 table) (row_lines (0 + length table) (o ∷ []))
-      ∙ ap (λ (k : ℕ). lines_text size (row_lines 0 table) ++ lines_text size (row_lines k (o ∷ []))) from
-      ∙ ap (λ (last : List ℕ). lines_text size (row_lines 0 table) ++ last) (append-nil (line_text size (Row p o))) in
+    ∙ ap (λ (k : ℕ). lines_text size (row_lines 0 table) ++ lines_text size (row_lines k (o ∷ []))) from
+    ∙ ap (λ (last : List ℕ). lines_text size (row_lines 0 table) ++ last) (append-nil (line_text size (Row p o))) in
     record {
       long = omega (arith, length-append table (o ∷ []), read.long);
       outcomes = list_all-append _ table (o ∷ []) ∙ and_from _ _ read.outcomes (and_from _ _ (lt-ltb o (outcome_count size.kind size.alternatives) below) refl);
       lines = read.lines ∙ ap (λ (r : List ℕ). lines_text size (row_lines 0 table) ++ r) row ∙ sym (append_assoc (lines_text size (row_lines 0 table)) (line_text size (Row p o)) after)
-        ∙ ap (λ (r : List ℕ). r ++ after) (sym rows);
+          ∙ ap (λ (r : List ℕ). r ++ after) (sym rows);
     }
 
 -- where the last line follows all rows, the text is the table that was read
@@ -101,32 +100,37 @@ table_read size text table rest p read all last = record {
 
 -- ---- the report
 
--- what stands before the table
-abbrev pub front_text : Question → List ℕ
-front_text study = lines_text study.size (head_lines study) ++ verdict_text (sort_count study.size Profile)
-
-report_text : (study : Question) (table : List ℕ) → rule_report study table ≡ front_text study ++ table_text study.size table
+report_text : (study : Question) (table : List ℕ) → rule_report study table ≡ front_text study study.size ++ table_text study.size table
 report_text study table =
     let head = lines_text study.size (head_lines study) in
     lines_text-append study.size (head_lines study) (verdict_lines study table ++ End ∷ [])
     ∙ sym (append_assoc head (verdict_text (sort_count study.size Profile)) (table_text study.size table))
 
 -- behind its front a report is its table
-pub report_cases : (study : Question) (text after : List ℕ) (found : Option (List ℕ)) → text ≡ front_text study ++ after
+cases_behind : (study : Question) (text after : List ℕ) (found : Option (List ℕ)) → text ≡ front_text study study.size ++ after
     → MatchOption found ((t : List ℕ) → ¬ IsTable study.size after t) (IsTable study.size after)
     → MatchOption found ((t : List ℕ) → ¬ IsRuleReport study text t) (IsRuleReport study text)
-report_cases study text after None split none = λ t is. none t (record {
+cases_behind study text after None split none = λ t is. none t (record {
   rule = is.rule;
-  written = append_cancel_left (front_text study) after (table_text study.size t) (sym split ∙ is.written ∙ report_text study t);
+  written = append_cancel_left (front_text study study.size) after (table_text study.size t) (sym split ∙ is.written ∙ report_text study t);
 })
-report_cases study text after (Some table) split found = record {
+cases_behind study text after (Some table) split found = record {
   rule = found.rule;
-  written = split ∙ ap (λ (r : List ℕ). front_text study ++ r) found.written ∙ sym (report_text study table);
+  written = split ∙ ap (λ (r : List ℕ). front_text study study.size ++ r) found.written ∙ sym (report_text study table);
 }
 
+pub report_cases : (study : Question) (space : Extent) → study.size ≡ space → (text after : List ℕ) (found : Option (List ℕ)) → text ≡ front_text study space ++ after
+    → MatchOption found ((t : List ℕ) → ¬ IsTable space after t) (IsTable space after)
+    → MatchOption found ((t : List ℕ) → ¬ IsRuleReport study text t) (IsRuleReport study text)
+report_cases study space same text after found =
+    subst (λ (s : Extent). text ≡ front_text study s ++ after → MatchOption found ((t : List ℕ) → ¬ IsTable s after t) (IsTable s after)
+    → MatchOption found ((t : List ℕ) → ¬ IsRuleReport study text t) (IsRuleReport study text))
+    same (cases_behind study text after found)
+
 -- without its front a text is no report
-pub no_front : (study : Question) (text : List ℕ) → IsCut text (front_text study) None → (t : List ℕ) → ¬ IsRuleReport study text t
-no_front study text none t is = none (table_text study.size t) (is.written ∙ report_text study t)
+pub no_front : (study : Question) (space : Extent) → study.size ≡ space → (text : List ℕ) → IsCut text (front_text study space) None → (t : List ℕ) → ¬ IsRuleReport study text t
+no_front study space same text none t is =
+    none (table_text study.size t) (is.written ∙ report_text study t ∙ ap (λ (s : Extent). front_text study s ++ table_text study.size t) same)
 
 -- different rules have different reports
 pub distinct : AreDistinct
@@ -134,5 +138,5 @@ distinct study t u is is' same =
     let rule = rule_parts study.size t is in
     let rule' = rule_parts study.size u is' in
     let tables : table_text study.size t ≡ table_text study.size u
-    = append_cancel_left (front_text study) _ _ (sym (report_text study t) ∙ same ∙ report_text study u) in
+    = append_cancel_left (front_text study study.size) _ _ (sym (report_text study t) ∙ same ∙ report_text study u) in
     (rows_same study.size 0 t u (codes "end\n") (codes "end\n") (rule.0 ∙ sym rule'.0) rule.1 rule'.1 (sym (end_text study.size 0 t) ∙ tables ∙ end_text study.size 0 u)).0

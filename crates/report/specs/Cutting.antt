@@ -1,11 +1,16 @@
--- Cutting a piece off the front of a text, and the pieces in which a head is cut off.
-use Rattle.std.specs.Prelude.{◌≡◌, ◌≢◌, ℕ, ◌<◌, List, [], ◌∷◌, ◌++◌, codes, Option, MatchOption}
+-- Cutting pieces off the front of a text: what a cut gives, and the pieces in which a report is cut.
+use Rattle.std.specs.Prelude.{◌≡◌, ◌≢◌, ℕ, ◌<◌, IsTrue, List, [], ◌∷◌, ◌++◌, codes, Option, MatchOption}
 use Rattle.std.specs.Fmt.{decimal}
 use Rattle.std.specs.List.{flat_map}
 use denote.Ref.{Bor}
-use Rattle.vocab.specs.Size.{Extent, outcome_count}
+use Rattle.vocab.specs.declared.kinds.Sort.TheVariants.{Profile}
+use Rattle.vocab.specs.Size.{Extent, sort_count, outcome_count}
+use Rattle.vocab.specs.Study.{Question}
 use Rattle.vocab.specs.Titled.{Titled}
-use Rattle.report.specs.Lines.{Row, line_text}
+use Rattle.meaning.specs.Texts.{letter}
+use Rattle.meaning.specs.Truth.{is_rule}
+use Rattle.report.specs.Lines.{Row, End, line_text, lines_text}
+use Rattle.report.specs.Report.{row_lines, head_lines}
 
 -- what follows the piece, or that the text does not begin with it
 abbrev pub IsCut : List ℕ → List ℕ → Option (Bor (List ℕ)) → Type 0
@@ -27,12 +32,27 @@ names_text axioms = flat_map (λ a. 32 ∷ a.name) axioms
 abbrev pub axioms_text : List Titled → List ℕ
 axioms_text axioms = codes "axioms" ++ (names_text axioms ++ 10 ∷ [])
 
--- the lines that a rule stands in the report
+-- the lines that say that a rule follows
 abbrev pub verdict_text : ℕ → List ℕ
 verdict_text count = codes "verdict possible\n" ++ count_text (codes "rule ") count
+
+-- what stands before the rows
+abbrev pub front_text : Question → Extent → List ℕ
+front_text study space = lines_text study.size (head_lines study) ++ verdict_text (sort_count space Profile)
+
+-- the alternative at the end of a row and what follows the row, or that the text begins with no such end
+abbrev pub IsOutcomeCut : ℕ → List ℕ → Option (ℕ × Bor (List ℕ)) → Type 0
+IsOutcomeCut alternatives text cut = MatchOption cut
+    ((x : ℕ) (after : List ℕ) → x < alternatives → text ≢ 32 ∷ letter x ∷ 10 ∷ after)
+    (λ end. (end.0 < alternatives) × (text ≡ 32 ∷ letter end.0 ∷ 10 ∷ end.1.now))
 
 -- the outcome in the row of a profile and what follows the row, or that the text begins with no such row
 abbrev pub IsRowCut : Extent → ℕ → List ℕ → Option (ℕ × Bor (List ℕ)) → Type 0
 IsRowCut size p text cut = MatchOption cut
     ((o : ℕ) (after : List ℕ) → o < outcome_count size.kind size.alternatives → text ≢ line_text size (Row p o) ++ after)
     (λ row. (row.0 < outcome_count size.kind size.alternatives) × (text ≡ line_text size (Row p row.0) ++ row.1.now))
+
+-- the table is a rule of the size, and the text is its rows and the last line
+pub record IsTable (size : Extent) (text table : List ℕ) : Type 0 where
+  pub rule : IsTrue (is_rule size table)
+  pub written : text ≡ lines_text size (row_lines 0 table ++ End ∷ [])

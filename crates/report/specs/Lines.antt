@@ -6,6 +6,7 @@ use Rattle.vocab.specs.declared.kinds.Kind.{Kind}
 use Rattle.vocab.specs.Size.{Extent}
 use Rattle.meaning.specs.Texts.{kind_text, profile_text, outcome_text}
 
+-- what a line says
 pub data Line : Type 0 where
   Title : Line
   KindIs : (kind : Kind) → Line

@@ -1,7 +1,7 @@
 -- The text of a report that holds a rule.
 use Rattle.std.specs.Prelude.{◌≡◌, ℕ, ◌+◌, IsTrue, List, [], ◌∷◌, ◌++◌, map}
 use Rattle.vocab.specs.declared.kinds.Sort.TheVariants.{Profile}
-use Rattle.vocab.specs.Size.{Extent, sort_count}
+use Rattle.vocab.specs.Size.{sort_count}
 use Rattle.vocab.specs.Study.{Question}
 use Rattle.meaning.specs.Truth.{is_rule}
 use Rattle.report.specs.Lines.{Line, Title, KindIs, VotersAre, AlternativesAre, AxiomsAre, SaysPossible, RuleOf, Row, End, lines_text}
@@ -10,11 +10,6 @@ use Rattle.report.specs.Lines.{Line, Title, KindIs, VotersAre, AlternativesAre, 
 abbrev pub row_lines : ℕ → List ℕ → List Line
 row_lines p [] = []
 row_lines p (o ∷ table) = Row p o ∷ row_lines (p + 1) table
-
--- the table is a rule of the size, and the text is its rows and the last line
-pub record IsTable (size : Extent) (text table : List ℕ) : Type 0 where
-  pub rule : IsTrue (is_rule size table)
-  pub written : text ≡ lines_text size (row_lines 0 table ++ End ∷ [])
 
 module _ (study : Question) where
   -- the lines that say what the study is

@@ -5,17 +5,8 @@ ghost use Rattle.report.specs.Cutting.{IsCut, count_text, size_text, names_text,
 ghost use Rattle.report.specs.Lines.{lines_text};
 ghost use Rattle.report.specs.Report.{head_lines};
 
-use crate::cutting::{cut, cut_number};
+use crate::cutting::{cut, cut_count};
 use vocab::{Axiom, Kind, Name, Size, Study};
-
-/// What follows a line of a key and a number. The key ends with a blank.
-fn cut_count<'a>(text: &'a [u8], key: &[u8], count: u32) -> Option<&'a [u8]>
-    ensures { IsCut text.now (count_text key.now count) result }
-{
-    let number = cut(text, key)?;
-    let end = cut_number(number, count)?;
-    cut(end, b"\n")
-}
 
 /// What follows a name with a blank before it.
 fn cut_name(text: &[u8], name: Name) -> Option<&[u8]>

@@ -15,8 +15,8 @@ returns-in_err-axioms c =
     let axioms = axioms_text c.args.study.now.axioms in
     let none : IsCut c.in_ok-voters.voters.now size None = rw c.size.ensures at c.in_err-axioms.ensures in
     rw c.from_residual-in_err-axioms.ensures (
-        head_cut c.args.study.now c.args.text.now None c.requires
-        (cut_next c.args.text.now title c.in_ok-voters.voters.now (size ++ axioms) None c.in_ok-voters.ensures (cut_none c.in_ok-voters.voters.now size axioms none)))
+    head_cut c.args.study.now c.args.text.now None c.requires
+    (cut_next c.args.text.now title c.in_ok-voters.voters.now (size ++ axioms) None c.in_ok-voters.ensures (cut_none c.in_ok-voters.voters.now size axioms none)))
 
 pub returns : goal.returns
 returns c =
@@ -25,4 +25,4 @@ returns c =
     let last : IsCut c.in_ok-axioms.axioms.now axioms c.cut_axioms.result = rw (c.as_slice.ensures ∙ c.axioms.ensures.axioms) at c.cut_axioms.ensures in
     head_cut c.args.study.now c.args.text.now c.cut_axioms.result c.requires
     (cut_next c.args.text.now title c.in_ok-voters.voters.now (size ++ axioms) c.cut_axioms.result c.in_ok-voters.ensures
-        (cut_next c.in_ok-voters.voters.now size c.in_ok-axioms.axioms.now axioms c.cut_axioms.result (rw c.size.ensures at c.in_ok-axioms.ensures) last))
+    (cut_next c.in_ok-voters.voters.now size c.in_ok-axioms.axioms.now axioms c.cut_axioms.result (rw c.size.ensures at c.in_ok-axioms.ensures) last))

@@ -1,7 +1,7 @@
 use Rattle.std.proofs.Common.{[], ◌∷◌, None}
 use Rattle.std.specs.Fmt.{decimal}
 use Rattle.report.proofs.CuttingLaws.{cut_none, cut_next}
-use Rattle.report.proofs.head.cut_count.Goals as goal
+use Rattle.report.proofs.cutting.cut_count.Goals as goal
 
 pub returns-in_err-end : goal.returns-in_err-end
 returns-in_err-end c = rw c.from_residual-in_err-end.ensures (
