@@ -68,7 +68,7 @@ length-ballots size p = length-digits_of (ballot_bases size) p ∙ length-bases 
 pub below_product : (size : Extent) (p : ℕ) → p < sort_count size Profile → p < product (ballot_bases size)
 below_product size p h = subst (λ (x : ℕ). p < x) (sym (are_profiles size)) h
 
-weight_at : (size : Extent) (i : ℕ) → i < size.voters → get_or (weights_of size) i 0 ≡ get_or (place_values (ballot_bases size)) i 0
+pub weight_at : (size : Extent) (i : ℕ) → i < size.voters → get_or (weights_of size) i 0 ≡ get_or (place_values (ballot_bases size)) i 0
 weight_at size i h = get_or_append_left (place_values (ballot_bases size)) _ 0 i (omega (arith, length-place_values (ballot_bases size), length-bases size))
 
 pub weight_positive : (size : Extent) (i : ℕ) → i < size.voters → 0 < get_or (weights_of size) i 0

@@ -8,13 +8,14 @@ use Rattle.std.proofs.lemmas.Bool.Decides.{nat_tests}
 use Rattle.std.proofs.lemmas.List.{get_or-map, get_or-drop, take_more, take_more_set}
 use Rattle.std.proofs.lemmas.List.Recursion.{and_at}
 use Rattle.std.proofs.lemmas.List.Sums.{count_by-le-length}
+use Rattle.vocab.specs.Name.{is_name}
 use Rattle.vocab.specs.Size.{factorial}
-use Rattle.meaning.specs.Space.{below, up_from, rankings, ranking, place, is_above}
+use Rattle.meaning.specs.Space.{exchanged, below, up_from, rankings, ranking, ranking_number, place, is_above}
 use Rattle.meaning.specs.Texts.{letter}
 use Rattle.meaning.proofs.SpaceLaws.{all_at, length-rankings}
 use Rattle.meaning.proofs.RankingLaws.{are_rankings}
 use Rattle.profiles.specs.Weights.{rank_of}
-use Rattle.profiles.specs.declared.tables.TheConstants.{RANKINGS, PLACES}
+use Rattle.profiles.specs.declared.tables.TheConstants.{EXCHANGED, PAIRS, PLACES, RANKINGS}
 
 -- a test of each row of a list with its number
 abbrev each_row : (ℕ → List ℕ → Bool) → ℕ → List (List ℕ) → Bool
@@ -73,7 +74,7 @@ abbrev rank_test : ℕ → List ℕ → Bool
 rank_test b r = rank_of (map letter r) == b
 
 abbrev row_test : List (List ℕ) → ℕ → ℕ → List ℕ → Bool
-row_test fives m b r = left_out_test fives m b r && place_test fives m b r && rank_test b r
+row_test fives m b r = left_out_test fives m b r && place_test fives m b r && rank_test b r && is_name (map letter r)
 
 all_rows : list_all (λ m. each_row (row_test (rankings 5) m) 0 (rankings m)) (up_from 1 5) ≡ true
 all_rows = refl
@@ -93,11 +94,12 @@ same_list (x ∷ xs) (y ∷ ys) h = let e = and_parts (nat_eq x y) (pointwise na
 pub length-ranking : (m b : ℕ) → b < factorial m → length (ranking m b) ≡ m
 length-ranking m b h = ((are_rankings m).each b h).size
 
-row_facts : (m b : ℕ) → 1 ≤ m → m ≤ 5 → b < factorial m → (left_out_test (rankings 5) m b (ranking m b) ≡ true) × (place_test (rankings 5) m b (ranking m b) ≡ true) × (rank_test b (ranking m b) ≡ true)
+row_facts : (m b : ℕ) → 1 ≤ m → m ≤ 5 → b < factorial m → (left_out_test (rankings 5) m b (ranking m b) ≡ true) × (place_test (rankings 5) m b (ranking m b) ≡ true) × (rank_test b (ranking m b) ≡ true) × (is_name (map letter (ranking m b)) ≡ true)
 row_facts m b some few h =
-    let both = and_parts (left_out_test (rankings 5) m b (ranking m b) && place_test (rankings 5) m b (ranking m b)) (rank_test b (ranking m b)) (row_fact m b some few h) in
+    let all = and_parts (left_out_test (rankings 5) m b (ranking m b) && place_test (rankings 5) m b (ranking m b) && rank_test b (ranking m b)) (is_name (map letter (ranking m b))) (row_fact m b some few h) in
+    let both = and_parts (left_out_test (rankings 5) m b (ranking m b) && place_test (rankings 5) m b (ranking m b)) (rank_test b (ranking m b)) all.0 in
     let parts = and_parts (left_out_test (rankings 5) m b (ranking m b)) (place_test (rankings 5) m b (ranking m b)) both.0 in
-    (parts.0, parts.1, both.1)
+    (parts.0, parts.1, both.1, all.1)
 
 left_out : (m b : ℕ) → 1 ≤ m → m ≤ 5 → b < factorial m → drop (5 - m) (ranking 5 b) ≡ map (λ x. x + (5 - m)) (ranking m b)
 left_out m b some few h = same_list _ _ (row_facts m b some few h).0
@@ -108,6 +110,9 @@ place_at_five m b x some few h l =
 
 pub rank-ranking : (m b : ℕ) → 1 ≤ m → m ≤ 5 → b < factorial m → rank_of (map letter (ranking m b)) ≡ b
 rank-ranking m b some few h = eqb-true _ _ (row_facts m b some few h).2
+
+pub ballots_are_names : (m b : ℕ) → 1 ≤ m → m ≤ 5 → b < factorial m → is_name (map letter (ranking m b)) ≡ true
+ballots_are_names m b some few h = (row_facts m b some few h).3
 
 -- ---- what the tables give at a ballot of m alternatives
 
@@ -147,3 +152,36 @@ pub rank_of-step : (number lower fact total x : ℕ) (rest later : List ℕ) →
     → number + lower * fact + rank_of later ≡ total
 rank_of-step number lower fact total x rest later before front e f =
     ap₂ (λ (a b : ℕ). number + a * b + rank_of later) e f ∙ add_assoc number (count_by (λ y. nat_lt y x) later * factorial (length later)) (rank_of later) ∙ ap (λ (r : List ℕ). number + rank_of r) (sym front) ∙ before
+
+-- ---- two alternatives exchanged
+
+abbrev pub row_of_pair : ℕ → ℕ → ℕ → List ℕ
+row_of_pair m x y = get_or EXCHANGED (get_or (get_or PAIRS (5 - m + x) []) (5 - m + y) 0) []
+
+abbrev exchange_test : List (List ℕ) → ℕ → ℕ → ℕ → List ℕ → ℕ → List ℕ → Bool
+exchange_test rs m x y row b r = nat_lt (get_or row b 0) (factorial m) && pointwise nat_eq (get_or rs (get_or row b 0) []) (map (exchanged x y) r)
+
+abbrev exchanges_test : List (List ℕ) → ℕ → Bool
+exchanges_test rs m = list_all (λ x. list_all (λ y. each_row (exchange_test rs m x y (row_of_pair m x y)) 0 rs) (below m)) (below m)
+
+all_exchanges : list_all (λ m. exchanges_test (rankings m) m) (up_from 1 5) ≡ true
+all_exchanges = refl
+
+pairs_test : list_all (λ x. list_all (λ y. nat_lt (get_or (get_or PAIRS x []) y 0) 11) (below 5)) (below 5) ≡ true
+pairs_test = refl
+
+exchange_fact : (m x y b : ℕ) → 1 ≤ m → m ≤ 5 → x < m → y < m → b < factorial m → exchange_test (rankings m) m x y (row_of_pair m x y) b (ranking m b) ≡ true
+exchange_fact m x y b some few hx hy h =
+    let tests = all_at (λ k. exchanges_test (rankings k) k) 5 1 m all_exchanges some (omega arith) in
+    let rows = all_at (λ v. list_all (λ w. each_row (exchange_test (rankings m) m v w (row_of_pair m v w)) 0 (rankings m)) (below m)) m 0 x tests (omega arith) (omega arith) in
+    let row = all_at (λ w. each_row (exchange_test (rankings m) m x w (row_of_pair m x w)) 0 (rankings m)) m 0 y rows (omega arith) (omega arith) in
+    let at_b : 0 + b ≡ b = omega arith in
+    subst (λ (k : ℕ). exchange_test (rankings m) m x y (row_of_pair m x y) k (ranking m b) ≡ true) at_b (row_at (exchange_test (rankings m) m x y (row_of_pair m x y)) 0 (rankings m) b row (omega (arith, length-rankings m)))
+
+pub exchanged_at : (m x y b : ℕ) → 1 ≤ m → m ≤ 5 → x < m → y < m → b < factorial m
+  → (get_or (row_of_pair m x y) b 0 < factorial m) × (get_or (row_of_pair m x y) b 0 ≡ ranking_number m (map (exchanged x y) (ranking m b)))
+exchanged_at m x y b some few hx hy h =
+    let c = get_or (row_of_pair m x y) b 0 in
+    let parts = and_parts (nat_lt c (factorial m)) (pointwise nat_eq (ranking m c) (map (exchanged x y) (ranking m b))) (exchange_fact m x y b some few hx hy h) in
+    let within : c < factorial m = ltb-true _ _ parts.0 in
+    (within, sym ((are_rankings m).numbered c within) ∙ ap (ranking_number m) (same_list _ _ parts.1))

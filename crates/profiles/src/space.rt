@@ -3,10 +3,9 @@
 ghost use Rattle.std.specs.Prelude.{◌≡◌, ◌<◌, ◌≤◌, slice_index};
 ghost use Rattle.vocab.specs.Size.{IsSize, factorial, sort_count};
 ghost use Rattle.vocab.specs.declared.kinds.Sort.TheVariants.{Profile};
-ghost use Rattle.meaning.specs.Space.{ballots, prefers};
+ghost use Rattle.meaning.specs.Space.{ballots};
 ghost use Rattle.profiles.specs.Weights.{weights_of};
 
-use crate::tables;
 use std::marker::Model;
 use vocab::{Size, Sort};
 
@@ -106,15 +105,14 @@ impl Space {
         p / self.weights[i as usize] % self.ballots
     }
 
-    /// Whether voter i has x above y at profile p.
-    pub fn prefers(&self, i: u32, x: u32, y: u32, p: u32) -> bool
-        requires voter { i < self.now.voters }
-        requires x { x < self.now.alternatives }
-        requires y { y < self.now.alternatives }
-        requires profile { p < sort_count self.now Profile }
-        ensures { result ≡ prefers self.now i x y p }
+    /// What a step of voter i's ballot is worth in a profile's number.
+    pub(crate) fn weight(&self, i: u32) -> u32
+        requires { i < self.now.voters }
+        ensures value { result ≡ slice_index (weights_of self.now) i }
+        ensures some { 1 ≤ result }
+        ensures few_profiles { sort_count self.now Profile ≤ 20000 }
     {
-        tables::is_above(self.alternatives(), self.ballot_of(p, i), x, y)
+        self.weights[i as usize]
     }
 }
 

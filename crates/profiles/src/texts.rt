@@ -8,6 +8,7 @@ ghost use Rattle.meaning.specs.Texts.{profile_text, ballot_text};
 use crate::space::Space;
 use crate::tables;
 use std::marker::Model;
+use vocab::Name;
 
 /// At most 48 bytes, held in place.
 #[derive(Clone, Copy, Debug, PartialEq, Eq)]
@@ -70,6 +71,16 @@ impl ProfileText {
 }
 
 impl Space {
+    /// The text of a ballot: its letters from best to worst.
+    pub fn ballot_text(&self, b: u32) -> Name
+        requires { b < factorial self.now.alternatives }
+        ensures { result ≡ ballot_text self.now b }
+    {
+        let alternatives = self.alternatives();
+        let letters = tables::spelled(alternatives, b);
+        Name::new(&letters[..alternatives as usize]).unwrap()
+    }
+
     /// The text of a profile: its ballots from the first voter's, each its letters from best to worst, with `|` between each two.
     pub fn profile_text(&self, p: u32) -> ProfileText
         requires { p < sort_count self.now Profile }
