@@ -38,3 +38,6 @@ fn main(rt: HostRuntime) -> ExitCode {
     let run = bench(&rt, rt.alloc(), &words, &mut shelf, &mut out, &Open);
     ExitCode::from(run.status)
 }
+
+#[cfg(test)]
+mod tests;
