@@ -1,3 +1,4 @@
+pub mod FailingLemmas
 pub mod OneRule
 pub mod OneAnswer
 pub mod CheckLemmas

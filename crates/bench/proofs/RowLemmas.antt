@@ -23,6 +23,11 @@ pub row : (told : Option Files) (words : List (List ℕ)) (s wanted : ℕ) (t te
 row None words s wanted t text a b P gives is written = tt
 row (Some files) words s wanted t text a b P gives is written = λ premise low. says words files s wanted t text a b is written (gives files premise)
 
+-- what follows for each telling of the files
+map_told : (told : Option Files) (P Q : Files → Type 0) → ((files : Files) → P files → Q files) → IfSome told P → IfSome told Q
+map_told None P Q f h = tt
+map_told (Some files) P Q f h = f files h
+
 module _ (words : List (List ℕ)) (files : Files) where
   pub long_study : IsCheckOfLongStudy words files → Lawful words files 3 (codes "study: too long\n")
   long_study (c, bytes, asked, held) = check c asked (study_too_long bytes held refl refl)
@@ -44,3 +49,17 @@ module _ (words : List (List ℕ)) (files : Files) where
 
   pub satisfied : (study : Question) (report table : List ℕ) → IsCheckOver words files study report → length report ≤ most_bytes → IsRuleReport study report table → SatisfiesAll study table → Lawful words files 0 (codes "confirmed possible\n")
   satisfied study report table h fits is all = over study report _ _ h (confirmed fits table is all refl refl)
+
+-- each row as a clause of the top call, where the shelf may tell its files
+module _ (told : Option Files) (words : List (List ℕ)) (s : ℕ) (t : List ℕ) (a b : Option (List ℕ)) where
+  pub no_rule_clause : IfSome told (λ files. Lawful words files s t) → Appends a b t
+      → IfSome told (λ files. (study : Question) (report : List ℕ) → IsCheckOver words files study report → ((table : List ℕ) → ¬ IsRuleReport study report table) → s ≤ 4 → Says s a b 1 (codes "refused: not built\n"))
+  no_rule_clause is written = map_told told _ _ (λ files h study report over none low. says words files s 1 t _ a b h written (no_rule words files study report over none)) is
+
+  pub fails_clause : IfSome told (λ files. Lawful words files s t) → Appends a b t
+      → IfSome told (λ files. (study : Question) (report table name : List ℕ) (k : ℕ) → IsCheckOver words files study report → length report ≤ most_bytes → IsRuleReport study report table → IsFirstFailing study table name k → s ≤ 4 → Says s a b 1 (fails_line study name k))
+  fails_clause is written = map_told told _ _ (λ files h study report table name k over fits text first low. says words files s 1 t _ a b h written (failing words files study report table name k over fits text first)) is
+
+  pub confirmed_clause : IfSome told (λ files. Lawful words files s t) → Appends a b t
+      → IfSome told (λ files. (study : Question) (report table : List ℕ) → IsCheckOver words files study report → length report ≤ most_bytes → IsRuleReport study report table → SatisfiesAll study table → s ≤ 4 → Says s a b 0 (codes "confirmed possible\n"))
+  confirmed_clause is written = map_told told _ _ (λ files h study report table over fits text all low. says words files s 0 t _ a b h written (satisfied words files study report table over fits text all)) is
