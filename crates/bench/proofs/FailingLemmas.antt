@@ -16,7 +16,6 @@ use Rattle.meaning.proofs.InstanceLaws.{have_instances}
 use Rattle.meaning.proofs.SpaceLaws.{all_from}
 use Rattle.meaning.proofs.ValueLoops.{all_next}
 use Rattle.bench.specs.declared.answers.Answer.{Answer}
-use Rattle.bench.specs.CheckTable.{IsFirstFailing}
 
 -- what holds of each item holds of the item at a place
 in_list : {A : Type 0} (P : A → Bool) (xs : List A) (i : ℕ) (a : A) → list_all P xs ≡ true → slice_get xs i ≡ Some a → P a ≡ true
@@ -48,18 +47,6 @@ module _ (study : Question) (place : ℕ) (a : Titled) where
       let true_at : is_axiom_true study.size table (slice_get study.axioms place) ≡ true
       = ap (is_axiom_true study.size table) at ∙ have_instances study.size table a.sentence ∙ all_from (is_instance_true study.size table a.sentence) count 0 (λ k low high. each k low (omega (arith, high))) in
       and_from _ _ parts.0 (all_next (λ k. is_axiom_true study.size table (slice_get study.axioms k)) place parts.1 true_at)
-
-  -- where an instance of the next axiom is false, it is the first that fails
-  pub failing_at : (table : List ℕ) (k : ℕ) → IsStudy study → slice_get study.axioms place ≡ Some a → IsFirstFailure study.size table a.sentence 0 (min (instance_count study.size a.sentence) (2 ^ 64 - 1)) k
-      → satisfies study.size study.axioms (below place) table ≡ true → IsFirstFailing study table a.name k
-  failing_at table k is at first before = record {
-    place = place;
-    failing = a;
-    at = at;
-    named = refl;
-    satisfied = before;
-    first = rw (whole_count is at) at first;
-  }
 
 -- what was said, where it was
 pub said : (r : Result Answer NoMemory) (P : ℕ → List ℕ → Type 0) (status : ℕ) (text : List ℕ) → IfOk r (λ a. a.status ≡ status) → IfOk r (λ a. a.text ≡ text)

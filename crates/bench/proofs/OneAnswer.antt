@@ -41,7 +41,7 @@ module _ (size : Extent) (axioms : List Titled) (table : List ℕ) where
 module _ (study : Question) (table : List ℕ) where
   not_all : (name : List ℕ) (k : ℕ) → IsFirstFailing study table name k → SatisfiesAll study table → ⊥
   not_all name k failing all = elim (cases_lt failing.place (length study.axioms)) [
-    inl lt ↦ both_ways _ (unsatisfied_at study.size study.axioms table failing.place k failing.failing failing.at failing.first) (satisfied_at study.size study.axioms table (length study.axioms) failing.place all lt)
+    | inl lt ↦ both_ways _ (unsatisfied_at study.size study.axioms table failing.place k failing.failing failing.at failing.first) (satisfied_at study.size study.axioms table (length study.axioms) failing.place all lt)
     | inr le ↦ past study.axioms failing.place failing.failing le failing.at
   ]
     where
@@ -56,14 +56,14 @@ module _ (study : Question) (table : List ℕ) where
 
   same_instance : (a : Titled) (n k k' : ℕ) → IsFirstFailure study.size table a.sentence 0 n k → IsFirstFailure study.size table a.sentence 0 n k' → k ≡ k'
   same_instance a n k k' one other = elim (cases_lt k k') [
-    inl lt ↦ absurd (both_ways _ one.fails (other.first k (omega arith) lt))
+    | inl lt ↦ absurd (both_ways _ one.fails (other.first k (omega arith) lt))
     | inr le ↦ elim (cases_lt k' k) [ inl lt ↦ absurd (both_ways _ other.fails (one.first k' (omega arith) lt)) | inr ge ↦ omega (arith, le, ge) ]
   ]
 
   same_failing : (name name' : List ℕ) (k k' : ℕ) → IsFirstFailing study table name k → IsFirstFailing study table name' k' → (name ≡ name') × (k ≡ k')
   same_failing name name' k k' one other =
       let place : one.place ≡ other.place = elim (cases_lt one.place other.place) [
-        inl lt ↦ absurd (before_none name name' k k' one other lt)
+        | inl lt ↦ absurd (before_none name name' k k' one other lt)
         | inr le ↦ elim (cases_lt other.place one.place) [ inl lt ↦ absurd (before_none name' name k' k other one lt) | inr ge ↦ omega (arith, le, ge) ]
       ] in
       let same : one.failing ≡ other.failing = some_same (slice_get study.axioms other.place) one.failing other.failing (subst (λ (i : ℕ). slice_get study.axioms i ≡ Some one.failing) place one.at) other.at in

@@ -40,7 +40,12 @@ fn check_report<S: Shelf>(
 }
 
 /// Reads the study, and then the report over it. A study that is refused leaves the report unopened.
-pub fn check<S: Shelf>(alloc: Global, shelf: &mut S, study: &str, report: &str) -> Result<Answer, Stop>
+pub fn check<S: Shelf>(
+    alloc: Global,
+    shelf: &mut S,
+    study: &str,
+    report: &str,
+) -> Result<Answer, Stop>
     ensures lawful { IfSome (S.files shelf.old) (λ files. IfOk result (λ answer.
         Checked files study.now report.now answer.status answer.text)) }
     ensures fault { IsErrOf result Stop.ReadFault → HasReadCause (S.files shelf.old) (S.faults shelf.old) (S.faults shelf.new) study.now report.now }

@@ -53,7 +53,12 @@ fn fails_text(alloc: Global, line: u32, failure: &Failure) -> Result<Bytes, NoMe
     Ok(text)
 }
 
-fn say_fails(alloc: Global, space: &Space, study: &Study, failure: &Failure) -> Result<Answer, NoMemory>
+fn say_fails(
+    alloc: Global,
+    space: &Space,
+    study: &Study,
+    failure: &Failure,
+) -> Result<Answer, NoMemory>
     requires { study.now.size ≡ space.now }
     ensures status { IfOk result (λ answer. answer.status ≡ 1) }
     ensures text { IfOk result (λ answer. answer.text ≡ fails_line study.now failure.now.name failure.now.instance) }

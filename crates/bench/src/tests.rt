@@ -9,7 +9,8 @@ use std::thread::Threads;
 
 const STUDY: &str = "kind = \"choice\"\nvoters = 1\nalternatives = 2\naxioms = [\"unanimity\"]\n";
 
-const REPORT: &str = "bench report 1\nkind choice\nvoters 1\nalternatives 2\naxioms unanimity\nverdict possible\nrule 2\nab a\nba b\nend\n";
+const REPORT: &str =
+    "bench report 1\nkind choice\nvoters 1\nalternatives 2\naxioms unanimity\nverdict possible\nrule 2\nab a\nba b\nend\n";
 
 fn words_of(alloc: Global, words: &[&str]) -> Result<Vec<String>, AllocError> {
     let mut list = Vec::new(alloc);
@@ -38,11 +39,20 @@ fn check<R: Threads + Sync>(
 
 #[test]
 fn reports_are_judged(rt: HostRuntime) -> Result<(), Fail> {
-    let head = "bench report 1\nkind choice\nvoters 1\nalternatives 2\naxioms unanimity\nverdict possible\nrule 2\n";
+    let head =
+        "bench report 1\nkind choice\nvoters 1\nalternatives 2\naxioms unanimity\nverdict possible\nrule 2\n";
     let cases = [
         ("ab a\nba b\nend\n", 0, "confirmed possible\n"),
-        ("ab a\nba a\nend\n", 1, "refused line 9: fails unanimity 3\n"),
-        ("ab b\nba a\nend\n", 1, "refused line 9: fails unanimity 0\n"),
+        (
+            "ab a\nba a\nend\n",
+            1,
+            "refused line 9: fails unanimity 3\n",
+        ),
+        (
+            "ab b\nba a\nend\n",
+            1,
+            "refused line 9: fails unanimity 0\n",
+        ),
         ("ab a\nab a\nend\n", 1, "refused: not built\n"),
         ("ab a\nend\n", 1, "refused: not built\n"),
         ("ab a\nba b\nba b\nend\n", 1, "refused: not built\n"),
@@ -65,14 +75,30 @@ fn axioms_are_tested_in_the_order_of_the_study(rt: HostRuntime) -> Result<(), Fa
     // `unanimity` at ba and b.
     let table = "verdict possible\nrule 2\nab a\nba a\nend\n";
     let cases = [
-        ("\"onto\", \"pareto\"", "onto pareto", "refused line 9: fails onto 1\n"),
-        ("\"pareto\", \"onto\"", "pareto onto", "refused line 9: fails pareto 6\n"),
-        ("\"unanimity\", \"pareto\"", "unanimity pareto", "refused line 9: fails unanimity 3\n"),
+        (
+            "\"onto\", \"pareto\"",
+            "onto pareto",
+            "refused line 9: fails onto 1\n",
+        ),
+        (
+            "\"pareto\", \"onto\"",
+            "pareto onto",
+            "refused line 9: fails pareto 6\n",
+        ),
+        (
+            "\"unanimity\", \"pareto\"",
+            "unanimity pareto",
+            "refused line 9: fails unanimity 3\n",
+        ),
     ];
     for (listed, named, text) in cases {
         let alloc = rt.alloc();
-        let study = format!(in alloc; "kind = \"choice\"\nvoters = 1\nalternatives = 2\naxioms = [{listed}]\n")?;
-        let report = format!(in alloc; "bench report 1\nkind choice\nvoters 1\nalternatives 2\naxioms {named}\n{table}")?;
+        let study = format!(in alloc;
+            "kind = \"choice\"\nvoters = 1\nalternatives = 2\naxioms = [{listed}]\n"
+        )?;
+        let report = format!(in alloc;
+            "bench report 1\nkind choice\nvoters 1\nalternatives 2\naxioms {named}\n{table}"
+        )?;
         let (status, bytes) = check(&rt, alloc, study.as_str(), report.as_str(), &[])?;
         assert_eq!(rt; status, 1, "at {listed}");
         assert_eq!(rt; bytes.as_slice(), text.as_bytes());
@@ -85,7 +111,10 @@ fn studies_are_refused_before_the_report_is_opened(rt: HostRuntime) -> Result<()
     let cases = [
         ("kind =\n", "study: not toml\n"),
         ("kind = 1\n", "study: not built\n"),
-        ("kind = \"ranking\"\nvoters = 1\nalternatives = 2\naxioms = []\n", "study: not built\n"),
+        (
+            "kind = \"ranking\"\nvoters = 1\nalternatives = 2\naxioms = []\n",
+            "study: not built\n",
+        ),
     ];
     for (study, text) in cases {
         // The calls of the shelf are: 0 rewinds the study, 1 and 2 read it, 3 would rewind the report.
@@ -122,14 +151,34 @@ fn a_report_that_is_not_held_writes_nothing(rt: HostRuntime) -> Result<(), Fail>
 #[test]
 fn words_that_are_no_command_get_the_usage_line(rt: HostRuntime) -> Result<(), Fail> {
     let alloc = rt.alloc();
-    let cases: [&[&str]; 5] = [&[], &["check"], &["check", "a"], &["check", "a", "b", "c"], &["decide", "a"]];
+    let cases: [&[&str]; 5] = [
+        &[],
+        &["check"],
+        &["check", "a"],
+        &["check", "a", "b", "c"],
+        &["decide", "a"],
+    ];
     for words in cases {
         let mut shelf = MemoryShelf::new(alloc, &[])?;
         let mut out = MemorySink::new(alloc, 6, &[])?;
-        let run = bench(&rt, alloc, &words_of(alloc, words)?, &mut shelf, &mut out, &Open);
+        let run = bench(
+            &rt,
+            alloc,
+            &words_of(alloc, words)?,
+            &mut shelf,
+            &mut out,
+            &Open,
+        );
         assert_eq!(rt; run.status, 6, "at {words:?}");
         assert_eq!(rt; out.bytes(), b"usage:".as_slice());
-        let run = bench(&rt, alloc, &words_of(alloc, words)?, &mut shelf, &mut CalmSink::new(), &Open);
+        let run = bench(
+            &rt,
+            alloc,
+            &words_of(alloc, words)?,
+            &mut shelf,
+            &mut CalmSink::new(),
+            &Open,
+        );
         assert_eq!(rt; run.status, 2, "at {words:?}");
     }
     Ok(())

@@ -19,7 +19,8 @@ use std::alloc::Global;
 use std::thread::Threads;
 
 /// What is said to words that are no command.
-const USAGE: &[u8] = b"usage: bench decide STUDY | check STUDY REPORT | export STUDY | proof STUDY | lrat CNF PROOF | axioms KIND | sample N [--workers K]\n";
+const USAGE: &[u8] =
+    b"usage: bench decide STUDY | check STUDY REPORT | export STUDY | proof STUDY | lrat CNF PROOF | axioms KIND | sample N [--workers K]\n";
 
 /// The answer to the words, over the files of the shelf.
 fn answer<S: Shelf>(alloc: Global, words: &[String], shelf: &mut S) -> Result<Answer, Stop>

@@ -124,7 +124,7 @@ module _ (size : Extent) where
   both_sorts : (sorts : List Sort) (env : List ℕ) (s t : TermTree) (rest : List Sort) → are_of_sorts size sorts env ≡ true → list_any (λ sort. is_of_sort size sorts sort s && is_of_sort size sorts sort t) rest ≡ true → HasSort size s env × HasSort size t env
   both_sorts sorts env s t [] h k = absurd (true≢false (sym k))
   both_sorts sorts env s t (sort ∷ rest) h k = elim (or_cases _ _ k) [
-    inl e ↦ let p = and_parts (is_of_sort size sorts sort s) (is_of_sort size sorts sort t) e in ((sort, term_at sorts env sort s h p.0), (sort, term_at sorts env sort t h p.1))
+    | inl e ↦ let p = and_parts (is_of_sort size sorts sort s) (is_of_sort size sorts sort t) e in ((sort, term_at sorts env sort s h p.0), (sort, term_at sorts env sort t h p.1))
     | inr e ↦ both_sorts sorts env s t rest h e
   ]
 

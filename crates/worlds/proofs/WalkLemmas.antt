@@ -21,7 +21,7 @@ most = 2 ^ 64 - 1
 pub product_cut : (a p : ℕ) → min (a * min p most) most ≡ min (a * p) most
 product_cut zero p = omega arith
 product_cut (suc a) p = elim (cases_lt most p) [
-  inl lt ↦ let cut : min p most ≡ most = omega (arith, lt) in rw cut (omega (arith, lt, suc-mul a p))
+  | inl lt ↦ let cut : min p most ≡ most = omega (arith, lt) in rw cut (omega (arith, lt, suc-mul a p))
   | inr le ↦ let whole : min p most ≡ p = omega (arith, le) in rw whole refl
 ]
 
@@ -40,19 +40,19 @@ positive_factor n (suc p) k h = omega arith
 
 pub is_block : (n p v start to block : ℕ) → block ≡ min p most → start ≡ min (v * block) most → start < to → to ≤ most → to ≤ n * p → IsBlock n p v start
 is_block n p v start to block cut at lt fits within = elim (cases_lt most p) [
-  inl long ↦
-    let is : block ≡ most = omega (arith, long) in
-    let times : start ≡ min (v * most) most = rw is at at in
-    let first : v ≡ 0 = omega (arith, times) in
-    let none : start ≡ 0 = rw first at times in
-    let p_some : 0 < p = omega (arith, long) in
-    let below : 0 * p < n * p = omega (arith, none) in
-    record { value = rw first (below_factor 0 n p below); some = p_some; place = rw (first, none) (omega arith) }
+  | inl long ↦
+      let is : block ≡ most = omega (arith, long) in
+      let times : start ≡ min (v * most) most = rw is at at in
+      let first : v ≡ 0 = omega (arith, times) in
+      let none : start ≡ 0 = rw first at times in
+      let p_some : 0 < p = omega (arith, long) in
+      let below : 0 * p < n * p = omega (arith, none) in
+      record { value = rw first (below_factor 0 n p below); some = p_some; place = rw (first, none) (omega arith) }
   | inr short ↦
-    let is : block ≡ p = omega (arith, short) in
-    let times : start ≡ min (v * p) most = rw is at at in
-    let below : v * p < n * p = omega (arith, times) in
-    record { value = below_factor v n p below; some = positive_factor n p (v * p) below; place = omega (arith, times) }
+      let is : block ≡ p = omega (arith, short) in
+      let times : start ≡ min (v * p) most = rw is at at in
+      let below : v * p < n * p = omega (arith, times) in
+      record { value = below_factor v n p below; some = positive_factor n p (v * p) below; place = omega (arith, times) }
 ]
 
 -- the block in which a number lies
@@ -60,16 +60,16 @@ pub first_block : (n p from to block : ℕ) → block ≡ min p most → from < 
 first_block n p from to block cut lt fits within =
     let p_some : 0 < p = positive_factor n p from (omega arith) in
     elim (cases_lt most p) [
-      inl long ↦
-        let is : block ≡ most = omega (arith, long) in
-        let some : 0 < block = omega (arith, is) in
-        let none : from / block ≡ 0 = div_small from block (omega (arith, is)) in
-        let n_some : 0 < n = below_factor 0 n p (omega arith) in
-        (some, rw none n_some, rw none (omega arith))
+      | inl long ↦
+          let is : block ≡ most = omega (arith, long) in
+          let some : 0 < block = omega (arith, is) in
+          let none : from / block ≡ 0 = div_small from block (omega (arith, is)) in
+          let n_some : 0 < n = below_factor 0 n p (omega arith) in
+          (some, rw none n_some, rw none (omega arith))
       | inr short ↦
-        let is : block ≡ p = omega (arith, short) in
-        let some : 0 < block = omega (arith, is) in
-        (some, rw is (div_below from p n p_some (omega arith)), rw is (div-mul-le_self from p))
+          let is : block ≡ p = omega (arith, short) in
+          let some : 0 < block = omega (arith, is) in
+          (some, rw is (div_below from p n p_some (omega arith)), rw is (div-mul-le_self from p))
     ]
   where
     div_small : (a b : ℕ) → a < b → a / b ≡ 0
@@ -118,10 +118,10 @@ module _ (size : Extent) (table : List ℕ) (s : Sort) (f : Tree) (env : List �
         within = omega arith;
         fails = in_block n v start (start + k) is low (rw rest inside) ∙ ap (is_true_in size table f (env ++ v ∷ [])) rest ∙ found.fails;
         first = λ i from_low lower. elim (cases_lt i start) [
-          inl earlier ↦ before i from_low (omega arith) (omega (arith, place))
+          | inl earlier ↦ before i from_low (omega arith) (omega (arith, place))
           | inr after ↦
-            let in_p : i - start < p = omega arith in
-            in_block n v start i is after in_p ∙ found.first (i - start) (omega arith) (omega arith)
+              let in_p : i - start < p = omega arith in
+              in_block n v start i is after in_p ∙ found.first (i - start) (omega arith) (omega arith)
         ];
       }
 
@@ -133,10 +133,10 @@ module _ (size : Extent) (table : List ℕ) (s : Sort) (f : Tree) (env : List �
       let place : start ≡ v * p = is.place in
       let next : (v + 1) * p ≡ v * p + p = omega arith in
       elim (cases_lt i start) [
-        inl earlier ↦ before i low high (omega (arith, place))
+        | inl earlier ↦ before i low high (omega (arith, place))
         | inr after ↦
-          let in_p : i - start < p = omega (arith, place, next) in
-          in_block n v start i is after in_p ∙ all (i - start) (omega arith) (omega arith)
+            let in_p : i - start < p = omega (arith, place, next) in
+            in_block n v start i is after in_p ∙ all (i - start) (omega arith) (omega arith)
       ]
 
 -- a formula that is no universal has the one instance 0

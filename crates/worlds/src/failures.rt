@@ -76,13 +76,7 @@ fn first_false(
 }
 
 /// The least instance of the axiom from `from` up to `to` that is false of the rule.
-pub fn first_failure(
-    space: &Space,
-    table: &Table,
-    named: &Axiom,
-    from: u64,
-    to: u64,
-) -> Option<u64>
+pub fn first_failure(space: &Space, table: &Table, named: &Axiom, from: u64, to: u64) -> Option<u64>
     requires rule { IsTrue (is_rule space.now table.now) }
     requires choice { space.now.kind ≡ Choice }
     requires sentence { IsTrue (is_sentence space.now named.now) }

@@ -20,16 +20,32 @@ pub fn value(space: &Space, term: &Term, env: &Env) -> u32
         Term::Var(level) => env.get(*level),
         Term::Const(number) => *number,
         Term::With(p, i, b) => {
-            space.with(value(space, p, env), value(space, i, env), value(space, b, env))
+            space.with(
+                value(space, p, env),
+                value(space, i, env),
+                value(space, b, env),
+            )
         }
         Term::SwapVoters(p, i, j) => {
-            space.swap_voters(value(space, p, env), value(space, i, env), value(space, j, env))
+            space.swap_voters(
+                value(space, p, env),
+                value(space, i, env),
+                value(space, j, env),
+            )
         }
         Term::SwapAlts(p, x, y) => {
-            space.swap_alts(value(space, p, env), value(space, x, env), value(space, y, env))
+            space.swap_alts(
+                value(space, p, env),
+                value(space, x, env),
+                value(space, y, env),
+            )
         }
         Term::Swap(x, y, z) => {
-            space.swap(value(space, x, env), value(space, y, env), value(space, z, env))
+            space.swap(
+                value(space, x, env),
+                value(space, y, env),
+                value(space, z, env),
+            )
         }
     }
 }

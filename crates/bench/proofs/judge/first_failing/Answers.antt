@@ -1,6 +1,6 @@
 use Rattle.std.proofs.Common.{◌≡◌, sym, ◌∙◌, slice_get, Some, ◌^◌, ◌-◌, min}
 use Rattle.vocab.specs.Limits.{instance_count}
-use Rattle.bench.proofs.FailingLemmas.{sentence_at, satisfied_more, failing_at}
+use Rattle.bench.proofs.FailingLemmas.{sentence_at, satisfied_more}
 use Rattle.bench.proofs.judge.first_failing.Goals as goal
 
 pub first_failure-requires-clause-sentence : goal.first_failure-requires-clause-sentence
