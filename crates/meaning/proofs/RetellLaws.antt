@@ -18,7 +18,7 @@ use Rattle.vocab.specs.Size.{Extent, sort_count, outcome_count}
 use Rattle.vocab.specs.Sorted.{is_sorted}
 use Rattle.vocab.specs.Study.{is_sentence}
 use Rattle.cnf.specs.Signed.{Signed}
-use Rattle.cnf.specs.Sat.{Clause, opposite_of as opposite_lit, same_lit, has as has_lit, is_tautology, is_falsified}
+use Rattle.cnf.specs.Sat.{Clause, opposite_lit, same_lit, has_lit, is_tautology, is_falsified}
 use Rattle.meaning.specs.declared.three.Three.{Three}
 use Rattle.meaning.specs.declared.three.Three.TheVariants.{True, False, Unknown}
 use Rattle.meaning.specs.Space.{below, up_from, digits_of}

@@ -17,8 +17,9 @@ use Rattle.vocab.specs.Size.{Extent, sort_count}
 use Rattle.vocab.specs.Sorted.{is_sorted, are_of_sorts}
 use Rattle.vocab.specs.Study.{is_sentence}
 use Rattle.cnf.specs.Signed.{Signed}
-use Rattle.cnf.specs.Sat.{Clause, opposite_of as opposite_lit, same_lit, is_lit_true, is_clause_true, is_satisfied, is_tautology}
-use Rattle.cnf.proofs.Sound.{same_true, opposite_true, tautology_true}
+use Rattle.cnf.specs.Sat.{Clause, opposite_lit, same_lit, is_lit_true, is_clause_true, is_satisfied, is_tautology}
+use Rattle.cnf.proofs.LitLaws.{same_lit-equal}
+use Rattle.cnf.proofs.SoundLaws.{opposite_true, tautology_true}
 use Rattle.meaning.specs.Space.{below, up_from, digits_of}
 use Rattle.meaning.specs.Written.{Written, Known, Fact, Neg, And, Or, Iff, evaluate}
 use Rattle.meaning.specs.Clauses.{Disjunctions, plus, pairs, pair_place, sorted_in, sorted, Frame, Instance, Sourced, firsts, lit_of, frame_of, clauses_of, instance_of, from_frame, from_instance, from_axiom, study_clauses}
@@ -72,7 +73,7 @@ module _ (v : ℕ → Bool) where
     where
       cases : (a b : Bool) → same_lit l k ≡ b → is_clause_true v (sorted_in l ks) ≡ (is_lit_true v l || is_clause_true v ks) → is_clause_true v (cond a (l ∷ k ∷ ks) (cond b (k ∷ ks) (k ∷ sorted_in l ks))) ≡ (is_lit_true v l || (is_lit_true v k || is_clause_true v ks))
       cases true b e ih = refl
-      cases false true e ih = or_twice (is_lit_true v l) (is_lit_true v k) (is_clause_true v ks) (same_true v l k e)
+      cases false true e ih = or_twice (is_lit_true v l) (is_lit_true v k) (is_clause_true v ks) (ap (is_lit_true v) (same_lit-equal l k e))
       cases false false e ih = ap (λ b. is_lit_true v k || b) ih ∙ or_swap (is_lit_true v k) (is_lit_true v l) (is_clause_true v ks)
 
   true-sorted : (ls : List Signed) → is_clause_true v (sorted ls) ≡ is_clause_true v ls
@@ -94,7 +95,7 @@ module _ (v : ℕ → Bool) where
   same_clause [] (l ∷ d) h = absurd (true≢false (sym h))
   same_clause (l ∷ c) [] h = absurd (true≢false (sym h))
   same_clause (l ∷ c) (k ∷ d) h =
-      let e = and_parts (same_lit l k) (pointwise same_lit c d) h in ap₂ (λ a b. a || b) (same_true v l k e.0) (same_clause c d e.1)
+      let e = and_parts (same_lit l k) (pointwise same_lit c d) h in ap₂ (λ a b. a || b) (ap (is_lit_true v) (same_lit-equal l k e.0)) (same_clause c d e.1)
 
   seen_true : (c : Clause) (seen : List Clause) → list_any (pointwise same_lit c) seen ≡ true → is_satisfied v seen ≡ true → is_clause_true v c ≡ true
   seen_true c [] h all = absurd (true≢false (sym h))
