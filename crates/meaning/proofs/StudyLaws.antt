@@ -1,35 +1,48 @@
--- What the clauses of a study say.
-use Rattle.std.proofs.Common.{◌≡◌, refl, sym, ◌∙◌, ap, ap₂, subst, ℕ, zero, suc, ◌+◌, ◌*◌, ◌<◌, ◌≢◌, Bool, true, false, not, ◌&&◌, ◌||◌, cond, inl, inr, List, [], ◌∷◌, ◌++◌, map, filter, length, Option, Some, None, arith, eq-eqb, lt-ltb, le-ltb, true≢false, append_assoc, append-nil}
-use Rattle.std.specs.Prelude.{◌==◌, nat_lt, nat_le, slice_get}
-use Rattle.std.specs.List.{list_all, list_any, flat_map}
+-- An assignment satisfies the clauses of a study exactly where it satisfies the frames and makes each instance of the chosen axioms true.
+use Rattle.std.proofs.Common.{◌&&◌, ◌++◌, ◌<◌, Bool, List, None, Option, Some, ap, append-nil, append_assoc, ap₂, arith, cond, false, filter, inl, inr, map, not, refl, subst, suc, sym, true, true≢false, zero, ℕ, ◌∙◌, ◌∷◌, ◌≡◌, ◌≢◌, ◌||◌, []}
+use Rattle.std.proofs.lemmas.Bool.{and_from, and_parts, or_cases}
+use Rattle.std.proofs.lemmas.List.Folds.{list_all-append, list_all-map}
 use Rattle.std.specs.Cmp.Lexicographic.{pointwise}
-use Rattle.std.proofs.lemmas.Bool.{and_parts, and_from, or_cases, both_ways, not-true, cases_order}
+use Rattle.std.specs.List.{flat_map, list_all, list_any}
+use Rattle.std.specs.Prelude.{nat_le, nat_lt, slice_get}
+use Rattle.vocab.specs.Formula.{body_of, prefix_of, quantifier_depth}
+use Rattle.vocab.specs.Limits.{bases_of, instance_count}
+use Rattle.vocab.specs.Literal.{opposite_of}
+use Rattle.vocab.specs.Size.{Extent, sort_count}
+use Rattle.vocab.specs.Sorted.{are_of_sorts, is_sorted}
+use Rattle.vocab.specs.Study.{is_sentence}
+use Rattle.vocab.specs.Titled.{Titled}
+use Rattle.vocab.specs.Tree.{All, Tree}
 use Rattle.vocab.specs.declared.kinds.Kind.{Kind}
-use Rattle.vocab.specs.declared.kinds.Kind.TheVariants.{Choice, Ranking, Sets}
+use Rattle.vocab.specs.declared.kinds.Kind.TheVariants.{Sets}
 use Rattle.vocab.specs.declared.kinds.Sort.{Sort}
 use Rattle.vocab.specs.declared.kinds.Sort.TheVariants.{Profile}
 use Rattle.vocab.specs.declared.literals.Literal.{Literal}
-use Rattle.vocab.specs.declared.literals.Literal.TheVariants.{Wins, Loses, Above}
-use Rattle.vocab.specs.Titled.{Titled}
-use Rattle.vocab.specs.Formula.{prefix_of, body_of, quantifier_depth}
-use Rattle.vocab.specs.Literal.{opposite_of}
-use Rattle.vocab.specs.Size.{Extent, sort_count}
-use Rattle.vocab.specs.Sorted.{is_sorted, are_of_sorts}
-use Rattle.vocab.specs.Study.{is_sentence}
-use Rattle.cnf.specs.Signed.{Signed}
-use Rattle.cnf.specs.Sat.{Clause, opposite_lit, same_lit, is_lit_true, is_clause_true, is_satisfied, is_tautology}
 use Rattle.cnf.proofs.LitLaws.{same_lit-equal}
 use Rattle.cnf.proofs.SoundLaws.{opposite_true, tautology_true}
-use Rattle.meaning.specs.Space.{below, up_from, digits_of}
-use Rattle.meaning.specs.Written.{Written, Known, Fact, Neg, And, Or, Iff, evaluate}
-use Rattle.meaning.specs.Clauses.{Disjunctions, plus, pairs, pair_place, sorted_in, sorted, Frame, Instance, Sourced, firsts, lit_of, frame_of, clauses_of, instance_of, from_frame, from_instance, from_axiom, study_clauses}
-use Rattle.meaning.specs.Stories.{is_literal_of, is_literal}
-use Rattle.meaning.specs.Laws.{AllFacts, IsProper, literal_under, is_frame_true, are_instances_true}
+use Rattle.cnf.specs.Sat.{Clause, is_clause_true, is_lit_true, is_satisfied, is_tautology, same_lit}
+use Rattle.cnf.specs.Signed.{Signed}
+use Rattle.meaning.specs.Clauses.{Disjunction, plus}
+use Rattle.meaning.specs.Laws.{AllFacts, IsProper, are_instances_true, clauses_for, is_frame_true, literal_under}
+use Rattle.meaning.specs.Literals.{is_literal, is_literal_of}
+use Rattle.meaning.specs.Space.{below, digits_of}
+use Rattle.meaning.specs.StudyClauses.{Frame, Instance, Sourced, clauses_of, firsts, frame_of, from_axiom, from_frame, from_instance, instance_of, sorted, sorted_in, study_clauses}
+use Rattle.meaning.specs.Variables.{lit_of}
+use Rattle.meaning.specs.Written.{And, Fact, Iff, Known, Neg, Or, Written, evaluate}
+use Rattle.meaning.proofs.ClauseLaws.{clauses_true}
 use Rattle.meaning.proofs.DigitLaws.{are_numbered}
 use Rattle.meaning.proofs.RangeLaws.{have_literals}
-use Rattle.meaning.proofs.ClauseLaws.{clauses_true}
-use Rattle.vocab.specs.Tree.{Tree, All}
-use Rattle.vocab.specs.Limits.{bases_of, instance_count}
+use Rattle.meaning.proofs.TestLaws.{all-agree, list_all-ext, list_all-flat_map, list_any-map}
+use Rattle.meaning.proofs.VariableLaws.{lit_of-opposite}
+
+-- what holds of each literal of a formula may be weakened
+pub AllFacts-map : (P Q : Literal → Type 0) (w : Written) → ((l : Literal) → P l → Q l) → AllFacts P w → AllFacts Q w
+AllFacts-map P Q (Known b) f h = tt
+AllFacts-map P Q (Fact l) f h = f l h
+AllFacts-map P Q (Neg a) f h = AllFacts-map P Q a f h
+AllFacts-map P Q (And a b) f h = (AllFacts-map P Q a f h.0, AllFacts-map P Q b f h.1)
+AllFacts-map P Q (Or a b) f h = (AllFacts-map P Q a f h.0, AllFacts-map P Q b f h.1)
+AllFacts-map P Q (Iff a b) f h = (AllFacts-map P Q a f h.0, AllFacts-map P Q b f h.1)
 
 or_swap : (a b c : Bool) → (a || (b || c)) ≡ (b || (a || c))
 or_swap true true c = refl
@@ -39,30 +52,6 @@ or_swap false b c = refl
 or_twice : (a b c : Bool) → a ≡ b → (b || c) ≡ (a || (b || c))
 or_twice true b c e = ap (λ x. x || c) (sym e)
 or_twice false b c e = refl
-
-pub list_any-map : {X Y : Type 0} (t : Y → Bool) (f : X → Y) (xs : List X) → list_any t (map f xs) ≡ list_any (λ x. t (f x)) xs
-list_any-map t f [] = refl
-list_any-map t f (x ∷ xs) = ap (λ b. t (f x) || b) (list_any-map t f xs)
-
-pub list_all-map : {X Y : Type 0} (t : Y → Bool) (f : X → Y) (xs : List X) → list_all t (map f xs) ≡ list_all (λ x. t (f x)) xs
-list_all-map t f [] = refl
-list_all-map t f (x ∷ xs) = ap (λ b. t (f x) && b) (list_all-map t f xs)
-
-list_all-append : {X : Type 0} (t : X → Bool) (xs ys : List X) → list_all t (xs ++ ys) ≡ (list_all t xs && list_all t ys)
-list_all-append t [] ys = refl
-list_all-append t (x ∷ xs) ys = ap (λ b. t x && b) (list_all-append t xs ys) ∙ sym (and_assoc (t x) (list_all t xs) (list_all t ys))
-  where
-    and_assoc : (a b c : Bool) → (a && b && c) ≡ (a && (b && c))
-    and_assoc true b c = refl
-    and_assoc false b c = refl
-
-pub list_all-flat_map : {X Y : Type 0} (t : Y → Bool) (f : X → List Y) (xs : List X) → list_all t (flat_map f xs) ≡ list_all (λ x. list_all t (f x)) xs
-list_all-flat_map t f [] = refl
-list_all-flat_map t f (x ∷ xs) = list_all-append t (f x) (flat_map f xs) ∙ ap (λ b. list_all t (f x) && b) (list_all-flat_map t f xs)
-
-list_all-same : {X : Type 0} (f g : X → Bool) (xs : List X) → ((x : X) → f x ≡ g x) → list_all f xs ≡ list_all g xs
-list_all-same f g [] h = refl
-list_all-same f g (x ∷ xs) h = ap₂ (λ a b. a && b) (h x) (list_all-same f g xs h)
 
 module _ (v : ℕ → Bool) where
   -- ---- one clause
@@ -116,8 +105,8 @@ module _ (v : ℕ → Bool) where
       cases true e skip keep = skip ∙ ap (λ b. b && list_all (λ (x : Sourced). is_clause_true v x.clause) ss) (sym (seen_true s.clause seen e h))
       cases false e skip keep = here (is_clause_true v s.clause) refl keep
 
--- the sentence of an axiom is well sorted
 module _ (size : Extent) (v : ℕ → Bool) where
+  -- the sentence of an axiom is well sorted
   abbrev pub IfSorted : Option Titled → Type 0
   IfSorted None = Unit {0}
   IfSorted (Some a) = is_sorted size [] a.sentence ≡ true
@@ -125,43 +114,17 @@ module _ (size : Extent) (v : ℕ → Bool) where
   true-row : (row : List Literal) → is_clause_true v (sorted (map (lit_of size) row)) ≡ list_any (literal_under size v) row
   true-row row = true-sorted v (map (lit_of size) row) ∙ list_any-map (is_lit_true v) (lit_of size) row
 
-  true-clauses_of : (rows : Disjunctions) → is_satisfied v (clauses_of size rows) ≡ list_all (list_any (literal_under size v)) rows
+  true-clauses_of : (rows : List Disjunction) → is_satisfied v (clauses_of size rows) ≡ list_all (list_any (literal_under size v)) rows
   true-clauses_of rows =
       true-filter v (map (λ row. sorted (map (lit_of size) row)) rows)
       ∙ list_all-map (is_clause_true v) (λ row. sorted (map (lit_of size) row)) rows
-      ∙ list_all-same _ _ rows true-row
+      ∙ list_all-ext _ _ rows true-row
 
-  -- ---- opposite literals
-
-  abbrev at : ℕ → ℕ → ℕ → Bool → Signed
-  at p a b sign = record { variable = p * length (pairs size.alternatives) + 1 + pair_place size.alternatives a b; positive = sign }
-
-  pub opposite_sign : (x y p : ℕ) → (x == y) ≡ false → lit_of size (Above y x p) ≡ opposite_lit (lit_of size (Above x y p))
-  opposite_sign x y p ne = elim (cases_order x y) [
-    | inl e ↦ absurd (both_ways _ ne (eq-eqb x y e))
-    | inr other ↦ elim other [
-      | inl lt ↦ ap (λ a. cond a (at p y x true) (at p x y false)) (le-ltb y x (omega arith)) ∙ sym (ap (λ a. opposite_lit (cond a (at p x y true) (at p y x false))) (lt-ltb x y lt))
-      | inr gt ↦ ap (λ a. cond a (at p y x true) (at p x y false)) (lt-ltb y x gt) ∙ sym (ap (λ a. opposite_lit (cond a (at p x y true) (at p y x false))) (le-ltb x y (omega arith)))
-    ]
-  ]
-
-  pub proper_of : (k : Kind) (l : Literal) → is_literal_of size k l ≡ true → literal_under size v (opposite_of l) ≡ not (literal_under size v l)
-  proper_of k (Wins x p) h = opposite_true v (lit_of size (Wins x p))
-  proper_of k (Loses x p) h = opposite_true v (lit_of size (Loses x p))
-  proper_of Choice (Above x y p) h = absurd (true≢false (sym h))
-  proper_of Ranking (Above x y p) h =
-      let a = and_parts _ (nat_lt p (sort_count size Profile)) h in
-      let b = and_parts _ (not (x == y)) a.0 in
-      ap (is_lit_true v) (opposite_sign x y p (not-true _ b.1)) ∙ opposite_true v (lit_of size (Above x y p))
-  proper_of Sets (Above x y p) h = absurd (true≢false (sym h))
+  pub two_sided : (k : Kind) (l : Literal) → is_literal_of size k l ≡ true → literal_under size v (opposite_of l) ≡ not (literal_under size v l)
+  two_sided k l h = ap (is_lit_true v) (lit_of-opposite size k l h) ∙ opposite_true v (lit_of size l)
 
   proper : (w : Written) → AllFacts (λ l. is_literal size l ≡ true) w → IsProper (literal_under size v) w
-  proper (Known b) h = tt
-  proper (Fact l) h = proper_of size.kind l h
-  proper (Neg a) h = proper a h
-  proper (And a b) h = (proper a h.0, proper b h.1)
-  proper (Or a b) h = (proper a h.0, proper b h.1)
-  proper (Iff a b) h = (proper a h.0, proper b h.1)
+  proper w h = AllFacts-map _ _ w (two_sided size.kind) h
 
   -- ---- instances
 
@@ -187,16 +150,12 @@ module _ (size : Extent) (v : ℕ → Bool) where
         let facts = have_literals size known_kind (prefix_of sentence) values suited (body_of sentence) (body_sorted sentence [] h) in
         true-clauses_of (plus (instance_of size sentence k)) ∙ (clauses_true (literal_under size v) (instance_of size sentence k) (proper (instance_of size sentence k) facts)).0
 
-    all_below-same : (f g : ℕ → Bool) (n a : ℕ) → ((k : ℕ) → k < a + n → f k ≡ g k) → list_all f (up_from a n) ≡ list_all g (up_from a n)
-    all_below-same f g zero a h = refl
-    all_below-same f g (suc n) a h = ap₂ (λ x y. x && y) (h a (omega arith)) (all_below-same f g n (suc a) (λ k lt. h k (omega arith)))
-
     true-axiom : (a : ℕ) (o : Option Titled) → (IfSorted o) → list_all (λ (s : Sourced). is_clause_true v s.clause) (from_axiom size a o) ≡ are_instances_true size v o
     true-axiom a None h = refl
     true-axiom a (Some x) h =
         true-firsts v [] (flat_map (from_instance size a x.sentence) (below (instance_count size x.sentence))) refl
         ∙ list_all-flat_map (λ (s : Sourced). is_clause_true v s.clause) (from_instance size a x.sentence) (below (instance_count size x.sentence))
-        ∙ all_below-same _ _ (instance_count size x.sentence) 0 (λ k lt.
+        ∙ all-agree _ _ (instance_count size x.sentence) 0 (λ k lt.
         list_all-map (λ (s : Sourced). is_clause_true v s.clause) (λ (c : Clause). record { clause = c; origin = Instance a k }) (clauses_of size (plus (instance_of size x.sentence k)))
         ∙ true-instance x.sentence h k (omega arith))
 
@@ -209,18 +168,18 @@ module _ (size : Extent) (v : ℕ → Bool) where
     true-frames : list_all (λ (s : Sourced). is_clause_true v s.clause) (flat_map (from_frame size) (below (sort_count size Profile))) ≡ is_frame_true size v
     true-frames =
         list_all-flat_map (λ (s : Sourced). is_clause_true v s.clause) (from_frame size) (below (sort_count size Profile))
-        ∙ list_all-same _ _ (below (sort_count size Profile)) (λ p.
+        ∙ list_all-ext _ _ (below (sort_count size Profile)) (λ p.
         list_all-map (λ (s : Sourced). is_clause_true v s.clause) (λ (c : Clause). record { clause = c; origin = Frame p }) (clauses_of size (frame_of size size.kind p))
         ∙ true-clauses_of (frame_of size size.kind p))
 
-    true-study : (axioms : List Titled) → list_all (is_sentence size) axioms ≡ true → (chosen : List ℕ) → is_satisfied v (map (λ (s : Sourced). s.clause) (study_clauses size axioms chosen)) ≡ (is_frame_true size v && list_all (λ k. are_instances_true size v (slice_get axioms k)) chosen)
+    true-study : (axioms : List Titled) → list_all (is_sentence size) axioms ≡ true → (chosen : List ℕ) → is_satisfied v (clauses_for size axioms chosen) ≡ (is_frame_true size v && list_all (λ k. are_instances_true size v (slice_get axioms k)) chosen)
     true-study axioms h chosen =
         list_all-map (is_clause_true v) (λ (s : Sourced). s.clause) (study_clauses size axioms chosen)
         ∙ list_all-append (λ (s : Sourced). is_clause_true v s.clause) (flat_map (from_frame size) (below (sort_count size Profile))) (flat_map (λ a. from_axiom size a (slice_get axioms a)) chosen)
         ∙ ap₂ (λ a b. a && b) true-frames
         (list_all-flat_map (λ (s : Sourced). is_clause_true v s.clause) (λ a. from_axiom size a (slice_get axioms a)) chosen
-        ∙ list_all-same _ _ chosen (λ a. true-axiom a (slice_get axioms a) (sorted_at axioms a h)))
+        ∙ list_all-ext _ _ chosen (λ a. true-axiom a (slice_get axioms a) (sorted_at axioms a h)))
 
 pub satisfy_study : (size : Extent) → size.kind ≢ Sets → (axioms : List Titled) → list_all (is_sentence size) axioms ≡ true → (chosen : List ℕ) (v : ℕ → Bool) →
-    is_satisfied v (map (λ (s : Sourced). s.clause) (study_clauses size axioms chosen)) ≡ (is_frame_true size v && list_all (λ k. are_instances_true size v (slice_get axioms k)) chosen)
+    is_satisfied v (clauses_for size axioms chosen) ≡ (is_frame_true size v && list_all (λ k. are_instances_true size v (slice_get axioms k)) chosen)
 satisfy_study size known_kind axioms h chosen v = true-study size v known_kind axioms h chosen

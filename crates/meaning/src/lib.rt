@@ -2,5 +2,8 @@
 #![tactic(auto)]
 
 pub mod laws;
-pub mod stories;
-pub mod three;
+mod stories;
+mod three;
+
+pub use stories::{Lemma, PlacedFault, Reason, StoryFault, StoryRefusal, StoryStep};
+pub use three::Three;
