@@ -5,7 +5,6 @@ use Rattle.std.proofs.lemmas.List.Folds.{list_all-map}
 use Rattle.std.specs.Cmp.Lexicographic.{pointwise}
 use Rattle.std.specs.List.{AllByRecursion, flat_map, list_all, list_any}
 use Rattle.std.specs.Prelude.{◌==◌, IsTrue, nat_lt, slice_get}
-use Rattle.vocab.specs.Formula.{body_of, prefix_of}
 use Rattle.vocab.specs.Limits.{bases_of, instance_count}
 use Rattle.vocab.specs.Literal.{has, opposite_of, profile_of, same_literal}
 use Rattle.vocab.specs.Size.{Extent, outcome_count, sort_count}
@@ -26,7 +25,9 @@ use Rattle.meaning.specs.Laws.{AllFacts, HasNoPair, IfAxiom, RefuteOrigin, some_
 use Rattle.meaning.specs.Literals.{is_literal, is_literal_of}
 use Rattle.meaning.specs.Space.{below, digits_of}
 use Rattle.meaning.specs.Stories.{are_false, is_false, is_instance_false, is_outcome_excluded}
-use Rattle.meaning.specs.StudyClauses.{Frame, Instance, Origin, Sourced, clauses_of, firsts, frame_of, from_axiom, from_frame, from_instance, instance_of, sorted, sorted_in, study_clauses}
+use Rattle.meaning.specs.declared.clauses.Origin.{Origin}
+use Rattle.meaning.specs.declared.clauses.Origin.TheVariants.{Frame, Instance}
+use Rattle.meaning.specs.StudyClauses.{no_circle, not_both, Sourced, clauses_of, firsts, frame_of, from_axiom, from_frame, from_instance, instance_of, sorted, sorted_in, study_clauses}
 use Rattle.meaning.specs.Truth.{holds_of}
 use Rattle.meaning.specs.Variables.{lit_of, pairs, triples}
 use Rattle.meaning.specs.Written.{And, Fact, Iff, Known, Neg, Or, Written}
@@ -37,10 +38,9 @@ use Rattle.meaning.proofs.DigitLaws.{are_numbered}
 use Rattle.meaning.proofs.FrameLaws.{is_frame}
 use Rattle.meaning.proofs.LiteralLaws.{choice_literal, is_literal-opposite, profile_of-opposite, ranking_literal, same_literal-equal, unequal}
 use Rattle.meaning.proofs.PairLaws.{pairs-from, triples-from}
-use Rattle.meaning.proofs.RangeLaws.{have_literals}
 use Rattle.meaning.proofs.RankingLaws.{All-append, All-flat_map}
 use Rattle.meaning.proofs.SpaceLaws.{all_from, any_at}
-use Rattle.meaning.proofs.StudyLaws.{IfSorted, body_sorted, sorted_at, suited_from}
+use Rattle.meaning.proofs.SentenceLaws.{IfSorted, instance_literals, sorted_at}
 use Rattle.meaning.proofs.TestLaws.{all_numbers, list_all-both, list_all-flat_map}
 use Rattle.meaning.proofs.VariableLaws.{known_from, lit_of-opposite}
 
@@ -141,14 +141,14 @@ module _ (size : Extent) (p : ℕ) (in_p : p < sort_count size Profile) where
   frame_here Choice =
       and_from _ _
       (list_all-map (is_here Choice) (λ (x : ℕ). Wins x p) (below size.alternatives) ∙ all_from (λ x. is_here Choice (Wins x p)) size.alternatives 0 (λ x low high. let in_x : x < size.alternatives = omega arith in here x in_x))
-      (list_all-map (list_all (is_here Choice)) (λ (t : ℕ × ℕ). Loses t.0 p ∷ Loses t.1 p ∷ []) (pairs size.alternatives)
-      ∙ pairs-from size.alternatives (λ (t : ℕ × ℕ). list_all (is_here Choice) (Loses t.0 p ∷ Loses t.1 p ∷ [])) (λ x y lt l. let in_x : x < size.alternatives = omega arith in and_from _ _ (here x in_x) (and_from _ _ (here y l) refl)))
+      (list_all-map (list_all (is_here Choice)) (not_both p) (pairs size.alternatives)
+      ∙ pairs-from size.alternatives (λ t. list_all (is_here Choice) (not_both p t)) (λ x y lt l. let in_x : x < size.alternatives = omega arith in and_from _ _ (here x in_x) (and_from _ _ (here y l) refl)))
     where
       here : (x : ℕ) → x < size.alternatives → (nat_lt x size.alternatives && nat_lt p (sort_count size Profile) && (p == p)) ≡ true
       here x lt = and_from _ _ (choice_literal size x p lt in_p) (eq-eqb p p refl)
   frame_here Ranking =
-      list_all-flat_map (list_all (is_here Ranking)) (λ (t : ℕ × ℕ × ℕ). (Above t.1 t.0 p ∷ Above t.2 t.1 p ∷ Above t.0 t.2 p ∷ []) ∷ (Above t.2 t.0 p ∷ Above t.1 t.2 p ∷ Above t.0 t.1 p ∷ []) ∷ []) (triples size.alternatives)
-      ∙ triples-from size.alternatives (λ (t : ℕ × ℕ × ℕ). list_all (list_all (is_here Ranking)) ((Above t.1 t.0 p ∷ Above t.2 t.1 p ∷ Above t.0 t.2 p ∷ []) ∷ (Above t.2 t.0 p ∷ Above t.1 t.2 p ∷ Above t.0 t.1 p ∷ []) ∷ [])) (λ x y z lt lt' l.
+      list_all-flat_map (list_all (is_here Ranking)) (no_circle p) (triples size.alternatives)
+      ∙ triples-from size.alternatives (λ (t : ℕ × ℕ × ℕ). list_all (list_all (is_here Ranking)) (no_circle p t)) (λ x y z lt lt' l.
       let in_y : y < size.alternatives = omega arith in
       let in_x : x < size.alternatives = omega arith in
       let xz : x < z = omega arith in
@@ -234,14 +234,13 @@ module _ (size : Extent) (known_kind : size.kind ≢ Sets) (axioms : List Titled
   instance_told k i a is sorted lt =
       let values = digits_of (bases_of size a.sentence) i in
       let digits = (are_numbered (bases_of size a.sentence)).digits i lt in
-      let suited = suited_from size (λ _. true) (prefix_of a.sentence) values digits in
-      let facts = have_literals size known_kind (prefix_of a.sentence) values suited (body_of a.sentence) (body_sorted size (λ _. true) a.sentence [] sorted) in
+      let facts = instance_literals size known_kind a.sentence sorted i lt in
       each_clause size known all_known (is_instance_false size known (Some a) values ≡ true) (λ c. record { clause = c; origin = Instance k i }) (λ c. refl) (RefuteOrigin size axioms known)
       (λ c e. subst (λ o. IfAxiom o (λ x. IsTrue (is_instance_false size known (Some x) (instance_values size x.sentence i)))) (sym is) e)
       (plus (instance_of size a.sentence i)) (rows_right size (instance_of size a.sentence i) facts).0
       (λ f. and_from _ _ digits (false_from _ ((clauses_decide known no_pair (instance_of size a.sentence i)).0 f)))
 
-  axiom_told : (k : ℕ) (o : Option Titled) → slice_get axioms k ≡ o → IfSorted size (λ _. true) o → AllByRecursion Told (from_axiom size k o)
+  axiom_told : (k : ℕ) (o : Option Titled) → slice_get axioms k ≡ o → IfSorted size o → AllByRecursion Told (from_axiom size k o)
   axiom_told k None is h = tt
   axiom_told k (Some a) is h =
       All-firsts Told [] (flat_map (from_instance size k a.sentence) (below (instance_count size a.sentence)))
@@ -249,7 +248,7 @@ module _ (size : Extent) (known_kind : size.kind ≢ Sets) (axioms : List Titled
 
   everywhere_told : (chosen : List ℕ) → AllByRecursion (λ (k : ℕ). AllByRecursion Told (from_axiom size k (slice_get axioms k))) chosen
   everywhere_told [] = tt
-  everywhere_told (k ∷ chosen) = (axiom_told k (slice_get axioms k) refl (sorted_at size (λ _. true) known_kind axioms k sentences), everywhere_told chosen)
+  everywhere_told (k ∷ chosen) = (axiom_told k (slice_get axioms k) refl (sorted_at size axioms k sentences), everywhere_told chosen)
 
   study_told : (chosen : List ℕ) → AllByRecursion Told (study_clauses size axioms chosen)
   study_told chosen =

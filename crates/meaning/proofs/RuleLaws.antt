@@ -6,8 +6,8 @@ use Rattle.std.proofs.lemmas.List.Recursion.{and_from_places}
 use Rattle.std.specs.Bool.{beq}
 use Rattle.std.specs.List.{list_all, list_any}
 use Rattle.std.specs.Prelude.{◌==◌, IsTrue, nat_le, nat_lt, slice_get, slice_index}
-use Rattle.vocab.specs.Formula.{body_of, prefix_of, quantifier_depth}
-use Rattle.vocab.specs.Limits.{bases_of, instance_count}
+use Rattle.vocab.specs.Formula.{quantifier_depth}
+use Rattle.vocab.specs.Limits.{instance_count}
 use Rattle.vocab.specs.Literal.{profile_of}
 use Rattle.vocab.specs.Size.{Extent, outcome_count, sort_count}
 use Rattle.vocab.specs.Sorted.{is_sorted}
@@ -22,21 +22,20 @@ use Rattle.vocab.specs.declared.literals.Literal.TheVariants.{Above, Loses, Wins
 use Rattle.cnf.specs.Sat.{is_satisfied}
 use Rattle.meaning.specs.Laws.{AllFacts, AreBitsOf, AreOf, are_instances_true, clauses_for, is_frame_true, literal_under}
 use Rattle.meaning.specs.Literals.{is_literal, is_literal_of}
-use Rattle.meaning.specs.Space.{below, digits_of}
-use Rattle.meaning.specs.StudyClauses.{frame_of, instance_of, sorted}
+use Rattle.meaning.specs.Space.{below}
+use Rattle.meaning.specs.StudyClauses.{no_circle, not_both, frame_of, instance_of}
 use Rattle.meaning.specs.Truth.{holds, holds_of, is_axiom_true, is_rule, is_true_at, satisfies}
 use Rattle.meaning.specs.Variables.{bits_of, pairs, triples}
 use Rattle.meaning.specs.Written.{And, Fact, Iff, Known, Neg, Or, Written, evaluate}
 use Rattle.meaning.proofs.BitLaws.{HasValues, bits_from_values, values_from_bits}
-use Rattle.meaning.proofs.DigitLaws.{are_numbered}
-use Rattle.meaning.proofs.FrameLaws.{is_frame, no_cycle}
+use Rattle.meaning.proofs.FrameLaws.{is_frame, is_circle_free}
 use Rattle.meaning.proofs.InstanceLaws.{are_instances}
 use Rattle.meaning.proofs.LiteralLaws.{choice_literal, profile_in, ranking_literal, unequal}
 use Rattle.meaning.proofs.PairLaws.{pairs-same, triples-same}
-use Rattle.meaning.proofs.RangeLaws.{have_literals}
 use Rattle.meaning.proofs.SpaceLaws.{all_at, all_from}
 use Rattle.meaning.proofs.StoryLaws.{outcome_in_range}
-use Rattle.meaning.proofs.StudyLaws.{AllFacts-map, body_sorted, satisfy_study, suited_from, two_sided}
+use Rattle.meaning.proofs.SentenceLaws.{instance_literals}
+use Rattle.meaning.proofs.StudyLaws.{AllFacts-map, satisfy_study, literal_under-opposite}
 use Rattle.meaning.proofs.TestLaws.{all-agree, any-agree, list_all-flat_map, list_any-map}
 
 module _ (size : Extent) (p : ℕ) (in_p : p < sort_count size Profile) (v u : Literal → Bool) where
@@ -45,17 +44,17 @@ module _ (size : Extent) (p : ℕ) (in_p : p < sort_count size Profile) (v u : L
   frame-same Choice h =
       ap₂ (λ a b. a && b)
       (list_any-map v (λ (x : ℕ). Wins x p) (below size.alternatives) ∙ any-agree (λ x. v (Wins x p)) (λ x. u (Wins x p)) size.alternatives 0 (λ x lt. h (Wins x p) (in_range x (omega arith)) refl) ∙ sym (list_any-map u (λ (x : ℕ). Wins x p) (below size.alternatives)))
-      (list_all-map (list_any v) (λ (t : ℕ × ℕ). Loses t.0 p ∷ Loses t.1 p ∷ []) (pairs size.alternatives)
-      ∙ pairs-same size.alternatives (λ (t : ℕ × ℕ). list_any v (Loses t.0 p ∷ Loses t.1 p ∷ [])) (λ (t : ℕ × ℕ). list_any u (Loses t.0 p ∷ Loses t.1 p ∷ [])) (λ x y lt l.
+      (list_all-map (list_any v) (not_both p) (pairs size.alternatives)
+      ∙ pairs-same size.alternatives (λ t. list_any v (not_both p t)) (λ t. list_any u (not_both p t)) (λ x y lt l.
       let in_x : x < size.alternatives = omega arith in
       ap₂ (λ a b. a || (b || false)) (h (Loses x p) (in_range x in_x) refl) (h (Loses y p) (in_range y l) refl))
-      ∙ sym (list_all-map (list_any u) (λ (t : ℕ × ℕ). Loses t.0 p ∷ Loses t.1 p ∷ []) (pairs size.alternatives)))
+      ∙ sym (list_all-map (list_any u) (not_both p) (pairs size.alternatives)))
     where
       in_range : (x : ℕ) → x < size.alternatives → (nat_lt x size.alternatives && nat_lt p (sort_count size Profile)) ≡ true
       in_range x lt = choice_literal size x p lt in_p
   frame-same Ranking h =
-      list_all-flat_map (list_any v) (λ (t : ℕ × ℕ × ℕ). (Above t.1 t.0 p ∷ Above t.2 t.1 p ∷ Above t.0 t.2 p ∷ []) ∷ (Above t.2 t.0 p ∷ Above t.1 t.2 p ∷ Above t.0 t.1 p ∷ []) ∷ []) (triples size.alternatives)
-      ∙ triples-same size.alternatives (no_cycle v p) (no_cycle u p) (λ x y z lt lt' l.
+      list_all-flat_map (list_any v) (no_circle p) (triples size.alternatives)
+      ∙ triples-same size.alternatives (is_circle_free v p) (is_circle_free u p) (λ x y z lt lt' l.
       let in_y : y < size.alternatives = omega arith in
       let in_x : x < size.alternatives = omega arith in
       let xz : x < z = omega arith in
@@ -66,7 +65,7 @@ module _ (size : Extent) (p : ℕ) (in_p : p < sort_count size Profile) (v u : L
       ap₂ (λ a b. a && (b && true))
       (three _ _ _ _ _ _ (agree y x in_y in_x xy.1) (agree z y l in_y yz.1) (agree x z in_x l xz'.0))
       (three _ _ _ _ _ _ (agree z x l in_x xz'.1) (agree y z in_y l yz.0) (agree x y in_x in_y xy.0)))
-      ∙ sym (list_all-flat_map (list_any u) (λ (t : ℕ × ℕ × ℕ). (Above t.1 t.0 p ∷ Above t.2 t.1 p ∷ Above t.0 t.2 p ∷ []) ∷ (Above t.2 t.0 p ∷ Above t.1 t.2 p ∷ Above t.0 t.1 p ∷ []) ∷ []) (triples size.alternatives))
+      ∙ sym (list_all-flat_map (list_any u) (no_circle p) (triples size.alternatives))
     where
       agree : (x y : ℕ) → x < size.alternatives → y < size.alternatives → (x == y) ≡ false → v (Above x y p) ≡ u (Above x y p)
       agree x y in_x in_y ne = h (Above x y p) (ranking_literal size x y p in_x in_y ne in_p) refl
@@ -99,9 +98,7 @@ module _ (size : Extent) (known_kind : size.kind ≢ Sets) (v : ℕ → Bool) wh
   instances-same : (table : List ℕ) → HasValues size table v → (sentence : Tree) → is_sorted size [] sentence ≡ true → list_all (λ k. evaluate (literal_under size v) (instance_of size sentence k)) (below (instance_count size sentence)) ≡ is_true_at size table sentence []
   instances-same table bits sentence sorted =
       all-agree _ _ (instance_count size sentence) 0 (λ k lt.
-      let values = digits_of (bases_of size sentence) k in
-      let suited = suited_from size v (prefix_of sentence) values ((are_numbered (bases_of size sentence)).digits k (omega (arith, lt))) in
-      let facts = have_literals size known_kind (prefix_of sentence) values suited (body_of sentence) (body_sorted size v sentence [] sorted) in
+      let facts = instance_literals size known_kind sentence sorted k (omega (arith, lt)) in
       evaluate-same (literal_under size v) (holds size table) (instance_of size sentence k) (AllFacts-map (λ l. is_literal size l ≡ true) (λ l. literal_under size v l ≡ holds size table l) (instance_of size sentence k) bits facts))
       ∙ sym (are_instances size table sentence)
 
@@ -127,7 +124,7 @@ module _ (size : Extent) (known_kind : size.kind ≢ Sets) (v : ℕ → Bool) wh
   rule_from frames =
       let found = listed Fits (sort_count size Profile) 0 (λ p low high.
       let in_p : p < sort_count size Profile = omega arith in
-      let one = (is_frame size known_kind p in_p).some (literal_under size v) (two_sided size v size.kind) (all_at (λ q. list_all (list_any (literal_under size v)) (frame_of size size.kind q)) (sort_count size Profile) 0 p frames low high) in
+      let one = (is_frame size known_kind p in_p).some (literal_under size v) (literal_under-opposite size v size.kind) (all_at (λ q. list_all (list_any (literal_under size v)) (frame_of size size.kind q)) (sort_count size Profile) 0 p frames low high) in
       (one.0, (one.1, one.2))) in
       (found.0, rule found.0 found.1 found.2, bits found.0 found.2)
     where

@@ -1,21 +1,19 @@
 -- An assignment satisfies the clauses of a study exactly where it satisfies the frames and makes each instance of the chosen axioms true.
-use Rattle.std.proofs.Common.{◌&&◌, ◌++◌, ◌<◌, Bool, List, None, Option, Some, ap, append-nil, append_assoc, ap₂, arith, cond, false, filter, inl, inr, map, not, refl, subst, suc, sym, true, true≢false, zero, ℕ, ◌∙◌, ◌∷◌, ◌≡◌, ◌≢◌, ◌||◌, []}
+use Rattle.std.proofs.Common.{◌&&◌, ◌<◌, Bool, List, None, Option, Some, ap, ap₂, arith, cond, false, filter, inl, inr, map, not, refl, sym, true, true≢false, ℕ, ◌∙◌, ◌∷◌, ◌≡◌, ◌≢◌, ◌||◌, []}
 use Rattle.std.proofs.lemmas.Bool.{and_from, and_parts, or_cases}
 use Rattle.std.proofs.lemmas.List.Folds.{list_all-append, list_all-map}
 use Rattle.std.specs.Cmp.Lexicographic.{pointwise}
 use Rattle.std.specs.List.{flat_map, list_all, list_any}
-use Rattle.std.specs.Prelude.{nat_le, nat_lt, slice_get}
-use Rattle.vocab.specs.Formula.{body_of, prefix_of, quantifier_depth}
-use Rattle.vocab.specs.Limits.{bases_of, instance_count}
+use Rattle.std.specs.Prelude.{nat_lt, slice_get}
+use Rattle.vocab.specs.Limits.{instance_count}
 use Rattle.vocab.specs.Literal.{opposite_of}
 use Rattle.vocab.specs.Size.{Extent, sort_count}
-use Rattle.vocab.specs.Sorted.{are_of_sorts, is_sorted}
+use Rattle.vocab.specs.Sorted.{is_sorted}
 use Rattle.vocab.specs.Study.{is_sentence}
 use Rattle.vocab.specs.Titled.{Titled}
-use Rattle.vocab.specs.Tree.{All, Tree}
+use Rattle.vocab.specs.Tree.{Tree}
 use Rattle.vocab.specs.declared.kinds.Kind.{Kind}
 use Rattle.vocab.specs.declared.kinds.Kind.TheVariants.{Sets}
-use Rattle.vocab.specs.declared.kinds.Sort.{Sort}
 use Rattle.vocab.specs.declared.kinds.Sort.TheVariants.{Profile}
 use Rattle.vocab.specs.declared.literals.Literal.{Literal}
 use Rattle.cnf.proofs.LitLaws.{same_lit-equal}
@@ -25,13 +23,13 @@ use Rattle.cnf.specs.Signed.{Signed}
 use Rattle.meaning.specs.Clauses.{Disjunction, plus}
 use Rattle.meaning.specs.Laws.{AllFacts, IsProper, are_instances_true, clauses_for, is_frame_true, literal_under}
 use Rattle.meaning.specs.Literals.{is_literal, is_literal_of}
-use Rattle.meaning.specs.Space.{below, digits_of}
-use Rattle.meaning.specs.StudyClauses.{Frame, Instance, Sourced, clauses_of, firsts, frame_of, from_axiom, from_frame, from_instance, instance_of, sorted, sorted_in, study_clauses}
+use Rattle.meaning.specs.Space.{below}
+use Rattle.meaning.specs.declared.clauses.Origin.TheVariants.{Frame, Instance}
+use Rattle.meaning.specs.StudyClauses.{Sourced, clauses_of, firsts, frame_of, from_axiom, from_frame, from_instance, instance_of, sorted, sorted_in, study_clauses}
 use Rattle.meaning.specs.Variables.{lit_of}
 use Rattle.meaning.specs.Written.{And, Fact, Iff, Known, Neg, Or, Written, evaluate}
 use Rattle.meaning.proofs.ClauseLaws.{clauses_true}
-use Rattle.meaning.proofs.DigitLaws.{are_numbered}
-use Rattle.meaning.proofs.RangeLaws.{have_literals}
+use Rattle.meaning.proofs.SentenceLaws.{IfSorted, sorted_at, instance_literals}
 use Rattle.meaning.proofs.TestLaws.{all-agree, list_all-ext, list_all-flat_map, list_any-map}
 use Rattle.meaning.proofs.VariableLaws.{lit_of-opposite}
 
@@ -106,11 +104,6 @@ module _ (v : ℕ → Bool) where
       cases false e skip keep = here (is_clause_true v s.clause) refl keep
 
 module _ (size : Extent) (v : ℕ → Bool) where
-  -- the sentence of an axiom is well sorted
-  abbrev pub IfSorted : Option Titled → Type 0
-  IfSorted None = Unit {0}
-  IfSorted (Some a) = is_sorted size [] a.sentence ≡ true
-
   true-row : (row : List Literal) → is_clause_true v (sorted (map (lit_of size) row)) ≡ list_any (literal_under size v) row
   true-row row = true-sorted v (map (lit_of size) row) ∙ list_any-map (is_lit_true v) (lit_of size) row
 
@@ -120,37 +113,19 @@ module _ (size : Extent) (v : ℕ → Bool) where
       ∙ list_all-map (is_clause_true v) (λ row. sorted (map (lit_of size) row)) rows
       ∙ list_all-ext _ _ rows true-row
 
-  pub two_sided : (k : Kind) (l : Literal) → is_literal_of size k l ≡ true → literal_under size v (opposite_of l) ≡ not (literal_under size v l)
-  two_sided k l h = ap (is_lit_true v) (lit_of-opposite size k l h) ∙ opposite_true v (lit_of size l)
+  pub literal_under-opposite : (k : Kind) (l : Literal) → is_literal_of size k l ≡ true → literal_under size v (opposite_of l) ≡ not (literal_under size v l)
+  literal_under-opposite k l h = ap (is_lit_true v) (lit_of-opposite size k l h) ∙ opposite_true v (lit_of size l)
 
   proper : (w : Written) → AllFacts (λ l. is_literal size l ≡ true) w → IsProper (literal_under size v) w
-  proper w h = AllFacts-map _ _ w (two_sided size.kind) h
-
-  -- ---- instances
-
-  nothing_more : (f : Tree) (sorts : List Sort) → is_sorted size sorts f ≡ true → is_sorted size (sorts ++ []) f ≡ true
-  nothing_more f sorts h = subst (λ ss. is_sorted size ss f ≡ true) (sym (append-nil sorts)) h
-
-  pub body_sorted : (f : Tree) (sorts : List Sort) → is_sorted size sorts f ≡ true → is_sorted size (sorts ++ prefix_of f) (body_of f) ≡ true
-  body_sorted (All s f) sorts h = subst (λ ss. is_sorted size ss (body_of f) ≡ true) (append_assoc sorts (s ∷ []) (prefix_of f)) (body_sorted f (sorts ++ s ∷ []) h)
-  body_sorted f sorts h = nothing_more f sorts h
-
-  pub suited_from : (sorts : List Sort) (values : List ℕ) → pointwise nat_lt values (map (sort_count size) sorts) ≡ true → are_of_sorts size sorts values ≡ true
-  suited_from [] [] h = refl
-  suited_from [] (v ∷ values) h = absurd (true≢false (sym h))
-  suited_from (s ∷ sorts) [] h = absurd (true≢false (sym h))
-  suited_from (s ∷ sorts) (v ∷ values) h =
-      let e = and_parts (nat_lt v (sort_count size s)) (pointwise nat_lt values (map (sort_count size) sorts)) h in and_from _ _ e.0 (suited_from sorts values e.1)
+  proper w h = AllFacts-map _ _ w (literal_under-opposite size.kind) h
 
   module _ (known_kind : size.kind ≢ Sets) where
     true-instance : (sentence : Tree) → is_sorted size [] sentence ≡ true → (k : ℕ) → k < instance_count size sentence → is_satisfied v (clauses_of size (plus (instance_of size sentence k))) ≡ evaluate (literal_under size v) (instance_of size sentence k)
     true-instance sentence h k lt =
-        let values = digits_of (bases_of size sentence) k in
-        let suited = suited_from (prefix_of sentence) values ((are_numbered (bases_of size sentence)).digits k lt) in
-        let facts = have_literals size known_kind (prefix_of sentence) values suited (body_of sentence) (body_sorted sentence [] h) in
+        let facts = instance_literals size known_kind sentence h k lt in
         true-clauses_of (plus (instance_of size sentence k)) ∙ (clauses_true (literal_under size v) (instance_of size sentence k) (proper (instance_of size sentence k) facts)).0
 
-    true-axiom : (a : ℕ) (o : Option Titled) → (IfSorted o) → list_all (λ (s : Sourced). is_clause_true v s.clause) (from_axiom size a o) ≡ are_instances_true size v o
+    true-axiom : (a : ℕ) (o : Option Titled) → IfSorted size o → list_all (λ (s : Sourced). is_clause_true v s.clause) (from_axiom size a o) ≡ are_instances_true size v o
     true-axiom a None h = refl
     true-axiom a (Some x) h =
         true-firsts v [] (flat_map (from_instance size a x.sentence) (below (instance_count size x.sentence))) refl
@@ -158,12 +133,6 @@ module _ (size : Extent) (v : ℕ → Bool) where
         ∙ all-agree _ _ (instance_count size x.sentence) 0 (λ k lt.
         list_all-map (λ (s : Sourced). is_clause_true v s.clause) (λ (c : Clause). record { clause = c; origin = Instance a k }) (clauses_of size (plus (instance_of size x.sentence k)))
         ∙ true-instance x.sentence h k (omega arith))
-
-    pub sorted_at : (axioms : List Titled) (k : ℕ) → list_all (is_sentence size) axioms ≡ true → IfSorted (slice_get axioms k)
-    sorted_at [] k h = tt
-    sorted_at (a ∷ axioms) zero h =
-        (and_parts (is_sorted size [] a.sentence) (nat_le (quantifier_depth a.sentence) 12) (and_parts (is_sentence size a) (list_all (is_sentence size) axioms) h).0).0
-    sorted_at (a ∷ axioms) (suc k) h = sorted_at axioms k (and_parts (is_sentence size a) (list_all (is_sentence size) axioms) h).1
 
     true-frames : list_all (λ (s : Sourced). is_clause_true v s.clause) (flat_map (from_frame size) (below (sort_count size Profile))) ≡ is_frame_true size v
     true-frames =
@@ -178,7 +147,7 @@ module _ (size : Extent) (v : ℕ → Bool) where
         ∙ list_all-append (λ (s : Sourced). is_clause_true v s.clause) (flat_map (from_frame size) (below (sort_count size Profile))) (flat_map (λ a. from_axiom size a (slice_get axioms a)) chosen)
         ∙ ap₂ (λ a b. a && b) true-frames
         (list_all-flat_map (λ (s : Sourced). is_clause_true v s.clause) (λ a. from_axiom size a (slice_get axioms a)) chosen
-        ∙ list_all-ext _ _ chosen (λ a. true-axiom a (slice_get axioms a) (sorted_at axioms a h)))
+        ∙ list_all-ext _ _ chosen (λ a. true-axiom a (slice_get axioms a) (sorted_at size axioms a h)))
 
 pub satisfy_study : (size : Extent) → size.kind ≢ Sets → (axioms : List Titled) → list_all (is_sentence size) axioms ≡ true → (chosen : List ℕ) (v : ℕ → Bool) →
     is_satisfied v (clauses_for size axioms chosen) ≡ (is_frame_true size v && list_all (λ k. are_instances_true size v (slice_get axioms k)) chosen)

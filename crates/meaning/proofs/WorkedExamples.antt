@@ -19,9 +19,11 @@ use Rattle.meaning.specs.declared.stories.StoryFault.TheVariants.{NotInCore, Lat
 use Rattle.meaning.specs.declared.stories.StoryRefusal.{StoryRefusal}
 use Rattle.meaning.specs.declared.stories.StoryRefusal.TheVariants.{Lemma as InLemma, Empty}
 use Rattle.meaning.specs.declared.stories.StoryStep.{StoryStep}
-use Rattle.meaning.specs.Cores.{Rule, Open, is_core_right}
+use Rattle.meaning.specs.declared.cores.Witness.TheVariants.{Rule, Open}
+use Rattle.meaning.specs.Cores.{is_core_right}
 use Rattle.meaning.specs.Instances.{is_instance_true}
-use Rattle.meaning.specs.Measure.{Counts, plus_counts}
+use Rattle.meaning.specs.declared.clauses.Counts.{Counts}
+use Rattle.meaning.specs.Measure.{plus_counts}
 use Rattle.meaning.specs.Space.{rankings, ballots}
 use Rattle.meaning.specs.Stories.{is_story}
 use Rattle.meaning.specs.StoryFaults.{story_refusal}

@@ -28,21 +28,26 @@ use Rattle.meaning.specs.StoryFaults.{story_refusal}
 use Rattle.meaning.specs.Clauses.{Disjunction, plus, minus}
 use Rattle.meaning.specs.Measure.{plus_counts, minus_counts, counts_of}
 use Rattle.meaning.specs.Variables.{variable_count, lit_of, literal_of, bits_of}
-use Rattle.meaning.specs.StudyClauses.{Origin, Frame, Instance, Sourced, frame_of, instance_of, study_clauses}
+use Rattle.meaning.specs.declared.clauses.Origin.{Origin}
+use Rattle.meaning.specs.declared.clauses.Origin.TheVariants.{Frame, Instance}
+use Rattle.meaning.specs.StudyClauses.{Sourced, frame_of, instance_of, study_clauses}
 
 -- ---- terms and formulas
 
 -- the value of a term of a sort is one of the sort, where each variable has a value of its sort
 abbrev pub TermsHaveValues : Type 0
-TermsHaveValues = (size : Extent) (sorts : List Sort) (env : List ℕ) → IsTrue (are_of_sorts size sorts env) → (s : Sort) (t : TermTree) → IsTrue (is_of_sort size sorts s t) → value size env t < sort_count size s
+TermsHaveValues = (size : Extent) (sorts : List Sort) (env : List ℕ) → IsTrue (are_of_sorts size sorts env) →
+    (s : Sort) (t : TermTree) → IsTrue (is_of_sort size sorts s t) → value size env t < sort_count size s
 
 -- a sentence is true of a rule exactly where the body of each instance is
 abbrev pub SentencesHaveInstances : Type 0
-SentencesHaveInstances = (size : Extent) (table : List ℕ) (sentence : Tree) → is_true_at size table sentence [] ≡ list_all (is_instance_true size table sentence) (below (instance_count size sentence))
+SentencesHaveInstances = (size : Extent) (table : List ℕ) (sentence : Tree) →
+    is_true_at size table sentence [] ≡ list_all (is_instance_true size table sentence) (below (instance_count size sentence))
 
 -- a formula is true of a rule exactly where it is so written out
 abbrev pub TruthIsWritten : Type 0
-TruthIsWritten = (size : Extent) (table : List ℕ) (f : Tree) (env : List ℕ) → is_true_at size table f env ≡ evaluate (holds size table) (write_out size f env)
+TruthIsWritten = (size : Extent) (table : List ℕ) (f : Tree) (env : List ℕ) →
+    is_true_at size table f env ≡ evaluate (holds size table) (write_out size f env)
 
 -- what holds of each literal of a written-out formula
 abbrev pub AllFacts : (Literal → Type 0) → Written → Type 0
@@ -55,7 +60,8 @@ AllFacts P (Iff a b) = AllFacts P a × AllFacts P b
 
 -- the literals of a well-sorted formula are literals of the size
 abbrev pub FormulasHaveLiterals : Type 0
-FormulasHaveLiterals = (size : Extent) → size.kind ≢ Sets → (sorts : List Sort) (env : List ℕ) → IsTrue (are_of_sorts size sorts env) → (f : Tree) → IsTrue (is_sorted size sorts f) → AllFacts (λ l. IsTrue (is_literal size l)) (write_out size f env)
+FormulasHaveLiterals = (size : Extent) → size.kind ≢ Sets → (sorts : List Sort) (env : List ℕ) → IsTrue (are_of_sorts size sorts env) →
+    (f : Tree) → IsTrue (is_sorted size sorts f) → AllFacts (λ l. IsTrue (is_literal size l)) (write_out size f env)
 
 -- ---- partial truth and stories
 
@@ -65,15 +71,18 @@ Hold v known = (l : Literal) → IsTrue (has known l) → IsTrue (v l)
 
 -- a formula that is false under some literals is false of each rule of which they hold
 abbrev pub PartialTruthIsSound : Type 0
-PartialTruthIsSound = (size : Extent) (table : List ℕ) (known : List Literal) (f : Tree) (env : List ℕ) → Hold (holds size table) known → partial_truth known (write_out size f env) ≡ False → IsFalse (is_true_at size table f env)
+PartialTruthIsSound = (size : Extent) (table : List ℕ) (known : List Literal) (f : Tree) (env : List ℕ) → Hold (holds size table) known →
+    partial_truth known (write_out size f env) ≡ False → IsFalse (is_true_at size table f env)
 
 -- where a story is accepted, no rule satisfies the core
 abbrev pub AcceptedStoryHasNoRule : Type 0
-AcceptedStoryHasNoRule = (size : Extent) (axioms : List Titled) (core : List ℕ) (story : List Lemma) → IsTrue (is_story size axioms core story) → (table : List ℕ) → ¬ IsTrue (satisfies size axioms core table)
+AcceptedStoryHasNoRule = (size : Extent) (axioms : List Titled) (core : List ℕ) (story : List Lemma) → IsTrue (is_story size axioms core story) →
+    (table : List ℕ) → ¬ IsTrue (satisfies size axioms core table)
 
 -- a story over literals of the size has no faulty line exactly where it is accepted
 abbrev pub FaultlessIsAccepted : Type 0
-FaultlessIsAccepted = (size : Extent) (axioms : List Titled) (core : List ℕ) (story : List Lemma) → IsTrue (list_all (has_literals size) story) → (story_refusal size axioms core story ≡ None) ↔ IsTrue (is_story size axioms core story)
+FaultlessIsAccepted = (size : Extent) (axioms : List Titled) (core : List ℕ) (story : List Lemma) → IsTrue (list_all (has_literals size) story) →
+    (story_refusal size axioms core story ≡ None) ↔ IsTrue (is_story size axioms core story)
 
 -- ---- the clauses of a formula
 
@@ -83,7 +92,8 @@ IsProper v w = AllFacts (λ l. v (opposite_of l) ≡ not (v l)) w
 
 -- the plus clauses of a formula hold exactly where it is true, and the minus clauses exactly where it is false
 abbrev pub ClausesSayTruth : Type 0
-ClausesSayTruth = (v : Literal → Bool) (w : Written) → IsProper v w → (list_all (list_any v) (plus w) ≡ evaluate v w) × (list_all (list_any v) (minus w) ≡ not (evaluate v w))
+ClausesSayTruth = (v : Literal → Bool) (w : Written) → IsProper v w →
+    (list_all (list_any v) (plus w) ≡ evaluate v w) × (list_all (list_any v) (minus w) ≡ not (evaluate v w))
 
 -- no literal is known together with its opposite
 abbrev pub HasNoPair : List Literal → Type 0
@@ -95,11 +105,13 @@ some_false known rows = list_any (are_false known) rows
 
 -- where known literals falsify a plus clause of a formula it is known to be false, and where they falsify a minus clause it is known to be true
 abbrev pub ClausesDecide : Type 0
-ClausesDecide = (known : List Literal) → HasNoPair known → (w : Written) → (IsTrue (some_false known (plus w)) → partial_truth known w ≡ False) × (IsTrue (some_false known (minus w)) → partial_truth known w ≡ True)
+ClausesDecide = (known : List Literal) → HasNoPair known → (w : Written) →
+    (IsTrue (some_false known (plus w)) → partial_truth known w ≡ False) × (IsTrue (some_false known (minus w)) → partial_truth known w ≡ True)
 
 -- the clauses of `A <-> B` are the plus clauses of `(!A | B) & (A | !B)`, and of `(!A | !B) & (A | B)`
 abbrev pub ClausesOfIff : Type 0
-ClausesOfIff = (a b : Written) → (plus (Iff a b) ≡ plus (And (Or (Neg a) b) (Or a (Neg b)))) × (minus (Iff a b) ≡ plus (And (Or (Neg a) (Neg b)) (Or a b)))
+ClausesOfIff = (a b : Written) →
+    (plus (Iff a b) ≡ plus (And (Or (Neg a) b) (Or a (Neg b)))) × (minus (Iff a b) ≡ plus (And (Or (Neg a) (Neg b)) (Or a b)))
 
 -- the counts of a formula are those of its clauses
 abbrev pub FormulasHaveCounts : Type 0
@@ -125,7 +137,8 @@ literal_under size v l = is_lit_true v (lit_of size l)
 
 -- the bits of a rule give each literal of the size the truth value that it has of the rule
 abbrev pub RulesHaveBits : Type 0
-RulesHaveBits = (size : Extent) → size.kind ≢ Sets → (table : List ℕ) → IsTrue (is_rule size table) → (l : Literal) → IsTrue (is_literal size l) → literal_under size (bits_of size table) l ≡ holds size table l
+RulesHaveBits = (size : Extent) → size.kind ≢ Sets → (table : List ℕ) → IsTrue (is_rule size table) →
+    (l : Literal) → IsTrue (is_literal size l) → literal_under size (bits_of size table) l ≡ holds size table l
 
 -- ---- frames
 
@@ -140,8 +153,10 @@ AreOf size p outcome v = (l : Literal) → IsTrue (is_literal size l) → profil
 -- the frame of a profile says that there is exactly one outcome: each satisfies it, truth values that satisfy it are those of one, and of no other
 pub record IsFrame (size : Extent) (p : ℕ) : Type 0 where
   pub each : (o : ℕ) → o < outcome_count size.kind size.alternatives → IsTrue (list_all (list_any (holds_of size o)) (frame_of size size.kind p))
-  pub some : (v : Literal → Bool) → IsTwoSided size v → IsTrue (list_all (list_any v) (frame_of size size.kind p)) → (o : ℕ) × (o < outcome_count size.kind size.alternatives) × AreOf size p o v
-  pub one : (v : Literal → Bool) (o q : ℕ) → o < outcome_count size.kind size.alternatives → q < outcome_count size.kind size.alternatives → AreOf size p o v → AreOf size p q v → o ≡ q
+  pub some : (v : Literal → Bool) → IsTwoSided size v → IsTrue (list_all (list_any v) (frame_of size size.kind p)) →
+      (o : ℕ) × (o < outcome_count size.kind size.alternatives) × AreOf size p o v
+  pub one : (v : Literal → Bool) (o q : ℕ) → o < outcome_count size.kind size.alternatives → q < outcome_count size.kind size.alternatives →
+      AreOf size p o v → AreOf size p q v → o ≡ q
 
 -- of each profile of a size
 abbrev pub FramesSayOutcome : Type 0

@@ -13,6 +13,8 @@ use Rattle.vocab.specs.Titled.{Titled}
 use Rattle.vocab.specs.Tree.{Tree}
 use Rattle.cnf.specs.Signed.{Signed}
 use Rattle.cnf.specs.Sat.{Clause, same_lit, is_tautology}
+use Rattle.meaning.specs.declared.clauses.Origin.{Origin}
+use Rattle.meaning.specs.declared.clauses.Origin.TheVariants.{Frame, Instance}
 use Rattle.meaning.specs.Clauses.{Disjunction, plus}
 use Rattle.meaning.specs.Instances.{instance_values}
 use Rattle.meaning.specs.Space.{below}
@@ -33,11 +35,6 @@ sorted (l ∷ ls) = sorted_in l (sorted ls)
 
 -- ---- clauses with their origins
 
--- where a clause comes from: the frame of a profile, or an instance of the axiom at a place of the study
-pub data Origin : Type 0 where
-  Frame : (profile : ℕ) → Origin
-  Instance : (place number : ℕ) → Origin
-
 -- a clause and its origin
 pub record Sourced : Type 0 where
   pub clause : Clause
@@ -48,11 +45,19 @@ abbrev pub firsts : List Clause → List Sourced → List Sourced
 firsts seen [] = []
 firsts seen (s ∷ rest) = if list_any (pointwise same_lit s.clause) seen then firsts seen rest else s ∷ firsts (s.clause ∷ seen) rest
 
+-- of two alternatives not both win at a profile
+abbrev pub not_both : ℕ → ℕ × ℕ → Disjunction
+not_both p = λ (x, y). Loses x p ∷ Loses y p ∷ []
+
+-- three alternatives do not stand in a circle at a profile, in either direction
+abbrev pub no_circle : ℕ → ℕ × ℕ × ℕ → List Disjunction
+no_circle p = λ (x, y, z). (Above y x p ∷ Above z y p ∷ Above x z p ∷ []) ∷ (Above z x p ∷ Above y z p ∷ Above x y p ∷ []) ∷ []
+
 module _ (size : Extent) where
-  -- the frame of a profile: some alternative wins and no two do, or no three alternatives go round in a circle
+  -- the frame of a profile: some alternative wins and no two do; or no three stand in a circle
   abbrev pub frame_of : Kind → ℕ → List Disjunction
-  frame_of Choice p = map (λ x. Wins x p) (below size.alternatives) ∷ map (λ (x, y). Loses x p ∷ Loses y p ∷ []) (pairs size.alternatives)
-  frame_of Ranking p = flat_map (λ (x, y, z). (Above y x p ∷ Above z y p ∷ Above x z p ∷ []) ∷ (Above z x p ∷ Above y z p ∷ Above x y p ∷ []) ∷ []) (triples size.alternatives)
+  frame_of Choice p = map (λ x. Wins x p) (below size.alternatives) ∷ map (not_both p) (pairs size.alternatives)
+  frame_of Ranking p = flat_map (no_circle p) (triples size.alternatives)
   frame_of Sets p = []
 
   -- the numbered clauses of some disjunctions, tautologies left out

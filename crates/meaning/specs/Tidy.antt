@@ -13,7 +13,9 @@ use Rattle.meaning.specs.declared.stories.StoryStep.{StoryStep}
 use Rattle.meaning.specs.declared.stories.Lemma.{Lemma}
 use Rattle.meaning.specs.Space.{number_of}
 use Rattle.meaning.specs.Stories.{claim_of}
-use Rattle.meaning.specs.StudyClauses.{Origin, Frame, Instance, study_clauses}
+use Rattle.meaning.specs.declared.clauses.Origin.{Origin}
+use Rattle.meaning.specs.declared.clauses.Origin.TheVariants.{Frame, Instance}
+use Rattle.meaning.specs.StudyClauses.{study_clauses}
 use Rattle.meaning.specs.Variables.{lit_of}
 
 -- ---- cited lemmas
