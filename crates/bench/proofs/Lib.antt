@@ -1,0 +1,5 @@
+pub mod OneRule
+pub mod OneAnswer
+pub mod CheckLemmas
+pub mod AnswerLemmas
+pub mod RowLemmas

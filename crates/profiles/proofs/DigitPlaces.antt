@@ -1,0 +1,119 @@
+-- A digit of a number is a quotient's remainder.
+use Rattle.std.proofs.Common.{◌≡◌, refl, sym, ◌∙◌, ap, subst, ℕ, zero, suc, ◌+◌, ◌-◌, ◌*◌, ◌/◌, ◌%◌, ◌<◌, List, [], ◌∷◌, ◌++◌, length, get_or, take, drop, replicate, set, arith, add-one, mul_assoc, eq-zero-or-pos, inl, inr}
+use Rattle.std.proofs.lemmas.Nat.{div_below, mod_below}
+use Rattle.std.proofs.Math.Nat.{div-add-mod', mod-eq_of_lt, mul-add-div_right, mul-add-mod_self_right, mul-div_cancel_left, one-mul, mul-zero}
+use Rattle.std.proofs.lemmas.List.{length-replicate, get_or-replicate, get_or_append_left}
+use Rattle.std.proofs.Math.Seq.{drop-cons}
+use Rattle.vocab.specs.Limits.{product}
+use Rattle.vocab.specs.Size.{Extent, IsSize, factorial, sort_count}
+use Rattle.vocab.specs.declared.kinds.Sort.TheVariants.{Profile}
+use Rattle.meaning.specs.Space.{digits_of, ballot_bases, ballots}
+use Rattle.meaning.proofs.DigitLaws.{are_profiles}
+use Rattle.meaning.proofs.SpaceLaws.{factorial_pos, pow_positive}
+use Rattle.profiles.specs.Weights.{place_values, weights_of}
+
+pub length-place_values : (bases : List ℕ) → length (place_values bases) ≡ length bases
+length-place_values [] = refl
+length-place_values (b ∷ bases) = ap suc (length-place_values bases)
+
+pub length-digits_of : (bases : List ℕ) (k : ℕ) → length (digits_of bases k) ≡ length bases
+length-digits_of [] k = refl
+length-digits_of (b ∷ bases) k = ap suc (length-digits_of bases (k % product bases))
+
+-- a product has each base as a factor, and what a step of its digit is worth
+factor : (bases : List ℕ) (j : ℕ) → j < length bases → (c : ℕ) × (product bases ≡ c * get_or bases j 0 * get_or (place_values bases) j 0)
+factor [] j h = absurd (omega arith)
+factor (b ∷ bases) zero h = (1, ap (λ x. x * product bases) (sym (one-mul b)))
+factor (b ∷ bases) (suc j) h =
+    let rest = factor bases j (omega (arith, h)) in
+    (b * rest.0, ap (λ x. b * x) (rest.1 ∙ mul_assoc rest.0 (get_or bases j 0) (get_or (place_values bases) j 0)) ∙ sym (mul_assoc b rest.0 (get_or bases j 0 * get_or (place_values bases) j 0)) ∙ sym (mul_assoc (b * rest.0) (get_or bases j 0) (get_or (place_values bases) j 0)))
+
+positive_of : (a b k : ℕ) → k < a * b → 0 < b
+positive_of a b k h = elim (eq-zero-or-pos b) [ inl e ↦ absurd (omega (arith, mul-zero a, subst (λ (x : ℕ). k < a * x) e h)) | inr e ↦ e ]
+
+-- what stands above a digit does not change it
+low_digit : (q r c d w : ℕ) → 0 < w → (q * (c * d * w) + r) / w % d ≡ r / w % d
+low_digit q r c d w positive =
+    let turned : q * (c * d * w) ≡ q * c * d * w = sym (mul_assoc q (c * d) w) ∙ ap (λ x. x * w) (sym (mul_assoc q c d)) in
+    ap (λ x. (x + r) / w % d) turned ∙ ap (λ x. x % d) (mul-add-div_right positive (q * c * d) r) ∙ mul-add-mod_self_right (q * c) d (r / w)
+
+pub digit_at : (bases : List ℕ) (k i : ℕ) → k < product bases → i < length bases → get_or (digits_of bases k) i 0 ≡ k / get_or (place_values bases) i 0 % get_or bases i 0
+digit_at [] k i h l = absurd (omega arith)
+digit_at (b ∷ bases) k zero h l =
+    let positive = positive_of b (product bases) k h in sym (mod-eq_of_lt (div_below k (product bases) b positive h))
+digit_at (b ∷ bases) k (suc j) h l =
+    let positive = positive_of b (product bases) k h in
+    let inner : j < length bases = omega (arith, l) in
+    let parts = factor bases j inner in
+    let below : k % product bases < product bases = mod_below k (product bases) positive in
+    let worth : 0 < get_or (place_values bases) j 0 = positive_of (parts.0 * get_or bases j 0) (get_or (place_values bases) j 0) (k % product bases) (subst (λ (x : ℕ). k % product bases < x) parts.1 below) in
+    digit_at bases (k % product bases) j below inner
+    ∙ sym (low_digit (k / product bases) (k % product bases) parts.0 (get_or bases j 0) (get_or (place_values bases) j 0) worth)
+    ∙ ap (λ x. (k / product bases * x + k % product bases) / get_or (place_values bases) j 0 % get_or bases j 0) (sym parts.1)
+    ∙ ap (λ x. x / get_or (place_values bases) j 0 % get_or bases j 0) (div-add-mod' k (product bases))
+
+pub at_place_value : (bases : List ℕ) (j : ℕ) → j < length bases → get_or (place_values bases) j 0 ≡ product (drop (suc j) bases)
+at_place_value [] j h = absurd (omega arith)
+at_place_value (b ∷ bases) zero h = refl
+at_place_value (b ∷ bases) (suc j) h = at_place_value bases j (omega (arith, h))
+
+-- ---- the weights of a space
+
+pub length-bases : (size : Extent) → length (ballot_bases size) ≡ size.voters
+length-bases size = length-replicate size.voters (factorial size.alternatives)
+
+pub length-ballots : (size : Extent) (p : ℕ) → length (ballots size p) ≡ size.voters
+length-ballots size p = length-digits_of (ballot_bases size) p ∙ length-bases size
+
+pub below_product : (size : Extent) (p : ℕ) → p < sort_count size Profile → p < product (ballot_bases size)
+below_product size p h = subst (λ (x : ℕ). p < x) (sym (are_profiles size)) h
+
+pub weight_at : (size : Extent) (i : ℕ) → i < size.voters → get_or (weights_of size) i 0 ≡ get_or (place_values (ballot_bases size)) i 0
+weight_at size i h = get_or_append_left (place_values (ballot_bases size)) _ 0 i (omega (arith, length-place_values (ballot_bases size), length-bases size))
+
+pub weight_positive : (size : Extent) (i : ℕ) → i < size.voters → 0 < get_or (weights_of size) i 0
+weight_positive size i h =
+    let parts = factor (ballot_bases size) i (omega (arith, length-bases size)) in
+    let some : 0 < product (ballot_bases size) = subst (λ (x : ℕ). 0 < x) (sym (are_profiles size)) (pow_positive (factorial size.alternatives) size.voters (factorial_pos size.alternatives)) in
+    rw (weight_at size i h) (positive_of (parts.0 * get_or (ballot_bases size) i 0) (get_or (place_values (ballot_bases size)) i 0) 0 (subst (λ (x : ℕ). 0 < x) parts.1 some))
+
+-- the ballot of a voter, by one quotient and one remainder
+pub ballot_at : (size : Extent) (p i : ℕ) → p < sort_count size Profile → i < size.voters → p / get_or (weights_of size) i 0 % factorial size.alternatives ≡ get_or (ballots size p) i 0
+ballot_at size p i h l =
+    let inner : i < length (ballot_bases size) = omega (arith, length-bases size) in
+    ap (λ w. p / w % factorial size.alternatives) (weight_at size i l)
+    ∙ ap (λ b. p / get_or (place_values (ballot_bases size)) i 0 % b) (sym (get_or-replicate size.voters i (factorial size.alternatives) 0 l))
+    ∙ sym (digit_at (ballot_bases size) p i (below_product size p h) inner)
+
+pub ballot_below : (size : Extent) (p i : ℕ) → p < sort_count size Profile → i < size.voters → get_or (ballots size p) i 0 < factorial size.alternatives
+ballot_below size p i h l = subst (λ (x : ℕ). x < factorial size.alternatives) (ballot_at size p i h l) (mod_below (p / get_or (weights_of size) i 0) (factorial size.alternatives) (factorial_pos size.alternatives))
+
+-- ---- filling the weights, the greatest first
+
+pub next_weight : (size : Extent) (i w : ℕ) → i < size.voters → w ≡ product (drop i (ballot_bases size)) → w / factorial size.alternatives ≡ product (drop (i + 1) (ballot_bases size))
+next_weight size i w l e =
+    let inner : i < length (ballot_bases size) = omega (arith, length-bases size) in
+    let front : drop i (ballot_bases size) ≡ factorial size.alternatives ∷ drop (suc i) (ballot_bases size) = drop-cons (ballot_bases size) i 0 inner ∙ ap (λ (b : ℕ). b ∷ drop (suc i) (ballot_bases size)) (get_or-replicate size.voters i (factorial size.alternatives) 0 l) in
+    ap (λ x. x / factorial size.alternatives) (e ∙ ap product front) ∙ mul-div_cancel_left (product (drop (suc i) (ballot_bases size))) (factorial_pos size.alternatives) ∙ ap (λ k. product (drop k (ballot_bases size))) (sym (add-one i))
+
+-- a list in front of zeros grows by its next number
+pub set-filled : (xs : List ℕ) (n i w : ℕ) → i < length xs → i < n → w ≡ get_or xs i 0 → set (take i xs ++ replicate (n - i) 0) i w ≡ take (i + 1) xs ++ replicate (n - (i + 1)) 0
+set-filled [] n i w l h e = absurd (omega arith)
+set-filled (x ∷ xs) zero i w l h e = absurd (omega arith)
+set-filled (x ∷ xs) (suc n) zero w l h e =
+    let left : suc n - 0 ≡ suc n = omega arith in
+    let after : suc n - (0 + 1) ≡ n = omega arith in
+    rw (left, after) (ap (λ (y : ℕ). y ∷ replicate n 0) e)
+set-filled (x ∷ xs) (suc n) (suc i) w l h e =
+    let rest = set-filled xs n i w (omega (arith, l)) (omega arith) e in
+    let left : suc n - suc i ≡ n - i = omega arith in
+    let after : suc n - (suc i + 1) ≡ n - (i + 1) = omega arith in
+    let front : suc i + 1 ≡ suc (i + 1) = omega arith in
+    rw (left, after, front) (ap (λ (ys : List ℕ). x ∷ ys) rest)
+
+pub filled_weights : (size : Extent) (i w : ℕ) → IsSize size → i < size.voters → w ≡ product (drop (i + 1) (ballot_bases size))
+    → set (take i (place_values (ballot_bases size)) ++ replicate (8 - i) 0) i w ≡ take (i + 1) (place_values (ballot_bases size)) ++ replicate (8 - (i + 1)) 0
+filled_weights size i w valid l e =
+    let inner : i < length (ballot_bases size) = omega (arith, length-bases size) in
+    set-filled (place_values (ballot_bases size)) 8 i w (omega (arith, length-place_values (ballot_bases size))) (omega (arith, valid.few_voters))
+    (e ∙ ap (λ k. product (drop k (ballot_bases size))) (add-one i) ∙ sym (at_place_value (ballot_bases size) i inner))

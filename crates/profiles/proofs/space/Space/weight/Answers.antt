@@ -1,0 +1,5 @@
+use Rattle.profiles.proofs.DigitPlaces.{weight_positive}
+use Rattle.profiles.proofs.space.Space.weight.Goals as goal
+
+pub returns-clause-some : goal.returns-clause-some
+returns-clause-some c = rw (c.self.invariant.worth, c.self.view_is) (weight_positive c.args.self.now c.args.i c.requires)

@@ -1,0 +1,15 @@
+use Rattle.std.proofs.Common.{ap₂, ◌∙◌}
+use Rattle.std.specs.Prelude.{nat_lt}
+use Rattle.profiles.proofs.TableLemmas.{small_ballot, above_by_places}
+use Rattle.profiles.proofs.tables.is_above.Goals as goal
+
+pub place_at-requires-clause-ballot : goal.place_at-requires-clause-ballot
+place_at-requires-clause-ballot c = small_ballot c.args.alternatives c.args.ballot c.requires.few c.requires.ballot
+
+pub place_at-requires-2-clause-ballot : goal.place_at-requires-2-clause-ballot
+place_at-requires-2-clause-ballot c = small_ballot c.args.alternatives c.args.ballot c.requires.few c.requires.ballot
+
+pub returns : goal.returns
+returns c =
+    ap₂ nat_lt c.place_at.ensures c.place_at-2.ensures
+    ∙ above_by_places c.args.alternatives c.args.ballot c.args.x c.args.y c.requires.some c.requires.few c.requires.ballot c.requires.x c.requires.y

@@ -1,0 +1,14 @@
+//! Ballots and profiles by number: their texts, what voters say, and how profiles change.
+#![tactic(auto)]
+
+mod changes;
+pub mod laws;
+mod reading;
+mod space;
+mod tables;
+mod texts;
+mod votes;
+
+pub use reading::NotAProfile;
+pub use space::Space;
+pub use texts::ProfileText;
