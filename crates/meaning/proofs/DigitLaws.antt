@@ -12,7 +12,7 @@ use Rattle.meaning.specs.Digits.{AreDigits, AreNumbered}
 use Rattle.vocab.specs.Limits.{product}
 
 -- a product that is above some number has no factor 0
-positive_right : (b p k : ℕ) → k < b * p → 0 < p
+pub positive_right : (b p k : ℕ) → k < b * p → 0 < p
 positive_right b p k h = elim (eq-zero-or-pos p) [ inl e ↦ absurd (omega (arith, mul-zero b, subst (λ (x : ℕ). k < b * x) e h)) | inr e ↦ e ]
 
 digits_in : (bases : List ℕ) (k : ℕ) → k < product bases → AreDigits bases (digits_of bases k)

@@ -8,9 +8,10 @@ use Rattle.meaning.specs.Space.{below, digits_of}
 use Rattle.meaning.specs.Truth.{is_true_at, holds}
 use Rattle.meaning.specs.Instances.{is_instance_true}
 use Rattle.meaning.specs.Written.{evaluate}
-use Rattle.meaning.specs.Clauses.{instance_of}
+use Rattle.meaning.specs.StudyClauses.{instance_of}
 use Rattle.meaning.proofs.SpaceLaws.{all_at, all_from}
-use Rattle.meaning.proofs.WrittenLaws.{truth_written, list_all-ext}
+use Rattle.meaning.proofs.TestLaws.{list_all-ext}
+use Rattle.meaning.proofs.WrittenLaws.{truth_written}
 use Rattle.vocab.specs.Tree.{Tree, All}
 use Rattle.vocab.specs.Limits.{product, bases_of, instance_count}
 

@@ -1,72 +1,60 @@
--- The assignments that satisfy the clauses of a study are the rules that satisfy its axioms.
-use Rattle.std.proofs.Common.{◌≡◌, refl, sym, ◌∙◌, ap, ap₂, subst, ℕ, zero, suc, ◌+◌, ◌<◌, ◌≤◌, ◌≢◌, Bool, true, false, not, ◌&&◌, ◌||◌, ◌↔◌, List, [], ◌∷◌, map, length, arith, eqb-true, eq-eqb, ltb-true, lt-ltb, true≢false}
-use Rattle.std.specs.Prelude.{◌==◌, nat_lt, nat_le, slice_get, slice_index, IsTrue}
+-- The assignments that satisfy the clauses of a study are the bits of the rules that satisfy its axioms.
+use Rattle.std.proofs.Common.{◌&&◌, ◌+◌, ◌<◌, Bool, List, ap, ap₂, arith, eq-eqb, false, length, lt-ltb, ltb-true, not, refl, subst, suc, sym, true, zero, ℕ, ◌↔◌, ◌∙◌, ◌∷◌, ◌≡◌, ◌≢◌, ◌≤◌, ◌||◌, []}
+use Rattle.std.proofs.lemmas.Bool.{and_from, and_parts}
+use Rattle.std.proofs.lemmas.List.Folds.{list_all-map}
+use Rattle.std.proofs.lemmas.List.Recursion.{and_from_places}
 use Rattle.std.specs.Bool.{beq}
 use Rattle.std.specs.List.{list_all, list_any}
-use Rattle.std.proofs.lemmas.Bool.{and_parts, and_from, false_from_ne_true}
-use Rattle.std.proofs.lemmas.List.Recursion.{and_from_places}
+use Rattle.std.specs.Prelude.{◌==◌, IsTrue, nat_le, nat_lt, slice_get, slice_index}
+use Rattle.vocab.specs.Formula.{quantifier_depth}
+use Rattle.vocab.specs.Limits.{instance_count}
+use Rattle.vocab.specs.Literal.{profile_of}
+use Rattle.vocab.specs.Size.{Extent, outcome_count, sort_count}
+use Rattle.vocab.specs.Sorted.{is_sorted}
+use Rattle.vocab.specs.Study.{is_sentence}
+use Rattle.vocab.specs.Titled.{Titled}
+use Rattle.vocab.specs.Tree.{Tree}
 use Rattle.vocab.specs.declared.kinds.Kind.{Kind}
 use Rattle.vocab.specs.declared.kinds.Kind.TheVariants.{Choice, Ranking, Sets}
 use Rattle.vocab.specs.declared.kinds.Sort.TheVariants.{Profile}
 use Rattle.vocab.specs.declared.literals.Literal.{Literal}
-use Rattle.vocab.specs.declared.literals.Literal.TheVariants.{Wins, Loses, Above}
-use Rattle.vocab.specs.Titled.{Titled}
-use Rattle.vocab.specs.Formula.{prefix_of, body_of, quantifier_depth}
-use Rattle.vocab.specs.Literal.{profile_of}
-use Rattle.vocab.specs.Size.{Extent, sort_count, outcome_count}
-use Rattle.vocab.specs.Sorted.{is_sorted}
-use Rattle.vocab.specs.Study.{is_sentence}
+use Rattle.vocab.specs.declared.literals.Literal.TheVariants.{Above, Loses, Wins}
 use Rattle.cnf.specs.Sat.{is_satisfied}
-use Rattle.meaning.specs.Space.{below, up_from, digits_of}
-use Rattle.meaning.specs.Truth.{is_rule, is_true_at, holds_of, holds, is_axiom_true, satisfies}
-use Rattle.meaning.specs.Written.{Written, Known, Fact, Neg, And, Or, Iff, evaluate}
-use Rattle.meaning.specs.Clauses.{pairs, triples, frame_of, instance_of, Sourced, study_clauses}
-use Rattle.meaning.specs.Stories.{is_literal_of, is_literal}
-use Rattle.meaning.specs.Laws.{AllFacts, literal_under, is_frame_true, are_instances_true, IsBitsOf}
+use Rattle.meaning.specs.Laws.{AllFacts, AreBitsOf, AreOf, are_instances_true, clauses_for, is_frame_true, literal_under}
+use Rattle.meaning.specs.Literals.{is_literal, is_literal_of}
+use Rattle.meaning.specs.Space.{below}
+use Rattle.meaning.specs.StudyClauses.{no_circle, not_both, frame_of, instance_of}
+use Rattle.meaning.specs.Truth.{holds, holds_of, is_axiom_true, is_rule, is_true_at, satisfies}
+use Rattle.meaning.specs.Variables.{bits_of, pairs, triples}
+use Rattle.meaning.specs.Written.{And, Fact, Iff, Known, Neg, Or, Written, evaluate}
+use Rattle.meaning.proofs.BitLaws.{HasValues, bits_from_values, values_from_bits}
+use Rattle.meaning.proofs.FrameLaws.{is_frame, is_circle_free}
+use Rattle.meaning.proofs.InstanceLaws.{are_instances}
+use Rattle.meaning.proofs.LiteralLaws.{choice_literal, profile_in, ranking_literal, unequal}
+use Rattle.meaning.proofs.PairLaws.{pairs-same, triples-same}
 use Rattle.meaning.proofs.SpaceLaws.{all_at, all_from}
-use Rattle.meaning.proofs.DigitLaws.{are_numbered}
-use Rattle.meaning.proofs.RangeLaws.{have_literals}
-use Rattle.meaning.proofs.StudyLaws.{list_any-map, list_all-map, list_all-flat_map, satisfy_study, proper_of, body_sorted, suited_from}
 use Rattle.meaning.proofs.StoryLaws.{outcome_in_range}
-use Rattle.meaning.proofs.InstanceLaws.{same_tests, are_instances}
-use Rattle.meaning.proofs.FrameLaws.{pairs-at, pairs-from, triples-at, triples-from, is_frame, no_cycle}
-use Rattle.vocab.specs.Tree.{Tree}
-use Rattle.vocab.specs.Limits.{bases_of, instance_count}
-
--- ---- tests that agree at each number, pair and triple
-
-below-same : (t u : ℕ → Bool) (n a : ℕ) → ((x : ℕ) → x < a + n → t x ≡ u x) → list_any t (up_from a n) ≡ list_any u (up_from a n)
-below-same t u zero a h = refl
-below-same t u (suc n) a h = ap₂ (λ b c. b || c) (h a (omega arith)) (below-same t u n (suc a) (λ x lt. h x (omega arith)))
-
-pairs-same : (m : ℕ) (t u : ℕ × ℕ → Bool) → ((x y : ℕ) → x < y → y < m → t (x, y) ≡ u (x, y)) → list_all t (pairs m) ≡ list_all u (pairs m)
-pairs-same m t u h =
-    same_tests _ _ (λ e. pairs-from m u (λ x y lt l. sym (h x y lt l) ∙ pairs-at m t x y e lt l)) (λ e. pairs-from m t (λ x y lt l. h x y lt l ∙ pairs-at m u x y e lt l))
-
-triples-same : (m : ℕ) (t u : ℕ × ℕ × ℕ → Bool) → ((x y z : ℕ) → x < y → y < z → z < m → t (x, y, z) ≡ u (x, y, z)) → list_all t (triples m) ≡ list_all u (triples m)
-triples-same m t u h =
-    same_tests _ _ (λ e. triples-from m u (λ x y z lt lt' l. sym (h x y z lt lt' l) ∙ triples-at m t x y z e lt lt' l)) (λ e. triples-from m t (λ x y z lt lt' l. h x y z lt lt' l ∙ triples-at m u x y z e lt lt' l))
-
-pub unequal : (x y : ℕ) → x < y → ((x == y) ≡ false) × ((y == x) ≡ false)
-unequal x y lt = (false_from_ne_true _ (λ e. let d : x ≡ y = eqb-true x y e in absurd (omega arith)), false_from_ne_true _ (λ e. let d : y ≡ x = eqb-true y x e in absurd (omega arith)))
+use Rattle.meaning.proofs.SentenceLaws.{instance_literals}
+use Rattle.meaning.proofs.StudyLaws.{AllFacts-map, satisfy_study, literal_under-opposite}
+use Rattle.meaning.proofs.TestLaws.{all-agree, any-agree, list_all-flat_map, list_any-map}
 
 module _ (size : Extent) (p : ℕ) (in_p : p < sort_count size Profile) (v u : Literal → Bool) where
   -- truth values that agree on the literals at a profile agree on its frame
   frame-same : (k : Kind) → ((l : Literal) → is_literal_of size k l ≡ true → profile_of l ≡ p → v l ≡ u l) → list_all (list_any v) (frame_of size k p) ≡ list_all (list_any u) (frame_of size k p)
   frame-same Choice h =
       ap₂ (λ a b. a && b)
-      (list_any-map v (λ (x : ℕ). Wins x p) (below size.alternatives) ∙ below-same (λ x. v (Wins x p)) (λ x. u (Wins x p)) size.alternatives 0 (λ x lt. h (Wins x p) (in_range x (omega arith)) refl) ∙ sym (list_any-map u (λ (x : ℕ). Wins x p) (below size.alternatives)))
-      (list_all-map (list_any v) (λ (t : ℕ × ℕ). Loses t.0 p ∷ Loses t.1 p ∷ []) (pairs size.alternatives)
-      ∙ pairs-same size.alternatives (λ (t : ℕ × ℕ). list_any v (Loses t.0 p ∷ Loses t.1 p ∷ [])) (λ (t : ℕ × ℕ). list_any u (Loses t.0 p ∷ Loses t.1 p ∷ [])) (λ x y lt l.
+      (list_any-map v (λ (x : ℕ). Wins x p) (below size.alternatives) ∙ any-agree (λ x. v (Wins x p)) (λ x. u (Wins x p)) size.alternatives 0 (λ x lt. h (Wins x p) (in_range x (omega arith)) refl) ∙ sym (list_any-map u (λ (x : ℕ). Wins x p) (below size.alternatives)))
+      (list_all-map (list_any v) (not_both p) (pairs size.alternatives)
+      ∙ pairs-same size.alternatives (λ t. list_any v (not_both p t)) (λ t. list_any u (not_both p t)) (λ x y lt l.
       let in_x : x < size.alternatives = omega arith in
       ap₂ (λ a b. a || (b || false)) (h (Loses x p) (in_range x in_x) refl) (h (Loses y p) (in_range y l) refl))
-      ∙ sym (list_all-map (list_any u) (λ (t : ℕ × ℕ). Loses t.0 p ∷ Loses t.1 p ∷ []) (pairs size.alternatives)))
+      ∙ sym (list_all-map (list_any u) (not_both p) (pairs size.alternatives)))
     where
       in_range : (x : ℕ) → x < size.alternatives → (nat_lt x size.alternatives && nat_lt p (sort_count size Profile)) ≡ true
-      in_range x lt = and_from _ _ (lt-ltb x _ lt) (lt-ltb p _ in_p)
+      in_range x lt = choice_literal size x p lt in_p
   frame-same Ranking h =
-      list_all-flat_map (list_any v) (λ (t : ℕ × ℕ × ℕ). (Above t.1 t.0 p ∷ Above t.2 t.1 p ∷ Above t.0 t.2 p ∷ []) ∷ (Above t.2 t.0 p ∷ Above t.1 t.2 p ∷ Above t.0 t.1 p ∷ []) ∷ []) (triples size.alternatives)
-      ∙ triples-same size.alternatives (no_cycle v p) (no_cycle u p) (λ x y z lt lt' l.
+      list_all-flat_map (list_any v) (no_circle p) (triples size.alternatives)
+      ∙ triples-same size.alternatives (is_circle_free v p) (is_circle_free u p) (λ x y z lt lt' l.
       let in_y : y < size.alternatives = omega arith in
       let in_x : x < size.alternatives = omega arith in
       let xz : x < z = omega arith in
@@ -77,10 +65,10 @@ module _ (size : Extent) (p : ℕ) (in_p : p < sort_count size Profile) (v u : L
       ap₂ (λ a b. a && (b && true))
       (three _ _ _ _ _ _ (agree y x in_y in_x xy.1) (agree z y l in_y yz.1) (agree x z in_x l xz'.0))
       (three _ _ _ _ _ _ (agree z x l in_x xz'.1) (agree y z in_y l yz.0) (agree x y in_x in_y xy.0)))
-      ∙ sym (list_all-flat_map (list_any u) (λ (t : ℕ × ℕ × ℕ). (Above t.1 t.0 p ∷ Above t.2 t.1 p ∷ Above t.0 t.2 p ∷ []) ∷ (Above t.2 t.0 p ∷ Above t.1 t.2 p ∷ Above t.0 t.1 p ∷ []) ∷ []) (triples size.alternatives))
+      ∙ sym (list_all-flat_map (list_any u) (no_circle p) (triples size.alternatives))
     where
       agree : (x y : ℕ) → x < size.alternatives → y < size.alternatives → (x == y) ≡ false → v (Above x y p) ≡ u (Above x y p)
-      agree x y in_x in_y ne = h (Above x y p) (and_from _ _ (and_from _ _ (and_from _ _ (lt-ltb x _ in_x) (lt-ltb y _ in_y)) (ap not ne)) (lt-ltb p _ in_p)) refl
+      agree x y in_x in_y ne = h (Above x y p) (ranking_literal size x y p in_x in_y ne in_p) refl
   frame-same Sets h = refl
 
 -- ---- a list of what there is at each number
@@ -104,37 +92,23 @@ evaluate-same v u (And a b) h = ap₂ (λ x y. x && y) (evaluate-same v u a h.0)
 evaluate-same v u (Or a b) h = ap₂ (λ x y. x || y) (evaluate-same v u a h.0) (evaluate-same v u b h.1)
 evaluate-same v u (Iff a b) h = ap₂ beq (evaluate-same v u a h.0) (evaluate-same v u b h.1)
 
-AllFacts-map : (P Q : Literal → Type 0) (w : Written) → ((l : Literal) → P l → Q l) → AllFacts P w → AllFacts Q w
-AllFacts-map P Q (Known b) f h = tt
-AllFacts-map P Q (Fact l) f h = f l h
-AllFacts-map P Q (Neg a) f h = AllFacts-map P Q a f h
-AllFacts-map P Q (And a b) f h = (AllFacts-map P Q a f h.0, AllFacts-map P Q b f h.1)
-AllFacts-map P Q (Or a b) f h = (AllFacts-map P Q a f h.0, AllFacts-map P Q b f h.1)
-AllFacts-map P Q (Iff a b) f h = (AllFacts-map P Q a f h.0, AllFacts-map P Q b f h.1)
-
 module _ (size : Extent) (known_kind : size.kind ≢ Sets) (v : ℕ → Bool) where
   -- ---- one axiom
 
-  instances-same : (table : List ℕ) → IsBitsOf size table v → (sentence : Tree) → is_sorted size [] sentence ≡ true → list_all (λ k. evaluate (literal_under size v) (instance_of size sentence k)) (below (instance_count size sentence)) ≡ is_true_at size table sentence []
+  instances-same : (table : List ℕ) → HasValues size table v → (sentence : Tree) → is_sorted size [] sentence ≡ true → list_all (λ k. evaluate (literal_under size v) (instance_of size sentence k)) (below (instance_count size sentence)) ≡ is_true_at size table sentence []
   instances-same table bits sentence sorted =
-      all-same (instance_count size sentence) 0 (λ k lt.
-      let values = digits_of (bases_of size sentence) k in
-      let suited = suited_from size v (prefix_of sentence) values ((are_numbered (bases_of size sentence)).digits k (omega (arith, lt))) in
-      let facts = have_literals size known_kind (prefix_of sentence) values suited (body_of sentence) (body_sorted size v sentence [] sorted) in
+      all-agree _ _ (instance_count size sentence) 0 (λ k lt.
+      let facts = instance_literals size known_kind sentence sorted k (omega (arith, lt)) in
       evaluate-same (literal_under size v) (holds size table) (instance_of size sentence k) (AllFacts-map (λ l. is_literal size l ≡ true) (λ l. literal_under size v l ≡ holds size table l) (instance_of size sentence k) bits facts))
       ∙ sym (are_instances size table sentence)
-    where
-      all-same : (n a : ℕ) → ((k : ℕ) → k < a + n → evaluate (literal_under size v) (instance_of size sentence k) ≡ evaluate (holds size table) (instance_of size sentence k)) → list_all (λ k. evaluate (literal_under size v) (instance_of size sentence k)) (up_from a n) ≡ list_all (λ k. evaluate (holds size table) (instance_of size sentence k)) (up_from a n)
-      all-same zero a h = refl
-      all-same (suc n) a h = ap₂ (λ x y. x && y) (h a (omega arith)) (all-same n (suc a) (λ k lt. h k (omega arith)))
 
-  axiom-same : (table : List ℕ) → IsBitsOf size table v → (axioms : List Titled) (k : ℕ) → k < length axioms → list_all (is_sentence size) axioms ≡ true → are_instances_true size v (slice_get axioms k) ≡ is_axiom_true size table (slice_get axioms k)
+  axiom-same : (table : List ℕ) → HasValues size table v → (axioms : List Titled) (k : ℕ) → k < length axioms → list_all (is_sentence size) axioms ≡ true → are_instances_true size v (slice_get axioms k) ≡ is_axiom_true size table (slice_get axioms k)
   axiom-same table bits [] k lt h = absurd (omega arith)
   axiom-same table bits (a ∷ axioms) zero lt h =
       instances-same table bits a.sentence (and_parts (is_sorted size [] a.sentence) (nat_le (quantifier_depth a.sentence) 12) (and_parts (is_sentence size a) (list_all (is_sentence size) axioms) h).0).0
   axiom-same table bits (a ∷ axioms) (suc k) lt h = axiom-same table bits axioms k (omega (arith, lt)) (and_parts (is_sentence size a) (list_all (is_sentence size) axioms) h).1
 
-  axioms-same : (table : List ℕ) → IsBitsOf size table v → (axioms : List Titled) → list_all (is_sentence size) axioms ≡ true → (chosen : List ℕ) → list_all (λ k. nat_lt k (length axioms)) chosen ≡ true → list_all (λ k. are_instances_true size v (slice_get axioms k)) chosen ≡ list_all (λ k. is_axiom_true size table (slice_get axioms k)) chosen
+  axioms-same : (table : List ℕ) → HasValues size table v → (axioms : List Titled) → list_all (is_sentence size) axioms ≡ true → (chosen : List ℕ) → list_all (λ k. nat_lt k (length axioms)) chosen ≡ true → list_all (λ k. are_instances_true size v (slice_get axioms k)) chosen ≡ list_all (λ k. is_axiom_true size table (slice_get axioms k)) chosen
   axioms-same table bits axioms h [] in_range = refl
   axioms-same table bits axioms h (k ∷ chosen) in_range =
       let e = and_parts (nat_lt k (length axioms)) (list_all (λ j. nat_lt j (length axioms)) chosen) in_range in
@@ -144,22 +118,13 @@ module _ (size : Extent) (known_kind : size.kind ≢ Sets) (v : ℕ → Bool) wh
 
   -- an outcome of which the literals at p have these truth values
   abbrev Fits : ℕ → ℕ → Type 0
-  Fits p o = (o < outcome_count size.kind size.alternatives) × ((l : Literal) → is_literal size l ≡ true → profile_of l ≡ p → literal_under size v l ≡ holds_of size o l)
+  Fits p o = (o < outcome_count size.kind size.alternatives) × AreOf size p o (literal_under size v)
 
-  profile_in : (k : Kind) (l : Literal) → is_literal_of size k l ≡ true → profile_of l < sort_count size Profile
-  profile_in Choice (Wins x p) h = ltb-true p _ (and_parts (nat_lt x size.alternatives) (nat_lt p (sort_count size Profile)) h).1
-  profile_in Choice (Loses x p) h = ltb-true p _ (and_parts (nat_lt x size.alternatives) (nat_lt p (sort_count size Profile)) h).1
-  profile_in Choice (Above x y p) h = absurd (true≢false (sym h))
-  profile_in Ranking (Wins x p) h = absurd (true≢false (sym h))
-  profile_in Ranking (Loses x p) h = absurd (true≢false (sym h))
-  profile_in Ranking (Above x y p) h = ltb-true p _ (and_parts (nat_lt x size.alternatives && nat_lt y size.alternatives && not (x == y)) (nat_lt p (sort_count size Profile)) h).1
-  profile_in Sets l h = absurd (true≢false (sym h))
-
-  rule_from : is_frame_true size v ≡ true → (table : List ℕ) × (is_rule size table ≡ true) × IsBitsOf size table v
+  rule_from : is_frame_true size v ≡ true → (table : List ℕ) × (is_rule size table ≡ true) × HasValues size table v
   rule_from frames =
       let found = listed Fits (sort_count size Profile) 0 (λ p low high.
       let in_p : p < sort_count size Profile = omega arith in
-      let one = (is_frame size known_kind p).1 (literal_under size v) in_p (proper_of size v size.kind) (all_at (λ q. list_all (list_any (literal_under size v)) (frame_of size size.kind q)) (sort_count size Profile) 0 p frames low high) in
+      let one = (is_frame size known_kind p in_p).some (literal_under size v) (literal_under-opposite size v size.kind) (all_at (λ q. list_all (list_any (literal_under size v)) (frame_of size size.kind q)) (sort_count size Profile) 0 p frames low high) in
       (one.0, (one.1, one.2))) in
       (found.0, rule found.0 found.1 found.2, bits found.0 found.2)
     where
@@ -167,20 +132,20 @@ module _ (size : Extent) (known_kind : size.kind ≢ Sets) (v : ℕ → Bool) wh
       rule table e fits =
           and_from _ _ (eq-eqb _ _ e) (and_from_places (list_all (λ o. nat_lt o (outcome_count size.kind size.alternatives))) (λ o. nat_lt o (outcome_count size.kind size.alternatives)) refl (λ _ _. refl) table 0 (λ i lt. lt-ltb _ _ (fits i (omega (arith, lt, e))).0))
 
-      bits : (table : List ℕ) → ((i : ℕ) → i < sort_count size Profile → Fits (0 + i) (slice_index table i)) → IsBitsOf size table v
-      bits table fits l in_l = let e : profile_of l ≡ 0 + profile_of l = omega arith in (fits (profile_of l) (profile_in size.kind l in_l)).1 l in_l e
+      bits : (table : List ℕ) → ((i : ℕ) → i < sort_count size Profile → Fits (0 + i) (slice_index table i)) → HasValues size table v
+      bits table fits l in_l = let e : profile_of l ≡ 0 + profile_of l = omega arith in (fits (profile_of l) (profile_in size size.kind l in_l)).1 l in_l e
 
   -- ---- from the rule to the assignment
 
-  frames_from : (table : List ℕ) → is_rule size table ≡ true → IsBitsOf size table v → is_frame_true size v ≡ true
+  frames_from : (table : List ℕ) → is_rule size table ≡ true → HasValues size table v → is_frame_true size v ≡ true
   frames_from table rule bits =
       all_from (λ p. list_all (list_any (literal_under size v)) (frame_of size size.kind p)) (sort_count size Profile) 0 (λ p low high.
       let in_p : p < sort_count size Profile = omega arith in
       frame-same size p in_p (literal_under size v) (holds_of size (slice_index table p)) size.kind (λ l in_l here. bits l in_l ∙ ap (λ (q : ℕ). holds_of size (slice_index table q) l) here)
-      ∙ (is_frame size known_kind p).0 (slice_index table p) (outcome_in_range size table rule p))
+      ∙ (is_frame size known_kind p in_p).each (slice_index table p) (outcome_in_range size table rule p))
 
   both_ways_of : (axioms : List Titled) → list_all (is_sentence size) axioms ≡ true → (chosen : List ℕ) → list_all (λ k. nat_lt k (length axioms)) chosen ≡ true →
-      (is_satisfied v (map (λ (s : Sourced). s.clause) (study_clauses size axioms chosen)) ≡ true) ↔ ((table : List ℕ) × (satisfies size axioms chosen table ≡ true) × IsBitsOf size table v)
+      (is_satisfied v (clauses_for size axioms chosen) ≡ true) ↔ ((table : List ℕ) × (satisfies size axioms chosen table ≡ true) × HasValues size table v)
   both_ways_of axioms h chosen in_range = (
     λ sat.
         let e = and_parts (is_frame_true size v) (list_all (λ k. are_instances_true size v (slice_get axioms k)) chosen) (sym (satisfy_study size known_kind axioms h chosen v) ∙ sat) in
@@ -193,5 +158,19 @@ module _ (size : Extent) (known_kind : size.kind ≢ Sets) (v : ℕ → Bool) wh
 
 pub are_rules : (size : Extent) → size.kind ≢ Sets → (axioms : List Titled) → list_all (is_sentence size) axioms ≡ true →
     (chosen : List ℕ) → list_all (λ k. nat_lt k (length axioms)) chosen ≡ true → (v : ℕ → Bool) →
-    IsTrue (is_satisfied v (map (λ (s : Sourced). s.clause) (study_clauses size axioms chosen))) ↔ ((table : List ℕ) × IsTrue (satisfies size axioms chosen table) × IsBitsOf size table v)
-are_rules size n axioms h chosen in_range v = both_ways_of size n v axioms h chosen in_range
+    IsTrue (is_satisfied v (clauses_for size axioms chosen)) ↔ ((table : List ℕ) × IsTrue (satisfies size axioms chosen table) × AreBitsOf size table v)
+are_rules size n axioms h chosen in_range v =
+    let ways = both_ways_of size n v axioms h chosen in_range in (
+      λ sat. let r = ways.0 sat in (r.0, r.1, bits_from_values size n r.0 v r.2),
+      λ r.
+          let rule : is_rule size r.0 ≡ true = (and_parts _ _ r.1).0 in
+          ways.1 (r.0, r.1, values_from_bits size r.0 rule n v r.2),
+    )
+
+pub are_satisfiable : (size : Extent) → size.kind ≢ Sets → (axioms : List Titled) → list_all (is_sentence size) axioms ≡ true →
+    (chosen : List ℕ) → list_all (λ k. nat_lt k (length axioms)) chosen ≡ true →
+    ((v : ℕ → Bool) × IsTrue (is_satisfied v (clauses_for size axioms chosen))) ↔ ((table : List ℕ) × IsTrue (satisfies size axioms chosen table))
+are_satisfiable size n axioms h chosen in_range = (
+  λ a. let r = (are_rules size n axioms h chosen in_range a.0).0 a.1 in (r.0, r.1),
+  λ r. (bits_of size r.0, (are_rules size n axioms h chosen in_range (bits_of size r.0)).1 (r.0, r.1, λ i low high. refl)),
+)

@@ -1,34 +1,46 @@
--- What the clauses of a study say.
-use Rattle.std.proofs.Common.{◌≡◌, refl, sym, ◌∙◌, ap, ap₂, subst, ℕ, zero, suc, ◌+◌, ◌*◌, ◌<◌, ◌≢◌, Bool, true, false, not, ◌&&◌, ◌||◌, cond, inl, inr, List, [], ◌∷◌, ◌++◌, map, filter, length, Option, Some, None, arith, eq-eqb, lt-ltb, le-ltb, true≢false, append_assoc, append-nil}
-use Rattle.std.specs.Prelude.{◌==◌, nat_lt, nat_le, slice_get}
-use Rattle.std.specs.List.{list_all, list_any, flat_map}
+-- An assignment satisfies the clauses of a study exactly where it satisfies the frames and makes each instance of the chosen axioms true.
+use Rattle.std.proofs.Common.{◌&&◌, ◌<◌, Bool, List, None, Option, Some, ap, ap₂, arith, cond, false, filter, inl, inr, map, not, refl, sym, true, true≢false, ℕ, ◌∙◌, ◌∷◌, ◌≡◌, ◌≢◌, ◌||◌, []}
+use Rattle.std.proofs.lemmas.Bool.{and_from, and_parts, or_cases}
+use Rattle.std.proofs.lemmas.List.Folds.{list_all-append, list_all-map}
 use Rattle.std.specs.Cmp.Lexicographic.{pointwise}
-use Rattle.std.proofs.lemmas.Bool.{and_parts, and_from, or_cases, both_ways, not-true, cases_order}
-use Rattle.vocab.specs.declared.kinds.Kind.{Kind}
-use Rattle.vocab.specs.declared.kinds.Kind.TheVariants.{Choice, Ranking, Sets}
-use Rattle.vocab.specs.declared.kinds.Sort.{Sort}
-use Rattle.vocab.specs.declared.kinds.Sort.TheVariants.{Profile}
-use Rattle.vocab.specs.declared.literals.Literal.{Literal}
-use Rattle.vocab.specs.declared.literals.Literal.TheVariants.{Wins, Loses, Above}
-use Rattle.vocab.specs.Titled.{Titled}
-use Rattle.vocab.specs.Formula.{prefix_of, body_of, quantifier_depth}
+use Rattle.std.specs.List.{flat_map, list_all, list_any}
+use Rattle.std.specs.Prelude.{nat_lt, slice_get}
+use Rattle.vocab.specs.Limits.{instance_count}
 use Rattle.vocab.specs.Literal.{opposite_of}
 use Rattle.vocab.specs.Size.{Extent, sort_count}
-use Rattle.vocab.specs.Sorted.{is_sorted, are_of_sorts}
+use Rattle.vocab.specs.Sorted.{is_sorted}
 use Rattle.vocab.specs.Study.{is_sentence}
+use Rattle.vocab.specs.Titled.{Titled}
+use Rattle.vocab.specs.Tree.{Tree}
+use Rattle.vocab.specs.declared.kinds.Kind.{Kind}
+use Rattle.vocab.specs.declared.kinds.Kind.TheVariants.{Sets}
+use Rattle.vocab.specs.declared.kinds.Sort.TheVariants.{Profile}
+use Rattle.vocab.specs.declared.literals.Literal.{Literal}
+use Rattle.cnf.proofs.LitLaws.{same_lit-equal}
+use Rattle.cnf.proofs.SoundLaws.{opposite_true, tautology_true}
+use Rattle.cnf.specs.Sat.{Clause, is_clause_true, is_lit_true, is_satisfied, is_tautology, same_lit}
 use Rattle.cnf.specs.Signed.{Signed}
-use Rattle.cnf.specs.Sat.{Clause, opposite_of as opposite_lit, same_lit, is_lit_true, is_clause_true, is_satisfied, is_tautology}
-use Rattle.cnf.proofs.Sound.{same_true, opposite_true, tautology_true}
-use Rattle.meaning.specs.Space.{below, up_from, digits_of}
-use Rattle.meaning.specs.Written.{Written, Known, Fact, Neg, And, Or, Iff, evaluate}
-use Rattle.meaning.specs.Clauses.{Disjunctions, plus, pairs, pair_place, sorted_in, sorted, Frame, Instance, Sourced, firsts, lit_of, frame_of, clauses_of, instance_of, from_frame, from_instance, from_axiom, study_clauses}
-use Rattle.meaning.specs.Stories.{is_literal_of, is_literal}
-use Rattle.meaning.specs.Laws.{AllFacts, IsProper, literal_under, is_frame_true, are_instances_true}
-use Rattle.meaning.proofs.DigitLaws.{are_numbered}
-use Rattle.meaning.proofs.RangeLaws.{have_literals}
+use Rattle.meaning.specs.Clauses.{Disjunction, plus}
+use Rattle.meaning.specs.Laws.{AllFacts, IsProper, are_instances_true, clauses_for, is_frame_true, literal_under}
+use Rattle.meaning.specs.Literals.{is_literal, is_literal_of}
+use Rattle.meaning.specs.Space.{below}
+use Rattle.meaning.specs.declared.clauses.Origin.TheVariants.{Frame, Instance}
+use Rattle.meaning.specs.StudyClauses.{Sourced, clauses_of, firsts, frame_of, from_axiom, from_frame, from_instance, instance_of, sorted, sorted_in, study_clauses}
+use Rattle.meaning.specs.Variables.{lit_of}
+use Rattle.meaning.specs.Written.{And, Fact, Iff, Known, Neg, Or, Written, evaluate}
 use Rattle.meaning.proofs.ClauseLaws.{clauses_true}
-use Rattle.vocab.specs.Tree.{Tree, All}
-use Rattle.vocab.specs.Limits.{bases_of, instance_count}
+use Rattle.meaning.proofs.SentenceLaws.{IfSorted, sorted_at, instance_literals}
+use Rattle.meaning.proofs.TestLaws.{all-agree, list_all-ext, list_all-flat_map, list_any-map}
+use Rattle.meaning.proofs.VariableLaws.{lit_of-opposite}
+
+-- what holds of each literal of a formula may be weakened
+pub AllFacts-map : (P Q : Literal → Type 0) (w : Written) → ((l : Literal) → P l → Q l) → AllFacts P w → AllFacts Q w
+AllFacts-map P Q (Known b) f h = tt
+AllFacts-map P Q (Fact l) f h = f l h
+AllFacts-map P Q (Neg a) f h = AllFacts-map P Q a f h
+AllFacts-map P Q (And a b) f h = (AllFacts-map P Q a f h.0, AllFacts-map P Q b f h.1)
+AllFacts-map P Q (Or a b) f h = (AllFacts-map P Q a f h.0, AllFacts-map P Q b f h.1)
+AllFacts-map P Q (Iff a b) f h = (AllFacts-map P Q a f h.0, AllFacts-map P Q b f h.1)
 
 or_swap : (a b c : Bool) → (a || (b || c)) ≡ (b || (a || c))
 or_swap true true c = refl
@@ -39,30 +51,6 @@ or_twice : (a b c : Bool) → a ≡ b → (b || c) ≡ (a || (b || c))
 or_twice true b c e = ap (λ x. x || c) (sym e)
 or_twice false b c e = refl
 
-pub list_any-map : {X Y : Type 0} (t : Y → Bool) (f : X → Y) (xs : List X) → list_any t (map f xs) ≡ list_any (λ x. t (f x)) xs
-list_any-map t f [] = refl
-list_any-map t f (x ∷ xs) = ap (λ b. t (f x) || b) (list_any-map t f xs)
-
-pub list_all-map : {X Y : Type 0} (t : Y → Bool) (f : X → Y) (xs : List X) → list_all t (map f xs) ≡ list_all (λ x. t (f x)) xs
-list_all-map t f [] = refl
-list_all-map t f (x ∷ xs) = ap (λ b. t (f x) && b) (list_all-map t f xs)
-
-list_all-append : {X : Type 0} (t : X → Bool) (xs ys : List X) → list_all t (xs ++ ys) ≡ (list_all t xs && list_all t ys)
-list_all-append t [] ys = refl
-list_all-append t (x ∷ xs) ys = ap (λ b. t x && b) (list_all-append t xs ys) ∙ sym (and_assoc (t x) (list_all t xs) (list_all t ys))
-  where
-    and_assoc : (a b c : Bool) → (a && b && c) ≡ (a && (b && c))
-    and_assoc true b c = refl
-    and_assoc false b c = refl
-
-pub list_all-flat_map : {X Y : Type 0} (t : Y → Bool) (f : X → List Y) (xs : List X) → list_all t (flat_map f xs) ≡ list_all (λ x. list_all t (f x)) xs
-list_all-flat_map t f [] = refl
-list_all-flat_map t f (x ∷ xs) = list_all-append t (f x) (flat_map f xs) ∙ ap (λ b. list_all t (f x) && b) (list_all-flat_map t f xs)
-
-list_all-same : {X : Type 0} (f g : X → Bool) (xs : List X) → ((x : X) → f x ≡ g x) → list_all f xs ≡ list_all g xs
-list_all-same f g [] h = refl
-list_all-same f g (x ∷ xs) h = ap₂ (λ a b. a && b) (h x) (list_all-same f g xs h)
-
 module _ (v : ℕ → Bool) where
   -- ---- one clause
 
@@ -72,7 +60,7 @@ module _ (v : ℕ → Bool) where
     where
       cases : (a b : Bool) → same_lit l k ≡ b → is_clause_true v (sorted_in l ks) ≡ (is_lit_true v l || is_clause_true v ks) → is_clause_true v (cond a (l ∷ k ∷ ks) (cond b (k ∷ ks) (k ∷ sorted_in l ks))) ≡ (is_lit_true v l || (is_lit_true v k || is_clause_true v ks))
       cases true b e ih = refl
-      cases false true e ih = or_twice (is_lit_true v l) (is_lit_true v k) (is_clause_true v ks) (same_true v l k e)
+      cases false true e ih = or_twice (is_lit_true v l) (is_lit_true v k) (is_clause_true v ks) (ap (is_lit_true v) (same_lit-equal l k e))
       cases false false e ih = ap (λ b. is_lit_true v k || b) ih ∙ or_swap (is_lit_true v k) (is_lit_true v l) (is_clause_true v ks)
 
   true-sorted : (ls : List Signed) → is_clause_true v (sorted ls) ≡ is_clause_true v ls
@@ -94,7 +82,7 @@ module _ (v : ℕ → Bool) where
   same_clause [] (l ∷ d) h = absurd (true≢false (sym h))
   same_clause (l ∷ c) [] h = absurd (true≢false (sym h))
   same_clause (l ∷ c) (k ∷ d) h =
-      let e = and_parts (same_lit l k) (pointwise same_lit c d) h in ap₂ (λ a b. a || b) (same_true v l k e.0) (same_clause c d e.1)
+      let e = and_parts (same_lit l k) (pointwise same_lit c d) h in ap₂ (λ a b. a || b) (ap (is_lit_true v) (same_lit-equal l k e.0)) (same_clause c d e.1)
 
   seen_true : (c : Clause) (seen : List Clause) → list_any (pointwise same_lit c) seen ≡ true → is_satisfied v seen ≡ true → is_clause_true v c ≡ true
   seen_true c [] h all = absurd (true≢false (sym h))
@@ -115,111 +103,52 @@ module _ (v : ℕ → Bool) where
       cases true e skip keep = skip ∙ ap (λ b. b && list_all (λ (x : Sourced). is_clause_true v x.clause) ss) (sym (seen_true s.clause seen e h))
       cases false e skip keep = here (is_clause_true v s.clause) refl keep
 
--- the sentence of an axiom is well sorted
 module _ (size : Extent) (v : ℕ → Bool) where
-  abbrev pub IfSorted : Option Titled → Type 0
-  IfSorted None = Unit {0}
-  IfSorted (Some a) = is_sorted size [] a.sentence ≡ true
-
   true-row : (row : List Literal) → is_clause_true v (sorted (map (lit_of size) row)) ≡ list_any (literal_under size v) row
   true-row row = true-sorted v (map (lit_of size) row) ∙ list_any-map (is_lit_true v) (lit_of size) row
 
-  true-clauses_of : (rows : Disjunctions) → is_satisfied v (clauses_of size rows) ≡ list_all (list_any (literal_under size v)) rows
+  true-clauses_of : (rows : List Disjunction) → is_satisfied v (clauses_of size rows) ≡ list_all (list_any (literal_under size v)) rows
   true-clauses_of rows =
       true-filter v (map (λ row. sorted (map (lit_of size) row)) rows)
       ∙ list_all-map (is_clause_true v) (λ row. sorted (map (lit_of size) row)) rows
-      ∙ list_all-same _ _ rows true-row
+      ∙ list_all-ext _ _ rows true-row
 
-  -- ---- opposite literals
-
-  abbrev at : ℕ → ℕ → ℕ → Bool → Signed
-  at p a b sign = record { variable = p * length (pairs size.alternatives) + 1 + pair_place size.alternatives a b; positive = sign }
-
-  pub opposite_sign : (x y p : ℕ) → (x == y) ≡ false → lit_of size (Above y x p) ≡ opposite_lit (lit_of size (Above x y p))
-  opposite_sign x y p ne = elim (cases_order x y) [
-    | inl e ↦ absurd (both_ways _ ne (eq-eqb x y e))
-    | inr other ↦ elim other [
-      | inl lt ↦ ap (λ a. cond a (at p y x true) (at p x y false)) (le-ltb y x (omega arith)) ∙ sym (ap (λ a. opposite_lit (cond a (at p x y true) (at p y x false))) (lt-ltb x y lt))
-      | inr gt ↦ ap (λ a. cond a (at p y x true) (at p x y false)) (lt-ltb y x gt) ∙ sym (ap (λ a. opposite_lit (cond a (at p x y true) (at p y x false))) (le-ltb x y (omega arith)))
-    ]
-  ]
-
-  pub proper_of : (k : Kind) (l : Literal) → is_literal_of size k l ≡ true → literal_under size v (opposite_of l) ≡ not (literal_under size v l)
-  proper_of k (Wins x p) h = opposite_true v (lit_of size (Wins x p))
-  proper_of k (Loses x p) h = opposite_true v (lit_of size (Loses x p))
-  proper_of Choice (Above x y p) h = absurd (true≢false (sym h))
-  proper_of Ranking (Above x y p) h =
-      let a = and_parts _ (nat_lt p (sort_count size Profile)) h in
-      let b = and_parts _ (not (x == y)) a.0 in
-      ap (is_lit_true v) (opposite_sign x y p (not-true _ b.1)) ∙ opposite_true v (lit_of size (Above x y p))
-  proper_of Sets (Above x y p) h = absurd (true≢false (sym h))
+  pub literal_under-opposite : (k : Kind) (l : Literal) → is_literal_of size k l ≡ true → literal_under size v (opposite_of l) ≡ not (literal_under size v l)
+  literal_under-opposite k l h = ap (is_lit_true v) (lit_of-opposite size k l h) ∙ opposite_true v (lit_of size l)
 
   proper : (w : Written) → AllFacts (λ l. is_literal size l ≡ true) w → IsProper (literal_under size v) w
-  proper (Known b) h = tt
-  proper (Fact l) h = proper_of size.kind l h
-  proper (Neg a) h = proper a h
-  proper (And a b) h = (proper a h.0, proper b h.1)
-  proper (Or a b) h = (proper a h.0, proper b h.1)
-  proper (Iff a b) h = (proper a h.0, proper b h.1)
-
-  -- ---- instances
-
-  nothing_more : (f : Tree) (sorts : List Sort) → is_sorted size sorts f ≡ true → is_sorted size (sorts ++ []) f ≡ true
-  nothing_more f sorts h = subst (λ ss. is_sorted size ss f ≡ true) (sym (append-nil sorts)) h
-
-  pub body_sorted : (f : Tree) (sorts : List Sort) → is_sorted size sorts f ≡ true → is_sorted size (sorts ++ prefix_of f) (body_of f) ≡ true
-  body_sorted (All s f) sorts h = subst (λ ss. is_sorted size ss (body_of f) ≡ true) (append_assoc sorts (s ∷ []) (prefix_of f)) (body_sorted f (sorts ++ s ∷ []) h)
-  body_sorted f sorts h = nothing_more f sorts h
-
-  pub suited_from : (sorts : List Sort) (values : List ℕ) → pointwise nat_lt values (map (sort_count size) sorts) ≡ true → are_of_sorts size sorts values ≡ true
-  suited_from [] [] h = refl
-  suited_from [] (v ∷ values) h = absurd (true≢false (sym h))
-  suited_from (s ∷ sorts) [] h = absurd (true≢false (sym h))
-  suited_from (s ∷ sorts) (v ∷ values) h =
-      let e = and_parts (nat_lt v (sort_count size s)) (pointwise nat_lt values (map (sort_count size) sorts)) h in and_from _ _ e.0 (suited_from sorts values e.1)
+  proper w h = AllFacts-map _ _ w (literal_under-opposite size.kind) h
 
   module _ (known_kind : size.kind ≢ Sets) where
     true-instance : (sentence : Tree) → is_sorted size [] sentence ≡ true → (k : ℕ) → k < instance_count size sentence → is_satisfied v (clauses_of size (plus (instance_of size sentence k))) ≡ evaluate (literal_under size v) (instance_of size sentence k)
     true-instance sentence h k lt =
-        let values = digits_of (bases_of size sentence) k in
-        let suited = suited_from (prefix_of sentence) values ((are_numbered (bases_of size sentence)).digits k lt) in
-        let facts = have_literals size known_kind (prefix_of sentence) values suited (body_of sentence) (body_sorted sentence [] h) in
+        let facts = instance_literals size known_kind sentence h k lt in
         true-clauses_of (plus (instance_of size sentence k)) ∙ (clauses_true (literal_under size v) (instance_of size sentence k) (proper (instance_of size sentence k) facts)).0
 
-    all_below-same : (f g : ℕ → Bool) (n a : ℕ) → ((k : ℕ) → k < a + n → f k ≡ g k) → list_all f (up_from a n) ≡ list_all g (up_from a n)
-    all_below-same f g zero a h = refl
-    all_below-same f g (suc n) a h = ap₂ (λ x y. x && y) (h a (omega arith)) (all_below-same f g n (suc a) (λ k lt. h k (omega arith)))
-
-    true-axiom : (a : ℕ) (o : Option Titled) → (IfSorted o) → list_all (λ (s : Sourced). is_clause_true v s.clause) (from_axiom size a o) ≡ are_instances_true size v o
+    true-axiom : (a : ℕ) (o : Option Titled) → IfSorted size o → list_all (λ (s : Sourced). is_clause_true v s.clause) (from_axiom size a o) ≡ are_instances_true size v o
     true-axiom a None h = refl
     true-axiom a (Some x) h =
         true-firsts v [] (flat_map (from_instance size a x.sentence) (below (instance_count size x.sentence))) refl
         ∙ list_all-flat_map (λ (s : Sourced). is_clause_true v s.clause) (from_instance size a x.sentence) (below (instance_count size x.sentence))
-        ∙ all_below-same _ _ (instance_count size x.sentence) 0 (λ k lt.
+        ∙ all-agree _ _ (instance_count size x.sentence) 0 (λ k lt.
         list_all-map (λ (s : Sourced). is_clause_true v s.clause) (λ (c : Clause). record { clause = c; origin = Instance a k }) (clauses_of size (plus (instance_of size x.sentence k)))
         ∙ true-instance x.sentence h k (omega arith))
-
-    pub sorted_at : (axioms : List Titled) (k : ℕ) → list_all (is_sentence size) axioms ≡ true → IfSorted (slice_get axioms k)
-    sorted_at [] k h = tt
-    sorted_at (a ∷ axioms) zero h =
-        (and_parts (is_sorted size [] a.sentence) (nat_le (quantifier_depth a.sentence) 12) (and_parts (is_sentence size a) (list_all (is_sentence size) axioms) h).0).0
-    sorted_at (a ∷ axioms) (suc k) h = sorted_at axioms k (and_parts (is_sentence size a) (list_all (is_sentence size) axioms) h).1
 
     true-frames : list_all (λ (s : Sourced). is_clause_true v s.clause) (flat_map (from_frame size) (below (sort_count size Profile))) ≡ is_frame_true size v
     true-frames =
         list_all-flat_map (λ (s : Sourced). is_clause_true v s.clause) (from_frame size) (below (sort_count size Profile))
-        ∙ list_all-same _ _ (below (sort_count size Profile)) (λ p.
+        ∙ list_all-ext _ _ (below (sort_count size Profile)) (λ p.
         list_all-map (λ (s : Sourced). is_clause_true v s.clause) (λ (c : Clause). record { clause = c; origin = Frame p }) (clauses_of size (frame_of size size.kind p))
         ∙ true-clauses_of (frame_of size size.kind p))
 
-    true-study : (axioms : List Titled) → list_all (is_sentence size) axioms ≡ true → (chosen : List ℕ) → is_satisfied v (map (λ (s : Sourced). s.clause) (study_clauses size axioms chosen)) ≡ (is_frame_true size v && list_all (λ k. are_instances_true size v (slice_get axioms k)) chosen)
+    true-study : (axioms : List Titled) → list_all (is_sentence size) axioms ≡ true → (chosen : List ℕ) → is_satisfied v (clauses_for size axioms chosen) ≡ (is_frame_true size v && list_all (λ k. are_instances_true size v (slice_get axioms k)) chosen)
     true-study axioms h chosen =
         list_all-map (is_clause_true v) (λ (s : Sourced). s.clause) (study_clauses size axioms chosen)
         ∙ list_all-append (λ (s : Sourced). is_clause_true v s.clause) (flat_map (from_frame size) (below (sort_count size Profile))) (flat_map (λ a. from_axiom size a (slice_get axioms a)) chosen)
         ∙ ap₂ (λ a b. a && b) true-frames
         (list_all-flat_map (λ (s : Sourced). is_clause_true v s.clause) (λ a. from_axiom size a (slice_get axioms a)) chosen
-        ∙ list_all-same _ _ chosen (λ a. true-axiom a (slice_get axioms a) (sorted_at axioms a h)))
+        ∙ list_all-ext _ _ chosen (λ a. true-axiom a (slice_get axioms a) (sorted_at size axioms a h)))
 
 pub satisfy_study : (size : Extent) → size.kind ≢ Sets → (axioms : List Titled) → list_all (is_sentence size) axioms ≡ true → (chosen : List ℕ) (v : ℕ → Bool) →
-    is_satisfied v (map (λ (s : Sourced). s.clause) (study_clauses size axioms chosen)) ≡ (is_frame_true size v && list_all (λ k. are_instances_true size v (slice_get axioms k)) chosen)
+    is_satisfied v (clauses_for size axioms chosen) ≡ (is_frame_true size v && list_all (λ k. are_instances_true size v (slice_get axioms k)) chosen)
 satisfy_study size known_kind axioms h chosen v = true-study size v known_kind axioms h chosen

@@ -1,4 +1,4 @@
--- Instances of a sentence: one for each list of values of its leading universals.
+-- Instances of a sentence: one for each list of values of its leading universals. A sentence without any has the one instance 0.
 use Rattle.std.specs.Prelude.{ℕ, ◌<◌, ◌≤◌, Bool, IsTrue, IsFalse, List}
 use Rattle.vocab.specs.Formula.{body_of}
 use Rattle.vocab.specs.Limits.{bases_of}

@@ -6,10 +6,15 @@ pub mod Truth
 pub mod Tarski
 pub mod Instances
 pub mod Texts
+pub mod Literals
 pub mod Written
-pub mod Clauses
-pub mod Measure
+pub mod Kleene
 pub mod Stories
 pub mod StoryFaults
+pub mod Cores
+pub mod Clauses
+pub mod Measure
+pub mod Variables
+pub mod StudyClauses
 pub mod Tidy
 pub mod Laws

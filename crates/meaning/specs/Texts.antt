@@ -6,12 +6,13 @@ use Rattle.vocab.specs.declared.kinds.Kind.TheVariants.{Choice, Ranking, Sets}
 use Rattle.vocab.specs.Size.{Extent}
 use Rattle.meaning.specs.Space.{ranking, ballots}
 
+-- the word of a kind
 abbrev pub kind_text : Kind → List ℕ
 kind_text Choice = codes "choice"
 kind_text Ranking = codes "ranking"
 kind_text Sets = codes "sets"
 
--- the alternatives are the first letters
+-- the letter of an alternative, the first being a
 abbrev pub letter : ℕ → ℕ
 letter x = 97 + x
 
@@ -24,11 +25,12 @@ module _ (size : Extent) where
   abbrev pub profile_text : ℕ → List ℕ
   profile_text p = join_with_byte 124 (map ballot_text (ballots size p))
 
-  -- an outcome is its alternative, or its ranking
+  -- an outcome of a kind is its alternative, or its ranking
   abbrev pub outcome_text_of : Kind → ℕ → List ℕ
   outcome_text_of Choice o = letter o ∷ []
   outcome_text_of Ranking o = ballot_text o
   outcome_text_of Sets o = []
 
+  -- an outcome of the size's kind
   abbrev pub outcome_text : ℕ → List ℕ
   outcome_text o = outcome_text_of size.kind o

@@ -1,41 +1,9 @@
-//! What holds of the definitions.
+//! What holds of the definitions. Each law is the contract of a function that does nothing.
 
 ghost use Rattle.meaning.specs.Rankings.{AreAllRankings};
 ghost use Rattle.meaning.specs.Digits.{AreAllNumbered, AreProfiles};
-ghost use Rattle.meaning.specs.Measure.{AreCounts};
-ghost use Rattle.meaning.specs.StoryFaults.{IsAnswerRight};
 ghost use Rattle.meaning.specs.Tarski.{IsTarskis};
-ghost use Rattle.meaning.specs.Laws.{HaveInstances, AreRules, AreSatisfiable, HaveBits, HaveReasons, IsFrame, HaveValues, HaveLiterals, IsTruthWritten, IsPartialSound, SayTruth, SatisfyStudy, DecideFormula, HasNoRule};
-
-/// A formula is true of a rule exactly where it is so written out.
-pub fn truth_is_written()
-    ensures { IsTruthWritten }
-{}
-
-/// A formula that is false under some literals is false of each rule of which they hold.
-pub fn partial_truth_is_sound()
-    ensures { IsPartialSound }
-{}
-
-/// The clauses of a formula hold exactly where it is true, and those of the other column exactly where it is false.
-pub fn clauses_say_truth()
-    ensures { SayTruth }
-{}
-
-/// Where known literals falsify a clause of a formula, they decide the formula.
-pub fn clauses_decide()
-    ensures { DecideFormula }
-{}
-
-/// Where a story is accepted, no rule satisfies the core.
-pub fn accepted_story_has_no_rule()
-    ensures { HasNoRule }
-{}
-
-/// The test of a formula answers as Tarski says.
-pub fn truth_is_tarskis()
-    ensures { IsTarskis }
-{}
+ghost use Rattle.meaning.specs.Laws.{TermsHaveValues, SentencesHaveInstances, TruthIsWritten, FormulasHaveLiterals, PartialTruthIsSound, AcceptedStoryHasNoRule, FaultlessIsAccepted, ClausesSayTruth, ClausesDecide, ClausesOfIff, FormulasHaveCounts, LiteralsAreVariables, RulesHaveBits, FramesSayOutcome, ClausesSayStudy, AssignmentsAreRules, ClausesAreSatisfiable, ClausesHaveReasons};
 
 /// The rankings are all strict rankings, each once, in lexicographic order.
 pub fn rankings_are_all()
@@ -52,57 +20,97 @@ pub fn profiles_are_numbers()
     ensures { AreProfiles }
 {}
 
+/// The test of a formula answers as Tarski says.
+pub fn truth_is_tarskis()
+    ensures { IsTarskis }
+{}
+
 /// The value of a term of a sort is one of the sort.
 pub fn terms_have_values()
-    ensures { HaveValues }
-{}
-
-/// The literals of a well-sorted formula are literals of the size.
-pub fn formulas_have_literals()
-    ensures { HaveLiterals }
-{}
-
-/// A story is accepted exactly where no line is faulty.
-pub fn answers_are_right()
-    ensures { IsAnswerRight }
-{}
-
-/// An assignment satisfies the clauses of a study exactly where it satisfies the frames and makes each instance true.
-pub fn clauses_say_study()
-    ensures { SatisfyStudy }
+    ensures { TermsHaveValues }
 {}
 
 /// A sentence is true of a rule exactly where the body of each instance is.
 pub fn sentences_have_instances()
-    ensures { HaveInstances }
+    ensures { SentencesHaveInstances }
 {}
 
-/// The frame of a profile says that there is an outcome.
-pub fn frames_say_outcome()
-    ensures { IsFrame }
+/// A formula is true of a rule exactly where it is so written out.
+pub fn truth_is_written()
+    ensures { TruthIsWritten }
 {}
 
-/// An assignment satisfies the clauses of a study exactly where it is the bits of a rule that satisfies the chosen axioms.
-pub fn assignments_are_rules()
-    ensures { AreRules }
+/// The literals of a well-sorted formula are literals of the size.
+pub fn formulas_have_literals()
+    ensures { FormulasHaveLiterals }
 {}
 
-/// Where known literals falsify a clause of a study, its origin is a reason that refutes them.
-pub fn clauses_have_reasons()
-    ensures { HaveReasons }
+/// A formula that is false under some literals is false of each rule of which they hold.
+pub fn partial_truth_is_sound()
+    ensures { PartialTruthIsSound }
 {}
 
-/// The bits of a rule give each literal the truth value that it has of the rule.
-pub fn rules_have_bits()
-    ensures { HaveBits }
+/// Where a story is accepted, no rule satisfies the core.
+pub fn accepted_story_has_no_rule()
+    ensures { AcceptedStoryHasNoRule }
 {}
 
-/// The clauses of a study are satisfiable exactly where some rule satisfies the chosen axioms.
-pub fn clauses_are_satisfiable()
-    ensures { AreSatisfiable }
+/// A story over literals of the size has no faulty line exactly where it is accepted.
+pub fn faultless_is_accepted()
+    ensures { FaultlessIsAccepted }
+{}
+
+/// The plus clauses of a formula hold exactly where it is true, and the minus clauses exactly where it is false.
+pub fn clauses_say_truth()
+    ensures { ClausesSayTruth }
+{}
+
+/// Where known literals falsify a clause of a formula, they decide the formula.
+pub fn clauses_decide()
+    ensures { ClausesDecide }
+{}
+
+/// The clauses of an equivalence are those of its two implications, written as disjunctions.
+pub fn clauses_of_iff()
+    ensures { ClausesOfIff }
 {}
 
 /// The counts of a formula are those of its clauses.
 pub fn formulas_have_counts()
-    ensures { AreCounts }
+    ensures { FormulasHaveCounts }
+{}
+
+/// The literals of a size and the variables of its studies, with signs, are one to one.
+pub fn literals_are_variables()
+    ensures { LiteralsAreVariables }
+{}
+
+/// The bits of a rule give each literal the truth value that it has of the rule.
+pub fn rules_have_bits()
+    ensures { RulesHaveBits }
+{}
+
+/// The frame of a profile says that there is exactly one outcome.
+pub fn frames_say_outcome()
+    ensures { FramesSayOutcome }
+{}
+
+/// An assignment satisfies the clauses of a study exactly where it satisfies the frames and makes each instance true.
+pub fn clauses_say_study()
+    ensures { ClausesSayStudy }
+{}
+
+/// An assignment satisfies the clauses of a study exactly where it is the bits of a rule that satisfies the chosen axioms.
+pub fn assignments_are_rules()
+    ensures { AssignmentsAreRules }
+{}
+
+/// The clauses of a study are satisfiable exactly where some rule satisfies the chosen axioms.
+pub fn clauses_are_satisfiable()
+    ensures { ClausesAreSatisfiable }
+{}
+
+/// Where known literals falsify a clause of a study, its origin is a reason that refutes them.
+pub fn clauses_have_reasons()
+    ensures { ClausesHaveReasons }
 {}

@@ -1,9 +1,10 @@
-//! Refutations that a reader can follow.
+//! Stories: refutations over the sentences alone, which a reader can follow.
 
 use lists::Items;
 use vocab::{Env, Literal};
 
-/// Why some literals cannot all hold of one rule.
+/// Why some literals cannot all hold of one rule: an instance of the axiom at a place of the study, by the values
+/// of its leading universals; the outcomes at a profile; or an earlier lemma, by its place.
 #[derive(Clone, Copy, Debug, PartialEq, Eq)]
 pub enum Reason {
     Axiom(u32, Env),
@@ -26,7 +27,8 @@ pub struct Lemma {
     pub last: Reason,
 }
 
-/// Why a line of a story is refused.
+/// Why a line of a story is refused: the reason's axiom is not in the core, its lemma is not an earlier one, or
+/// it does not refute; the literal or its opposite is already there; or the last lemma supposes something.
 #[derive(Clone, Copy, Debug, PartialEq, Eq)]
 pub enum StoryFault {
     NotInCore,
@@ -34,4 +36,20 @@ pub enum StoryFault {
     NotForced,
     Known,
     Supposes,
+}
+
+/// A fault, and the line of its lemma where it stands, the heading being line 0.
+#[derive(Clone, Copy, Debug, PartialEq, Eq)]
+pub struct PlacedFault {
+    pub place: u32,
+    pub fault: StoryFault,
+}
+
+/// Why a story is refused: the first faulty line and its lemma, from 0, or that there is no lemma. Want of memory
+/// may come in place of both.
+#[derive(Clone, Copy, Debug, PartialEq, Eq)]
+pub enum StoryRefusal {
+    Lemma { lemma: u32, fault: PlacedFault },
+    Empty,
+    NoMemory,
 }

@@ -1,0 +1,255 @@
+-- Worked examples, as the definitions compute them.
+use Rattle.std.proofs.Common.{◌≡◌, refl, ℕ, List, [], ◌∷◌, true, false, length, map, Option, Some, None}
+use Rattle.std.specs.Prelude.{codes}
+use Rattle.vocab.specs.declared.kinds.Kind.TheVariants.{Choice, Ranking}
+use Rattle.vocab.specs.declared.kinds.Sort.TheVariants.{Voter, Alt, Profile}
+use Rattle.vocab.specs.declared.literals.Literal.{Literal}
+use Rattle.vocab.specs.declared.literals.Literal.TheVariants.{Wins, Loses}
+use Rattle.vocab.specs.Limits.{atom_count, instance_count}
+use Rattle.vocab.specs.Size.{Extent}
+use Rattle.vocab.specs.Titled.{Titled}
+use Rattle.vocab.specs.Tree.{Tree, Var, Const, With, SwapVoters, SwapAlts, Swap, Equal, Prefers, WinsAt, Ranks, Leaf, Not, Both, Either, Implies, Same, All, Exists}
+use Rattle.cnf.specs.Signed.{Signed}
+use Rattle.cnf.specs.Sat.{Clause}
+use Rattle.meaning.specs.declared.stories.Lemma.{Lemma}
+use Rattle.meaning.specs.declared.stories.Reason.{Reason}
+use Rattle.meaning.specs.declared.stories.Reason.TheVariants.{Axiom as ByAxiom, Outcome as ByOutcome, Lemma as ByLemma}
+use Rattle.meaning.specs.declared.stories.StoryFault.{StoryFault}
+use Rattle.meaning.specs.declared.stories.StoryFault.TheVariants.{NotInCore, Later, NotForced, Known, Supposes}
+use Rattle.meaning.specs.declared.stories.StoryRefusal.{StoryRefusal}
+use Rattle.meaning.specs.declared.stories.StoryRefusal.TheVariants.{Lemma as InLemma, Empty}
+use Rattle.meaning.specs.declared.stories.StoryStep.{StoryStep}
+use Rattle.meaning.specs.declared.cores.Witness.TheVariants.{Rule, Open}
+use Rattle.meaning.specs.Cores.{is_core_right}
+use Rattle.meaning.specs.Instances.{is_instance_true}
+use Rattle.meaning.specs.declared.clauses.Counts.{Counts}
+use Rattle.meaning.specs.Measure.{plus_counts}
+use Rattle.meaning.specs.Space.{rankings, ballots}
+use Rattle.meaning.specs.Stories.{is_story}
+use Rattle.meaning.specs.StoryFaults.{story_refusal}
+use Rattle.meaning.specs.StudyClauses.{from_frame, study_clauses}
+use Rattle.meaning.specs.Texts.{profile_text}
+use Rattle.meaning.specs.Tidy.{is_tidy}
+use Rattle.meaning.specs.Truth.{is_true_at}
+use Rattle.meaning.specs.Written.{write_out}
+
+-- rules that choose, and rules that rank, for n voters and m alternatives
+abbrev choice : ℕ → ℕ → Extent
+choice n m = record { kind = Choice; voters = n; alternatives = m }
+
+abbrev ranked : ℕ → ℕ → Extent
+ranked n m = record { kind = Ranking; voters = n; alternatives = m }
+
+-- an axiom; its name plays no part
+abbrev axiom_of : Tree → Titled
+axiom_of f = record { name = codes "a"; sentence = f }
+
+abbrev plain : ℕ → Signed
+plain x = record { variable = x; positive = true }
+
+abbrev negated : ℕ → Signed
+negated x = record { variable = x; positive = false }
+
+-- ---- rankings and profiles
+
+three_alternatives_have_six_rankings : rankings 3 ≡ (0 ∷ 1 ∷ 2 ∷ []) ∷ (0 ∷ 2 ∷ 1 ∷ []) ∷ (1 ∷ 0 ∷ 2 ∷ []) ∷ (1 ∷ 2 ∷ 0 ∷ []) ∷ (2 ∷ 0 ∷ 1 ∷ []) ∷ (2 ∷ 1 ∷ 0 ∷ []) ∷ []
+three_alternatives_have_six_rankings = refl
+
+five_alternatives_have_120_rankings : length (rankings 5) ≡ 120
+five_alternatives_have_120_rankings = refl
+
+-- the number of a profile is its ballots in base 6, the first voter's first
+profile_7_is_one_ballot_twice : ballots (choice 2 3) 7 ≡ 1 ∷ 1 ∷ []
+profile_7_is_one_ballot_twice = refl
+
+profile_27_is_cab_bca : profile_text (choice 2 3) 27 ≡ codes "cab|bca"
+profile_27_is_cab_bca = refl
+
+-- ---- one voter, two alternatives and unanimity
+
+-- all p: profile. all x: alt. (all i: voter. all y: alt. (x = y | prefers(i, x, y, p)) -> wins(x, p))
+abbrev unanimity : Tree
+unanimity =
+    All Profile (All Alt (Implies (All Voter (All Alt (Either (Leaf (Equal (Var 1) (Var 3))) (Leaf (Prefers (Var 2) (Var 1) (Var 3) (Var 0)))))) (Leaf (WinsAt (Var 1) (Var 0)))))
+
+-- the voter's best alternative is chosen
+dictatorship_of_one_voter_is_unanimous : is_true_at (choice 1 2) (0 ∷ 1 ∷ []) unanimity [] ≡ true
+dictatorship_of_one_voter_is_unanimous = refl
+
+-- the first alternative is chosen whatever the ballot
+constant_rule_is_not_unanimous : is_true_at (choice 1 2) (0 ∷ 0 ∷ []) unanimity [] ≡ false
+constant_rule_is_not_unanimous = refl
+
+-- at the second profile and the second alternative, of two: 1 * 2 + 1
+constant_rule_first_fails_at_instance_3 : map (is_instance_true (choice 1 2) (0 ∷ 0 ∷ []) unanimity) (0 ∷ 1 ∷ 2 ∷ 3 ∷ []) ≡ true ∷ true ∷ true ∷ false ∷ []
+constant_rule_first_fails_at_instance_3 = refl
+
+-- the first voter's best alternative is chosen at each of 36 profiles
+dictatorship_of_two_voters_is_unanimous : is_true_at (choice 2 3) (0 ∷ 0 ∷ 0 ∷ 0 ∷ 0 ∷ 0 ∷ 0 ∷ 0 ∷ 0 ∷ 0 ∷ 0 ∷ 0 ∷ 1 ∷ 1 ∷ 1 ∷ 1 ∷ 1 ∷ 1 ∷ 1 ∷ 1 ∷ 1 ∷ 1 ∷ 1 ∷ 1 ∷ 2 ∷ 2 ∷ 2 ∷ 2 ∷ 2 ∷ 2 ∷ 2 ∷ 2 ∷ 2 ∷ 2 ∷ 2 ∷ 2 ∷ []) unanimity [] ≡ true
+dictatorship_of_two_voters_is_unanimous = refl
+
+abbrev clauses : Extent → List Titled → List ℕ → List Clause
+clauses size axioms chosen = map (λ s. s.clause) (study_clauses size axioms chosen)
+
+unanimity_of_one_voter_has_six_clauses : clauses (choice 1 2) (axiom_of unanimity ∷ []) (0 ∷ []) ≡ (plain 1 ∷ plain 2 ∷ []) ∷ (negated 1 ∷ negated 2 ∷ []) ∷ (plain 3 ∷ plain 4 ∷ []) ∷ (negated 3 ∷ negated 4 ∷ []) ∷ (plain 1 ∷ []) ∷ (plain 4 ∷ []) ∷ []
+unanimity_of_one_voter_has_six_clauses = refl
+
+-- ---- clauses of a study
+
+-- 36 profiles, each with a clause that some alternative wins and three that no two do
+frames_of_two_voters_and_three_alternatives_have_144_clauses : length (study_clauses (choice 2 3) [] []) ≡ 144
+frames_of_two_voters_and_three_alternatives_have_144_clauses = refl
+
+-- variables 1, 2, 3 say that a stands above b, a above c, b above c
+frame_of_a_profile_forbids_circles : map (λ s. s.clause) (from_frame (ranked 1 3) 0) ≡ (negated 1 ∷ plain 2 ∷ negated 3 ∷ []) ∷ (plain 1 ∷ negated 2 ∷ plain 3 ∷ []) ∷ []
+frame_of_a_profile_forbids_circles = refl
+
+-- all x: alt. all y: alt. all p: profile. (wins(x, p) | wins(y, p))
+abbrev either_wins : Tree
+either_wins = All Alt (All Alt (All Profile (Either (Leaf (WinsAt (Var 0) (Var 2))) (Leaf (WinsAt (Var 1) (Var 2))))))
+
+-- equal literals are merged, the second of two equal clauses of the axiom is left out, and the one that equals a clause of the frame stays
+equal_clauses_of_one_axiom_are_kept_once : clauses (choice 1 2) (axiom_of either_wins ∷ []) (0 ∷ []) ≡ (plain 1 ∷ plain 2 ∷ []) ∷ (negated 1 ∷ negated 2 ∷ []) ∷ (plain 3 ∷ plain 4 ∷ []) ∷ (negated 3 ∷ negated 4 ∷ []) ∷ (plain 1 ∷ []) ∷ (plain 3 ∷ []) ∷ (plain 1 ∷ plain 2 ∷ []) ∷ (plain 3 ∷ plain 4 ∷ []) ∷ (plain 2 ∷ []) ∷ (plain 4 ∷ []) ∷ []
+equal_clauses_of_one_axiom_are_kept_once = refl
+
+-- ---- a body that is too wide
+
+-- some p: profile. (wins(@a, p) & wins(@b, with(p, #1, <bac>))): 2 ^ 36 clauses of 36 literals
+body_over_36_profiles : Counts
+body_over_36_profiles =
+    plus_counts (write_out (choice 2 3) (Exists Profile (Both (Leaf (WinsAt (Const 0) (Var 0))) (Leaf (WinsAt (Const 1) (With (Var 0) (Const 0) (Const 2)))))) [])
+
+chain_of_36_conjunctions_has_68719476736_clauses_and_2473901162496_literals : body_over_36_profiles ≡ record { clauses = 68719476736; literals = 2473901162496 }
+unfolding body_over_36_profiles
+chain_of_36_conjunctions_has_68719476736_clauses_and_2473901162496_literals = refl
+
+-- all p: profile. all q: profile. all x: alt. all y: alt. (all i: voter. (prefers(i, x, y, p) <-> prefers(i, x, y, q)) -> (ranks(x, y, p) <-> ranks(x, y, q)))
+abbrev independence : Tree
+independence =
+    All Profile (All Profile (All Alt (All Alt (Implies (All Voter (Same (Leaf (Prefers (Var 4) (Var 2) (Var 3) (Var 0))) (Leaf (Prefers (Var 4) (Var 2) (Var 3) (Var 1))))) (Same (Leaf (Ranks (Var 2) (Var 3) (Var 0))) (Leaf (Ranks (Var 2) (Var 3) (Var 1))))))))
+
+independence_of_two_voters_and_four_alternatives_has_5308416_instances : instance_count (ranked 2 4) independence ≡ 5308416
+independence_of_two_voters_and_four_alternatives_has_5308416_instances = refl
+
+independence_of_two_voters_and_four_alternatives_has_31850496_atoms : atom_count (ranked 2 4) independence ≡ 31850496
+independence_of_two_voters_and_four_alternatives_has_31850496_atoms = refl
+
+-- ---- two voters, two alternatives, anonymity and neutrality
+
+-- all p: profile. all i: voter. all j: voter. all x: alt. (wins(x, p) <-> wins(x, swap_voters(p, i, j)))
+abbrev anonymity : Tree
+anonymity = All Profile (All Voter (All Voter (All Alt (Same (Leaf (WinsAt (Var 3) (Var 0))) (Leaf (WinsAt (Var 3) (SwapVoters (Var 0) (Var 1) (Var 2))))))))
+
+-- all p: profile. all x: alt. all y: alt. all z: alt. (wins(z, p) <-> wins(swap(x, y, z), swap_alts(p, x, y)))
+abbrev neutrality : Tree
+neutrality = All Profile (All Alt (All Alt (All Alt (Same (Leaf (WinsAt (Var 3) (Var 0))) (Leaf (WinsAt (Swap (Var 1) (Var 2) (Var 3)) (SwapAlts (Var 0) (Var 1) (Var 2))))))))
+
+abbrev both_axioms : List Titled
+both_axioms = axiom_of anonymity ∷ axiom_of neutrality ∷ []
+
+abbrev both : List ℕ
+both = 0 ∷ 1 ∷ []
+
+abbrev step : Literal → Reason → StoryStep
+step l r = record { literal = l; reason = r }
+
+-- profiles: 0 is ab|ab, 1 is ab|ba, 2 is ba|ab, 3 is ba|ba
+-- suppose a wins at ab|ba: so a wins at ba|ab by anonymity, and b by neutrality
+abbrev a_does_not_win : Lemma
+a_does_not_win = record {
+  suppose = Wins 0 1 ∷ [];
+  steps = step (Wins 0 2) (ByAxiom 0 (1 ∷ 0 ∷ 1 ∷ 0 ∷ [])) ∷ step (Wins 1 2) (ByAxiom 1 (1 ∷ 0 ∷ 1 ∷ 0 ∷ [])) ∷ [];
+  last = ByOutcome 2;
+}
+
+-- so b wins at ab|ba, and likewise both win at ba|ab
+abbrev nothing_wins : Lemma
+nothing_wins = record {
+  suppose = [];
+  steps = step (Loses 0 1) (ByLemma 0) ∷ step (Wins 1 1) (ByOutcome 1) ∷ step (Wins 1 2) (ByAxiom 0 (1 ∷ 0 ∷ 1 ∷ 1 ∷ [])) ∷ step (Wins 0 2) (ByAxiom 1 (1 ∷ 0 ∷ 1 ∷ 1 ∷ [])) ∷ [];
+  last = ByOutcome 2;
+}
+
+anonymity_and_neutrality_story_is_accepted : is_story (choice 2 2) both_axioms both (a_does_not_win ∷ nothing_wins ∷ []) ≡ true
+anonymity_and_neutrality_story_is_accepted = refl
+
+anonymity_and_neutrality_story_is_tidy : is_tidy (choice 2 2) both_axioms both (a_does_not_win ∷ nothing_wins ∷ []) ≡ true
+anonymity_and_neutrality_story_is_tidy = refl
+
+-- a rule without anonymity chooses the first voter's best, and one without neutrality always a
+anonymity_and_neutrality_core_is_right : is_core_right (choice 2 2) both_axioms 100000 both (Rule (0 ∷ 0 ∷ 1 ∷ 1 ∷ []) ∷ Rule (0 ∷ 0 ∷ 0 ∷ 0 ∷ []) ∷ []) ≡ true
+anonymity_and_neutrality_core_is_right = refl
+
+core_in_another_order_is_not_right : is_core_right (choice 2 2) both_axioms 100000 (1 ∷ 0 ∷ []) (Rule (0 ∷ 0 ∷ 0 ∷ 0 ∷ []) ∷ Rule (0 ∷ 0 ∷ 1 ∷ 1 ∷ []) ∷ []) ≡ false
+core_in_another_order_is_not_right = refl
+
+-- an open mark is right with the limit of the study, and with no other
+open_mark_has_the_limit_of_the_study : map (λ limit. is_core_right (choice 2 2) both_axioms 1000 both (Open 1000 ∷ Open limit ∷ [])) (1000 ∷ 999 ∷ []) ≡ true ∷ false ∷ []
+open_mark_has_the_limit_of_the_study = refl
+
+-- the first fault of a story, told with a core
+abbrev refusal : List ℕ → List Lemma → Option StoryRefusal
+refusal core story = story_refusal (choice 2 2) both_axioms core story
+
+abbrev in_lemma : ℕ → ℕ → StoryFault → Option StoryRefusal
+in_lemma lemma place fault = Some (InLemma lemma (record { place = place; fault = fault }))
+
+story_without_fault_is_not_refused : refusal both (a_does_not_win ∷ nothing_wins ∷ []) ≡ None
+story_without_fault_is_not_refused = refl
+
+-- b does not win at ba|ab
+step_that_is_not_forced_is_refused : refusal both (record a_does_not_win { steps = step (Wins 0 2) (ByAxiom 0 (1 ∷ 0 ∷ 1 ∷ 0 ∷ [])) ∷ step (Loses 1 2) (ByAxiom 1 (1 ∷ 0 ∷ 1 ∷ 0 ∷ [])) ∷ [] } ∷ nothing_wins ∷ []) ≡ in_lemma 0 3 NotForced
+step_that_is_not_forced_is_refused = refl
+
+-- the second lemma cites itself
+reason_by_a_later_lemma_is_refused : refusal both (a_does_not_win ∷ record nothing_wins { steps = step (Loses 0 1) (ByLemma 1) ∷ [] } ∷ []) ≡ in_lemma 1 1 Later
+reason_by_a_later_lemma_is_refused = refl
+
+repeated_step_is_refused : refusal both (a_does_not_win ∷ record nothing_wins { steps = step (Loses 0 1) (ByLemma 0) ∷ step (Loses 0 1) (ByLemma 0) ∷ [] } ∷ []) ≡ in_lemma 1 2 Known
+repeated_step_is_refused = refl
+
+-- anonymity is not in the core
+reason_by_an_axiom_outside_the_core_is_refused : refusal (1 ∷ []) (a_does_not_win ∷ nothing_wins ∷ []) ≡ in_lemma 0 2 NotInCore
+reason_by_an_axiom_outside_the_core_is_refused = refl
+
+supposition_of_the_last_lemma_is_refused : refusal both (a_does_not_win ∷ record nothing_wins { suppose = Wins 1 1 ∷ [] } ∷ []) ≡ in_lemma 1 1 Supposes
+supposition_of_the_last_lemma_is_refused = refl
+
+story_without_lemma_is_refused : refusal both [] ≡ Some Empty
+story_without_lemma_is_refused = refl
+
+-- a lemma that nothing cites is accepted, and is not tidy
+uncited_lemma_is_accepted : is_story (choice 2 2) both_axioms both (a_does_not_win ∷ a_does_not_win ∷ nothing_wins ∷ []) ≡ true
+uncited_lemma_is_accepted = refl
+
+uncited_lemma_is_not_tidy : is_tidy (choice 2 2) both_axioms both (a_does_not_win ∷ a_does_not_win ∷ nothing_wins ∷ []) ≡ false
+uncited_lemma_is_not_tidy = refl
+
+-- ---- one voter and one alternative
+
+-- all i: voter. some p: profile. some x: alt. some y: alt. (prefers(i, y, x, p) & wins(x, p))
+abbrev non_dictatorship : Tree
+non_dictatorship = All Voter (Exists Profile (Exists Alt (Exists Alt (Both (Leaf (Prefers (Var 0) (Var 3) (Var 2) (Var 1))) (Leaf (WinsAt (Var 2) (Var 1)))))))
+
+-- the one voter dictates
+non_dictatorship_of_one_alternative_is_refuted_at_once : is_story (choice 1 1) (axiom_of non_dictatorship ∷ []) (0 ∷ []) (record { suppose = []; steps = []; last = ByAxiom 0 (0 ∷ []) } ∷ []) ≡ true
+non_dictatorship_of_one_alternative_is_refuted_at_once = refl
+
+-- ---- the Paretian liberal (Sen 1970), for two voters and three alternatives
+
+-- all p: profile. all x: alt. all y: alt. (all i: voter. prefers(i, x, y, p) -> !wins(y, p))
+abbrev pareto : Tree
+pareto = All Profile (All Alt (All Alt (Implies (All Voter (Leaf (Prefers (Var 3) (Var 1) (Var 2) (Var 0)))) (Not (Leaf (WinsAt (Var 2) (Var 0)))))))
+
+-- voter i decides between x and y
+abbrev right_of : ℕ → ℕ → ℕ → Tree
+right_of i x y =
+    All Profile (Both (Implies (Leaf (Prefers (Const i) (Const x) (Const y) (Var 0))) (Not (Leaf (WinsAt (Const y) (Var 0))))) (Implies (Leaf (Prefers (Const i) (Const y) (Const x) (Var 0))) (Not (Leaf (WinsAt (Const x) (Var 0))))))
+
+-- at cab|bca the first voter's right excludes b, the second's c, and Pareto a
+paretian_liberal_story_is_accepted_at_cab_bca : is_story (choice 2 3) (axiom_of pareto ∷ axiom_of (right_of 0 0 1) ∷ axiom_of (right_of 1 1 2) ∷ []) (0 ∷ 1 ∷ 2 ∷ []) (record {
+  suppose = [];
+  steps = step (Loses 1 27) (ByAxiom 1 (27 ∷ [])) ∷ step (Loses 2 27) (ByAxiom 2 (27 ∷ [])) ∷ step (Loses 0 27) (ByAxiom 0 (27 ∷ 2 ∷ 0 ∷ [])) ∷ [];
+  last = ByOutcome 27;
+} ∷ []) ≡ true
+paretian_liberal_story_is_accepted_at_cab_bca = refl

@@ -1,0 +1,11 @@
+//! What is said of an axiom of a core.
+
+use vocab::Table;
+
+/// The mark of an axiom of a core: a rule that satisfies the others, or open, with the limit on learned clauses
+/// within which none was found.
+#[derive(Drop)]
+pub enum Witness {
+    Rule(Table),
+    Open(u32),
+}
