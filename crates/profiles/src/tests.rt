@@ -92,79 +92,65 @@ fn not_ballots(rt: HostRuntime) {
     }
 }
 
-// Voter 1 has c above a above b, and voter 2 has b above c above a.
+// At profile 27 voter 1 has c above a above b, and voter 2 has b above c above a.
 #[test]
-fn votes_and_changes(rt: HostRuntime) {
+fn votes(rt: HostRuntime) {
     let space = space(&rt, 2, 3);
     assert!(rt; space.count() == 36);
     assert!(rt; space.size().voters() == 2);
     assert!(rt; space.size().alternatives() == 3);
-    let p = 27;
-    assert_eq!(rt; (space.ballot_of(p, 0), space.ballot_of(p, 1)), (4, 3));
-    assert_eq!(rt;
-        (space.prefers(0, 2, 0, p), space.prefers(0, 0, 2, p)),
-        (true, false)
-    );
-    assert_eq!(rt;
-        (space.prefers(1, 0, 1, p), space.prefers(1, 1, 2, p)),
-        (false, true)
-    );
-    assert_eq!(rt;
-        (
-            space.better(4, 0, 1),
-            space.better(4, 1, 0),
-            space.better(4, 1, 1)
-        ),
-        (true, false, false)
-    );
-    assert_eq!(rt; (space.casts(0, 4, p), space.casts(1, 4, p)), (true, false));
-    assert_eq!(rt;
-        (space.majority(2, 0, p), space.majority(0, 2, p)),
-        (true, false)
-    );
-    assert_eq!(rt;
-        (space.majority(0, 1, p), space.majority(1, 0, p)),
-        (false, false)
-    );
-    assert_eq!(rt; space.with(p, 1, 0), 24, "cab|abc");
-    assert_eq!(rt; space.swap_voters(p, 0, 1), 22, "bca|cab");
-    assert_eq!(rt; space.swap_alts(p, 0, 1), 31, "cba|acb");
-    assert_eq!(rt;
-        (
-            space.swap(0, 1, 0),
-            space.swap(0, 1, 1),
-            space.swap(0, 1, 2)
-        ),
-        (1, 0, 2)
-    );
+    // x, y, whether voter 1, voter 2 and the majority have x above y
+    let rows = [
+        (0, 1, true, false, false),
+        (1, 0, false, true, false),
+        (0, 2, false, false, false),
+        (2, 0, true, true, true),
+        (1, 2, false, true, false),
+        (2, 1, true, false, false),
+        (1, 1, false, false, false),
+    ];
+    for (x, y, first, second, most) in rows {
+        assert!(rt; x < 3);
+        assert!(rt; y < 3);
+        assert_eq!(rt; space.prefers(0, x, y, 27), first, "{x} above {y}");
+        assert_eq!(rt; space.prefers(1, x, y, 27), second, "{x} above {y}");
+        assert_eq!(rt; space.better(4, x, y), first, "{x} above {y}");
+        assert_eq!(rt; space.majority(x, y, 27), most, "{x} above {y}");
+    }
+    assert!(rt; space.casts(0, 4, 27));
+    assert!(rt; !space.casts(1, 4, 27));
+    assert_eq!(rt; space.ballot_of(27, 1), 3);
+}
+
+#[test]
+fn changes(rt: HostRuntime) {
+    let space = space(&rt, 2, 3);
+    assert!(rt; space.count() == 36);
+    assert!(rt; space.size().voters() == 2);
+    assert!(rt; space.size().alternatives() == 3);
+    assert_eq!(rt; space.with(27, 1, 0), 24, "cab|abc");
+    assert_eq!(rt; space.swap_voters(27, 0, 1), 22, "bca|cab");
+    assert_eq!(rt; space.swap_voters(27, 1, 1), 27, "cab|bca");
+    assert_eq!(rt; space.swap_alts(27, 0, 1), 31, "cba|acb");
+    assert_eq!(rt; space.swap_alts(27, 2, 2), 27, "cab|bca");
+    for (z, other) in [(0, 1), (1, 0), (2, 2)] {
+        assert!(rt; z < 3);
+        assert_eq!(rt; space.swap(0, 1, z), other, "at {z}");
+    }
 }
 
 // The paradox of Condorcet: of abc, bca and cab a majority has a above b, one b above c, and one c above a.
 #[test]
 fn paradox_of_condorcet(rt: HostRuntime) {
     let space = space(&rt, 3, 3);
-    assert!(rt; space.count() == 216);
     assert!(rt; space.size().alternatives() == 3);
-    let Ok(p) = space.read_profile(b"abc|bca|cab") else {
-        assert!(rt; false);
-        return;
-    };
-    assert_eq!(rt;
-        (
-            space.majority(0, 1, p),
-            space.majority(1, 2, p),
-            space.majority(2, 0, p)
-        ),
-        (true, true, true)
-    );
-    assert_eq!(rt;
-        (
-            space.majority(1, 0, p),
-            space.majority(2, 1, p),
-            space.majority(0, 2, p)
-        ),
-        (false, false, false)
-    );
+    let p = space.read_profile(b"abc|bca|cab").expect(&rt, "a profile");
+    for (x, y) in [(0, 1), (1, 2), (2, 0)] {
+        assert!(rt; x < 3);
+        assert!(rt; y < 3);
+        assert!(rt; space.majority(x, y, p));
+        assert!(rt; !space.majority(y, x, p));
+    }
 }
 
 #[test]
