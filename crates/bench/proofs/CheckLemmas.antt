@@ -1,0 +1,85 @@
+-- The rows of `check`, where the shelf tells its files.
+use Rattle.std.proofs.Common.{◌≡◌, ℕ, ◌<◌, ◌≤◌, List, length, codes, Option, None, Some, IfSome, IsSomeAnd, Result, Ok, Err, IfOk, IsErrOf, refl, min, ◌+◌, ◌-◌, ◌^◌, arith}
+use Rattle.edge.specs.Shelf.{Files, NoneFell}
+use Rattle.edge.specs.Faults.{Rose}
+use Rattle.vocab.specs.Study.{Question}
+use Rattle.study.specs.declared.faults.StudyFault.TheVariants.{NotToml, NotBuilt}
+use Rattle.study.specs.Reading.{study_of_bytes}
+use Rattle.bench.specs.declared.answers.Answer.{Answer}
+use Rattle.bench.specs.declared.answers.Stop.{Stop}
+use Rattle.bench.specs.CheckTable.{most_bytes, Holds, Judged, too_long, Checked, study_too_long, study_not_toml, study_not_built, judged}
+use Rattle.bench.specs.TopCall.{HoldsStudy, HasReadCause, at_report}
+
+some_and : {A : Type 0} (r : Option A) (P : A → Type 0) → IsSomeAnd r P → (x : A) × (r ≡ Some x) × P x
+some_and None P h = absurd h
+some_and (Some x) P h = (x, refl, h)
+
+-- what an error says of the files, where it is that error
+pub at_that_error : {E : Type 0} (T : Type 0) (told : Option Files) (e : E) (P : Files → Type 0) → IfSome told (λ held. IsErrOf {T = T} (Err e) e → P held) → IfSome told P
+at_that_error T None e P h = tt
+at_that_error T (Some files) e P h = h refl
+
+-- a file was read, and its bytes fit
+pub record WasRead (told : Option Files) (name bytes : List ℕ) : Type 0 where
+  pub held : IfSome told (λ files. files name ≡ Some bytes)
+  pub fits : length bytes ≤ most_bytes
+
+-- a file holds more bytes than fit
+abbrev pub IsTooLong : Option Files → List ℕ → Type 0
+IsTooLong told name = IfSome told (λ files. IsSomeAnd (files name) (λ bytes. most_bytes < length bytes))
+
+module _ (told : Option Files) (study report : List ℕ) where
+  pub too_long_row : (s : ℕ) (t : List ℕ) → IsTooLong told study → s ≡ 3 → t ≡ codes "study: too long\n" → IfSome told (λ files. Checked files study report s t)
+  too_long_row s t h a e = row told h
+    where
+      row : (o : Option Files) → IsTooLong o study → IfSome o (λ files. Checked files study report s t)
+      row None h = tt
+      row (Some files) h = let (bytes, held, long) = some_and (files study) _ h in study_too_long bytes (record { held = held; long = long }) a e
+
+  pub not_toml_row : (bytes : List ℕ) (s : ℕ) (t : List ℕ) → WasRead told study bytes → study_of_bytes bytes ≡ Err NotToml → s ≡ 3 → t ≡ codes "study: not toml\n" → IfSome told (λ files. Checked files study report s t)
+  not_toml_row bytes s t h bad a e = row told h.held
+    where
+      row : (o : Option Files) → IfSome o (λ files. files study ≡ Some bytes) → IfSome o (λ files. Checked files study report s t)
+      row None held = tt
+      row (Some files) held = study_not_toml bytes (record { held = held; fits = h.fits }) bad a e
+
+  pub not_built_row : (bytes : List ℕ) (s : ℕ) (t : List ℕ) → WasRead told study bytes → study_of_bytes bytes ≡ Err NotBuilt → s ≡ 3 → t ≡ codes "study: not built\n" → IfSome told (λ files. Checked files study report s t)
+  not_built_row bytes s t h bad a e = row told h.held
+    where
+      row : (o : Option Files) → IfSome o (λ files. files study ≡ Some bytes) → IfSome o (λ files. Checked files study report s t)
+      row None held = tt
+      row (Some files) held = study_not_built bytes (record { held = held; fits = h.fits }) bad a e
+
+  pub judged_row : (bytes : List ℕ) (question : Question) (result : Result Answer Stop) → WasRead told study bytes → study_of_bytes bytes ≡ Ok question
+      → IfSome told (λ files. IfOk result (λ answer. (held : List ℕ) × (files report ≡ Some held) × Judged question held answer.status answer.text))
+      → IfSome told (λ files. IfOk result (λ answer. Checked files study report answer.status answer.text))
+  judged_row bytes question result h read given = row told result h.held given
+    where
+      row : (o : Option Files) (r : Result Answer Stop) → IfSome o (λ files. files study ≡ Some bytes)
+          → IfSome o (λ files. IfOk r (λ answer. (held : List ℕ) × (files report ≡ Some held) × Judged question held answer.status answer.text))
+          → IfSome o (λ files. IfOk r (λ answer. Checked files study report answer.status answer.text))
+      row None r held given = tt
+      row (Some files) (Err e) held given = tt
+      row (Some files) (Ok answer) held given = judged bytes question given.0 (record { held = held; fits = h.fits }) read given.1 given.2
+
+  -- the study was read
+  study_read : (bytes : List ℕ) (question : Question) → WasRead told study bytes → study_of_bytes bytes ≡ Ok question → IfSome told (λ files. HoldsStudy files study)
+  study_read bytes question h read = row told h.held
+    where
+      row : (o : Option Files) → IfSome o (λ files. files study ≡ Some bytes) → IfSome o (λ files. HoldsStudy files study)
+      row None held = tt
+      row (Some files) held = (bytes, question, record { held = held; fits = h.fits }, read)
+
+  rose_since : (a b c : ℕ) → a ≤ b → Rose b c → Rose a c
+  rose_since a b c h k = omega arith
+
+  -- a fault at the report, after the study was read
+  pub report_cause : (before middle now : List ℕ → ℕ) (bytes : List ℕ) (question : Question) → NoneFell before middle → Rose (middle report) (now report)
+      → WasRead told study bytes → study_of_bytes bytes ≡ Ok question → HasReadCause told before now study report
+  report_cause before middle now bytes question fell rose h read = at_report (rose_since (before report) (middle report) (now report) (fell report) rose) (study_read bytes question h read)
+
+-- a report that is too long
+pub long_report_row : (told : Option Files) (question : Question) (report : List ℕ) (s : ℕ) (t : List ℕ) → IsTooLong told report → s ≡ 1 → t ≡ codes "refused: not built\n"
+    → IfSome told (λ files. (held : List ℕ) × (files report ≡ Some held) × Judged question held s t)
+long_report_row None question report s t h a e = tt
+long_report_row (Some files) question report s t h a e = let (bytes, held, long) = some_and (files report) _ h in (bytes, held, too_long long a e)

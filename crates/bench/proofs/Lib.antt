@@ -1,0 +1,6 @@
+pub mod FailingLemmas
+pub mod OneRule
+pub mod OneAnswer
+pub mod CheckLemmas
+pub mod AnswerLemmas
+pub mod RowLemmas

@@ -1,0 +1,28 @@
+use Rattle.std.proofs.Common.{codes, ◌≡◌, IfSome, List, ℕ}
+use Rattle.std.specs.Io.KnownBytes.{Appends}
+use Rattle.bench.specs.Lawful.{Lawful}
+use Rattle.bench.specs.Words.{texts}
+use Rattle.bench.specs.TopCall.{IsCheckOfLongStudy, IsCheckOfNoToml, IsCheckOfOtherStudy}
+use Rattle.bench.proofs.AnswerLemmas.{answered, in_part}
+use Rattle.bench.proofs.RowLemmas.{row, long_study, no_toml, other_study, no_rule_clause, fails_clause, confirmed_clause}
+use Rattle.bench.proofs.top.bench.Goals as goal
+
+pub returns-in-Ok-write_text-clause-lawful : goal.returns-in-Ok-write_text-clause-lawful
+returns-in-Ok-write_text-clause-lawful g c =
+    answered (g.S.Shelf.files c.args.shelf.now) (texts c.args.words.now) c.in-Ok.answer.status c.in-Ok.answer.text _ _ c.in-Ok.ensures.lawful (rw c.as_slice.ensures at c.in-Ok-write_text.ensures.ok)
+
+pub returns-in-Ok-write_text-clause-report_not_built : goal.returns-in-Ok-write_text-clause-report_not_built
+returns-in-Ok-write_text-clause-report_not_built g c =
+    no_rule_clause (g.S.Shelf.files c.args.shelf.now) (texts c.args.words.now) c.in-Ok.answer.status c.in-Ok.answer.text _ _ c.in-Ok.ensures.lawful (rw c.as_slice.ensures at c.in-Ok-write_text.ensures.ok)
+
+pub returns-in-Ok-write_text-clause-fails : goal.returns-in-Ok-write_text-clause-fails
+returns-in-Ok-write_text-clause-fails g c =
+    fails_clause (g.S.Shelf.files c.args.shelf.now) (texts c.args.words.now) c.in-Ok.answer.status c.in-Ok.answer.text _ _ c.in-Ok.ensures.lawful (rw c.as_slice.ensures at c.in-Ok-write_text.ensures.ok)
+
+pub returns-in-Ok-write_text-clause-confirmed : goal.returns-in-Ok-write_text-clause-confirmed
+returns-in-Ok-write_text-clause-confirmed g c =
+    confirmed_clause (g.S.Shelf.files c.args.shelf.now) (texts c.args.words.now) c.in-Ok.answer.status c.in-Ok.answer.text _ _ c.in-Ok.ensures.lawful (rw c.as_slice.ensures at c.in-Ok-write_text.ensures.ok)
+
+pub returns-clause-cut_short : goal.returns-clause-cut_short
+returns-clause-cut_short g c =
+    λ six. in_part (g.S.Shelf.files c.args.shelf.now) (texts c.args.words.now) c.in-Ok.answer.status c.in-Ok.answer.text _ _ c.in-Ok.ensures.lawful (rw c.as_slice.ensures at c.in-Err.ensures.err)

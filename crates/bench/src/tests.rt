@@ -1,0 +1,150 @@
+//! The worked examples of `check`, over devices in memory.
+
+use crate::top::bench;
+use edge::{CalmShelf, CalmSink, MemoryShelf, MemorySink, Open};
+use lists::NoMemory;
+use std::alloc::{AllocError, Global};
+use std::test::Fail;
+use std::thread::Threads;
+
+const STUDY: &str = "kind = \"choice\"\nvoters = 1\nalternatives = 2\naxioms = [\"unanimity\"]\n";
+
+const REPORT: &str = "bench report 1\nkind choice\nvoters 1\nalternatives 2\naxioms unanimity\nverdict possible\nrule 2\nab a\nba b\nend\n";
+
+fn words_of(alloc: Global, words: &[&str]) -> Result<Vec<String>, AllocError> {
+    let mut list = Vec::new(alloc);
+    for word in words {
+        list.push(String::from_str(alloc, word)?)?;
+    }
+    Ok(list)
+}
+
+/// The status and the bytes of `check`, where these calls of the shelf fail.
+fn check<R: Threads + Sync>(
+    rt: &R,
+    alloc: Global,
+    study: &str,
+    report: &str,
+    failing: &[u32],
+) -> Result<(u8, Vec<u8>), NoMemory> {
+    let mut shelf = MemoryShelf::new(alloc, failing)?;
+    shelf.hold("study", study.as_bytes())?;
+    shelf.hold("report", report.as_bytes())?;
+    let words = words_of(alloc, &["check", "study", "report"])?;
+    let mut out = MemorySink::new(alloc, 1000, &[])?;
+    let run = bench(rt, alloc, &words, &mut shelf, &mut out, &Open);
+    Ok((run.status, out.bytes().to_vec(alloc)?))
+}
+
+#[test]
+fn reports_are_judged(rt: HostRuntime) -> Result<(), Fail> {
+    let head = "bench report 1\nkind choice\nvoters 1\nalternatives 2\naxioms unanimity\nverdict possible\nrule 2\n";
+    let cases = [
+        ("ab a\nba b\nend\n", 0, "confirmed possible\n"),
+        ("ab a\nba a\nend\n", 1, "refused line 9: fails unanimity 3\n"),
+        ("ab b\nba a\nend\n", 1, "refused line 9: fails unanimity 0\n"),
+        ("ab a\nab a\nend\n", 1, "refused: not built\n"),
+        ("ab a\nend\n", 1, "refused: not built\n"),
+        ("ab a\nba b\nba b\nend\n", 1, "refused: not built\n"),
+        ("ab a\nba b\nend\n\n", 1, "refused: not built\n"),
+        ("", 1, "refused: not built\n"),
+    ];
+    for (table, status, text) in cases {
+        let mut report = String::from_str(rt.alloc(), head)?;
+        report.push_str(table)?;
+        let (found, bytes) = check(&rt, rt.alloc(), STUDY, report.as_str(), &[])?;
+        assert_eq!(rt; found, status, "at {table:?}");
+        assert_eq!(rt; bytes.as_slice(), text.as_bytes());
+    }
+    Ok(())
+}
+
+#[test]
+fn axioms_are_tested_in_the_order_of_the_study(rt: HostRuntime) -> Result<(), Fail> {
+    // The rule that never chooses `b` fails each of the three: `onto` at b, `pareto` at ba (b above a, a wins),
+    // `unanimity` at ba and b.
+    let table = "verdict possible\nrule 2\nab a\nba a\nend\n";
+    let cases = [
+        ("\"onto\", \"pareto\"", "onto pareto", "refused line 9: fails onto 1\n"),
+        ("\"pareto\", \"onto\"", "pareto onto", "refused line 9: fails pareto 6\n"),
+        ("\"unanimity\", \"pareto\"", "unanimity pareto", "refused line 9: fails unanimity 3\n"),
+    ];
+    for (listed, named, text) in cases {
+        let alloc = rt.alloc();
+        let study = format!(in alloc; "kind = \"choice\"\nvoters = 1\nalternatives = 2\naxioms = [{listed}]\n")?;
+        let report = format!(in alloc; "bench report 1\nkind choice\nvoters 1\nalternatives 2\naxioms {named}\n{table}")?;
+        let (status, bytes) = check(&rt, alloc, study.as_str(), report.as_str(), &[])?;
+        assert_eq!(rt; status, 1, "at {listed}");
+        assert_eq!(rt; bytes.as_slice(), text.as_bytes());
+    }
+    Ok(())
+}
+
+#[test]
+fn studies_are_refused_before_the_report_is_opened(rt: HostRuntime) -> Result<(), Fail> {
+    let cases = [
+        ("kind =\n", "study: not toml\n"),
+        ("kind = 1\n", "study: not built\n"),
+        ("kind = \"ranking\"\nvoters = 1\nalternatives = 2\naxioms = []\n", "study: not built\n"),
+    ];
+    for (study, text) in cases {
+        // The calls of the shelf are: 0 rewinds the study, 1 and 2 read it, 3 would rewind the report.
+        let (status, bytes) = check(&rt, rt.alloc(), study, REPORT, &[3])?;
+        assert_eq!(rt; status, 3, "at {study:?}");
+        assert_eq!(rt; bytes.as_slice(), text.as_bytes());
+    }
+    Ok(())
+}
+
+#[test]
+fn failed_reads_write_nothing(rt: HostRuntime) -> Result<(), Fail> {
+    for call in 0..6 {
+        let (status, bytes) = check(&rt, rt.alloc(), STUDY, REPORT, &[call])?;
+        assert_eq!(rt; status, 5, "at call {call}");
+        assert!(rt; bytes.is_empty());
+    }
+    Ok(())
+}
+
+#[test]
+fn a_report_that_is_not_held_writes_nothing(rt: HostRuntime) -> Result<(), Fail> {
+    let alloc = rt.alloc();
+    let mut shelf = MemoryShelf::new(alloc, &[])?;
+    shelf.hold("study", STUDY.as_bytes())?;
+    let words = words_of(alloc, &["check", "study", "report"])?;
+    let mut out = MemorySink::new(alloc, 1000, &[])?;
+    let run = bench(&rt, alloc, &words, &mut shelf, &mut out, &Open);
+    assert_eq!(rt; run.status, 5);
+    assert!(rt; out.bytes().is_empty());
+    Ok(())
+}
+
+#[test]
+fn words_that_are_no_command_get_the_usage_line(rt: HostRuntime) -> Result<(), Fail> {
+    let alloc = rt.alloc();
+    let cases: [&[&str]; 5] = [&[], &["check"], &["check", "a"], &["check", "a", "b", "c"], &["decide", "a"]];
+    for words in cases {
+        let mut shelf = MemoryShelf::new(alloc, &[])?;
+        let mut out = MemorySink::new(alloc, 6, &[])?;
+        let run = bench(&rt, alloc, &words_of(alloc, words)?, &mut shelf, &mut out, &Open);
+        assert_eq!(rt; run.status, 6, "at {words:?}");
+        assert_eq!(rt; out.bytes(), b"usage:".as_slice());
+        let run = bench(&rt, alloc, &words_of(alloc, words)?, &mut shelf, &mut CalmSink::new(), &Open);
+        assert_eq!(rt; run.status, 2, "at {words:?}");
+    }
+    Ok(())
+}
+
+#[test]
+fn calm_devices_never_fail(rt: HostRuntime) -> Result<(), Fail> {
+    let alloc = rt.alloc();
+    let mut shelf = CalmShelf::new(alloc);
+    let words = words_of(alloc, &["check", "study", "report"])?;
+    let run = bench(&rt, alloc, &words, &mut shelf, &mut CalmSink::new(), &Open);
+    assert_eq!(rt; run.status, 3);
+    shelf.hold("study", STUDY.as_bytes())?;
+    shelf.hold("report", REPORT.as_bytes())?;
+    let run = bench(&rt, alloc, &words, &mut shelf, &mut CalmSink::new(), &Open);
+    assert_eq!(rt; run.status, 0);
+    Ok(())
+}

@@ -1,0 +1,115 @@
+//! The top call: from words and files to a status and bytes.
+
+ghost use Rattle.std.specs.Prelude.{◌≡◌, ◌≤◌, List, ℕ, None, Some, codes, length, IfSome, IfOk, OnOk, OnErr, IsErrOf};
+ghost use Rattle.std.specs.Io.KnownBytes.{Appends, Keeps};
+ghost use Rattle.edge.specs.Faults.{Rose, HasCause};
+ghost use Rattle.edge.specs.Told.{AppendsPrefix};
+ghost use Rattle.vocab.specs.Study.{Question};
+ghost use Rattle.report.specs.Report.{IsRuleReport};
+ghost use Rattle.bench.specs.Words.{Command, texts, command_of, usage_line};
+ghost use Rattle.bench.specs.CheckTable.{IsFirstFailing, SatisfiesAll, fails_line, most_bytes};
+ghost use Rattle.bench.specs.Lawful.{Lawful};
+ghost use Rattle.bench.specs.TopCall.{IsStatus, Answered, AnsweredInPart, HasFileCause, Says, IsCheckOfLongStudy, IsCheckOfNoToml, IsCheckOfOtherStudy, IsCheckOver};
+
+use crate::answers::{Answer, Stop, say};
+use crate::check::check;
+use crate::words::command_of;
+use edge::{Failed, Gate, Shelf, Sink, put_all};
+use std::alloc::Global;
+use std::thread::Threads;
+
+/// What is said to words that are no command.
+const USAGE: &[u8] = b"usage: bench decide STUDY | check STUDY REPORT | export STUDY | proof STUDY | lrat CNF PROOF | axioms KIND | sample N [--workers K]\n";
+
+/// The answer to the words, over the files of the shelf.
+fn answer<S: Shelf>(alloc: Global, words: &[String], shelf: &mut S) -> Result<Answer, Stop>
+    ensures lawful { IfSome (S.files shelf.old) (λ files. IfOk result (λ answer. Lawful (texts words.now) files answer.status answer.text)) }
+    ensures usage { command_of (texts words.now) ≡ None → IfOk result (λ answer. (answer.status ≡ 2) × (answer.text ≡ usage_line)) }
+    ensures fault { IsErrOf result Stop.ReadFault → HasFileCause (texts words.now) (S.files shelf.old) (S.faults shelf.old) (S.faults shelf.new) }
+    ensures status { IfOk result (λ answer. answer.status ≤ 3) }
+{
+    match command_of(words) {
+        Some((study, report)) => check(alloc, shelf, study, report),
+        None => Ok(say(alloc, 2, USAGE)?),
+    }
+}
+
+/// Writes the text and flushes the sink. At `Err` the front of the text was written.
+fn write_text<K: Sink>(out: &mut K, text: &[u8]) -> Result<(), Failed>
+    ensures ok { OnOk result (Appends (K.taken out.old) (K.taken out.new) text.now) }
+    ensures err { OnErr result (AppendsPrefix (K.taken out.old) (K.taken out.new) text.now) }
+    ensures cause { HasCause (K.faults out.old) (K.faults out.new) result }
+{
+    put_all(out, text)?;
+    out.flush()
+}
+
+/// How a call of the bench ended.
+#[derive(Clone, Copy, Debug, PartialEq, Eq)]
+pub struct Run {
+    /// 0 done, 1 the report is refused, 2 the words are no command, 3 the study is refused, 5 a file could not be
+    /// read, 6 the text could not be written, 7 no memory was found.
+    pub status: u8,
+}
+
+/// All that the program does: answers the words, over the files of the shelf, into the sink. No work is started on
+/// threads yet, so the runtime and the gate are not called.
+pub fn bench<R: Threads + Sync, S: Shelf, K: Sink, G: Gate>(
+    _rt: &R,
+    alloc: Global,
+    words: &[String],
+    shelf: &mut S,
+    out: &mut K,
+    _gate: &G,
+) -> Run
+    ensures status { IsStatus result.status }
+
+    // Where the shelf tells its files, an answer is the one that the table gives, and its text is written.
+    ensures lawful { IfSome (S.files shelf.old) (λ files. result.status ≤ 4 →
+        Answered (texts words.now) files result.status (K.taken out.old) (K.taken out.new)) }
+
+    // Words that are no command need no file.
+    ensures usage { command_of (texts words.now) ≡ None → result.status ≤ 4 →
+        Says result.status (K.taken out.old) (K.taken out.new) 2 usage_line }
+
+    // The rows of the table for `check`, one by one.
+    ensures study_too_long { IfSome (S.files shelf.old) (λ files. IsCheckOfLongStudy (texts words.now) files → result.status ≤ 4 →
+        Says result.status (K.taken out.old) (K.taken out.new) 3 (codes "study: too long\n")) }
+    ensures study_not_toml { IfSome (S.files shelf.old) (λ files. IsCheckOfNoToml (texts words.now) files → result.status ≤ 4 →
+        Says result.status (K.taken out.old) (K.taken out.new) 3 (codes "study: not toml\n")) }
+    ensures study_not_built { IfSome (S.files shelf.old) (λ files. IsCheckOfOtherStudy (texts words.now) files → result.status ≤ 4 →
+        Says result.status (K.taken out.old) (K.taken out.new) 3 (codes "study: not built\n")) }
+    ensures report_not_built { IfSome (S.files shelf.old) (λ files. (study : Question) (report : List ℕ) → IsCheckOver (texts words.now) files study report →
+        ((table : List ℕ) → ¬ IsRuleReport study report table) → result.status ≤ 4 →
+        Says result.status (K.taken out.old) (K.taken out.new) 1 (codes "refused: not built\n")) }
+    ensures fails { IfSome (S.files shelf.old) (λ files. (study : Question) (report table name : List ℕ) (instance : ℕ) → IsCheckOver (texts words.now) files study report →
+        length report ≤ most_bytes → IsRuleReport study report table → IsFirstFailing study table name instance → result.status ≤ 4 →
+        Says result.status (K.taken out.old) (K.taken out.new) 1 (fails_line study name instance)) }
+    ensures confirmed { IfSome (S.files shelf.old) (λ files. (study : Question) (report table : List ℕ) → IsCheckOver (texts words.now) files study report →
+        length report ≤ most_bytes → IsRuleReport study report table → SatisfiesAll study table → result.status ≤ 4 →
+        Says result.status (K.taken out.old) (K.taken out.new) 0 (codes "confirmed possible\n")) }
+
+    // A fault of the shelf comes only where it counted one at a file of the command, and nothing is written.
+    ensures read_fault { result.status ≡ 5 → HasFileCause (texts words.now) (S.files shelf.old) (S.faults shelf.old) (S.faults shelf.new) }
+    ensures unread { result.status ≡ 5 → Keeps (K.taken out.old) (K.taken out.new) }
+
+    // A fault of the sink comes only where it counted one, and the front of the answer's text is written.
+    ensures write_fault { result.status ≡ 6 → Rose (K.faults out.old) (K.faults out.new) }
+    ensures cut_short { result.status ≡ 6 → IfSome (S.files shelf.old) (λ files.
+        AnsweredInPart (texts words.now) files (K.taken out.old) (K.taken out.new)) }
+
+    // Want of memory is free, and nothing is written.
+    ensures no_memory { result.status ≡ 7 → Keeps (K.taken out.old) (K.taken out.new) }
+{
+    let answer = match answer(alloc, words, shelf) {
+        Ok(answer) => answer,
+        Err(Stop::ReadFault) => return Run { status: 5 },
+        Err(Stop::NoMemory) => return Run { status: 7 },
+    };
+    match write_text(out, answer.text.as_slice()) {
+        Ok(()) => Run {
+            status: answer.status,
+        },
+        Err(Failed) => Run { status: 6 },
+    }
+}

@@ -1,0 +1,10 @@
+pub mod Faults
+pub mod Told
+pub mod Shelf
+pub mod Sink
+pub mod Calls
+pub mod Files
+pub mod MemoryShelf
+pub mod MemorySink
+pub mod CalmShelf
+pub mod System

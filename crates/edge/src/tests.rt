@@ -1,0 +1,148 @@
+//! The devices by example, and what no clause says: that calls succeed with ample memory.
+
+use crate::{
+    CalmShelf, CalmSink, Failed, FileShelf, Gate, MemoryShelf, MemorySink, Open, ReadFault,
+    RewindFault, Shelf, Sink, StdSink, put_all, read_all,
+};
+use std::alloc::Global;
+use std::fs;
+use std::test::Fail;
+
+const REPORT: &[u8] = b"bench report 1\nkind choice\n";
+
+// A shelf in memory with two files, one of them held twice.
+fn two_files(alloc: Global, failing: &[u32]) -> Result<MemoryShelf, Fail> {
+    let mut shelf = MemoryShelf::new(alloc, failing)?;
+    shelf.hold("report", REPORT)?;
+    shelf.hold("study", b"an older text, which is longer")?;
+    shelf.hold("study", b"kind = 1\n")?;
+    Ok(shelf)
+}
+
+// Rewinds and reads once, by whatever shelf.
+fn first_byte<S: Shelf>(shelf: &mut S, name: &str) -> Result<Option<u8>, RewindFault> {
+    shelf.rewind(name)?;
+    let mut byte = [0];
+    let count = shelf.read(name, &mut byte)?;
+    Ok(if count == 0 { None } else { Some(byte[0]) })
+}
+
+// Writes the piece and flushes, by whatever sink.
+fn put_and_flush<K: Sink>(out: &mut K, piece: &[u8]) -> Result<(), Failed> {
+    put_all(out, piece)?;
+    out.flush()
+}
+
+// Passes a gate, whichever it is.
+fn pass<G: Gate>(gate: &G) {
+    gate.enter(0);
+}
+
+#[test]
+fn files_in_memory_are_read(rt: HostRuntime) -> Result<(), Fail> {
+    let alloc = rt.alloc();
+    // The limit on both sides, a rewind and a read that fail, and a name that is not held.
+    let cases: [(&str, u32, &[u32], Result<&[u8], ReadFault>); 9] = [
+        ("study", 9, &[], Ok(b"kind = 1\n")),
+        ("study", 4_294_967_295, &[], Ok(b"kind = 1\n")),
+        ("study", 8, &[], Err(ReadFault::TooLong)),
+        ("study", 0, &[], Err(ReadFault::TooLong)),
+        ("study", 9, &[0], Err(ReadFault::Failed)),
+        ("study", 9, &[1], Err(ReadFault::Failed)),
+        ("study", 9, &[3, 4], Ok(b"kind = 1\n")),
+        ("report", 27, &[], Ok(REPORT)),
+        ("absent", 9, &[], Err(ReadFault::Failed)),
+    ];
+    for (name, limit, failing, wanted) in cases {
+        let mut shelf = two_files(alloc, failing)?;
+        let found = read_all(alloc, &mut shelf, name, limit);
+        match wanted {
+            Ok(bytes) => {
+                let found = found.ok().ok_or("not read")?;
+                assert_eq!(rt; found.as_slice(), bytes, "at {name} {limit}");
+            }
+            Err(fault) => assert_eq!(rt; found.err(), Some(fault), "at {name} {limit}"),
+        }
+    }
+    let mut shelf = two_files(alloc, &[2])?;
+    assert_eq!(rt; first_byte(&mut shelf, "report"), Ok(Some(b'b')));
+    assert_eq!(rt; first_byte(&mut shelf, "report"), Err(RewindFault::Failed));
+    assert_eq!(rt; first_byte(&mut shelf, "absent"), Err(RewindFault::Failed));
+    assert_eq!(rt; first_byte(&mut shelf, "study"), Ok(Some(b'k')));
+    Ok(())
+}
+
+#[test]
+fn sink_in_memory_takes_what_fits(rt: HostRuntime) -> Result<(), Fail> {
+    // Ample room, exactly enough, too little, a write and a flush that fail, and a number that no call has.
+    let cases: [(usize, &[u32], Result<(), Failed>, &[u8]); 7] = [
+        (100, &[], Ok(()), REPORT),
+        (27, &[], Ok(()), REPORT),
+        (20, &[], Err(Failed), b"bench report 1\nkind "),
+        (0, &[], Err(Failed), b""),
+        (100, &[0], Err(Failed), b""),
+        (100, &[1], Err(Failed), REPORT),
+        (100, &[2, 3], Ok(()), REPORT),
+    ];
+    for (room, failing, wanted, taken) in cases {
+        let mut out = MemorySink::new(rt.alloc(), room, failing)?;
+        assert_eq!(rt; put_and_flush(&mut out, REPORT), wanted, "room {room}");
+        assert_eq!(rt; out.bytes(), taken, "room {room}");
+    }
+    Ok(())
+}
+
+#[test]
+fn calm_devices_never_fail(rt: HostRuntime) -> Result<(), Fail> {
+    let alloc = rt.alloc();
+    let mut shelf = CalmShelf::new(alloc);
+    assert_eq!(rt; first_byte(&mut shelf, "study"), Ok(None));
+    shelf.hold("study", b"kind = 1\n")?;
+    assert_eq!(rt; first_byte(&mut shelf, "study"), Ok(Some(b'k')));
+    for (name, wanted) in [
+        ("study", b"kind = 1\n".as_slice()),
+        ("absent", b"".as_slice()),
+    ] {
+        let found = read_all(alloc, &mut shelf, name, 9).ok().ok_or("not read")?;
+        assert_eq!(rt; found.as_slice(), wanted, "at {name}");
+    }
+    assert_eq!(rt; put_and_flush(&mut CalmSink::new(), REPORT), Ok(()));
+    pass(&Open);
+    Ok(())
+}
+
+#[test]
+fn files_of_the_system_are_read(rt: HostRuntime) -> Result<(), Fail> {
+    let alloc = rt.alloc();
+    fs::write(&rt, "held", "kind = 1\n")?;
+    let mut shelf = FileShelf::new(&rt);
+    let mut byte = [0];
+    assert_eq!(rt; shelf.read("held", &mut byte), Err(Failed));
+    let bytes = read_all(alloc, &mut shelf, "held", 9)
+        .ok()
+        .ok_or("not read")?;
+    assert_eq!(rt; bytes.as_slice(), b"kind = 1\n".as_slice());
+    // Too long, an absent file, a folder, and after them the file again.
+    let cases = [
+        ("held", 8, ReadFault::TooLong),
+        ("absent", 9, ReadFault::Failed),
+        (".", 9, ReadFault::Failed),
+    ];
+    for (name, limit, fault) in cases {
+        assert_eq!(rt;
+            read_all(alloc, &mut shelf, name, limit).err(),
+            Some(fault),
+            "at {name}"
+        );
+    }
+    assert_eq!(rt; shelf.rewind("absent"), Err(RewindFault::Failed));
+    assert_eq!(rt; shelf.read("held", &mut byte), Err(Failed));
+    assert_eq!(rt; first_byte(&mut shelf, "held"), Ok(Some(b'k')));
+    fs::remove_file(&rt, "held")?;
+    Ok(())
+}
+
+#[test]
+fn standard_output_takes_bytes(rt: HostRuntime) {
+    assert_eq!(rt; put_and_flush(&mut StdSink::new(&rt), REPORT), Ok(()));
+}

@@ -1,0 +1,4 @@
+pub mod CuttingLaws
+pub mod HeadLaws
+pub mod RowLaws
+pub mod TableLaws

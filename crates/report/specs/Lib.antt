@@ -1,0 +1,5 @@
+-- In reading order.
+pub mod Lines
+pub mod Report
+pub mod Laws
+pub mod Cutting

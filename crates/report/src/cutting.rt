@@ -1,0 +1,30 @@
+//! Cuts what is expected off the front of a text.
+
+ghost use Rattle.std.specs.Prelude.{◌≡◌, ◌++◌, ◌∷◌, [], ℕ, List};
+ghost use Rattle.std.specs.Fmt.{decimal};
+ghost use Rattle.report.specs.Cutting.{IsCut, count_text};
+
+use itoa::Buffer;
+
+/// What follows the expected bytes, if the text begins with them.
+pub(crate) fn cut<'a>(text: &'a [u8], expected: &[u8]) -> Option<&'a [u8]>
+    ensures { IsCut text.now expected.now result }
+{
+    text.strip_prefix(expected)
+}
+
+/// What follows the number in decimal, if the text begins with it.
+pub(crate) fn cut_number(text: &[u8], number: u32) -> Option<&[u8]>
+    ensures { IsCut text.now (decimal number) result }
+{
+    cut(text, Buffer::new().format(number).as_bytes())
+}
+
+/// What follows a line of a key and a number. The key ends with a blank.
+pub(crate) fn cut_count<'a>(text: &'a [u8], key: &[u8], count: u32) -> Option<&'a [u8]>
+    ensures { IsCut text.now (count_text key.now count) result }
+{
+    let number = cut(text, key)?;
+    let end = cut_number(number, count)?;
+    cut(end, b"\n")
+}

@@ -1,0 +1,49 @@
+//! Reads the rule from the text of a report.
+#![tactic(auto)]
+
+ghost use Rattle.std.specs.Prelude.{◌≡◌, ℕ, List, IfOk, MatchOption};
+ghost use Rattle.report.specs.Cutting.{IsCut, front_text};
+ghost use Rattle.report.specs.Report.{IsRuleReport};
+
+mod cutting;
+mod head;
+pub mod laws;
+mod table;
+
+use head::cut_head;
+use lists::NoMemory;
+use profiles::Space;
+use std::alloc::Global;
+use table::{cut_verdict, read_table};
+use vocab::{Kind, Study, Table};
+
+/// What follows the lines before the table, if the report begins with them.
+fn cut_front<'a>(report: &'a [u8], space: &Space, study: &Study) -> Option<&'a [u8]>
+    requires { study.now.size.kind ≡ Kind.Choice }
+    ensures { IsCut report.now (front_text study.now space.now) result }
+{
+    cut_verdict(cut_head(report, study)?, space.count())
+}
+
+/// The rule that the report holds, where the report is the one text that a rule of the study has. `None` comes
+/// of every other text: whatever follows the line `end`, or a report that holds no rule, is one.
+pub fn read_rule(
+    alloc: Global,
+    space: &Space,
+    study: &Study,
+    report: &[u8],
+) -> Result<Option<Table>, NoMemory>
+    requires size { study.now.size ≡ space.now }
+    requires choice { study.now.size.kind ≡ Kind.Choice }
+    ensures { IfOk result (λ found. MatchOption found
+        ((t : List ℕ) → ¬ IsRuleReport study.now report.now t)
+        (λ table. IsRuleReport study.now report.now table)) }
+{
+    match cut_front(report, space, study) {
+        None => Ok(None),
+        Some(text) => read_table(alloc, text, space),
+    }
+}
+
+#[cfg(test)]
+mod tests;

@@ -1,0 +1,4 @@
+pub mod Sentences
+pub mod Document
+pub mod Reading
+pub mod Laws
