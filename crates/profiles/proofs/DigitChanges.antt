@@ -21,7 +21,7 @@ use Rattle.profiles.proofs.DigitPlaces.{length-place_values, length-digits_of, l
 -- ---- one digit replaced
 
 number_of-set : (bases digits : List ℕ) (i v : ℕ) → i < length bases → length digits ≡ length bases
-  → number_of bases (set digits i v) + get_or digits i 0 * get_or (place_values bases) i 0 ≡ number_of bases digits + v * get_or (place_values bases) i 0
+    → number_of bases (set digits i v) + get_or digits i 0 * get_or (place_values bases) i 0 ≡ number_of bases digits + v * get_or (place_values bases) i 0
 number_of-set [] digits i v h l = absurd (omega arith)
 number_of-set (b ∷ bases) [] i v h l = absurd (omega (arith, l))
 number_of-set (b ∷ bases) (d ∷ digits) zero v h l = omega arith
@@ -44,7 +44,7 @@ replaced_digits size p i b h l k =
 
 -- the number with one voter's ballot replaced
 pub replaced_number : (size : Extent) (p i b : ℕ) → p < sort_count size Profile → i < size.voters
-  → with_ballot size p i b + get_or (ballots size p) i 0 * get_or (weights_of size) i 0 ≡ p + b * get_or (weights_of size) i 0
+    → with_ballot size p i b + get_or (ballots size p) i 0 * get_or (weights_of size) i 0 ≡ p + b * get_or (weights_of size) i 0
 replaced_number size p i b h l =
     let w = get_or (place_values (ballot_bases size)) i 0 in
     ap (λ x. with_ballot size p i b + get_or (ballots size p) i 0 * x) (weight_at size i l)
@@ -88,12 +88,12 @@ swap-sets [] i j h l = absurd (omega arith)
 swap-sets (x ∷ xs) i j h l = ap₂ (λ (a b : ℕ). set (set (x ∷ xs) i a) j b) (get_or_default_zero (x ∷ xs) j x l) (get_or_default_zero (x ∷ xs) i x h)
 
 pub second_ballot : (size : Extent) (p i j : ℕ) → p < sort_count size Profile → i < size.voters → get_or (ballots size p) j 0 < factorial size.alternatives
-  → get_or (ballots size p) j 0 ≡ get_or (ballots size (with_ballot size p i (get_or (ballots size p) j 0))) j 0
+    → get_or (ballots size p) j 0 ≡ get_or (ballots size (with_ballot size p i (get_or (ballots size p) j 0))) j 0
 second_ballot size p i j h l k =
     sym (ap (λ (ds : List ℕ). get_or ds j 0) (replaced_ballots size p i (get_or (ballots size p) j 0) h l k) ∙ set_own (ballots size p) i j)
 
 pub swapped_voters : (size : Extent) (p i j : ℕ) → p < sort_count size Profile → i < size.voters → j < size.voters → get_or (ballots size p) j 0 < factorial size.alternatives
-  → with_ballot size (with_ballot size p i (get_or (ballots size p) j 0)) j (get_or (ballots size p) i 0) ≡ with_voters_swapped size p i j
+    → with_ballot size (with_ballot size p i (get_or (ballots size p) j 0)) j (get_or (ballots size p) i 0) ≡ with_voters_swapped size p i j
 swapped_voters size p i j h l k within =
     ap (λ (ds : List ℕ). profile_number size (set ds j (get_or (ballots size p) i 0))) (replaced_ballots size p i (get_or (ballots size p) j 0) h l within)
     ∙ ap (profile_number size) (sym (swap-sets (ballots size p) i j (omega (arith, length-ballots size p)) (omega (arith, length-ballots size p))))
@@ -113,7 +113,7 @@ abbrev pub ballots_from : Extent → ℕ → ℕ → List ℕ
 ballots_from size i rest = digits_of (drop i (ballot_bases size)) rest
 
 pub ballots_next : (size : Extent) (i rest : ℕ) → i < size.voters
-  → ballots_from size i rest ≡ rest / get_or (weights_of size) i 0 ∷ ballots_from size (i + 1) (rest % get_or (weights_of size) i 0)
+    → ballots_from size i rest ≡ rest / get_or (weights_of size) i 0 ∷ ballots_from size (i + 1) (rest % get_or (weights_of size) i 0)
 ballots_next size i rest l =
     ap (λ (bases : List ℕ). digits_of bases rest) (bases_from size i l)
     ∙ ap (λ (w : ℕ). rest / w ∷ digits_of (drop (i + 1) (ballot_bases size)) (rest % w)) (sym (weight_is size i l))
@@ -135,7 +135,7 @@ none_left size i rest e = ap (λ (bases : List ℕ). digits_of bases rest) (drop
 
 -- a count so far, with the ballots that are left
 pub count_next : (t : ℕ → Bool) (size : Extent) (i rest count total : ℕ) → i < size.voters → count + count_by t (ballots_from size i rest) ≡ total
-  → count + cond (t (rest / get_or (weights_of size) i 0)) 1 0 + count_by t (ballots_from size (i + 1) (rest % get_or (weights_of size) i 0)) ≡ total
+    → count + cond (t (rest / get_or (weights_of size) i 0)) 1 0 + count_by t (ballots_from size (i + 1) (rest % get_or (weights_of size) i 0)) ≡ total
 count_next t size i rest count total l e =
     add_assoc count (cond (t (rest / get_or (weights_of size) i 0)) 1 0) (count_by t (ballots_from size (i + 1) (rest % get_or (weights_of size) i 0)))
     ∙ ap (λ (n : ℕ). count + n) (sym (sum_by-cons (λ (b : ℕ). cond (t b) 1 0) (rest / get_or (weights_of size) i 0) (ballots_from size (i + 1) (rest % get_or (weights_of size) i 0))))
@@ -143,7 +143,7 @@ count_next t size i rest count total l e =
 
 -- a number so far, with what the other ballots become
 pub number_next : (f : ℕ → ℕ) (size : Extent) (i rest number total : ℕ) → i < size.voters → number + number_of (drop i (ballot_bases size)) (map f (ballots_from size i rest)) ≡ total
-  → number + f (rest / get_or (weights_of size) i 0) * get_or (weights_of size) i 0 + number_of (drop (i + 1) (ballot_bases size)) (map f (ballots_from size (i + 1) (rest % get_or (weights_of size) i 0))) ≡ total
+    → number + f (rest / get_or (weights_of size) i 0) * get_or (weights_of size) i 0 + number_of (drop (i + 1) (ballot_bases size)) (map f (ballots_from size (i + 1) (rest % get_or (weights_of size) i 0))) ≡ total
 number_next f size i rest number total l e =
     let w = get_or (weights_of size) i 0 in
     let others = map f (ballots_from size (i + 1) (rest % w)) in
@@ -161,7 +161,7 @@ AreDigits-map f b (suc n) (d ∷ digits) keeps h =
     and_from _ _ (lt-ltb (f d) b (keeps d (ltb-true d b parts.0))) (AreDigits-map f b n digits keeps parts.1)
 
 pub mapped_within : (f : ℕ → ℕ) (size : Extent) (p : ℕ) → ((b : ℕ) → b < factorial size.alternatives → f b < factorial size.alternatives) → p < sort_count size Profile
-  → profile_number size (map f (ballots size p)) < sort_count size Profile
+    → profile_number size (map f (ballots size p)) < sort_count size Profile
 mapped_within f size p keeps h =
     subst (λ (x : ℕ). profile_number size (map f (ballots size p)) < x) (are_profiles size)
     ((are_numbered (ballot_bases size)).number (map f (ballots size p)) (AreDigits-map f (factorial size.alternatives) size.voters (ballots size p) keeps (ballot_digits size p h)))

@@ -27,7 +27,7 @@ front_same : (xs ys r s : List ℕ) → length xs ≡ length ys → xs ++ r ≡ 
 front_same xs ys r s l e = sym (take-append_seam xs r) ∙ ap₂ (λ (k : ℕ) (zs : List ℕ). take k zs) l e ∙ take-append_seam ys s
 
 same_barred : (size : Extent) → IsSize size → (n : ℕ) (ds es : List ℕ) → AreDigits (replicate n (factorial size.alternatives)) ds → AreDigits (replicate n (factorial size.alternatives)) es
-  → barred (map (ballot_text size) ds) ≡ barred (map (ballot_text size) es) → ds ≡ es
+    → barred (map (ballot_text size) ds) ≡ barred (map (ballot_text size) es) → ds ≡ es
 same_barred size valid zero [] [] h l e = refl
 same_barred size valid zero [] (b ∷ es) h l e = absurd (true≢false (sym l))
 same_barred size valid zero (a ∷ ds) es h l e = absurd (true≢false (sym h))

@@ -179,7 +179,7 @@ exchange_fact m x y b some few hx hy h =
     subst (λ (k : ℕ). exchange_test (rankings m) m x y (row_of_pair m x y) k (ranking m b) ≡ true) at_b (row_at (exchange_test (rankings m) m x y (row_of_pair m x y)) 0 (rankings m) b row (omega (arith, length-rankings m)))
 
 pub exchanged_at : (m x y b : ℕ) → 1 ≤ m → m ≤ 5 → x < m → y < m → b < factorial m
-  → (get_or (row_of_pair m x y) b 0 < factorial m) × (get_or (row_of_pair m x y) b 0 ≡ ranking_number m (map (exchanged x y) (ranking m b)))
+    → (get_or (row_of_pair m x y) b 0 < factorial m) × (get_or (row_of_pair m x y) b 0 ≡ ranking_number m (map (exchanged x y) (ranking m b)))
 exchanged_at m x y b some few hx hy h =
     let c = get_or (row_of_pair m x y) b 0 in
     let parts = and_parts (nat_lt c (factorial m)) (pointwise nat_eq (ranking m c) (map (exchanged x y) (ranking m b))) (exchange_fact m x y b some few hx hy h) in

@@ -6,6 +6,8 @@ pub mod laws;
 mod reading;
 mod space;
 mod tables;
+#[cfg(test)]
+mod tests;
 mod texts;
 mod votes;
 

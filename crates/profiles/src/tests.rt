@@ -1,0 +1,161 @@
+use crate::{NotAProfile, Space};
+use std::process::Abort;
+use vocab::{Kind, Size};
+
+fn space(rt: &impl Abort, voters: i64, alternatives: i64) -> Space {
+    Space::new(Size::check(Kind::Choice, voters, alternatives).expect(rt, "a size"))
+}
+
+#[test]
+fn texts_and_numbers(rt: HostRuntime) {
+    let rows: [(i64, i64, u32, &[u8]); 16] = [
+        (2, 2, 0, b"ab|ab"),
+        (2, 2, 1, b"ab|ba"),
+        (2, 2, 2, b"ba|ab"),
+        (2, 2, 3, b"ba|ba"),
+        (1, 3, 0, b"abc"),
+        (1, 3, 1, b"acb"),
+        (1, 3, 2, b"bac"),
+        (1, 3, 3, b"bca"),
+        (1, 3, 4, b"cab"),
+        (1, 3, 5, b"cba"),
+        (2, 3, 27, b"cab|bca"),
+        (8, 2, 255, b"ba|ba|ba|ba|ba|ba|ba|ba"),
+        (3, 1, 0, b"a|a|a"),
+        (3, 4, 13823, b"dcba|dcba|dcba"),
+        (2, 5, 120, b"abced|abcde"),
+        (2, 5, 14399, b"edcba|edcba"),
+    ];
+    for (voters, alternatives, p, text) in rows {
+        let space = space(&rt, voters, alternatives);
+        assert!(rt; p < space.count());
+        assert_eq!(rt; space.profile_text(p).bytes(), text, "profile {p}");
+        assert_eq!(rt; space.read_profile(text), Ok(p), "profile {p}");
+    }
+}
+
+#[test]
+fn ballots(rt: HostRuntime) {
+    let rows: [(i64, u32, &[u8]); 8] = [
+        (1, 0, b"a"),
+        (2, 1, b"ba"),
+        (3, 3, b"bca"),
+        (3, 4, b"cab"),
+        (4, 23, b"dcba"),
+        (4, 6, b"bacd"),
+        (5, 24, b"bacde"),
+        (5, 118, b"edcab"),
+    ];
+    for (alternatives, b, text) in rows {
+        let space = space(&rt, 2, alternatives);
+        assert!(rt; b < space.size().sort_len(vocab::Sort::Ballot));
+        assert_eq!(rt; space.ballot_text(b).bytes(), text, "ballot {b}");
+        assert_eq!(rt; space.read_ballot(text), Some(b), "ballot {b}");
+    }
+}
+
+#[test]
+fn refusals(rt: HostRuntime) {
+    let space = space(&rt, 2, 2);
+    let texts: [&[u8]; 11] = [
+        b"", b"ab", b"ab|", b"ab|ab|", b"ab|ac", b"aa|ab", b"AB|ab", b"ab||ab", b"ab|abc",
+        b"ab/ab", b"|ab|ab",
+    ];
+    for text in texts {
+        assert_eq!(rt; space.read_profile(text), Err(NotAProfile));
+    }
+}
+
+#[test]
+fn counts(rt: HostRuntime) {
+    let rows = [
+        (1, 1, 1),
+        (8, 1, 1),
+        (2, 2, 4),
+        (8, 2, 256),
+        (2, 3, 36),
+        (5, 3, 7776),
+        (3, 4, 13824),
+        (2, 5, 14400),
+    ];
+    for (voters, alternatives, count) in rows {
+        assert_eq!(rt; space(&rt, voters, alternatives).count(), count);
+    }
+}
+
+#[test]
+fn not_ballots(rt: HostRuntime) {
+    let space = space(&rt, 2, 3);
+    let texts: [&[u8]; 8] = [b"", b"ab", b"abcd", b"aba", b"abd", b"ABC", b"aaa", b"cab|"];
+    for text in texts {
+        assert_eq!(rt; space.read_ballot(text), None);
+    }
+}
+
+// At profile 27 voter 1 has c above a above b, and voter 2 has b above c above a.
+#[test]
+fn votes(rt: HostRuntime) {
+    let space = space(&rt, 2, 3);
+    assert!(rt; space.count() == 36);
+    assert!(rt; space.size().voters() == 2);
+    assert!(rt; space.size().alternatives() == 3);
+    // x, y, whether voter 1, voter 2 and the majority have x above y
+    let rows = [
+        (0, 1, true, false, false),
+        (1, 0, false, true, false),
+        (0, 2, false, false, false),
+        (2, 0, true, true, true),
+        (1, 2, false, true, false),
+        (2, 1, true, false, false),
+        (1, 1, false, false, false),
+    ];
+    for (x, y, first, second, most) in rows {
+        assert!(rt; x < 3);
+        assert!(rt; y < 3);
+        assert_eq!(rt; space.prefers(0, x, y, 27), first, "{x} above {y}");
+        assert_eq!(rt; space.prefers(1, x, y, 27), second, "{x} above {y}");
+        assert_eq!(rt; space.better(4, x, y), first, "{x} above {y}");
+        assert_eq!(rt; space.majority(x, y, 27), most, "{x} above {y}");
+    }
+    assert!(rt; space.casts(0, 4, 27));
+    assert!(rt; !space.casts(1, 4, 27));
+    assert_eq!(rt; space.ballot_of(27, 1), 3);
+}
+
+#[test]
+fn changes(rt: HostRuntime) {
+    let space = space(&rt, 2, 3);
+    assert!(rt; space.count() == 36);
+    assert!(rt; space.size().voters() == 2);
+    assert!(rt; space.size().alternatives() == 3);
+    assert_eq!(rt; space.with(27, 1, 0), 24, "cab|abc");
+    assert_eq!(rt; space.swap_voters(27, 0, 1), 22, "bca|cab");
+    assert_eq!(rt; space.swap_voters(27, 1, 1), 27, "cab|bca");
+    assert_eq!(rt; space.swap_alts(27, 0, 1), 31, "cba|acb");
+    assert_eq!(rt; space.swap_alts(27, 2, 2), 27, "cab|bca");
+    for (z, other) in [(0, 1), (1, 0), (2, 2)] {
+        assert!(rt; z < 3);
+        assert_eq!(rt; space.swap(0, 1, z), other, "at {z}");
+    }
+}
+
+// The paradox of Condorcet: of abc, bca and cab a majority has a above b, one b above c, and one c above a.
+#[test]
+fn paradox_of_condorcet(rt: HostRuntime) {
+    let space = space(&rt, 3, 3);
+    assert!(rt; space.size().alternatives() == 3);
+    let p = space.read_profile(b"abc|bca|cab").expect(&rt, "a profile");
+    for (x, y) in [(0, 1), (1, 2), (2, 0)] {
+        assert!(rt; x < 3);
+        assert!(rt; y < 3);
+        assert!(rt; space.majority(x, y, p));
+        assert!(rt; !space.majority(y, x, p));
+    }
+}
+
+#[test]
+fn laws(rt: HostRuntime) {
+    let space = space(&rt, 5, 3);
+    crate::laws::spaces_have_sizes(&space);
+    crate::laws::texts_are_distinct(&space);
+}
