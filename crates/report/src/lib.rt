@@ -25,8 +25,9 @@ fn cut_front<'a>(report: &'a [u8], space: &Space, study: &Study) -> Option<&'a [
     cut_verdict(cut_head(report, study)?, space.count())
 }
 
-/// The rule that the report holds, where the report is the one text that a rule of the study has. `None` comes
-/// of every other text: whatever follows the line `end`, or a report that holds no rule, is one.
+/// The rule whose report the text is, where it is the report of one, over the space of the study's profiles.
+/// `None` comes of every other text: one in which a line is not the line that the study wants at its place, in
+/// which a line is missing, or in which something follows the line `end`.
 pub fn read_rule(
     alloc: Global,
     space: &Space,

@@ -38,43 +38,56 @@ fn study_of_no_axiom(alloc: Global) -> Result<Study, Fail>
     Ok(Study::new(small_size()?, 100, Items::new(alloc)))
 }
 
-const RULE: &str =
+/// The report of the rule that gives each voter's best alternative.
+const BEST: &str =
     "bench report 1\nkind choice\nvoters 1\nalternatives 2\naxioms unanimity\nverdict possible\nrule 2\nab a\nba b\nend\n";
+
+/// What is put in place of what in that report, so that it holds no rule.
+const CHANGES: [(&str, &str); 17] = [
+    ("end\n", ""),
+    ("end\n", "end"),
+    ("ab a\n", ""),
+    ("ab a\n", "ab a\nab a\n"),
+    ("ba b", "ba c"),
+    ("ba b", "ba B"),
+    ("ab a\nba b", "ba b\nab a"),
+    ("rule 2", "rule 3"),
+    ("rule 2", "rule 02"),
+    ("rule 2\nab a\nba b", "rule 3\nab a\nba b\nba b"),
+    ("end\n", "end\n\n"),
+    ("end\n", "end\nend\n"),
+    ("\n", "\r\n"),
+    (BEST, ""),
+    ("axioms unanimity", "axioms"),
+    ("axioms unanimity", "axioms unanimity unanimity"),
+    ("verdict possible", "verdict undecided"),
+];
+
+/// The outcomes of the rule in that report, where `to` stands in place of `from`, or no outcome where it holds none.
+fn outcomes(alloc: Global, study: &Study, from: &str, to: &str) -> Result<Table, Fail>
+    requires { study.now.size.kind ≡ Kind.Choice }
+{
+    let report = BEST.replace(alloc, from, to)?;
+    let found = read_rule(alloc, &Space::new(study.size()), study, report.as_bytes())?;
+    Ok(found.unwrap_or(Items::new(alloc)))
+}
 
 #[test]
 fn reports_hold_rules(rt: HostRuntime) -> Result<(), Fail> {
     let study = study_of_one_axiom(rt.alloc())?;
-    let space = Space::new(study.size());
-    // What is changed in the report of the rule that gives each voter's best alternative, and the rule that is then read.
-    let cases: [(&str, &str, Option<&[u8]>); 19] = [
-        ("end", "end", Some(&[0, 1])),
-        ("ba b", "ba a", Some(&[0, 0])),
-        ("end\n", "", None),
-        ("end\n", "end", None),
-        ("ab a\n", "", None),
-        ("ab a\n", "ab a\nab a\n", None),
-        ("ba b", "ba c", None),
-        ("ba b", "ba B", None),
-        ("ab a\nba b", "ba b\nab a", None),
-        ("rule 2", "rule 3", None),
-        ("rule 2", "rule 02", None),
-        ("rule 2\nab a\nba b", "rule 3\nab a\nba b\nba b", None),
-        ("end\n", "end\n\n", None),
-        ("end\n", "end\nend\n", None),
-        ("\n", "\r\n", None),
-        (RULE, "", None),
-        ("axioms unanimity", "axioms", None),
-        ("axioms unanimity", "axioms unanimity unanimity", None),
-        ("verdict possible", "verdict undecided", None),
-    ];
-    for (from, to, rule) in cases {
-        let report = RULE.replace(rt.alloc(), from, to)?;
-        let found = read_rule(rt.alloc(), &space, &study, report.as_bytes())?;
-        assert_eq!(rt;
-            found.as_ref().map(|table| table.as_slice()),
-            rule,
-            "{to:?} for {from:?}"
-        );
+    let best = outcomes(rt.alloc(), &study, "", "")?;
+    assert_eq!(rt; best.as_slice(), [0, 1].as_slice());
+    let first = outcomes(rt.alloc(), &study, "ba b", "ba a")?;
+    assert_eq!(rt; first.as_slice(), [0, 0].as_slice());
+    Ok(())
+}
+
+#[test]
+fn other_texts_hold_none(rt: HostRuntime) -> Result<(), Fail> {
+    let study = study_of_one_axiom(rt.alloc())?;
+    for (from, to) in CHANGES {
+        let found = outcomes(rt.alloc(), &study, from, to)?;
+        assert!(rt; found.is_empty(), "{to:?} for {from:?}");
     }
     Ok(())
 }
@@ -82,13 +95,7 @@ fn reports_hold_rules(rt: HostRuntime) -> Result<(), Fail> {
 #[test]
 fn a_study_may_have_no_axiom(rt: HostRuntime) -> Result<(), Fail> {
     let study = study_of_no_axiom(rt.alloc())?;
-    let report = RULE.replace(rt.alloc(), " unanimity", "")?;
-    let found = read_rule(
-        rt.alloc(),
-        &Space::new(study.size()),
-        &study,
-        report.as_bytes(),
-    )?;
-    assert!(rt; found.is_some());
+    let best = outcomes(rt.alloc(), &study, " unanimity", "")?;
+    assert_eq!(rt; best.as_slice(), [0, 1].as_slice());
     Ok(())
 }
