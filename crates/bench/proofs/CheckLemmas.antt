@@ -1,5 +1,5 @@
 -- The rows of `check`, where the shelf tells its files.
-use Rattle.std.proofs.Common.{◌≡◌, ℕ, ◌<◌, ◌≤◌, List, length, codes, Option, None, Some, IfSome, IsSomeAnd, Result, Ok, Err, IfOk, IsErrOf, refl, min, ◌+◌, ◌-◌, ◌^◌, arith}
+use Rattle.std.proofs.Common.{◌≡◌, ℕ, ◌<◌, ◌≤◌, List, length, codes, Option, None, Some, IfSome, IsSomeAnd, Result, Ok, Err, IfOk, IsErrOf, refl, arith}
 use Rattle.edge.specs.Shelf.{Files, NoneFell}
 use Rattle.edge.specs.Faults.{Rose}
 use Rattle.vocab.specs.Study.{Question}
@@ -7,7 +7,7 @@ use Rattle.study.specs.declared.faults.StudyFault.TheVariants.{NotToml, NotBuilt
 use Rattle.study.specs.Reading.{study_of_bytes}
 use Rattle.bench.specs.declared.answers.Answer.{Answer}
 use Rattle.bench.specs.declared.answers.Stop.{Stop}
-use Rattle.bench.specs.CheckTable.{most_bytes, Holds, Judged, too_long, Checked, study_too_long, study_not_toml, study_not_built, judged}
+use Rattle.bench.specs.CheckTable.{most_bytes, Judged, too_long, Checked, study_too_long, study_not_toml, study_not_built, judged}
 use Rattle.bench.specs.TopCall.{HoldsStudy, HasReadCause, at_report}
 
 some_and : {A : Type 0} (r : Option A) (P : A → Type 0) → IsSomeAnd r P → (x : A) × (r ≡ Some x) × P x

@@ -1,15 +1,14 @@
 -- One axiom after another, up to the first that the rule does not satisfy.
-use Rattle.std.proofs.Common.{◌≡◌, ◌∙◌, sym, ap, subst, refl, ℕ, zero, suc, ◌+◌, ◌<◌, ◌≤◌, ◌^◌, ◌-◌, min, Bool, true, false, List, [], ◌∷◌, length, slice_get, Option, Some, Result, Ok, Err, IfOk, arith, leb-true}
-use Rattle.std.specs.Prelude.{◌&&◌, nat_le}
+use Rattle.std.proofs.Common.{◌≡◌, ◌∙◌, ap, subst, ℕ, zero, suc, ◌+◌, ◌≤◌, ◌^◌, ◌-◌, min, Bool, true, List, [], ◌∷◌, slice_get, Some, Result, Ok, Err, IfOk, arith, leb-true}
+use Rattle.std.specs.Prelude.{nat_le}
 use Rattle.std.specs.List.{list_all}
 use Rattle.std.proofs.lemmas.Bool.{and_parts, and_from}
 use Rattle.lists.specs.declared.memory.NoMemory.{NoMemory}
 use Rattle.vocab.specs.Formula.{body_of}
 use Rattle.vocab.specs.Limits.{depth, instance_count, atom_count, is_within_limits}
-use Rattle.vocab.specs.Size.{Extent}
 use Rattle.vocab.specs.Study.{Question, IsStudy, is_sentence}
 use Rattle.vocab.specs.Titled.{Titled}
-use Rattle.meaning.specs.Instances.{is_instance_true, AreInstancesTrue, IsFirstFailure}
+use Rattle.meaning.specs.Instances.{is_instance_true, AreInstancesTrue}
 use Rattle.meaning.specs.Space.{below}
 use Rattle.meaning.specs.Truth.{is_rule, is_axiom_true, satisfies}
 use Rattle.meaning.proofs.InstanceLaws.{have_instances}

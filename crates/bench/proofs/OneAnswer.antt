@@ -1,7 +1,5 @@
 -- The rows of the table exclude one another.
-use Rattle.std.proofs.Common.{◌≡◌, refl, sym, ◌∙◌, ap, ap₂, subst, ℕ, zero, suc, ◌+◌, ◌<◌, ◌≤◌, Bool, true, false, inl, inr, List, [], ◌∷◌, length, slice_get, Option, None, Some, Result, Ok, Err, arith, true≢false, codes}
-use Rattle.std.specs.Prelude.{◌&&◌, IsTrue}
-use Rattle.std.specs.List.{list_all}
+use Rattle.std.proofs.Common.{◌≡◌, sym, ◌∙◌, ap, ap₂, subst, ℕ, zero, suc, ◌<◌, ◌≤◌, true, false, inl, inr, List, [], ◌∷◌, length, slice_get, Option, Some, arith}
 use Rattle.std.proofs.lemmas.Bool.{and_parts, both_ways, cases_lt}
 use Rattle.edge.specs.Shelf.{Files}
 use Rattle.vocab.specs.Limits.{instance_count}
@@ -10,16 +8,15 @@ use Rattle.vocab.specs.Study.{Question}
 use Rattle.vocab.specs.Titled.{Titled}
 use Rattle.meaning.specs.Instances.{is_instance_true, IsFirstFailure}
 use Rattle.meaning.specs.Space.{below}
-use Rattle.meaning.specs.Truth.{is_rule, is_true_at, is_axiom_true, satisfies}
+use Rattle.meaning.specs.Truth.{is_rule, is_axiom_true, satisfies}
 use Rattle.meaning.proofs.InstanceLaws.{have_instances}
 use Rattle.meaning.proofs.SpaceLaws.{all_at}
 use Rattle.meaning.proofs.ValueLoops.{all_fails}
-use Rattle.study.specs.declared.faults.StudyFault.TheVariants.{NotToml, NotBuilt}
 use Rattle.study.specs.Reading.{study_of_bytes}
 use Rattle.report.specs.Report.{IsRuleReport}
-use Rattle.bench.specs.Words.{Command, command_of, usage_line}
+use Rattle.bench.specs.Words.{Command, command_of}
 use Rattle.bench.specs.CheckTable.{most_bytes, Holds, HoldsTooMany, SatisfiesAll, IsFirstFailing, fails_line, Judged, too_long, not_built, fails, confirmed, Checked, study_too_long, study_not_toml, study_not_built, judged}
-use Rattle.bench.specs.Lawful.{Lawful, usage, check}
+use Rattle.bench.specs.Lawful.{usage, check}
 use Rattle.bench.specs.Laws.{AreOne}
 use Rattle.bench.proofs.OneRule.{one_rule}
 

@@ -1,13 +1,12 @@
 -- Row by row: where a row of the table applies, the answer is the one that it gives.
-use Rattle.std.proofs.Common.{◌≡◌, ◌∙◌, sym, refl, subst, ap, ℕ, ◌<◌, ◌≤◌, List, length, codes, Option, None, Some, IfSome, Ok, inl, inr}
+use Rattle.std.proofs.Common.{refl, subst, ℕ, ◌≤◌, List, length, codes, Option, None, Some, IfSome, inl, inr}
 use Rattle.std.specs.Io.KnownBytes.{Appends}
 use Rattle.std.proofs.lemmas.Bool.{cases_lt}
 use Rattle.edge.specs.Shelf.{Files}
 use Rattle.vocab.specs.Study.{Question}
 use Rattle.report.specs.Report.{IsRuleReport}
-use Rattle.bench.specs.Words.{Command, command_of, usage_line}
-use Rattle.bench.specs.CheckTable.{most_bytes, IsFirstFailing, SatisfiesAll, fails_line, Judged, too_long, not_built, fails, confirmed, Checked, study_too_long, study_not_toml, study_not_built, judged}
-use Rattle.bench.specs.Lawful.{Lawful, usage, check}
+use Rattle.bench.specs.CheckTable.{most_bytes, IsFirstFailing, SatisfiesAll, fails_line, Judged, too_long, not_built, fails, confirmed, study_too_long, study_not_toml, study_not_built, judged}
+use Rattle.bench.specs.Lawful.{Lawful, check}
 use Rattle.bench.specs.TopCall.{Says, IsCheckOfLongStudy, IsCheckOfNoToml, IsCheckOfOtherStudy, IsCheckOver}
 use Rattle.bench.proofs.OneAnswer.{one_answer}
 

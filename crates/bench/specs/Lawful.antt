@@ -1,5 +1,5 @@
 -- Which status and text answer which words, over which files.
-use Rattle.std.specs.Prelude.{◌≡◌, ℕ, List, Option, None, Some}
+use Rattle.std.specs.Prelude.{◌≡◌, ℕ, List, None, Some}
 use Rattle.edge.specs.Shelf.{Files}
 use Rattle.bench.specs.Words.{Command, command_of, usage_line}
 use Rattle.bench.specs.CheckTable.{Checked}

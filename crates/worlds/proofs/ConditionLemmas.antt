@@ -1,18 +1,18 @@
 -- The parts of what can be evaluated can be evaluated.
-use Rattle.std.proofs.Common.{◌≡◌, sym, subst, ℕ, zero, suc, inl, inr, ◌+◌, ◌<◌, ◌≤◌, ◌≢◌, Bool, true, false, max, List, [], ◌∷◌, ◌++◌, length, arith, length-append, true≢false, lt-ltb, eqb-true, leb-true}
+use Rattle.std.proofs.Common.{◌≡◌, sym, subst, ℕ, zero, suc, inl, inr, ◌+◌, ◌<◌, ◌≤◌, true, max, List, [], ◌∷◌, ◌++◌, length, arith, length-append, true≢false, lt-ltb, eqb-true, leb-true}
 use Rattle.std.specs.Prelude.{◌&&◌, ◌==◌, not, nat_lt, nat_le, slice_get}
 use Rattle.std.specs.List.{list_any}
 use Rattle.std.proofs.lemmas.Bool.{and_parts, and_from, or_cases}
 use Rattle.vocab.specs.declared.kinds.Kind.{Kind}
-use Rattle.vocab.specs.declared.kinds.Kind.TheVariants.{Choice, Ranking, Sets}
+use Rattle.vocab.specs.declared.kinds.Kind.TheVariants.{Choice}
 use Rattle.vocab.specs.declared.kinds.Sort.{Sort}
 use Rattle.vocab.specs.declared.kinds.Sort.TheVariants.{Voter, Alt, Ballot, Profile}
 use Rattle.vocab.specs.Formula.{quantifier_depth}
 use Rattle.vocab.specs.Size.{Extent, sort_count}
-use Rattle.vocab.specs.Sorted.{same_sort, all_sorts, is_option_sort, has_winners, is_of_sort, is_atom_sorted, is_sorted, are_of_sorts}
+use Rattle.vocab.specs.Sorted.{same_sort, all_sorts, is_option_sort, has_winners, is_of_sort, is_sorted, are_of_sorts}
 use Rattle.vocab.specs.Study.{is_sentence}
 use Rattle.vocab.specs.Titled.{Titled}
-use Rattle.vocab.specs.Tree.{TermTree, AtomTree, Tree, Var, Const, With, SwapVoters, SwapAlts, Swap, Equal, Prefers, Better, Casts, Majority, WinsAt, Ranks, Leaf, Not, Both, Either, Implies, Same, All, Exists}
+use Rattle.vocab.specs.Tree.{TermTree, Tree, Var, With, SwapVoters, SwapAlts, Swap, Equal, Prefers, Better, Casts, Majority, WinsAt, Ranks, Leaf, Not, Both, Either, Implies, Same, All, Exists}
 use Rattle.meaning.specs.Truth.{value, is_rule}
 use Rattle.meaning.proofs.RangeLaws.{have_values}
 use Rattle.worlds.specs.Conditions.{IsTermAt, HasSort, IsAtomAt, IsFormulaAt, IsEvaluable}

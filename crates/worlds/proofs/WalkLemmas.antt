@@ -1,11 +1,11 @@
 -- Instances block by block: those of one value of the outermost universal after those of the value before it.
-use Rattle.std.proofs.Common.{◌≡◌, refl, sym, ◌∙◌, ap, ap₂, subst, ℕ, zero, suc, ◌+◌, ◌*◌, ◌-◌, ◌/◌, ◌%◌, ◌^◌, ◌<◌, ◌≤◌, Bool, true, false, min, inl, inr, List, [], ◌∷◌, ◌++◌, length, arith, Option, None, Some, MatchOption, append_assoc, append-nil, mul-le-mul_right, suc-mul, mul-zero}
+use Rattle.std.proofs.Common.{◌≡◌, refl, sym, ◌∙◌, ap, ap₂, ℕ, zero, suc, ◌+◌, ◌*◌, ◌-◌, ◌/◌, ◌^◌, ◌<◌, ◌≤◌, true, min, inl, inr, List, [], ◌∷◌, ◌++◌, arith, Option, None, Some, MatchOption, append_assoc, append-nil, mul-le-mul_right, suc-mul, mul-zero}
 use Rattle.std.proofs.Math.Nat.{mul-le-mul_left, div-mul-le_self, div-eq_of_lt}
 use Rattle.std.proofs.lemmas.Nat.{div-mul-add, mod-mul-add, div_below}
 use Rattle.std.proofs.lemmas.Bool.{cases_lt}
 use Rattle.vocab.specs.declared.kinds.Sort.{Sort}
 use Rattle.vocab.specs.Formula.{body_of}
-use Rattle.vocab.specs.Limits.{product, bases_of, instance_count}
+use Rattle.vocab.specs.Limits.{bases_of, instance_count}
 use Rattle.vocab.specs.Size.{Extent, sort_count}
 use Rattle.vocab.specs.Tree.{Tree, All}
 use Rattle.meaning.specs.Space.{digits_of}

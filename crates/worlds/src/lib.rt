@@ -7,3 +7,6 @@ mod terms;
 
 pub use failures::{first_failure, instance_count};
 pub use formulas::truth;
+
+#[cfg(test)]
+mod tests;

@@ -1,4 +1,4 @@
-use Rattle.std.proofs.Common.{refl, ◌≡◌, ◌<◌, length, Ok, Err, Some, IsSomeAnd, IfSome}
+use Rattle.std.proofs.Common.{refl, ◌≡◌, ◌<◌, length, Ok, Err, IsSomeAnd}
 use Rattle.edge.specs.declared.faults.ReadFault.TheVariants.{TooLong}
 use Rattle.study.specs.declared.faults.StudyFault.TheVariants.{NotToml, NotBuilt}
 use Rattle.study.specs.Reading.{study_of_bytes}

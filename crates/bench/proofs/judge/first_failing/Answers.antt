@@ -1,5 +1,4 @@
-use Rattle.std.proofs.Common.{◌≡◌, sym, ◌∙◌, slice_get, Some, ◌^◌, ◌-◌, min}
-use Rattle.vocab.specs.Limits.{instance_count}
+use Rattle.std.proofs.Common.{◌≡◌, slice_get, Some}
 use Rattle.bench.proofs.FailingLemmas.{sentence_at, satisfied_more}
 use Rattle.bench.proofs.judge.first_failing.Goals as goal
 

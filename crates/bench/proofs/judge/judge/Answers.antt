@@ -1,4 +1,4 @@
-use Rattle.std.proofs.Common.{◌≡◌, codes}
+use Rattle.std.proofs.Common.{codes}
 use Rattle.bench.specs.CheckTable.{Judged, fails, confirmed, fails_line}
 use Rattle.bench.proofs.FailingLemmas.{said}
 use Rattle.bench.proofs.judge.judge.Goals as goal

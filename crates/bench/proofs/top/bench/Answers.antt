@@ -1,10 +1,6 @@
-use Rattle.std.proofs.Common.{codes, ◌≡◌, IfSome, List, ℕ}
-use Rattle.std.specs.Io.KnownBytes.{Appends}
-use Rattle.bench.specs.Lawful.{Lawful}
 use Rattle.bench.specs.Words.{texts}
-use Rattle.bench.specs.TopCall.{IsCheckOfLongStudy, IsCheckOfNoToml, IsCheckOfOtherStudy}
 use Rattle.bench.proofs.AnswerLemmas.{answered, in_part}
-use Rattle.bench.proofs.RowLemmas.{row, long_study, no_toml, other_study, no_rule_clause, fails_clause, confirmed_clause}
+use Rattle.bench.proofs.RowLemmas.{no_rule_clause, fails_clause, confirmed_clause}
 use Rattle.bench.proofs.top.bench.Goals as goal
 
 pub returns-in-Ok-write_text-clause-lawful : goal.returns-in-Ok-write_text-clause-lawful

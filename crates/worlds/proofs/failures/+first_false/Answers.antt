@@ -1,10 +1,8 @@
-use Rattle.std.proofs.Common.{◌≡◌, ◌<◌, ◌≤◌, ◌∙◌, ◌*◌, ◌+◌, ◌-◌, ◌/◌, ◌^◌, min, sym, ap, ℕ, arith, rules, refl, subst, List}
+use Rattle.std.proofs.Common.{◌≡◌, ◌≤◌, ◌*◌, min, ℕ, arith}
 use Rattle.std.proofs.Common.{mul-le-mul_right}
-use Rattle.vocab.specs.declared.kinds.Sort.{Sort}
 use Rattle.vocab.specs.Limits.{instance_count}
 use Rattle.vocab.specs.Size.{sort_count}
-use Rattle.vocab.specs.Tree.{Tree, tree_of, All}
-use Rattle.worlds.specs.Walk.{AreTrueIn, IsFirstFalseIn}
+use Rattle.vocab.specs.Tree.{tree_of, All}
 use Rattle.worlds.proofs.WalkLemmas.{most, IsBlock, is_block, first_block, past_the_end, AreTrueBefore, found_in_block, walk_goes_on}
 use Rattle.worlds.proofs.failures.+first_false.Goals as goal
 

@@ -1,4 +1,3 @@
-use Rattle.std.proofs.Common.{[]}
 use Rattle.worlds.proofs.ConditionLemmas.{evaluable_sentence}
 use Rattle.worlds.proofs.WalkLemmas.{of_sentence}
 use Rattle.worlds.proofs.failures.first_failure.Goals as goal

@@ -1,4 +1,4 @@
-use Rattle.std.proofs.Common.{◌≡◌, ◌<◌, ◌++◌, ◌∷◌, [], sym, ℕ, Bool, true, false, arith, rules}
+use Rattle.std.proofs.Common.{◌≡◌, ◌<◌, ◌++◌, ◌∷◌, [], sym, ℕ, Bool, true, false, arith}
 use Rattle.vocab.specs.Size.{sort_count}
 use Rattle.vocab.specs.Tree.{tree_of}
 use Rattle.meaning.specs.Truth.{is_true_at}

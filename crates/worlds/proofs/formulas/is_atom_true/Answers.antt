@@ -1,11 +1,11 @@
-use Rattle.std.proofs.Common.{◌≡◌, ◌<◌, ◌∙◌, sym, ap, ap₂, ℕ, length, slice_get, Some, Bool, arith}
+use Rattle.std.proofs.Common.{◌≡◌, ◌<◌, ◌∙◌, sym, ap₂, ℕ, length, arith}
 use Rattle.std.specs.Prelude.{slice_index, nat_eq}
 use Rattle.std.proofs.lemmas.Option.{get_or_from_slice_get}
 use Rattle.vocab.specs.declared.kinds.Sort.TheVariants.{Voter, Alt, Ballot, Profile}
 use Rattle.vocab.specs.Size.{sort_count}
 use Rattle.vocab.specs.Tree.{term_tree}
 use Rattle.meaning.specs.Truth.{value}
-use Rattle.worlds.proofs.ConditionLemmas.{equal_parts, prefers_parts, better_parts, casts_parts, majority_parts, wins_parts, ranks_nowhere, rule_length}
+use Rattle.worlds.proofs.ConditionLemmas.{equal_parts, prefers_parts, better_parts, casts_parts, majority_parts, wins_parts, rule_length}
 use Rattle.worlds.proofs.formulas.is_atom_true.Goals as goal
 
 pub value-requires-in-Equal : goal.value-requires-in-Equal

@@ -1,7 +1,5 @@
-use Rattle.std.proofs.Common.{◌≡◌, ◌<◌}
 use Rattle.vocab.specs.declared.kinds.Sort.TheVariants.{Voter, Alt, Ballot, Profile}
-use Rattle.vocab.specs.Size.{sort_count}
-use Rattle.vocab.specs.Tree.{term_tree, Var, Const}
+use Rattle.vocab.specs.Tree.{term_tree, Var}
 use Rattle.worlds.proofs.ConditionLemmas.{variable_bound, value_in_range, with_parts, swap_voters_parts, swap_alts_parts, swap_parts}
 use Rattle.worlds.proofs.terms.+value.Goals as goal
 
