@@ -10,6 +10,7 @@ use Rattle.toml.specs.Data.{Data, string, integer, Members, get_member}
 use Rattle.vocab.specs.declared.kinds.Kind.{Kind}
 use Rattle.vocab.specs.declared.kinds.Kind.TheVariants.{Choice}
 use Rattle.vocab.specs.Limits.{is_within_limits}
+use Rattle.vocab.specs.Name.{is_name}
 use Rattle.vocab.specs.Size.{Extent, IsSize}
 use Rattle.vocab.specs.SizeFault.{is_between, size_of}
 use Rattle.vocab.specs.declared.sizes.SizeFault.{SizeFault}
@@ -20,7 +21,7 @@ use Rattle.study.specs.Document.{document_of, kind_of, integer_of, conflicts_of,
 use Rattle.study.specs.Laws.{IsOfLibrary, IsLibrarySentence}
 use Rattle.study.specs.Reading.{extent_of, study_of, answer_of, study_of_bytes}
 use Rattle.study.proofs.Axioms.{IsKnown, AreKnown, AreKnown-axioms_of, few_axioms}
-use Rattle.study.proofs.Library.{IsLibrarySentence-sentence_of}
+use Rattle.study.proofs.Library.{IsLibrarySentence-sentence_of, is_name-sentence_of}
 use Rattle.study.proofs.Limits.{is_within_limits-sentence_of, is_sentence-sentence_of}
 
 -- a number of an integer between two others
@@ -109,6 +110,7 @@ parts_fit size conflicts axioms choice limit are = record {
     some_conflicts = limit.0;
     few_conflicts = limit.1;
   };
+  names = All-weaker IsKnown (λ a. is_name a.name ≡ true) (λ a known. is_name-sentence_of a.name a.sentence known) axioms are.known;
   sentences = All-weaker IsKnown (λ a. IsLibrarySentence a.sentence) (λ a known. IsLibrarySentence-sentence_of a.name a.sentence known) axioms are.known;
 }
 

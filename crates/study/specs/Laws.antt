@@ -1,6 +1,7 @@
 -- What holds of each study that is read.
-use Rattle.std.specs.Prelude.{◌≡◌, ℕ, List, Ok, All, ◌⊎◌}
+use Rattle.std.specs.Prelude.{◌≡◌, ℕ, List, Ok, All, IsTrue, ◌⊎◌}
 use Rattle.vocab.specs.declared.kinds.Kind.TheVariants.{Choice}
+use Rattle.vocab.specs.Name.{is_name}
 use Rattle.vocab.specs.Size.{IsSize}
 use Rattle.vocab.specs.Study.{Question, IsStudy}
 use Rattle.vocab.specs.Tree.{Tree}
@@ -16,6 +17,7 @@ pub record IsOfLibrary (study : Question) : Type 0 where
   pub kind : study.size.kind ≡ Choice
   pub size : IsSize study.size
   pub whole : IsStudy study
+  pub names : All (λ a. IsTrue (is_name a.name)) study.axioms
   pub sentences : All (λ a. IsLibrarySentence a.sentence) study.axioms
 
 -- each study that bytes give is one
