@@ -4,7 +4,7 @@ use Rattle.std.specs.Prelude.{nat_lt, count_by, swap}
 use Rattle.std.specs.Cmp.Lexicographic.{pointwise}
 use Rattle.std.proofs.lemmas.Bool.{and_parts, and_from}
 use Rattle.std.proofs.lemmas.Grind.{get_or_default_zero}
-use Rattle.std.proofs.lemmas.List.{length-replicate, get_or-replicate, length-set, drop_all}
+use Rattle.std.proofs.lemmas.List.{get_or-replicate, drop_all}
 use Rattle.std.proofs.lemmas.List.Sums.{sum_by-cons}
 use Rattle.std.proofs.lemmas.Nat.{div_below, mod_below}
 use Rattle.std.proofs.Math.Seq.{drop-cons}
@@ -16,7 +16,7 @@ use Rattle.meaning.specs.Digits.{AreDigits}
 use Rattle.meaning.specs.Space.{number_of, digits_of, ballot_bases, ballots, profile_number, with_ballot, with_voters_swapped}
 use Rattle.meaning.proofs.DigitLaws.{are_numbered, are_profiles}
 use Rattle.profiles.specs.Weights.{place_values, weights_of}
-use Rattle.profiles.proofs.DigitPlaces.{length-place_values, length-digits_of, length-bases, length-ballots, below_product, weight_at, at_place_value, weight_positive}
+use Rattle.profiles.proofs.DigitPlaces.{length-digits_of, length-bases, length-ballots, below_product, weight_at, at_place_value, weight_positive}
 
 -- ---- one digit replaced
 

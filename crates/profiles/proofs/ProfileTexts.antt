@@ -1,9 +1,6 @@
 -- The text of a profile, ballot by ballot.
-use Rattle.std.proofs.Common.{◌≡◌, refl, sym, ◌∙◌, ap, ap₂, subst, ℕ, zero, suc, ◌+◌, ◌*◌, ◌/◌, ◌%◌, ◌^◌, ◌<◌, ◌≤◌, List, [], ◌∷◌, ◌++◌, map, length, get_or, take, drop, replicate, arith, add-one, append_assoc, mul_assoc, mul_comm, add_assoc, mul-le-mul_right, suc-mul, pow-suc, true, false, true≢false, eq-eqb}
-use Rattle.std.specs.Prelude.{nat_eq}
+use Rattle.std.proofs.Common.{◌≡◌, sym, ◌∙◌, ap, ap₂, subst, ℕ, zero, suc, ◌+◌, ◌*◌, ◌/◌, ◌%◌, ◌^◌, ◌<◌, ◌≤◌, List, [], ◌∷◌, ◌++◌, map, length, get_or, take, drop, replicate, arith, add-one, append_assoc, mul_assoc, mul_comm, add_assoc, mul-le-mul_right, suc-mul, pow-suc}
 use Rattle.std.specs.List.{join_with_byte}
-use Rattle.std.specs.Cmp.Lexicographic.{pointwise}
-use Rattle.std.proofs.lemmas.Bool.{and_from}
 use Rattle.std.proofs.lemmas.List.{length-map, get_or-map, take_more, length-take-le, map-append, length-replicate, drop_all, append-nil, nil_from_length}
 use Rattle.std.proofs.lemmas.Nat.{div-mul-add, mod-mul-add, mod_below}
 use Rattle.std.proofs.Math.Nat.{div-div-eq-div-mul, div-add-mod', div-one, add-mul, pow-zero, one-mul, pow-le-pow_right}
@@ -119,13 +116,6 @@ follows_more size p i b rest after l h k next e =
     let d = get_or (ballots size p) i 0 in
     after_same (ballot_text size b) (ballot_text size d) after (barred (drop (i + 1) (texts_of size p))) (length-ballot_text size b h ∙ sym (length-ballot_text size d (ballot_below size p i k l)))
     (ap (drop 1) (sym next ∙ e ∙ follows_next size p i l))
-
-same_bytes : (xs : List ℕ) → pointwise nat_eq xs xs ≡ true
-same_bytes [] = refl
-same_bytes (x ∷ xs) = and_from _ _ (eq-eqb x x refl) (same_bytes xs)
-
-pub bytes_differ : (xs ys : List ℕ) → pointwise nat_eq xs ys ≡ false → xs ≡ ys → ⊥
-bytes_differ xs ys h e = true≢false (sym (subst (λ (zs : List ℕ). pointwise nat_eq xs zs ≡ true) e (same_bytes xs)) ∙ h)
 
 -- ---- reading: the end
 

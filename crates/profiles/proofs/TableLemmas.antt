@@ -1,11 +1,11 @@
 -- What the tables of rankings say, computed once over their rows.
-use Rattle.std.proofs.Common.{◌≡◌, refl, sym, ◌∙◌, ap, ap₂, ℕ, zero, suc, ◌+◌, ◌-◌, ◌*◌, ◌<◌, ◌≤◌, Bool, true, ◌&&◌, true≢false, List, [], ◌∷◌, map, length, get_or, drop, arith, eqb-true, ltb-true, subst, take, set, ◌++◌, mul-le-mul_right, suc-mul, add_assoc}
+use Rattle.std.proofs.Common.{◌≡◌, refl, sym, ◌∙◌, ap, ap₂, ℕ, zero, suc, ◌+◌, ◌-◌, ◌*◌, ◌<◌, ◌≤◌, Bool, true, ◌&&◌, true≢false, List, [], ◌∷◌, map, length, get_or, drop, arith, eqb-true, ltb-true, subst, take, set, ◌++◌, mul-le-mul_right, suc-mul, add_assoc, append_assoc}
 use Rattle.std.specs.Prelude.{◌==◌, nat_lt, nat_eq, count_by}
 use Rattle.std.specs.List.{list_all}
 use Rattle.std.specs.Cmp.Lexicographic.{pointwise}
 use Rattle.std.proofs.lemmas.Bool.{and_parts}
 use Rattle.std.proofs.lemmas.Bool.Decides.{nat_tests}
-use Rattle.std.proofs.lemmas.List.{get_or-map, get_or-drop, take_more, take_more_set}
+use Rattle.std.proofs.lemmas.List.{get_or-map, get_or-drop, take_more, take_more_set, length-map}
 use Rattle.std.proofs.lemmas.List.Recursion.{and_at}
 use Rattle.std.proofs.lemmas.List.Sums.{count_by-le-length}
 use Rattle.vocab.specs.Name.{is_name}
@@ -31,12 +31,14 @@ row_at t k (r ∷ rs) (suc b) h l =
     let parts = and_parts (t k r) (each_row t (suc k) rs) h in
     let same : k + suc b ≡ suc k + b = omega arith in rw same (row_at t (suc k) rs b parts.1 (omega (arith, l)))
 
+-- the tables are the rankings of five, and where each alternative stands in them
 rankings-rows : RANKINGS ≡ rankings 5
 rankings-rows = refl
 
 places-rows : PLACES ≡ map (λ r. map (place r) (below 5)) (rankings 5)
 places-rows = refl
 
+-- five alternatives have 120 ballots, and fewer have no more
 pub factorial_small : (m : ℕ) → m ≤ 5 → factorial m ≤ 120
 factorial_small zero h = omega arith
 factorial_small (suc zero) h = omega arith
@@ -57,6 +59,7 @@ get_or-below (suc (suc (suc zero))) h = refl
 get_or-below (suc (suc (suc (suc zero)))) h = refl
 get_or-below (suc (suc (suc (suc (suc x))))) h = absurd (omega (arith, h))
 
+-- what the table of places gives
 pub places_at : (b x : ℕ) (d : List ℕ) → b < 120 → x < 5 → get_or (get_or PLACES b d) x 0 ≡ place (ranking 5 b) x
 places_at b x d hb hx =
     let row : get_or PLACES b d ≡ map (place (ranking 5 b)) (below 5) = ap (λ t. get_or t b d) places-rows ∙ get_or-map (λ r. map (place r) (below 5)) (rankings 5) b [] d (omega (arith, length-rankings 5)) in
@@ -76,6 +79,7 @@ rank_test b r = rank_of (map letter r) == b
 abbrev row_test : List (List ℕ) → ℕ → ℕ → List ℕ → Bool
 row_test fives m b r = left_out_test fives m b r && place_test fives m b r && rank_test b r && is_name (map letter r)
 
+-- every row of every number of alternatives passes
 all_rows : list_all (λ m. each_row (row_test (rankings 5) m) 0 (rankings m)) (up_from 1 5) ≡ true
 all_rows = refl
 
@@ -101,6 +105,9 @@ row_facts m b some few h =
     let parts = and_parts (left_out_test (rankings 5) m b (ranking m b)) (place_test (rankings 5) m b (ranking m b)) both.0 in
     (parts.0, parts.1, both.1, all.1)
 
+pub length-letters : (m b : ℕ) → b < factorial m → length (map letter (ranking m b)) ≡ m
+length-letters m b h = length-map (ranking m b) letter ∙ length-ranking m b h
+
 left_out : (m b : ℕ) → 1 ≤ m → m ≤ 5 → b < factorial m → drop (5 - m) (ranking 5 b) ≡ map (λ x. x + (5 - m)) (ranking m b)
 left_out m b some few h = same_list _ _ (row_facts m b some few h).0
 
@@ -108,6 +115,7 @@ place_at_five : (m b x : ℕ) → 1 ≤ m → m ≤ 5 → b < factorial m → x 
 place_at_five m b x some few h l =
     eqb-true _ _ (all_at (λ y. place (ranking 5 b) ((5 - m) + y) == place (ranking m b) y + (5 - m)) m 0 x (row_facts m b some few h).1 (omega arith) (omega arith))
 
+-- the number of the order of a ballot's letters is the ballot
 pub rank-ranking : (m b : ℕ) → 1 ≤ m → m ≤ 5 → b < factorial m → rank_of (map letter (ranking m b)) ≡ b
 rank-ranking m b some few h = eqb-true _ _ (row_facts m b some few h).2
 
@@ -140,6 +148,15 @@ letter_at m b k some few h l =
 pub take-filled : (xs ys : List ℕ) (k v : ℕ) → k < length xs → k < length ys → take k xs ≡ take k ys → v ≡ get_or ys k 0 → take (k + 1) (set xs k v) ≡ take (k + 1) ys
 take-filled xs ys k v h l e same = take_more_set xs k v h ∙ ap₂ (λ (a : List ℕ) (b : ℕ). a ++ b ∷ []) e same ∙ sym (take_more ys k 0 l)
 
+-- one more item of a list is as in another
+pub take-same : (xs ys : List ℕ) (k : ℕ) → k < length xs → k < length ys → take k xs ≡ take k ys → get_or xs k 0 ≡ get_or ys k 0 → take (k + 1) xs ≡ take (k + 1) ys
+take-same xs ys k h l e same = take_more xs k 0 h ∙ ap₂ (λ (a : List ℕ) (b : ℕ). a ++ b ∷ []) e same ∙ sym (take_more ys k 0 l)
+
+-- one more item of a list is appended
+pub append-take : (front xs text : List ℕ) (k v : ℕ) → k < length xs → text ≡ front ++ take k xs → v ≡ get_or xs k 0 → text ++ v ∷ [] ≡ front ++ take (k + 1) xs
+append-take front xs text k v h e same =
+    ap₂ (λ (t : List ℕ) (b : ℕ). t ++ b ∷ []) e same ∙ append_assoc front (take k xs) (get_or xs k 0 ∷ []) ∙ ap (λ (t : List ℕ). front ++ t) (sym (take_more xs k 0 h))
+
 -- ---- the number of an order
 
 pub rank_of-small : (xs : List ℕ) → rank_of xs < factorial (length xs)
@@ -155,6 +172,7 @@ rank_of-step number lower fact total x rest later before front e f =
 
 -- ---- two alternatives exchanged
 
+-- the row that the code takes for x and y
 abbrev pub row_of_pair : ℕ → ℕ → ℕ → List ℕ
 row_of_pair m x y = get_or EXCHANGED (get_or (get_or PAIRS (5 - m + x) []) (5 - m + y) 0) []
 
@@ -164,11 +182,9 @@ exchange_test rs m x y row b r = nat_lt (get_or row b 0) (factorial m) && pointw
 abbrev exchanges_test : List (List ℕ) → ℕ → Bool
 exchanges_test rs m = list_all (λ x. list_all (λ y. each_row (exchange_test rs m x y (row_of_pair m x y)) 0 rs) (below m)) (below m)
 
+-- each row gives a ballot, whose ranking is the exchanged one
 all_exchanges : list_all (λ m. exchanges_test (rankings m) m) (up_from 1 5) ≡ true
 all_exchanges = refl
-
-pairs_test : list_all (λ x. list_all (λ y. nat_lt (get_or (get_or PAIRS x []) y 0) 11) (below 5)) (below 5) ≡ true
-pairs_test = refl
 
 exchange_fact : (m x y b : ℕ) → 1 ≤ m → m ≤ 5 → x < m → y < m → b < factorial m → exchange_test (rankings m) m x y (row_of_pair m x y) b (ranking m b) ≡ true
 exchange_fact m x y b some few hx hy h =
@@ -178,6 +194,7 @@ exchange_fact m x y b some few hx hy h =
     let at_b : 0 + b ≡ b = omega arith in
     subst (λ (k : ℕ). exchange_test (rankings m) m x y (row_of_pair m x y) k (ranking m b) ≡ true) at_b (row_at (exchange_test (rankings m) m x y (row_of_pair m x y)) 0 (rankings m) b row (omega (arith, length-rankings m)))
 
+-- what the table of exchanged ballots gives
 pub exchanged_at : (m x y b : ℕ) → 1 ≤ m → m ≤ 5 → x < m → y < m → b < factorial m
     → (get_or (row_of_pair m x y) b 0 < factorial m) × (get_or (row_of_pair m x y) b 0 ≡ ranking_number m (map (exchanged x y) (ranking m b)))
 exchanged_at m x y b some few hx hy h =

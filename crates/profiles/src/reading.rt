@@ -23,8 +23,7 @@ impl Space {
             return None;
         }
         let ballot = tables::rank(text);
-        let letters = tables::spelled(alternatives, ballot);
-        if text == &letters[..alternatives as usize] {
+        if tables::spells(alternatives, ballot, text) {
             Some(ballot)
         } else {
             None

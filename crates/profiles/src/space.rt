@@ -11,6 +11,9 @@ use vocab::{Size, Sort};
 
 /// The profiles of a size, each a number: its voters' ballots are the digits, the first voter's most significant,
 /// and a ballot is the number of its ranking in lexicographic order.
+///
+/// Voters, alternatives, ballots and profiles are numbered from 0, and each argument of a method is below their number.
+/// No method takes memory: each is a few steps of arithmetic and look-ups, for each voter where it goes over all of them.
 #[derive(Clone, Copy, Debug, PartialEq, Eq)]
 pub struct Space {
     size: Size,

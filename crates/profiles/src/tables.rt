@@ -2,7 +2,8 @@
 //!
 //! The first m! of them leave the first 5 - m alternatives in front: what follows them are the rankings of m alternatives.
 
-ghost use Rattle.std.specs.Prelude.{◌≡◌, ℕ, ◌+◌, ◌-◌, ◌<◌, ◌≤◌, map, take, length, count_by, nat_lt, slice_index};
+ghost use Rattle.std.specs.Prelude.{◌≡◌, ◌≢◌, ℕ, ◌+◌, ◌-◌, ◌<◌, ◌≤◌, map, take, length, count_by, nat_lt, slice_index};
+ghost use Rattle.std.specs.Bool.{OnTrue, OnFalse};
 ghost use Rattle.vocab.specs.Size.{factorial};
 ghost use Rattle.meaning.specs.Space.{ranking, ranking_number, exchanged, is_above, place};
 ghost use Rattle.meaning.specs.Texts.{letter};
@@ -286,6 +287,18 @@ pub(crate) fn is_above(alternatives: u8, ballot: u32, x: u32, y: u32) -> bool
     place_at(ballot, left_out + x as usize) < place_at(ballot, left_out + y as usize)
 }
 
+/// The letter at a place of a ballot, the best at place 0.
+pub(crate) fn letter_at(alternatives: u8, ballot: u32, place: u8) -> u8
+    requires some { 1 ≤ alternatives }
+    requires few { alternatives ≤ 5 }
+    requires ballot { ballot < factorial alternatives }
+    requires place { place < alternatives }
+    ensures { result ≡ slice_index (map letter (ranking alternatives ballot)) place }
+{
+    let left_out = 5 - alternatives;
+    b'a' + alternative_at(ballot, (left_out + place) as usize) - left_out
+}
+
 /// The letters of a ballot from best to worst, in front of zeros.
 pub(crate) fn spelled(alternatives: u8, ballot: u32) -> [u8; 5]
     requires some { 1 ≤ alternatives }
@@ -293,12 +306,28 @@ pub(crate) fn spelled(alternatives: u8, ballot: u32) -> [u8; 5]
     requires ballot { ballot < factorial alternatives }
     ensures { take alternatives result ≡ map letter (ranking alternatives ballot) }
 {
-    let left_out = 5 - alternatives;
     let mut letters = [0; 5];
-    for k in 0..alternatives {
-        letters[k as usize] = b'a' + alternative_at(ballot, (left_out + k) as usize) - left_out;
+    for place in 0..alternatives {
+        letters[place as usize] = letter_at(alternatives, ballot, place);
     }
     letters
+}
+
+/// Whether a text is the letters of a ballot.
+pub(crate) fn spells(alternatives: u8, ballot: u32, text: &[u8]) -> bool
+    requires some { 1 ≤ alternatives }
+    requires few { alternatives ≤ 5 }
+    requires ballot { ballot < factorial alternatives }
+    requires length { length text.now ≡ alternatives }
+    ensures same { OnTrue result (text.now ≡ map letter (ranking alternatives ballot)) }
+    ensures other { OnFalse result (text.now ≢ map letter (ranking alternatives ballot)) }
+{
+    for place in 0..alternatives {
+        if text[place as usize] != letter_at(alternatives, ballot, place) {
+            return false;
+        }
+    }
+    true
 }
 
 /// The row of EXCHANGED for each two alternatives.
@@ -420,7 +449,7 @@ fn lower(letters: &[u8], letter: u8) -> u32
 }
 
 /// The number that a text of letters has among the orders of its letters: for each letter, how many later ones are below it,
-/// as the digits of a number in the factorial base (Lehmer's code).
+/// as the digits of a number in the factorial base (an inversion table: Knuth, The Art of Computer Programming, 5.1.1).
 pub(crate) fn rank(text: &[u8]) -> u32
     requires { length text.now ≤ 5 }
     ensures value { result ≡ rank_of text.now }

@@ -59,15 +59,6 @@ impl ProfileText {
         self.cells[self.len as usize] = byte;
         self.len += 1;
     }
-
-    fn append(&mut self, bytes: &[u8])
-        requires { length self.old + length bytes.now ≤ 48 }
-        ensures { self.new ≡ self.old ++ bytes.now }
-    {
-        for byte in bytes {
-            self.push(*byte);
-        }
-    }
 }
 
 impl Space {
@@ -103,7 +94,8 @@ impl Space {
         ensures short { length text.new ≤ length text.old + 5 }
     {
         let alternatives = self.alternatives();
-        let letters = tables::spelled(alternatives, ballot);
-        text.append(&letters[..alternatives as usize]);
+        for place in 0..alternatives {
+            text.push(tables::letter_at(alternatives, ballot, place));
+        }
     }
 }

@@ -1,4 +1,4 @@
-use Rattle.std.proofs.Common.{◌≡◌, ◌≤◌, ◌<◌, ◌∙◌, ap, sym, subst, ℕ, arith}
+use Rattle.std.proofs.Common.{◌<◌, ◌∙◌, ap, sym, subst, ℕ}
 use Rattle.vocab.specs.Name.{is_name}
 use Rattle.vocab.specs.Size.{factorial}
 use Rattle.profiles.proofs.TableLemmas.{ballots_are_names}

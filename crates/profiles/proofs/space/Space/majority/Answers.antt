@@ -1,10 +1,9 @@
-use Rattle.std.proofs.Common.{◌≡◌, ◌≤◌, ◌<◌, ◌∙◌, ◌+◌, ◌*◌, ◌/◌, ◌%◌, ap, ap₂, sym, subst, ℕ, cond, get_or, arith}
+use Rattle.std.proofs.Common.{◌≡◌, ◌<◌, ◌∙◌, ◌+◌, ◌/◌, ◌%◌, ap, ap₂, ℕ, cond, get_or, arith}
 use Rattle.std.specs.Prelude.{count_by}
 use mir.Val.{bool_byte}
-use Rattle.vocab.specs.Size.{factorial, sort_count}
-use Rattle.meaning.specs.Space.{ballots, better, ranking, is_above}
+use Rattle.meaning.specs.Space.{better, ranking, is_above}
 use Rattle.profiles.specs.Weights.{weights_of}
-use Rattle.profiles.proofs.DigitChanges.{ballots_from, next_ballot_below, IsRest-next, count_next, none_left, byte_of, byte_small}
+use Rattle.profiles.proofs.DigitChanges.{ballots_from, next_ballot_below, IsRest-next, count_next, byte_of, byte_small}
 use Rattle.profiles.proofs.DigitPlaces.{below_product}
 use Rattle.profiles.proofs.space.Space.majority.Goals as goal
 

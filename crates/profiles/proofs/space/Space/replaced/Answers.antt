@@ -1,7 +1,6 @@
-use Rattle.std.proofs.Common.{◌≡◌, ◌∙◌, sym, subst, ℕ, ◌<◌, arith}
+use Rattle.std.proofs.Common.{sym, subst, ℕ, ◌<◌, arith}
 use Rattle.vocab.specs.Size.{sort_count}
 use Rattle.vocab.specs.declared.kinds.Sort.TheVariants.{Profile}
-use Rattle.meaning.specs.Space.{with_ballot}
 use Rattle.profiles.proofs.DigitChanges.{is_replaced, replaced_within}
 use Rattle.profiles.proofs.space.Space.replaced.Goals as goal
 

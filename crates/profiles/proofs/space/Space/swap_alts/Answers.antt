@@ -1,9 +1,9 @@
-use Rattle.std.proofs.Common.{◌≡◌, ◌≤◌, ◌<◌, ◌∙◌, ◌+◌, ◌*◌, ◌/◌, ◌%◌, ap, ap₂, sym, subst, ℕ, List, [], map, drop, get_or, arith}
+use Rattle.std.proofs.Common.{◌≡◌, ◌≤◌, ◌<◌, ◌/◌, sym, subst, ℕ, List, map, get_or, arith}
 use Rattle.vocab.specs.Size.{Extent, factorial, sort_count}
 use Rattle.vocab.specs.declared.kinds.Sort.TheVariants.{Profile}
-use Rattle.meaning.specs.Space.{ballot_bases, ballots, number_of, ballot_swapped, with_alts_swapped, ranking, ranking_number, exchanged}
+use Rattle.meaning.specs.Space.{ballot_swapped, with_alts_swapped, ranking, ranking_number, exchanged}
 use Rattle.profiles.specs.Weights.{weights_of}
-use Rattle.profiles.proofs.DigitChanges.{ballots_from, next_ballot_below, IsRest-next, number_next, number_done, mapped_within}
+use Rattle.profiles.proofs.DigitChanges.{next_ballot_below, IsRest-next, number_next, number_done, mapped_within}
 use Rattle.profiles.proofs.DigitPlaces.{below_product}
 use Rattle.profiles.proofs.TableLemmas.{small_ballot}
 use Rattle.profiles.proofs.space.Space.swap_alts.Goals as goal

@@ -1,6 +1,3 @@
-use Rattle.std.proofs.Common.{◌≡◌, ◌<◌, ◌∙◌, ap, ap₂, subst, get_or}
-use Rattle.vocab.specs.Size.{factorial}
-use Rattle.meaning.specs.Space.{ballots, with_ballot}
 use Rattle.profiles.proofs.DigitChanges.{second_ballot, swapped_voters}
 use Rattle.profiles.proofs.DigitPlaces.{ballot_below}
 use Rattle.profiles.proofs.space.Space.swap_voters.Goals as goal

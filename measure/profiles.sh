@@ -1,0 +1,143 @@
+#!/usr/bin/env bash
+# Nanoseconds for calls of a space, against the same calls in plain Rust built by `rustc -O` (measure/profiles.rs).
+# Each call goes over all profiles of four sizes and all other arguments, 20 times; each program runs 5 times, and the
+# shortest run counts. `texts` writes the text of a profile and reads it back. The answers are compared too.
+# The calls of the crate are made by a program that is proved and built in a copy of the repository.
+# The last line is `ratio R`: the time of all calls by that of plain Rust.
+set -eu
+root=$(cd -- "$(dirname -- "$(readlink -f -- "${BASH_SOURCE[0]}")")/.." && pwd)
+work=$(mktemp -d)
+trap 'rm -rf "$work"' EXIT
+mkdir -p "$work/copy/crates"
+for name in lists vocab cnf meaning profiles; do
+    mkdir "$work/copy/crates/$name"
+    cp -r "$root/crates/$name/src" "$root/crates/$name/specs" "$root/crates/$name/proofs" "$work/copy/crates/$name/" 2>/dev/null || true
+    grep -E "^$name( .*)?:" "$root/crates.txt" >>"$work/copy/crates.txt"
+done
+echo "profile_calls: vocab profiles" >>"$work/copy/crates.txt"
+mkdir -p "$work/copy/crates/profile_calls/src"
+cat >"$work/copy/crates/profile_calls/src/main.rt" <<'RT'
+// Nanoseconds for calls of a space.
+#![tactic(auto)]
+
+use profiles::Space;
+use std::io;
+use std::time::Instant;
+use vocab::{Kind, Size};
+
+fn prefers(space: &Space) -> u32 {
+    let voters = space.size().voters() as u32;
+    let alternatives = space.size().alternatives() as u32;
+    let mut sum: u32 = 0;
+    for i in 0..voters {
+        for x in 0..alternatives {
+            for y in 0..alternatives {
+                for p in 0..space.count() {
+                    sum = sum.wrapping_mul(31).wrapping_add(space.prefers(i, x, y, p) as u32);
+                }
+            }
+        }
+    }
+    sum
+}
+
+fn majority(space: &Space) -> u32 {
+    let alternatives = space.size().alternatives() as u32;
+    let mut sum: u32 = 0;
+    for x in 0..alternatives {
+        for y in 0..alternatives {
+            for p in 0..space.count() {
+                sum = sum.wrapping_mul(31).wrapping_add(space.majority(x, y, p) as u32);
+            }
+        }
+    }
+    sum
+}
+
+fn swap_alts(space: &Space) -> u32 {
+    let alternatives = space.size().alternatives() as u32;
+    let mut sum: u32 = 0;
+    for x in 0..alternatives {
+        for y in 0..alternatives {
+            for p in 0..space.count() {
+                sum = sum.wrapping_mul(31).wrapping_add(space.swap_alts(p, x, y));
+            }
+        }
+    }
+    sum
+}
+
+fn swap_voters(space: &Space) -> u32 {
+    let voters = space.size().voters() as u32;
+    let mut sum: u32 = 0;
+    for i in 0..voters {
+        for j in 0..voters {
+            for p in 0..space.count() {
+                sum = sum.wrapping_mul(31).wrapping_add(space.swap_voters(p, i, j));
+            }
+        }
+    }
+    sum
+}
+
+fn texts(space: &Space) -> u32 {
+    let mut sum: u32 = 0;
+    for p in 0..space.count() {
+        let text = space.profile_text(p);
+        let read = match space.read_profile(text.bytes()) {
+            Ok(q) => q,
+            Err(_) => 1,
+        };
+        sum = sum.wrapping_mul(31).wrapping_add(read);
+    }
+    sum
+}
+
+fn line(rt: &HostRuntime, call: &str, space: &Space) -> io::Result<()> {
+    let mut sum: u32 = 0;
+    let start = Instant::now(rt)?;
+    for _i in 0..20 {
+        sum = sum.wrapping_add(match call {
+            "prefers" => prefers(space),
+            "majority" => majority(space),
+            "swap_alts" => swap_alts(space),
+            "swap_voters" => swap_voters(space),
+            _ => texts(space),
+        });
+    }
+    let spent = start.elapsed(rt)?.as_nanos();
+    println!(rt; "{call} {sum} {spent}")?;
+    Ok(())
+}
+
+fn main(rt: HostRuntime) -> io::Result<()> {
+    for (voters, alternatives) in [(8, 2), (5, 3), (3, 4), (2, 5)] {
+        let Ok(size) = Size::check(Kind::Choice, voters, alternatives) else {
+            return Ok(());
+        };
+        let space = Space::new(size);
+        for call in ["prefers", "majority", "swap_alts", "swap_voters", "texts"] {
+            line(&rt, call, &space)?;
+        }
+    }
+    Ok(())
+}
+RT
+(cd "$work/copy/crates/profile_calls" && rt run >"$work/run.log" 2>&1) || { tail -20 "$work/run.log"; exit 1; }
+rustc -O --edition 2021 -o "$work/baseline" "$root/measure/profiles.rs"
+python3 - "$work/copy/crates/profile_calls/out/profile_calls" "$work/baseline" <<'PY'
+import subprocess, sys
+def shortest(program):
+    best = None
+    for _ in range(5):
+        lines = [line.split() for line in subprocess.run([program], capture_output=True, text=True, check=True).stdout.splitlines()]
+        now = [(call, answer, int(spent)) for call, answer, spent in lines]
+        best = now if best is None else [min(a, b, key=lambda row: row[2]) for a, b in zip(best, now)]
+    return best
+bench, plain = shortest(sys.argv[1]), shortest(sys.argv[2])
+sizes = [size for size in ("8 voters 2", "5 voters 3", "3 voters 4", "2 voters 5") for _ in range(5)]
+for size, ours, theirs in zip(sizes, bench, plain):
+    assert ours[:2] == theirs[:2], (size, ours, theirs)
+    print("%s: %s %d ns, plain %d ns, ratio %.2f" % (size, ours[0], ours[2], theirs[2], ours[2] / theirs[2]))
+print("ratio %.2f" % (sum(row[2] for row in bench) / sum(row[2] for row in plain)))
+PY
