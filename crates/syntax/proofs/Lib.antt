@@ -6,6 +6,7 @@ pub mod Starting
 pub mod Lexings
 pub mod Depths
 pub mod Telling
+pub mod Digits
 pub mod Texts
 pub mod RoundTrip
 pub mod OneAnswer

@@ -1,5 +1,4 @@
 //! Writing a sentence.
-#![tactic(auto, using(crate::proofs::Telling::telling))]
 
 ghost use Rattle.std.specs.Prelude.{◌≡◌, ◌++◌, codes, OnOk, OnErr};
 ghost use Rattle.std.specs.Io.KnownBytes.{Appends};
@@ -8,7 +7,7 @@ ghost use Rattle.edge.specs.Told.{TellsAsBefore, AppendsPrefix};
 ghost use Rattle.vocab.specs.NamedView.{named_term_tree, named_terms_tree, named_tree};
 ghost use Rattle.syntax.specs.Canonical.{digits, decimal, term_text, list_text, text_of};
 ghost use Rattle.syntax.specs.Grammar.{word_of_sort};
-ghost use Rattle.syntax.specs.Told.{told_after, IsPartWritten};
+ghost use Rattle.syntax.specs.Told.{IsWritten, IsPartWritten};
 
 use edge::{Failed, Sink, put_all};
 use vocab::{Name, Named, NamedTerm, Sort, Terms};
@@ -27,7 +26,7 @@ pub fn print<K: Sink>(sentence: &Named, out: &mut K) -> Result<(), Failed>
 }
 
 fn put<K: Sink>(piece: &[u8], out: &mut K) -> Result<(), Failed>
-    ensures ok { OnOk result (K.taken out.new ≡ told_after (K.taken out.old) piece.now) }
+    ensures ok { OnOk result (IsWritten (K.taken out.old) (K.taken out.new) piece.now) }
     ensures part { IsPartWritten (K.taken out.old) (K.taken out.new) piece.now }
     ensures cause { HasCause (K.faults out.old) (K.faults out.new) result }
 {
@@ -36,7 +35,7 @@ fn put<K: Sink>(piece: &[u8], out: &mut K) -> Result<(), Failed>
 
 /// The last digits of a number, so many.
 fn print_digits<K: Sink>(places: u8, number: u16, out: &mut K) -> Result<(), Failed>
-    ensures ok { OnOk result (K.taken out.new ≡ told_after (K.taken out.old) (digits places number)) }
+    ensures ok { OnOk result (IsWritten (K.taken out.old) (K.taken out.new) (digits places number)) }
     ensures part { IsPartWritten (K.taken out.old) (K.taken out.new) (digits places number) }
     ensures cause { HasCause (K.faults out.old) (K.faults out.new) result }
 {
@@ -49,7 +48,7 @@ fn print_digits<K: Sink>(places: u8, number: u16, out: &mut K) -> Result<(), Fai
 }
 
 fn print_number<K: Sink>(number: u16, out: &mut K) -> Result<(), Failed>
-    ensures ok { OnOk result (K.taken out.new ≡ told_after (K.taken out.old) (decimal number)) }
+    ensures ok { OnOk result (IsWritten (K.taken out.old) (K.taken out.new) (decimal number)) }
     ensures part { IsPartWritten (K.taken out.old) (K.taken out.new) (decimal number) }
     ensures cause { HasCause (K.faults out.old) (K.faults out.new) result }
 {
@@ -79,8 +78,7 @@ fn sort_word(sort: Sort) -> &'static [u8]
 
 /// A quantifier, a variable and its sort, up to the body.
 fn print_binder<K: Sink>(quantifier: &[u8], name: &Name, sort: Sort, out: &mut K) -> Result<(), Failed>
-    ensures ok { OnOk result (K.taken out.new ≡ told_after (K.taken out.old)
-        (quantifier.now ++ name.now ++ codes ": " ++ word_of_sort sort ++ codes ". ")) }
+    ensures ok { OnOk result (IsWritten (K.taken out.old) (K.taken out.new) (quantifier.now ++ name.now ++ codes ": " ++ word_of_sort sort ++ codes ". ")) }
     ensures part { IsPartWritten (K.taken out.old) (K.taken out.new)
         (quantifier.now ++ name.now ++ codes ": " ++ word_of_sort sort ++ codes ". ") }
     ensures cause { HasCause (K.faults out.old) (K.faults out.new) result }
@@ -95,7 +93,7 @@ fn print_binder<K: Sink>(quantifier: &[u8], name: &Name, sort: Sort, out: &mut K
 
 #[cycle(print_formulas)]
 fn print_formula<K: Sink>(formula: &Named, out: &mut K) -> Result<(), Failed>
-    ensures ok { OnOk result (K.taken out.new ≡ told_after (K.taken out.old) (text_of (named_tree formula.now))) }
+    ensures ok { OnOk result (IsWritten (K.taken out.old) (K.taken out.new) (text_of (named_tree formula.now))) }
     ensures part { IsPartWritten (K.taken out.old) (K.taken out.new) (text_of (named_tree formula.now)) }
     ensures cause { HasCause (K.faults out.old) (K.faults out.new) result }
 {
@@ -114,7 +112,7 @@ fn print_formula<K: Sink>(formula: &Named, out: &mut K) -> Result<(), Failed>
 
 #[cycle(print_formulas)]
 fn print_negation<K: Sink>(inner: &Named, out: &mut K) -> Result<(), Failed>
-    ensures ok { OnOk result (K.taken out.new ≡ told_after (K.taken out.old) (codes "!" ++ text_of (named_tree inner.now))) }
+    ensures ok { OnOk result (IsWritten (K.taken out.old) (K.taken out.new) (codes "!" ++ text_of (named_tree inner.now))) }
     ensures part { IsPartWritten (K.taken out.old) (K.taken out.new) (codes "!" ++ text_of (named_tree inner.now)) }
     ensures cause { HasCause (K.faults out.old) (K.faults out.new) result }
 {
@@ -131,8 +129,7 @@ fn print_quantified<K: Sink>(
     inner: &Named,
     out: &mut K,
 ) -> Result<(), Failed>
-    ensures ok { OnOk result (K.taken out.new ≡ told_after (K.taken out.old)
-        (quantifier.now ++ name.now ++ codes ": " ++ word_of_sort sort ++ codes ". " ++ text_of (named_tree inner.now))) }
+    ensures ok { OnOk result (IsWritten (K.taken out.old) (K.taken out.new) (quantifier.now ++ name.now ++ codes ": " ++ word_of_sort sort ++ codes ". " ++ text_of (named_tree inner.now))) }
     ensures part { IsPartWritten (K.taken out.old) (K.taken out.new)
         (quantifier.now ++ name.now ++ codes ": " ++ word_of_sort sort ++ codes ". " ++ text_of (named_tree inner.now)) }
     ensures cause { HasCause (K.faults out.old) (K.faults out.new) result }
@@ -145,8 +142,7 @@ fn print_quantified<K: Sink>(
 /// Two parts with what stands between them, in brackets.
 #[cycle(print_formulas)]
 fn print_group<K: Sink>(left: &Named, joint: &[u8], right: &Named, out: &mut K) -> Result<(), Failed>
-    ensures ok { OnOk result (K.taken out.new ≡ told_after (K.taken out.old)
-        (codes "(" ++ text_of (named_tree left.now) ++ joint.now ++ text_of (named_tree right.now) ++ codes ")")) }
+    ensures ok { OnOk result (IsWritten (K.taken out.old) (K.taken out.new) (codes "(" ++ text_of (named_tree left.now) ++ joint.now ++ text_of (named_tree right.now) ++ codes ")")) }
     ensures part { IsPartWritten (K.taken out.old) (K.taken out.new)
         (codes "(" ++ text_of (named_tree left.now) ++ joint.now ++ text_of (named_tree right.now) ++ codes ")") }
     ensures cause { HasCause (K.faults out.old) (K.faults out.new) result }
@@ -160,8 +156,7 @@ fn print_group<K: Sink>(left: &Named, joint: &[u8], right: &Named, out: &mut K) 
 }
 
 fn print_equality<K: Sink>(left: &NamedTerm, right: &NamedTerm, out: &mut K) -> Result<(), Failed>
-    ensures ok { OnOk result (K.taken out.new ≡ told_after (K.taken out.old)
-        (term_text (named_term_tree left.now) ++ codes " = " ++ term_text (named_term_tree right.now))) }
+    ensures ok { OnOk result (IsWritten (K.taken out.old) (K.taken out.new) (term_text (named_term_tree left.now) ++ codes " = " ++ term_text (named_term_tree right.now))) }
     ensures part { IsPartWritten (K.taken out.old) (K.taken out.new)
         (term_text (named_term_tree left.now) ++ codes " = " ++ term_text (named_term_tree right.now)) }
     ensures cause { HasCause (K.faults out.old) (K.faults out.new) result }
@@ -174,7 +169,7 @@ fn print_equality<K: Sink>(left: &NamedTerm, right: &NamedTerm, out: &mut K) -> 
 
 #[cycle(print_terms)]
 fn print_term<K: Sink>(term: &NamedTerm, out: &mut K) -> Result<(), Failed>
-    ensures ok { OnOk result (K.taken out.new ≡ told_after (K.taken out.old) (term_text (named_term_tree term.now))) }
+    ensures ok { OnOk result (IsWritten (K.taken out.old) (K.taken out.new) (term_text (named_term_tree term.now))) }
     ensures part { IsPartWritten (K.taken out.old) (K.taken out.new) (term_text (named_term_tree term.now)) }
     ensures cause { HasCause (K.faults out.old) (K.faults out.new) result }
 {
@@ -188,7 +183,7 @@ fn print_term<K: Sink>(term: &NamedTerm, out: &mut K) -> Result<(), Failed>
 }
 
 fn print_voter<K: Sink>(number: u16, out: &mut K) -> Result<(), Failed>
-    ensures ok { OnOk result (K.taken out.new ≡ told_after (K.taken out.old) (codes "#" ++ decimal number)) }
+    ensures ok { OnOk result (IsWritten (K.taken out.old) (K.taken out.new) (codes "#" ++ decimal number)) }
     ensures part { IsPartWritten (K.taken out.old) (K.taken out.new) (codes "#" ++ decimal number) }
     ensures cause { HasCause (K.faults out.old) (K.faults out.new) result }
 {
@@ -198,7 +193,7 @@ fn print_voter<K: Sink>(number: u16, out: &mut K) -> Result<(), Failed>
 }
 
 fn print_ballot<K: Sink>(letters: &Name, out: &mut K) -> Result<(), Failed>
-    ensures ok { OnOk result (K.taken out.new ≡ told_after (K.taken out.old) (codes "<" ++ letters.now ++ codes ">")) }
+    ensures ok { OnOk result (IsWritten (K.taken out.old) (K.taken out.new) (codes "<" ++ letters.now ++ codes ">")) }
     ensures part { IsPartWritten (K.taken out.old) (K.taken out.new) (codes "<" ++ letters.now ++ codes ">") }
     ensures cause { HasCause (K.faults out.old) (K.faults out.new) result }
 {
@@ -211,8 +206,7 @@ fn print_ballot<K: Sink>(letters: &Name, out: &mut K) -> Result<(), Failed>
 /// A function or a predicate at its arguments.
 #[cycle(print_terms)]
 fn print_call<K: Sink>(name: &Name, arguments: &Terms, out: &mut K) -> Result<(), Failed>
-    ensures ok { OnOk result (K.taken out.new ≡ told_after (K.taken out.old)
-        (name.now ++ codes "(" ++ list_text (named_terms_tree arguments.now) ++ codes ")")) }
+    ensures ok { OnOk result (IsWritten (K.taken out.old) (K.taken out.new) (name.now ++ codes "(" ++ list_text (named_terms_tree arguments.now) ++ codes ")")) }
     ensures part { IsPartWritten (K.taken out.old) (K.taken out.new)
         (name.now ++ codes "(" ++ list_text (named_terms_tree arguments.now) ++ codes ")") }
     ensures cause { HasCause (K.faults out.old) (K.faults out.new) result }
@@ -226,7 +220,7 @@ fn print_call<K: Sink>(name: &Name, arguments: &Terms, out: &mut K) -> Result<()
 
 #[cycle(print_terms)]
 fn print_list<K: Sink>(terms: &Terms, out: &mut K) -> Result<(), Failed>
-    ensures ok { OnOk result (K.taken out.new ≡ told_after (K.taken out.old) (list_text (named_terms_tree terms.now))) }
+    ensures ok { OnOk result (IsWritten (K.taken out.old) (K.taken out.new) (list_text (named_terms_tree terms.now))) }
     ensures part { IsPartWritten (K.taken out.old) (K.taken out.new) (list_text (named_terms_tree terms.now)) }
     ensures cause { HasCause (K.faults out.old) (K.faults out.new) result }
 {
@@ -235,8 +229,9 @@ fn print_list<K: Sink>(terms: &Terms, out: &mut K) -> Result<(), Failed>
     }
     print_term(terms.get(0), out)?;
     for place in 1..terms.len() {
+        let term = terms.get(place);
         put(b", ", out)?;
-        print_term(terms.get(place), out)?;
+        print_term(term, out)?;
     }
     Ok(())
 }
