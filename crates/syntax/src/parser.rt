@@ -234,7 +234,12 @@ fn negated(alloc: Global, inner: Named) -> Result<Named, NoMemory>
     Ok(Named::Not(Box::new(alloc, inner)?))
 }
 
-fn quantify(alloc: Global, quantifier: Quantifier, variable: Variable, inner: Named) -> Result<Named, NoMemory>
+fn quantify(
+    alloc: Global,
+    quantifier: Quantifier,
+    variable: Variable,
+    inner: Named,
+) -> Result<Named, NoMemory>
     ensures { IfOk result (λ t. named_tree t ≡ bound quantifier variable.name variable.sort (named_tree inner)) }
 {
     let inner = Box::new(alloc, inner)?;
@@ -295,7 +300,11 @@ fn formula(alloc: Global, lexemes: &[Lexeme]) -> Result<(Named, &[Lexeme]), Stop
 /// What follows a quantifier.
 #[cycle(formulas)]
 #[inline(never)]
-fn quantified(alloc: Global, quantifier: Quantifier, rest: &[Lexeme]) -> Result<(Named, &[Lexeme]), Stop>
+fn quantified(
+    alloc: Global,
+    quantifier: Quantifier,
+    rest: &[Lexeme],
+) -> Result<(Named, &[Lexeme]), Stop>
     ensures found { IfOk result (λ x. FormulaAt (Lexeme.Word (word_of_quantifier quantifier) ∷ rest.now) (named_tree x.0) x.1.now) }
     ensures none { IsErrOf result Stop.NoReading → NoFormula (Lexeme.Word (word_of_quantifier quantifier) ∷ rest.now) }
     ensures shorter { IfOk result (λ x. length x.1.now < length rest.now) }

@@ -77,7 +77,12 @@ fn sort_word(sort: Sort) -> &'static [u8]
 }
 
 /// A quantifier, a variable and its sort, up to the body.
-fn print_binder<K: Sink>(quantifier: &[u8], name: &Name, sort: Sort, out: &mut K) -> Result<(), Failed>
+fn print_binder<K: Sink>(
+    quantifier: &[u8],
+    name: &Name,
+    sort: Sort,
+    out: &mut K,
+) -> Result<(), Failed>
     ensures ok { OnOk result (IsWritten (K.taken out.old) (K.taken out.new) (quantifier.now ++ name.now ++ codes ": " ++ word_of_sort sort ++ codes ". ")) }
     ensures part { IsPartWritten (K.taken out.old) (K.taken out.new)
         (quantifier.now ++ name.now ++ codes ": " ++ word_of_sort sort ++ codes ". ") }
@@ -141,7 +146,12 @@ fn print_quantified<K: Sink>(
 
 /// Two parts with what stands between them, in brackets.
 #[cycle(print_formulas)]
-fn print_group<K: Sink>(left: &Named, joint: &[u8], right: &Named, out: &mut K) -> Result<(), Failed>
+fn print_group<K: Sink>(
+    left: &Named,
+    joint: &[u8],
+    right: &Named,
+    out: &mut K,
+) -> Result<(), Failed>
     ensures ok { OnOk result (IsWritten (K.taken out.old) (K.taken out.new) (codes "(" ++ text_of (named_tree left.now) ++ joint.now ++ text_of (named_tree right.now) ++ codes ")")) }
     ensures part { IsPartWritten (K.taken out.old) (K.taken out.new)
         (codes "(" ++ text_of (named_tree left.now) ++ joint.now ++ text_of (named_tree right.now) ++ codes ")") }
