@@ -1,5 +1,5 @@
 -- The depth of a list of terms.
-use Rattle.std.proofs.Common.{◌≡◌, ℕ, zero, suc, ◌+◌, ◌≤◌, ◌<◌, max, Bool, true, false, nat_le, List, [], ◌∷◌, length, take, map, refl, sym, ap, ◌∙◌, arith, add-one, take_all, Option, Some, None}
+use Rattle.std.proofs.Common.{◌≡◌, ℕ, zero, suc, ◌+◌, ◌≤◌, true, false, nat_le, List, [], ◌∷◌, length, take, map, ap, arith, add-one, take_all, Some}
 use Rattle.std.specs.Prelude.{slice_get}
 use Rattle.std.proofs.lemmas.Bool.Decides.{nat_tests}
 use Rattle.vocab.specs.Terms.{terms_of}

@@ -1,5 +1,5 @@
 -- The digits of a number, from the last.
-use Rattle.std.proofs.Common.{◌≡◌, ℕ, zero, suc, ◌+◌, ◌-◌, ◌/◌, ◌%◌, ◌<◌, List, [], ◌∷◌, ◌++◌, refl, ap, sym, subst, arith, Option}
+use Rattle.std.proofs.Common.{◌≡◌, ℕ, zero, suc, ◌+◌, ◌-◌, ◌/◌, ◌%◌, ◌<◌, List, [], ◌∷◌, ◌++◌, refl, sym, subst, arith, Option}
 use Rattle.syntax.specs.Canonical.{digits}
 use Rattle.syntax.specs.Told.{IsWritten, IsPartWritten}
 use Rattle.syntax.proofs.Telling.{nothing_written, goes_on, stops_first, stops_next}

@@ -1,12 +1,12 @@
 -- A text has one answer.
-use Rattle.std.proofs.Common.{◌≡◌, ℕ, suc, ◌+◌, ◌≤◌, ◌<◌, List, [], ◌∷◌, length, refl, sym, ap, ◌∙◌, subst, arith, Result, Ok, Err}
+use Rattle.std.proofs.Common.{◌≡◌, ℕ, ◌<◌, List, length, refl, sym, ap, ◌∙◌, subst, arith, Result, Ok, Err}
 use Rattle.vocab.specs.NamedTree.{NamedTree}
 use Rattle.syntax.specs.declared.lexemes.Lexeme.{Lexeme}
 use Rattle.syntax.specs.declared.faults.SyntaxFault.{SyntaxFault}
 use Rattle.syntax.specs.declared.faults.SyntaxFault.TheVariants as fault
 use Rattle.syntax.specs.Lexemes.{IsLexed, IsStuck}
 use Rattle.syntax.specs.Grammar.{Reads}
-use Rattle.syntax.specs.Sentence.{AreFew, HasReading, IsSentence, IsFault, IsAnswer}
+use Rattle.syntax.specs.Sentence.{AreFew, HasReading, IsAnswer}
 use Rattle.syntax.specs.Depth.{depth, quantifiers}
 use Rattle.syntax.proofs.Unique.{one_reading}
 use Rattle.syntax.proofs.Lexings.{one_halt}

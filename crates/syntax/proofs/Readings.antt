@@ -1,5 +1,5 @@
 -- What stands at the front of lexemes, by what stands there first.
-use Rattle.std.proofs.Common.{arith, length, ◌+◌, ◌<◌, suc, ◌≡◌, ℕ, true, false, List, [], ◌∷◌, refl, sym, ap, ◌∙◌, subst, Result, Ok, Err, IfOk, codes}
+use Rattle.std.proofs.Common.{arith, length, ◌<◌, ◌≡◌, ℕ, true, List, [], ◌∷◌, refl, sym, ap, ◌∙◌, subst, Result, Ok, Err, IfOk}
 use Rattle.vocab.specs.NamedTree as tree
 use Rattle.vocab.specs.NamedTree.{NamedTermTree, NamedTermTrees, NamedTree}
 use Rattle.syntax.specs.declared.lexemes.Lexeme.{Lexeme}
@@ -16,7 +16,7 @@ use Rattle.syntax.specs.declared.lexemes.Joint.{Joint}
 use Rattle.syntax.specs.declared.lexemes.Quantifier.{Quantifier}
 use Rattle.syntax.specs.Opening.{IsOther}
 use Rattle.syntax.proofs.Views.{before-term}
-use Rattle.syntax.proofs.Unique.{one_term, one_list, one_chain, ends_term-of_formula, no_term_at_not, no_term_at_open, no_term_at_words, no_term_empty, mark_ends, mark_once, not_close, quantifier-once, free_is_no_quantifier, word_of_sort-once}
+use Rattle.syntax.proofs.Unique.{one_term, one_list, one_chain, ends_term-of_formula, no_term_at_not, no_term_at_open, no_term_empty, mark_ends, mark_once, not_close, quantifier-once, free_is_no_quantifier, word_of_sort-once}
 
 pub front : {ls rest : List Lexeme} {x y : Lexeme} → ls ≡ x ∷ rest → x ≡ y → ls ≡ y ∷ rest
 front {rest} e f = e ∙ ap (λ l. l ∷ rest) f

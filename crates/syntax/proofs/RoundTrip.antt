@@ -1,9 +1,8 @@
 -- A tree that some text reads as is read again from its canonical text.
-use Rattle.std.proofs.Common.{◌≡◌, ℕ, zero, suc, ◌+◌, ◌-◌, ◌*◌, ◌/◌, ◌%◌, ◌≤◌, ◌<◌, Bool, true, false, not, ◌&&◌, List, [], ◌∷◌, ◌++◌, length, refl, sym, ap, ◌∙◌, subst, arith, rules, append_assoc, append-nil, codes, nat_le, nat_lt, cond, ◌||◌, ◌==◌}
+use Rattle.std.proofs.Common.{◌≡◌, ℕ, ◌+◌, ◌-◌, ◌/◌, ◌%◌, ◌≤◌, ◌<◌, Bool, true, false, not, ◌&&◌, List, [], ◌∷◌, ◌++◌, length, refl, sym, subst, arith, append_assoc, append-nil, codes, nat_le, nat_lt, ◌||◌, ◌==◌}
 use Rattle.std.proofs.lemmas.Bool.Decides.{nat_tests}
 use Rattle.syntax.proofs.Runs.{and_true}
 use Rattle.syntax.proofs.Starting.{le_from_test}
-use Rattle.std.specs.List.{list_all}
 use Rattle.vocab.specs.Name.{is_lower, is_digit, is_name_byte, has_name_shape}
 use Rattle.vocab.specs.NamedTree as tree
 use Rattle.vocab.specs.NamedTree.{NamedTermTree, NamedTermTrees, NamedTree}
@@ -15,10 +14,10 @@ use Rattle.syntax.specs.declared.lexemes.Quantifier.{Quantifier}
 use Rattle.syntax.specs.declared.lexemes.Quantifier.TheVariants as quantifier
 use Rattle.syntax.specs.declared.lexemes.Lexeme.{Lexeme}
 use Rattle.syntax.specs.declared.lexemes.Lexeme.TheVariants as lexeme
-use Rattle.syntax.specs.Grammar.{IsFree, IsTerm, IsTerms, variable, call, voter, alternative, ballot, last_term, more_terms, IsAtom, pred, equal, IsFormula, quantified, negation, group, atom, IsChain, last_part, more_parts, mark_of, joined, bound, word_of_quantifier, word_of_sort, Reads}
-use Rattle.syntax.specs.Lexemes.{IsLexed, IsSpelled, IsVoterText, IsBallotText, IsRunEnd, Starts, Lexes, no_more, blank, one_more, starts_without, is_blank}
+use Rattle.syntax.specs.Grammar.{IsFree, IsTerm, IsTerms, variable, call, voter, alternative, ballot, last_term, more_terms, pred, equal, IsFormula, quantified, negation, group, atom, IsChain, last_part, more_parts, joined, bound, word_of_sort}
+use Rattle.syntax.specs.Lexemes.{IsLexed, IsSpelled, IsVoterText, IsBallotText, IsRunEnd, Lexes, no_more, blank, one_more, starts_without}
 use Rattle.syntax.specs.Sentence.{IsSentence}
-use Rattle.syntax.specs.Canonical.{decimal, term_text, list_text, more_text, text_of}
+use Rattle.syntax.specs.Canonical.{decimal, term_text, more_text, text_of}
 
 -- ---- trees of which each part has a spelling
 

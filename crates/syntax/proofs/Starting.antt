@@ -1,5 +1,5 @@
 -- The computed lexeme is the one that is spelled at the front of the bytes.
-use Rattle.std.proofs.Common.{◌≡◌, ℕ, zero, suc, ◌+◌, ◌-◌, ◌*◌, ◌≤◌, ◌<◌, Bool, true, false, cond, ◌&&◌, ◌||◌, ◌==◌, List, [], ◌∷◌, ◌++◌, length, take, drop, refl, sym, ap, ◌∙◌, subst, arith, rules, IsTrue, not, nat_le, Option, Some, None, append_assoc, inl, inr, ◌⊎◌}
+use Rattle.std.proofs.Common.{◌≡◌, ℕ, suc, ◌+◌, ◌-◌, ◌≤◌, Bool, true, false, cond, ◌&&◌, ◌==◌, List, [], ◌∷◌, ◌++◌, length, take, drop, refl, sym, ap, ◌∙◌, subst, arith, not, nat_le, Option, Some, None, append_assoc}
 use Rattle.std.specs.List.{list_all, take_while, prefix_len}
 use Rattle.std.proofs.lemmas.List.Sums.{take_while-cons}
 use Rattle.std.proofs.lemmas.Bool.Decides.{nat_tests}
@@ -11,7 +11,7 @@ use Rattle.syntax.specs.declared.lexemes.Lexeme.{Lexeme}
 use Rattle.syntax.specs.declared.lexemes.Lexeme.TheVariants as lexeme
 use Rattle.syntax.specs.Lexemes.{IsSpelled, IsVoterText, IsBallotText, IsRunEnd, Starts, NoLexeme, number_from, starts_without}
 use Rattle.syntax.specs.Scanning.{run_length, lexeme_at, word_at, voter_at, alternative_at, ballot_at, closed, arrow_at, angle_at, mark_at}
-use Rattle.syntax.proofs.Runs.{run_taken, name_run_shape, run_each, and_true, lower_names, lower_goes_on}
+use Rattle.syntax.proofs.Runs.{run_taken, name_run_shape, run_each, and_true, lower_goes_on}
 
 -- ---- what is spelled is computed
 

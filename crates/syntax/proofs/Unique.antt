@@ -1,5 +1,5 @@
 -- Lexemes have one reading.
-use Rattle.std.proofs.Common.{◌≡◌, ◌≢◌, ℕ, Bool, true, false, List, [], ◌∷◌, refl, sym, ap, ◌∙◌, subst, Option, Some, None, codes}
+use Rattle.std.proofs.Common.{◌≡◌, ℕ, true, List, [], ◌∷◌, refl, ap, subst, Option, Some, None}
 use Rattle.vocab.specs.NamedTree as tree
 use Rattle.vocab.specs.NamedTree.{NamedTermTree, NamedTermTrees, NamedTree}
 use Rattle.syntax.specs.declared.lexemes.Lexeme.{Lexeme}
@@ -10,7 +10,7 @@ use Rattle.syntax.specs.declared.lexemes.Joint.{Joint}
 use Rattle.syntax.specs.declared.lexemes.Joint.TheVariants as joint
 use Rattle.syntax.specs.declared.lexemes.Quantifier.{Quantifier}
 use Rattle.syntax.specs.declared.lexemes.Quantifier.TheVariants as quantifier
-use Rattle.syntax.specs.Grammar.{IsAtom, atom, mark_of, joined, word_of_quantifier, bound, word_of_sort, IsFree, IsFormula, IsChain, quantified, negation, group, pred, equal, last_part, more_parts, Reads, IsTerm, IsTerms, variable, call, voter, alternative, ballot, last_term, more_terms}
+use Rattle.syntax.specs.Grammar.{IsAtom, atom, mark_of, word_of_quantifier, word_of_sort, IsFree, IsFormula, IsChain, quantified, negation, group, pred, equal, last_part, more_parts, Reads, IsTerm, IsTerms, variable, call, voter, alternative, ballot, last_term, more_terms}
 use Rattle.syntax.specs.Fronts.{ends_term, ends_formula}
 
 mutual

@@ -1,4 +1,4 @@
-use Rattle.std.proofs.Common.{arith, rules, ◌≡◌, ◌<◌, ◌∷◌, ◌++◌, [], sym, ◌∙◌}
+use Rattle.std.proofs.Common.{arith, sym, ◌∙◌}
 use Rattle.syntax.proofs.Lexings.{so_far_blank, so_far_more, empty_of, few_lexed, many_lexed, stuck, starts_longer}
 use Rattle.syntax.proofs.Starting.{computed_starts}
 use Rattle.syntax.proofs.lexer.lexed.Goals.{then-count-lt-LEXEMES+in_ok-push, else-count-lt-LEXEMES}

@@ -1,4 +1,4 @@
-use Rattle.std.proofs.Common.{ℕ, ◌+◌, ◌*◌, ◌≤◌, take, map}
+use Rattle.std.proofs.Common.{◌+◌, ◌*◌, ◌≤◌, take, map}
 use Rattle.vocab.specs.Terms.{terms_of}
 use Rattle.vocab.specs.NamedView.{named_term_tree, arguments_of}
 use Rattle.syntax.specs.Depth.{terms_depth}

@@ -1,7 +1,7 @@
-use Rattle.std.proofs.Common.{rules, ◌≡◌, refl, ◌∷◌, ap, sym, ◌∙◌}
+use Rattle.std.proofs.Common.{rules, refl, ◌∷◌, ap, sym, ◌∙◌}
 use Rattle.std.proofs.lemmas.Result.{err_from_is_err_and}
 use Rattle.syntax.specs.Grammar.{Chains}
-use Rattle.syntax.proofs.Readings.{no_formula_empty, formula_at_front, no_formula_front, shorter_front, formula_at_negation, no_formula_negation, formula_at_quantified, no_formula_unbound, no_formula_quantified, formula_at_group, no_group_left, no_group_end, no_group_mark, no_group_right, chain_last, chain_more, no_chain, no_chain_end, no_chain_more, formula_at_atoms, no_formula_atom}
+use Rattle.syntax.proofs.Readings.{no_formula_empty, formula_at_front, no_formula_front, shorter_front, formula_at_negation, no_formula_negation, formula_at_quantified, no_formula_unbound, no_formula_quantified, formula_at_group, no_group_left, no_group_end, no_group_mark, no_group_right, chain_last, chain_more, no_chain_end, no_chain_more, formula_at_atoms}
 use Rattle.syntax.proofs.parser.+formulas.Goals as goal
 
 pub chain-returns-in-Some-clause-found : goal.chain-returns-in-Some-clause-found

@@ -1,13 +1,9 @@
-use Rattle.std.proofs.Common.{rules, ◌≡◌, refl, List, [], ◌∷◌, ◌++◌, Err, ap, sym, ◌∙◌, subst, arith}
+use Rattle.std.proofs.Common.{◌≡◌, refl, ap, ◌∙◌, arith}
 use Rattle.std.proofs.lemmas.Grind.{common_steps}
-use Rattle.vocab.specs.NamedTree.{NamedTermTree}
-use Rattle.vocab.specs.NamedTree as tree
 use Rattle.syntax.specs.Fronts.{before}
-use Rattle.vocab.specs.NamedView.{named_term_tree, named_terms_tree}
-use Rattle.syntax.specs.Grammar.{IsFree, IsTerm, IsTerms}
-use Rattle.syntax.specs.Fronts.{TermAt, NoTerm, NoTerms}
-use Rattle.std.proofs.lemmas.Result.{err_from_is_err_and, IfOk-weaker}
-use Rattle.syntax.proofs.Readings.{front, no_term_quoted, term_at_variable, no_term_call, term_at_call, term_at_voter, term_at_alternative, term_at_ballot, list_more, list_last, no_list, no_list_more, no_list_end, list_goes_on, list_ended}
+use Rattle.vocab.specs.NamedView.{named_terms_tree}
+use Rattle.std.proofs.lemmas.Result.{err_from_is_err_and}
+use Rattle.syntax.proofs.Readings.{front, no_term_quoted, term_at_variable, no_term_call, term_at_call, term_at_voter, term_at_alternative, term_at_ballot, no_list_end, list_goes_on, list_ended}
 use Rattle.syntax.proofs.Views.{named_term_tree-Var, named_term_tree-Voter, named_term_tree-Alt, named_term_tree-Ballot, named_term_tree-Call, named_terms_tree-none, named_terms_tree-push}
 use Rattle.syntax.proofs.parser.+terms.Goals as goal
 

@@ -1,8 +1,8 @@
-use Rattle.std.proofs.Common.{rules, ℕ, inl, inr, ◌≡◌, refl, List, [], ◌∷◌, Err, ap, sym, ◌∙◌, subst, arith}
+use Rattle.std.proofs.Common.{ℕ, inl, inr, ◌≡◌, List, ap, ◌∙◌}
 use Rattle.std.proofs.lemmas.Result.{err_from_is_err_and}
 use Rattle.vocab.specs.NamedTree as tree
 use Rattle.vocab.specs.NamedTree.{NamedTermTrees}
-use Rattle.vocab.specs.NamedView.{named_term_tree, named_terms_tree, named_tree}
+use Rattle.vocab.specs.NamedView.{named_term_tree}
 use Rattle.syntax.proofs.Readings.{no_atom, no_atom_right, atom_at_equal, atom_at_pred, no_atom_term}
 use Rattle.syntax.proofs.Views.{named_term_tree-Var, named_term_tree-Voter, named_term_tree-Alt, named_term_tree-Ballot, named_term_tree-Call, named_tree-Equal, named_tree-Pred}
 use Rattle.syntax.proofs.parser.atom.Goals as goal

@@ -1,4 +1,4 @@
-use Rattle.std.proofs.Common.{[], ◌∷◌, codes}
+use Rattle.std.proofs.Common.{[], ◌∷◌}
 use Rattle.syntax.proofs.Telling.{cut, stops_next, goes_on, whole_is_part}
 use Rattle.syntax.specs.Canonical.{decimal}
 use Rattle.syntax.proofs.printer.print_voter.Goals as goal
