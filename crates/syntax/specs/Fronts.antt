@@ -8,11 +8,12 @@ use Rattle.syntax.specs.declared.lexemes.Lexeme.{Lexeme}
 use Rattle.syntax.specs.declared.lexemes.Lexeme.TheVariants as lexeme
 use Rattle.syntax.specs.Grammar.{IsFree, IsTerm, IsTerms, IsAtom, IsFormula, IsChain, word_of_sort}
 
--- A call is longer than the variable of its name, and an equality than its left side: so a term ends before no "(", and a formula before no "(" and no "=".
+-- A call is longer than the variable of its name: so a term ends before no "(".
 abbrev pub ends_term : List Lexeme → Bool
 ends_term (lexeme.Open ∷ _) = false
 ends_term _ = true
 
+-- An equality is longer than its left side: so a formula ends before no "(" and no "=".
 abbrev pub ends_formula : List Lexeme → Bool
 ends_formula (lexeme.Open ∷ _) = false
 ends_formula (lexeme.Equals ∷ _) = false
@@ -47,23 +48,28 @@ pub record BinderAt (ls : List Lexeme) (name : List ℕ) (s : Sort) (rest : List
   pub free : IsFree name
   pub spelled : ls ≡ lexeme.Word name ∷ lexeme.Colon ∷ lexeme.Word (word_of_sort s) ∷ lexeme.Dot ∷ rest
 
+-- They begin with no variable and its sort.
 abbrev pub NoBinder : List Lexeme → Type 0
 NoBinder ls = (name : List ℕ) (s : Sort) (rest : List Lexeme) → BinderAt ls name s rest → ⊥
 
--- The same of atoms, of formulas and of what follows a joint.
+-- They begin with a spelling of the atom f, before rest, and with no other that ends as a formula does.
 pub record AtomAt (ls : List Lexeme) (f : NamedTree) (rest : List Lexeme) : Type 0 where
   pub spelled : IsAtom ls f rest
   pub only : (g : NamedTree) (ys : List Lexeme) → IsAtom ls g ys → ends_formula ys ≡ true → (g ≡ f) × (ys ≡ rest)
 
+-- They begin with no atom that ends as a formula does.
 abbrev pub NoAtom : List Lexeme → Type 0
 NoAtom ls = (f : NamedTree) (rest : List Lexeme) → IsAtom ls f rest → ends_formula rest ≡ true → ⊥
 
+-- They begin with a spelling of f, before rest, and with no other that ends as a formula does.
 pub record FormulaAt (ls : List Lexeme) (f : NamedTree) (rest : List Lexeme) : Type 0 where
   pub spelled : IsFormula ls f rest
   pub only : (g : NamedTree) (ys : List Lexeme) → IsFormula ls g ys → ends_formula ys ≡ true → (g ≡ f) × (ys ≡ rest)
 
+-- They begin with no formula that ends as a formula does.
 abbrev pub NoFormula : List Lexeme → Type 0
 NoFormula ls = (f : NamedTree) (rest : List Lexeme) → IsFormula ls f rest → ends_formula rest ≡ true → ⊥
 
+-- They begin with nothing that may follow this joint in a group.
 abbrev pub NoChain : Joint → List Lexeme → Type 0
 NoChain j ls = (f : NamedTree) (rest : List Lexeme) → IsChain j ls f rest → ⊥

@@ -23,6 +23,7 @@ word_of_sort sort.Alt = codes "alt"
 word_of_sort sort.Ballot = codes "ballot"
 word_of_sort sort.Profile = codes "profile"
 
+-- "all" | "some"
 abbrev pub word_of_quantifier : Quantifier → List ℕ
 word_of_quantifier quantifier.All = codes "all"
 word_of_quantifier quantifier.Exists = codes "some"

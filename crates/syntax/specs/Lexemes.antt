@@ -23,12 +23,12 @@ pub record IsBallotText (letters : List ℕ) : Type 0 where
   pub some : 1 ≤ length letters
   pub few : length letters ≤ 8
 
--- the table of lexemes: how each is written
+-- the table of lexemes: how each is written. An alternative is numbered from `a`.
 abbrev pub IsSpelled : Lexeme → List ℕ → Type 0
 IsSpelled (lexeme.Word name) text = (text ≡ name) × (has_name_shape name ≡ true) × (length name ≤ 16)
-IsSpelled (lexeme.Voter n) text = (digits : List ℕ) × (text ≡ 35 ∷ digits) × IsVoterText n digits
-IsSpelled (lexeme.Alt a) text = (c : ℕ) × (text ≡ 64 ∷ c ∷ []) × (is_lower c ≡ true) × (a ≡ c - 97)
-IsSpelled (lexeme.Ballot letters) text = (text ≡ 60 ∷ (letters ++ 62 ∷ [])) × IsBallotText letters
+IsSpelled (lexeme.Voter n) text = (digits : List ℕ) × (text ≡ codes "#" ++ digits) × IsVoterText n digits
+IsSpelled (lexeme.Alt a) text = (c : ℕ) × (text ≡ codes "@" ++ c ∷ []) × (is_lower c ≡ true) × (a ≡ c - 97)
+IsSpelled (lexeme.Ballot letters) text = (text ≡ codes "<" ++ letters ++ codes ">") × IsBallotText letters
 IsSpelled lexeme.Open text = text ≡ codes "("
 IsSpelled lexeme.Close text = text ≡ codes ")"
 IsSpelled lexeme.Comma text = text ≡ codes ","

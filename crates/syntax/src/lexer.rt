@@ -68,7 +68,8 @@ fn letters_length(bytes: &[u8]) -> usize
 
 fn word(bytes: &[u8]) -> Option<(Lexeme, &[u8])>
     requires { has_name_shape (take (run_length is_name_byte bytes.now) bytes.now) ≡ true }
-    ensures { MatchOption result (word_at bytes.now ≡ None) (λ x. word_at bytes.now ≡ Some (x.0, x.1.now)) }
+    ensures { MatchOption result (word_at bytes.now ≡ None)
+        (λ x. word_at bytes.now ≡ Some (x.0, x.1.now)) }
 {
     let (run, rest) = bytes.split_at(name_length(bytes));
     if run.len() > NAME_BYTES {
@@ -81,7 +82,8 @@ fn word(bytes: &[u8]) -> Option<(Lexeme, &[u8])>
 }
 
 fn arrow(lexeme: Lexeme, bytes: &[u8]) -> Option<(Lexeme, &[u8])>
-    ensures { MatchOption result (arrow_at lexeme bytes.now ≡ None) (λ x. arrow_at lexeme bytes.now ≡ Some (x.0, x.1.now)) }
+    ensures { MatchOption result (arrow_at lexeme bytes.now ≡ None)
+        (λ x. arrow_at lexeme bytes.now ≡ Some (x.0, x.1.now)) }
 {
     match bytes.split_first() {
         Some((c, rest)) if *c == b'>' => Some((lexeme, rest)),
@@ -90,7 +92,8 @@ fn arrow(lexeme: Lexeme, bytes: &[u8]) -> Option<(Lexeme, &[u8])>
 }
 
 fn alternative(bytes: &[u8]) -> Option<(Lexeme, &[u8])>
-    ensures { MatchOption result (alternative_at bytes.now ≡ None) (λ x. alternative_at bytes.now ≡ Some (x.0, x.1.now)) }
+    ensures { MatchOption result (alternative_at bytes.now ≡ None)
+        (λ x. alternative_at bytes.now ≡ Some (x.0, x.1.now)) }
 {
     let Some((c, rest)) = bytes.split_first() else {
         return None;
@@ -124,7 +127,8 @@ fn number_after(n: u16, digits: &[u8]) -> u16
 }
 
 fn voter(bytes: &[u8]) -> Option<(Lexeme, &[u8])>
-    ensures { MatchOption result (voter_at bytes.now ≡ None) (λ x. voter_at bytes.now ≡ Some (x.0, x.1.now)) }
+    ensures { MatchOption result (voter_at bytes.now ≡ None)
+        (λ x. voter_at bytes.now ≡ Some (x.0, x.1.now)) }
 {
     let (run, rest) = bytes.split_at(digits_length(bytes));
     if 1 <= run.len() && run.len() <= 3 {
@@ -147,7 +151,8 @@ fn letters_name(letters: &[u8]) -> Name
 }
 
 fn ballot(bytes: &[u8]) -> Option<(Lexeme, &[u8])>
-    ensures { MatchOption result (ballot_at bytes.now ≡ None) (λ x. ballot_at bytes.now ≡ Some (x.0, x.1.now)) }
+    ensures { MatchOption result (ballot_at bytes.now ≡ None)
+        (λ x. ballot_at bytes.now ≡ Some (x.0, x.1.now)) }
 {
     let (run, rest) = bytes.split_at(letters_length(bytes));
     let Some((close, rest)) = rest.split_first() else {
@@ -160,7 +165,8 @@ fn ballot(bytes: &[u8]) -> Option<(Lexeme, &[u8])>
 }
 
 fn angle(bytes: &[u8]) -> Option<(Lexeme, &[u8])>
-    ensures { MatchOption result (angle_at bytes.now ≡ None) (λ x. angle_at bytes.now ≡ Some (x.0, x.1.now)) }
+    ensures { MatchOption result (angle_at bytes.now ≡ None)
+        (λ x. angle_at bytes.now ≡ Some (x.0, x.1.now)) }
 {
     match bytes.split_first() {
         None => None,
@@ -175,7 +181,8 @@ fn angle(bytes: &[u8]) -> Option<(Lexeme, &[u8])>
 }
 
 fn mark_or_constant(c: u8, rest: &[u8]) -> Option<(Lexeme, &[u8])>
-    ensures { MatchOption result (mark_at c rest.now ≡ None) (λ x. mark_at c rest.now ≡ Some (x.0, x.1.now)) }
+    ensures { MatchOption result (mark_at c rest.now ≡ None)
+        (λ x. mark_at c rest.now ≡ Some (x.0, x.1.now)) }
 {
     match c {
         b'(' => Some((Lexeme::Open, rest)),
@@ -197,7 +204,8 @@ fn mark_or_constant(c: u8, rest: &[u8]) -> Option<(Lexeme, &[u8])>
 
 /// The lexeme that the bytes begin with, and what follows it.
 fn first_lexeme(bytes: &[u8]) -> Option<(Lexeme, &[u8])>
-    ensures { MatchOption result (lexeme_at bytes.now ≡ None) (λ x. lexeme_at bytes.now ≡ Some (x.0, x.1.now)) }
+    ensures { MatchOption result (lexeme_at bytes.now ≡ None)
+        (λ x. lexeme_at bytes.now ≡ Some (x.0, x.1.now)) }
 {
     match bytes.split_first() {
         None => None,
@@ -213,7 +221,8 @@ fn first_lexeme(bytes: &[u8]) -> Option<(Lexeme, &[u8])>
 
 /// The lexemes of a text.
 pub fn lexed(alloc: Global, text: &[u8]) -> Result<Items<Lexeme>, SyntaxFault>
-    ensures { MatchResult result (λ found. AreFew text.now found) (λ fault. IsFault text.now fault × IsLexFault fault) }
+    ensures { MatchResult result
+        (λ found. AreFew text.now found) (λ fault. IsFault text.now fault × IsLexFault fault) }
 {
     let mut found = Items::new(alloc);
     let mut count = 0u64;

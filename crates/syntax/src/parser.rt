@@ -1,4 +1,7 @@
 //! From lexemes to trees.
+//!
+//! Each form of a formula is a small function of its own that is not inlined, so that a level of nesting takes little of
+//! the stack: with 600 lexemes there are up to 600 levels.
 
 ghost use Rattle.std.specs.Prelude.{◌≡◌, ◌<◌, ◌↔◌, List, ℕ, [], ◌∷◌, length, codes, MatchOption, IsTrue, IfOk, IsErrOf};
 ghost use Rattle.vocab.specs.NamedView.{named_term_tree, named_terms_tree, named_tree};
@@ -50,7 +53,8 @@ fn next(lexemes: &[Lexeme]) -> Option<(Lexeme, &[Lexeme])>
 
 /// What follows this lexeme, where it comes first.
 fn after(lexemes: &[Lexeme], mark: Lexeme) -> Option<&[Lexeme]>
-    ensures { MatchOption result ((rest : List Lex) → lexemes.now ≡ mark ∷ rest → ⊥) (λ rest. lexemes.now ≡ mark ∷ rest.now) }
+    ensures { MatchOption result ((rest : List Lex) → lexemes.now ≡ mark ∷ rest → ⊥)
+        (λ rest. lexemes.now ≡ mark ∷ rest.now) }
 {
     match next(lexemes) {
         None => None,
@@ -58,6 +62,7 @@ fn after(lexemes: &[Lexeme], mark: Lexeme) -> Option<&[Lexeme]>
     }
 }
 
+/// The term that the lexemes begin with, and what follows it.
 #[cycle(terms)]
 fn term(alloc: Global, lexemes: &[Lexeme]) -> Result<(NamedTerm, &[Lexeme]), Stop>
     ensures found { IfOk result (λ x. TermAt lexemes.now (named_term_tree x.0) x.1.now) }
@@ -89,7 +94,8 @@ fn term(alloc: Global, lexemes: &[Lexeme]) -> Result<(NamedTerm, &[Lexeme]), Sto
 /// The terms up to the closing mark, which go to the end of `parts`.
 #[cycle(terms)]
 fn terms<'a>(alloc: Global, lexemes: &'a [Lexeme], parts: &mut Terms) -> Result<&'a [Lexeme], Stop>
-    ensures found { IfOk result (λ rest. ListAt lexemes.now (named_terms_tree parts.old) (named_terms_tree parts.new) rest.now) }
+    ensures found { IfOk result
+        (λ rest. ListAt lexemes.now (named_terms_tree parts.old) (named_terms_tree parts.new) rest.now) }
     ensures none { IsErrOf result Stop.NoReading → NoTerms lexemes.now }
     ensures shorter { IfOk result (λ rest. length rest.now < length lexemes.now) }
 {
@@ -104,6 +110,7 @@ fn terms<'a>(alloc: Global, lexemes: &'a [Lexeme], parts: &mut Terms) -> Result<
     }
 }
 
+/// The atom that the lexemes begin with, and what follows it. A term comes first, and then `=` tells which.
 #[inline(never)]
 fn atom(alloc: Global, lexemes: &[Lexeme]) -> Result<(Named, &[Lexeme]), Stop>
     ensures found { IfOk result (λ x. AtomAt lexemes.now (named_tree x.0) x.1.now) }
@@ -124,7 +131,8 @@ fn atom(alloc: Global, lexemes: &[Lexeme]) -> Result<(Named, &[Lexeme]), Stop>
 }
 
 fn word_of(lexeme: Lexeme) -> Option<Name>
-    ensures { MatchOption result ((name : List ℕ) → lexeme ≡ Lexeme.Word name → ⊥) (λ name. lexeme ≡ Lexeme.Word name) }
+    ensures { MatchOption result ((name : List ℕ) → lexeme ≡ Lexeme.Word name → ⊥)
+        (λ name. lexeme ≡ Lexeme.Word name) }
 {
     match lexeme {
         Lexeme::Word(name) => Some(name),
@@ -133,7 +141,8 @@ fn word_of(lexeme: Lexeme) -> Option<Name>
 }
 
 fn sort_of(lexeme: Lexeme) -> Option<Sort>
-    ensures { MatchOption result ((s : SortOf) → lexeme ≡ Lexeme.Word (word_of_sort s) → ⊥) (λ s. lexeme ≡ Lexeme.Word (word_of_sort s)) }
+    ensures { MatchOption result ((s : SortOf) → lexeme ≡ Lexeme.Word (word_of_sort s) → ⊥)
+        (λ s. lexeme ≡ Lexeme.Word (word_of_sort s)) }
 {
     let name = word_of(lexeme)?;
     let word = name.bytes();
@@ -159,7 +168,8 @@ struct Variable {
 
 /// A variable and its sort, up to the dot.
 fn binder(lexemes: &[Lexeme]) -> Option<(Variable, &[Lexeme])>
-    ensures { MatchOption result (NoBinder lexemes.now) (λ x. BinderAt lexemes.now x.0.name x.0.sort x.1.now) }
+    ensures { MatchOption result (NoBinder lexemes.now)
+        (λ x. BinderAt lexemes.now x.0.name x.0.sort x.1.now) }
 {
     let Some((first, rest)) = next(lexemes) else {
         return None;
@@ -258,6 +268,7 @@ pub enum Opening {
     Atom,
 }
 
+/// The form of a formula that begins with this lexeme.
 #[inline(never)]
 fn opening_of(first: Lexeme) -> Opening
     ensures { Opens result first }
@@ -305,7 +316,8 @@ fn quantified(
     quantifier: Quantifier,
     rest: &[Lexeme],
 ) -> Result<(Named, &[Lexeme]), Stop>
-    ensures found { IfOk result (λ x. FormulaAt (Lexeme.Word (word_of_quantifier quantifier) ∷ rest.now) (named_tree x.0) x.1.now) }
+    ensures found { IfOk result
+        (λ x. FormulaAt (Lexeme.Word (word_of_quantifier quantifier) ∷ rest.now) (named_tree x.0) x.1.now) }
     ensures none { IsErrOf result Stop.NoReading → NoFormula (Lexeme.Word (word_of_quantifier quantifier) ∷ rest.now) }
     ensures shorter { IfOk result (λ x. length x.1.now < length rest.now) }
 {

@@ -17,8 +17,10 @@ use vocab::{Name, Named, NamedTerm, Sort, Terms};
 /// An alternative is written as its letter. No text reads as an alternative above 25: such a one is written as the
 /// byte that follows `a` by that many, after 255 again from 0.
 pub fn print<K: Sink>(sentence: &Named, out: &mut K) -> Result<(), Failed>
-    ensures ok { OnOk result (Appends (K.taken out.old) (K.taken out.new) (text_of (named_tree sentence.now))) }
-    ensures err { OnErr result (AppendsPrefix (K.taken out.old) (K.taken out.new) (text_of (named_tree sentence.now))) }
+    ensures ok { OnOk result (Appends (K.taken out.old) (K.taken out.new)
+        (text_of (named_tree sentence.now))) }
+    ensures err { OnErr result (AppendsPrefix (K.taken out.old) (K.taken out.new)
+        (text_of (named_tree sentence.now))) }
     ensures tells { TellsAsBefore (K.taken out.old) (K.taken out.new) }
     ensures cause { HasCause (K.faults out.old) (K.faults out.new) result }
 {
@@ -83,7 +85,8 @@ fn print_binder<K: Sink>(
     sort: Sort,
     out: &mut K,
 ) -> Result<(), Failed>
-    ensures ok { OnOk result (IsWritten (K.taken out.old) (K.taken out.new) (quantifier.now ++ name.now ++ codes ": " ++ word_of_sort sort ++ codes ". ")) }
+    ensures ok { OnOk result (IsWritten (K.taken out.old) (K.taken out.new)
+        (quantifier.now ++ name.now ++ codes ": " ++ word_of_sort sort ++ codes ". ")) }
     ensures part { IsPartWritten (K.taken out.old) (K.taken out.new)
         (quantifier.now ++ name.now ++ codes ": " ++ word_of_sort sort ++ codes ". ") }
     ensures cause { HasCause (K.faults out.old) (K.faults out.new) result }
@@ -98,8 +101,10 @@ fn print_binder<K: Sink>(
 
 #[cycle(print_formulas)]
 fn print_formula<K: Sink>(formula: &Named, out: &mut K) -> Result<(), Failed>
-    ensures ok { OnOk result (IsWritten (K.taken out.old) (K.taken out.new) (text_of (named_tree formula.now))) }
-    ensures part { IsPartWritten (K.taken out.old) (K.taken out.new) (text_of (named_tree formula.now)) }
+    ensures ok { OnOk result (IsWritten (K.taken out.old) (K.taken out.new)
+        (text_of (named_tree formula.now))) }
+    ensures part { IsPartWritten (K.taken out.old) (K.taken out.new)
+        (text_of (named_tree formula.now)) }
     ensures cause { HasCause (K.faults out.old) (K.faults out.new) result }
 {
     match formula {
@@ -117,8 +122,10 @@ fn print_formula<K: Sink>(formula: &Named, out: &mut K) -> Result<(), Failed>
 
 #[cycle(print_formulas)]
 fn print_negation<K: Sink>(inner: &Named, out: &mut K) -> Result<(), Failed>
-    ensures ok { OnOk result (IsWritten (K.taken out.old) (K.taken out.new) (codes "!" ++ text_of (named_tree inner.now))) }
-    ensures part { IsPartWritten (K.taken out.old) (K.taken out.new) (codes "!" ++ text_of (named_tree inner.now)) }
+    ensures ok { OnOk result (IsWritten (K.taken out.old) (K.taken out.new)
+        (codes "!" ++ text_of (named_tree inner.now))) }
+    ensures part { IsPartWritten (K.taken out.old) (K.taken out.new)
+        (codes "!" ++ text_of (named_tree inner.now)) }
     ensures cause { HasCause (K.faults out.old) (K.faults out.new) result }
 {
     put(b"!", out)?;
@@ -134,7 +141,8 @@ fn print_quantified<K: Sink>(
     inner: &Named,
     out: &mut K,
 ) -> Result<(), Failed>
-    ensures ok { OnOk result (IsWritten (K.taken out.old) (K.taken out.new) (quantifier.now ++ name.now ++ codes ": " ++ word_of_sort sort ++ codes ". " ++ text_of (named_tree inner.now))) }
+    ensures ok { OnOk result (IsWritten (K.taken out.old) (K.taken out.new)
+        (quantifier.now ++ name.now ++ codes ": " ++ word_of_sort sort ++ codes ". " ++ text_of (named_tree inner.now))) }
     ensures part { IsPartWritten (K.taken out.old) (K.taken out.new)
         (quantifier.now ++ name.now ++ codes ": " ++ word_of_sort sort ++ codes ". " ++ text_of (named_tree inner.now)) }
     ensures cause { HasCause (K.faults out.old) (K.faults out.new) result }
@@ -152,7 +160,8 @@ fn print_group<K: Sink>(
     right: &Named,
     out: &mut K,
 ) -> Result<(), Failed>
-    ensures ok { OnOk result (IsWritten (K.taken out.old) (K.taken out.new) (codes "(" ++ text_of (named_tree left.now) ++ joint.now ++ text_of (named_tree right.now) ++ codes ")")) }
+    ensures ok { OnOk result (IsWritten (K.taken out.old) (K.taken out.new)
+        (codes "(" ++ text_of (named_tree left.now) ++ joint.now ++ text_of (named_tree right.now) ++ codes ")")) }
     ensures part { IsPartWritten (K.taken out.old) (K.taken out.new)
         (codes "(" ++ text_of (named_tree left.now) ++ joint.now ++ text_of (named_tree right.now) ++ codes ")") }
     ensures cause { HasCause (K.faults out.old) (K.faults out.new) result }
@@ -166,7 +175,8 @@ fn print_group<K: Sink>(
 }
 
 fn print_equality<K: Sink>(left: &NamedTerm, right: &NamedTerm, out: &mut K) -> Result<(), Failed>
-    ensures ok { OnOk result (IsWritten (K.taken out.old) (K.taken out.new) (term_text (named_term_tree left.now) ++ codes " = " ++ term_text (named_term_tree right.now))) }
+    ensures ok { OnOk result (IsWritten (K.taken out.old) (K.taken out.new)
+        (term_text (named_term_tree left.now) ++ codes " = " ++ term_text (named_term_tree right.now))) }
     ensures part { IsPartWritten (K.taken out.old) (K.taken out.new)
         (term_text (named_term_tree left.now) ++ codes " = " ++ term_text (named_term_tree right.now)) }
     ensures cause { HasCause (K.faults out.old) (K.faults out.new) result }
@@ -179,8 +189,10 @@ fn print_equality<K: Sink>(left: &NamedTerm, right: &NamedTerm, out: &mut K) -> 
 
 #[cycle(print_terms)]
 fn print_term<K: Sink>(term: &NamedTerm, out: &mut K) -> Result<(), Failed>
-    ensures ok { OnOk result (IsWritten (K.taken out.old) (K.taken out.new) (term_text (named_term_tree term.now))) }
-    ensures part { IsPartWritten (K.taken out.old) (K.taken out.new) (term_text (named_term_tree term.now)) }
+    ensures ok { OnOk result (IsWritten (K.taken out.old) (K.taken out.new)
+        (term_text (named_term_tree term.now))) }
+    ensures part { IsPartWritten (K.taken out.old) (K.taken out.new)
+        (term_text (named_term_tree term.now)) }
     ensures cause { HasCause (K.faults out.old) (K.faults out.new) result }
 {
     match term {
@@ -193,7 +205,8 @@ fn print_term<K: Sink>(term: &NamedTerm, out: &mut K) -> Result<(), Failed>
 }
 
 fn print_voter<K: Sink>(number: u16, out: &mut K) -> Result<(), Failed>
-    ensures ok { OnOk result (IsWritten (K.taken out.old) (K.taken out.new) (codes "#" ++ decimal number)) }
+    ensures ok { OnOk result (IsWritten (K.taken out.old) (K.taken out.new)
+        (codes "#" ++ decimal number)) }
     ensures part { IsPartWritten (K.taken out.old) (K.taken out.new) (codes "#" ++ decimal number) }
     ensures cause { HasCause (K.faults out.old) (K.faults out.new) result }
 {
@@ -203,8 +216,10 @@ fn print_voter<K: Sink>(number: u16, out: &mut K) -> Result<(), Failed>
 }
 
 fn print_ballot<K: Sink>(letters: &Name, out: &mut K) -> Result<(), Failed>
-    ensures ok { OnOk result (IsWritten (K.taken out.old) (K.taken out.new) (codes "<" ++ letters.now ++ codes ">")) }
-    ensures part { IsPartWritten (K.taken out.old) (K.taken out.new) (codes "<" ++ letters.now ++ codes ">") }
+    ensures ok { OnOk result (IsWritten (K.taken out.old) (K.taken out.new)
+        (codes "<" ++ letters.now ++ codes ">")) }
+    ensures part { IsPartWritten (K.taken out.old) (K.taken out.new)
+        (codes "<" ++ letters.now ++ codes ">") }
     ensures cause { HasCause (K.faults out.old) (K.faults out.new) result }
 {
     put(b"<", out)?;
@@ -216,7 +231,8 @@ fn print_ballot<K: Sink>(letters: &Name, out: &mut K) -> Result<(), Failed>
 /// A function or a predicate at its arguments.
 #[cycle(print_terms)]
 fn print_call<K: Sink>(name: &Name, arguments: &Terms, out: &mut K) -> Result<(), Failed>
-    ensures ok { OnOk result (IsWritten (K.taken out.old) (K.taken out.new) (name.now ++ codes "(" ++ list_text (named_terms_tree arguments.now) ++ codes ")")) }
+    ensures ok { OnOk result (IsWritten (K.taken out.old) (K.taken out.new)
+        (name.now ++ codes "(" ++ list_text (named_terms_tree arguments.now) ++ codes ")")) }
     ensures part { IsPartWritten (K.taken out.old) (K.taken out.new)
         (name.now ++ codes "(" ++ list_text (named_terms_tree arguments.now) ++ codes ")") }
     ensures cause { HasCause (K.faults out.old) (K.faults out.new) result }
@@ -230,8 +246,10 @@ fn print_call<K: Sink>(name: &Name, arguments: &Terms, out: &mut K) -> Result<()
 
 #[cycle(print_terms)]
 fn print_list<K: Sink>(terms: &Terms, out: &mut K) -> Result<(), Failed>
-    ensures ok { OnOk result (IsWritten (K.taken out.old) (K.taken out.new) (list_text (named_terms_tree terms.now))) }
-    ensures part { IsPartWritten (K.taken out.old) (K.taken out.new) (list_text (named_terms_tree terms.now)) }
+    ensures ok { OnOk result (IsWritten (K.taken out.old) (K.taken out.new)
+        (list_text (named_terms_tree terms.now))) }
+    ensures part { IsPartWritten (K.taken out.old) (K.taken out.new)
+        (list_text (named_terms_tree terms.now)) }
     ensures cause { HasCause (K.faults out.old) (K.faults out.new) result }
 {
     if terms.len() == 0 {

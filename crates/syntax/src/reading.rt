@@ -21,7 +21,8 @@ const QUANTIFIERS: u8 = 12;
 ///
 /// There is at most one answer beside want of memory (`laws::texts_have_one_answer`).
 pub fn read(alloc: Global, text: &[u8]) -> Result<Named, SyntaxFault>
-    ensures { MatchResult result (λ named. IsSentence text.now (named_tree named)) (λ fault. IsFault text.now fault) }
+    ensures { MatchResult result
+        (λ named. IsSentence text.now (named_tree named)) (λ fault. IsFault text.now fault) }
 {
     let lexemes = lexed(alloc, text)?;
     let named = sentence(alloc, lexemes.as_slice())?;
