@@ -1,0 +1,12 @@
+pub mod Unique
+pub mod Views
+pub mod Readings
+pub mod Runs
+pub mod Starting
+pub mod Lexings
+pub mod Depths
+pub mod Telling
+pub mod Digits
+pub mod Texts
+pub mod RoundTrip
+pub mod OneAnswer

@@ -1,0 +1,5 @@
+use Rattle.syntax.proofs.OneAnswer.{one_answer}
+use Rattle.syntax.proofs.laws.texts_have_one_answer.Goals as goal
+
+pub returns : goal.returns
+returns c = one_answer

@@ -1,0 +1,43 @@
+-- The canonical text of a tree.
+use Rattle.std.specs.Prelude.{ℕ, zero, suc, ◌+◌, ◌/◌, ◌%◌, nat_lt, if◌then◌else◌, List, [], ◌∷◌, ◌++◌, codes}
+use Rattle.vocab.specs.NamedTree as tree
+use Rattle.vocab.specs.NamedTree.{NamedTermTree, NamedTermTrees, NamedTree}
+use Rattle.syntax.specs.Grammar.{word_of_sort}
+
+-- the last digits of a number, so many
+abbrev pub digits : ℕ → ℕ → List ℕ
+digits zero n = []
+digits (suc places) n = digits places (n / 10) ++ (48 + n % 10) ∷ []
+
+-- a number without a leading zero, below 100,000
+abbrev pub decimal : ℕ → List ℕ
+decimal n = if nat_lt n 10 then digits 1 n else if nat_lt n 100 then digits 2 n else if nat_lt n 1000 then digits 3 n else if nat_lt n 10000 then digits 4 n else digits 5 n
+
+-- the canonical text of a term
+abbrev mutual
+  pub term_text : NamedTermTree → List ℕ
+  term_text (tree.Var n) = n
+  term_text (tree.Voter n) = codes "#" ++ decimal n
+  term_text (tree.Alt a) = codes "@" ++ ((97 + a) % 256) ∷ []
+  term_text (tree.Ballot b) = codes "<" ++ b ++ codes ">"
+  term_text (tree.Call n ts) = n ++ codes "(" ++ list_text ts ++ codes ")"
+
+  pub list_text : NamedTermTrees → List ℕ
+  list_text tree.NoArguments = []
+  list_text (tree.Argument t ts) = term_text t ++ more_text ts
+
+  pub more_text : NamedTermTrees → List ℕ
+  more_text tree.NoArguments = []
+  more_text (tree.Argument t ts) = codes ", " ++ term_text t ++ more_text ts
+
+-- the canonical text of a sentence
+abbrev pub text_of : NamedTree → List ℕ
+text_of (tree.Pred n ts) = n ++ codes "(" ++ list_text ts ++ codes ")"
+text_of (tree.Equal s t) = term_text s ++ codes " = " ++ term_text t
+text_of (tree.Not f) = codes "!" ++ text_of f
+text_of (tree.Both f g) = codes "(" ++ text_of f ++ codes " & " ++ text_of g ++ codes ")"
+text_of (tree.Either f g) = codes "(" ++ text_of f ++ codes " | " ++ text_of g ++ codes ")"
+text_of (tree.Implies f g) = codes "(" ++ text_of f ++ codes " -> " ++ text_of g ++ codes ")"
+text_of (tree.Same f g) = codes "(" ++ text_of f ++ codes " <-> " ++ text_of g ++ codes ")"
+text_of (tree.All n s f) = codes "all " ++ n ++ codes ": " ++ word_of_sort s ++ codes ". " ++ text_of f
+text_of (tree.Exists n s f) = codes "some " ++ n ++ codes ": " ++ word_of_sort s ++ codes ". " ++ text_of f

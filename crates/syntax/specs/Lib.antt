@@ -1,0 +1,11 @@
+pub mod Lexemes
+pub mod Grammar
+pub mod Depth
+pub mod Sentence
+pub mod Canonical
+pub mod Scanning
+pub mod Fronts
+pub mod Opening
+pub mod Stops
+pub mod Told
+pub mod Laws
