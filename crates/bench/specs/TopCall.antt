@@ -1,7 +1,7 @@
 -- What the top call promises beside the answer: its statuses, what was written, and the causes of faults.
 use Rattle.std.specs.Prelude.{◌≡◌, ℕ, ◌≤◌, ◌⊎◌, List, Option, Some, IfSome, Ok, Err}
 use Rattle.std.specs.Io.KnownBytes.{Appends}
-use Rattle.edge.specs.Shelf.{Files}
+use Rattle.edge.specs.Shelf.{Files, OthersStay}
 use Rattle.edge.specs.Faults.{Rose}
 use Rattle.edge.specs.Told.{AppendsPrefix}
 use Rattle.vocab.specs.Study.{Question}
@@ -14,6 +14,14 @@ use Rattle.bench.specs.Lawful.{Lawful}
 -- the statuses that there are
 abbrev pub IsStatus : ℕ → Type 0
 IsStatus status = (status ≤ 3) ⊎ ((5 ≤ status) × (status ≤ 7))
+
+-- the statuses of `check`
+abbrev pub IsCheckStatus : ℕ → Type 0
+IsCheckStatus status = (status ≤ 1) ⊎ (status ≡ 3)
+
+-- the words are a command, and of all files only its study's was touched
+abbrev pub IsStudyAloneTouched : List (List ℕ) → (List ℕ → Option (List ℕ)) → (List ℕ → Option (List ℕ)) → Type 0
+IsStudyAloneTouched words before now = (command : Command) × (command_of words ≡ Some command) × OthersStay before now command.study
 
 -- the text of an answer that the table gives was written
 abbrev pub Answered : List (List ℕ) → Files → ℕ → Option (List ℕ) → Option (List ℕ) → Type 0

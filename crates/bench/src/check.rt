@@ -2,10 +2,10 @@
 
 ghost use Rattle.std.specs.Prelude.{◌≡◌, ◌≤◌, List, ℕ, Some, IfSome, IfOk, IsErrOf};
 ghost use Rattle.edge.specs.Faults.{Rose};
-ghost use Rattle.edge.specs.Shelf.{NoneFell};
+ghost use Rattle.edge.specs.Shelf.{NoneFell, OthersStay};
 ghost use Rattle.vocab.specs.declared.kinds.Kind.TheVariants.{Choice};
 ghost use Rattle.bench.specs.CheckTable.{Judged, Checked};
-ghost use Rattle.bench.specs.TopCall.{HasReadCause};
+ghost use Rattle.bench.specs.TopCall.{HasReadCause, IsCheckStatus};
 
 use crate::answers::{Answer, Stop, say};
 use crate::judge::judge;
@@ -29,7 +29,7 @@ fn check_report<S: Shelf>(
         (held : List ℕ) × (files report.now ≡ Some held) × Judged study.now held answer.status answer.text)) }
     ensures fault { IsErrOf result Stop.ReadFault → Rose (S.faults shelf.old report.now) (S.faults shelf.new report.now) }
     ensures none_fell { NoneFell (S.faults shelf.old) (S.faults shelf.new) }
-    ensures status { IfOk result (λ answer. answer.status ≤ 3) }
+    ensures status { IfOk result (λ answer. answer.status ≤ 1) }
 {
     match read_all(alloc, shelf, report, MOST_BYTES) {
         Ok(bytes) => Ok(judge(alloc, study, bytes.as_slice())?),
@@ -49,7 +49,8 @@ pub fn check<S: Shelf>(
     ensures lawful { IfSome (S.files shelf.old) (λ files. IfOk result (λ answer.
         Checked files study.now report.now answer.status answer.text)) }
     ensures fault { IsErrOf result Stop.ReadFault → HasReadCause (S.files shelf.old) (S.faults shelf.old) (S.faults shelf.new) study.now report.now }
-    ensures status { IfOk result (λ answer. answer.status ≤ 3) }
+    ensures unopened { IfOk result (λ answer. answer.status ≡ 3 → OthersStay (S.left shelf.old) (S.left shelf.new) study.now) }
+    ensures status { IfOk result (λ answer. IsCheckStatus answer.status) }
 {
     let bytes = match read_all(alloc, shelf, study, MOST_BYTES) {
         Ok(bytes) => bytes,

@@ -71,7 +71,7 @@ fn say_fails(
 pub fn judge(alloc: Global, study: &Study, report: &[u8]) -> Result<Answer, NoMemory>
     requires choice { study.now.size.kind ≡ Choice }
     requires fits { length report.now ≤ most_bytes }
-    ensures status { IfOk result (λ answer. answer.status ≤ 3) }
+    ensures status { IfOk result (λ answer. answer.status ≤ 1) }
     ensures judged { IfOk result (λ answer. Judged study.now report.now answer.status answer.text) }
 {
     let space = Space::new(study.size());

@@ -197,3 +197,18 @@ fn calm_devices_never_fail(rt: HostRuntime) -> Result<(), Fail> {
     assert_eq!(rt; run.status, 0);
     Ok(())
 }
+
+#[test]
+fn a_failed_flush_comes_after_the_whole_text(rt: HostRuntime) -> Result<(), Fail> {
+    let alloc = rt.alloc();
+    let mut shelf = MemoryShelf::new(alloc, &[])?;
+    shelf.hold("study", STUDY.as_bytes())?;
+    shelf.hold("report", REPORT.as_bytes())?;
+    let words = words_of(alloc, &["check", "study", "report"])?;
+    // The sink's calls are: 0 writes the line, 1 flushes it.
+    let mut out = MemorySink::new(alloc, 1000, &[1])?;
+    let run = bench(&rt, alloc, &words, &mut shelf, &mut out, &Open);
+    assert_eq!(rt; run.status, 6);
+    assert_eq!(rt; out.bytes(), b"confirmed possible\n".as_slice());
+    Ok(())
+}

@@ -9,7 +9,7 @@ ghost use Rattle.report.specs.Report.{IsRuleReport};
 ghost use Rattle.bench.specs.Words.{Command, texts, command_of, usage_line};
 ghost use Rattle.bench.specs.CheckTable.{IsFirstFailing, SatisfiesAll, fails_line, most_bytes};
 ghost use Rattle.bench.specs.Lawful.{Lawful};
-ghost use Rattle.bench.specs.TopCall.{IsStatus, Answered, AnsweredInPart, HasFileCause, Says, IsCheckOfLongStudy, IsCheckOfNoToml, IsCheckOfOtherStudy, IsCheckOver};
+ghost use Rattle.bench.specs.TopCall.{IsStatus, Answered, AnsweredInPart, HasFileCause, IsStudyAloneTouched, Says, IsCheckOfLongStudy, IsCheckOfNoToml, IsCheckOfOtherStudy, IsCheckOver};
 
 use crate::answers::{Answer, Stop, say};
 use crate::check::check;
@@ -27,6 +27,8 @@ fn answer<S: Shelf>(alloc: Global, words: &[String], shelf: &mut S) -> Result<An
     ensures lawful { IfSome (S.files shelf.old) (λ files. IfOk result (λ answer. Lawful (texts words.now) files answer.status answer.text)) }
     ensures usage { command_of (texts words.now) ≡ None → IfOk result (λ answer. (answer.status ≡ 2) × (answer.text ≡ usage_line)) }
     ensures fault { IsErrOf result Stop.ReadFault → HasFileCause (texts words.now) (S.files shelf.old) (S.faults shelf.old) (S.faults shelf.new) }
+    ensures no_command { IfOk result (λ answer. answer.status ≡ 2 → command_of (texts words.now) ≡ None) }
+    ensures unopened { IfOk result (λ answer. answer.status ≡ 3 → IsStudyAloneTouched (texts words.now) (S.left shelf.old) (S.left shelf.new)) }
     ensures status { IfOk result (λ answer. answer.status ≤ 3) }
 {
     match command_of(words) {
@@ -72,6 +74,10 @@ pub fn bench<R: Threads + Sync, S: Shelf, K: Sink, G: Gate>(
     // Words that are no command need no file.
     ensures usage { command_of (texts words.now) ≡ None → result.status ≤ 4 →
         Says result.status (K.taken out.old) (K.taken out.new) 2 usage_line }
+    ensures no_command { result.status ≡ 2 → command_of (texts words.now) ≡ None }
+
+    // Where the study is refused, the report was not opened.
+    ensures unopened { result.status ≡ 3 → IsStudyAloneTouched (texts words.now) (S.left shelf.old) (S.left shelf.new) }
 
     // The rows of the table for `check`, one by one.
     ensures study_too_long { IfSome (S.files shelf.old) (λ files. IsCheckOfLongStudy (texts words.now) files → result.status ≤ 4 →
@@ -98,6 +104,7 @@ pub fn bench<R: Threads + Sync, S: Shelf, K: Sink, G: Gate>(
     ensures write_fault { result.status ≡ 6 → Rose (K.faults out.old) (K.faults out.new) }
     ensures cut_short { result.status ≡ 6 → IfSome (S.files shelf.old) (λ files.
         AnsweredInPart (texts words.now) files (K.taken out.old) (K.taken out.new)) }
+    ensures usage_cut_short { command_of (texts words.now) ≡ None → result.status ≡ 6 → AppendsPrefix (K.taken out.old) (K.taken out.new) usage_line }
 
     // Want of memory is free, and nothing is written.
     ensures no_memory { result.status ≡ 7 → Keeps (K.taken out.old) (K.taken out.new) }
