@@ -1,6 +1,6 @@
 -- What holds of these definitions: the statements of the laws. Each is proved as the contract of a function of the
 -- same name in src/laws.rt; those on rankings, digits and Tarski's truth stand with their definitions.
-use Rattle.std.specs.Prelude.{◌≡◌, ◌≢◌, ℕ, ◌<◌, ◌≤◌, Bool, true, not, ◌&&◌, ◌↔◌, nat_lt, length, List, [], map, slice_get, Option, Some, None, IsTrue, IsFalse}
+use Rattle.std.specs.Prelude.{◌≡◌, ◌≢◌, ℕ, ◌<◌, ◌≤◌, ◌+◌, ◌*◌, Bool, true, not, ◌&&◌, ◌↔◌, nat_lt, length, List, [], map, slice_get, Option, Some, None, IsTrue, IsFalse}
 use Rattle.std.specs.List.{list_all, list_any, AllByRecursion}
 use Rattle.vocab.specs.declared.kinds.Kind.TheVariants.{Sets}
 use Rattle.vocab.specs.declared.kinds.Sort.{Sort}
@@ -27,7 +27,7 @@ use Rattle.meaning.specs.Stories.{are_false, is_outcome_excluded, is_instance_fa
 use Rattle.meaning.specs.StoryFaults.{story_refusal}
 use Rattle.meaning.specs.Clauses.{Disjunction, plus, minus}
 use Rattle.meaning.specs.Measure.{plus_counts, minus_counts, counts_of}
-use Rattle.meaning.specs.Variables.{variable_count, lit_of, literal_of, bits_of}
+use Rattle.meaning.specs.Variables.{bits, variable_count, lit_of, literal_of, bits_of}
 use Rattle.meaning.specs.declared.clauses.Origin.{Origin}
 use Rattle.meaning.specs.declared.clauses.Origin.TheVariants.{Frame, Instance}
 use Rattle.meaning.specs.StudyClauses.{Sourced, frame_of, instance_of, study_clauses}
@@ -63,16 +63,22 @@ abbrev pub FormulasHaveLiterals : Type 0
 FormulasHaveLiterals = (size : Extent) → size.kind ≢ Sets → (sorts : List Sort) (env : List ℕ) → IsTrue (are_of_sorts size sorts env) →
     (f : Tree) → IsTrue (is_sorted size sorts f) → AllFacts (λ l. IsTrue (is_literal size l)) (write_out size f env)
 
+-- of an outcome in range exactly one of a literal of the size and its opposite holds
+abbrev pub OneOfOppositesHolds : Type 0
+OneOfOppositesHolds = (size : Extent) (o : ℕ) → o < outcome_count size.kind size.alternatives → (l : Literal) → IsTrue (is_literal size l) →
+    holds_of size o (opposite_of l) ≡ not (holds_of size o l)
+
 -- ---- partial truth and stories
 
 -- each known literal holds
 abbrev pub Hold : (Literal → Bool) → List Literal → Type 0
 Hold v known = (l : Literal) → IsTrue (has known l) → IsTrue (v l)
 
--- a formula that is false under some literals is false of each rule of which they hold
+-- a formula that is known to be false under some literals is false of each rule of which they hold, and one that is known to be true is true of it
 abbrev pub PartialTruthIsSound : Type 0
 PartialTruthIsSound = (size : Extent) (table : List ℕ) (known : List Literal) (f : Tree) (env : List ℕ) → Hold (holds size table) known →
-    partial_truth known (write_out size f env) ≡ False → IsFalse (is_true_at size table f env)
+    (partial_truth known (write_out size f env) ≡ False → IsFalse (is_true_at size table f env))
+    × (partial_truth known (write_out size f env) ≡ True → IsTrue (is_true_at size table f env))
 
 -- where a story is accepted, no rule satisfies the core
 abbrev pub AcceptedStoryHasNoRule : Type 0
@@ -119,13 +125,17 @@ FormulasHaveCounts = (w : Written) → (counts_of (plus w) ≡ plus_counts w) ×
 
 -- ---- literals and variables
 
--- the literals of a size and the variables of its studies, with signs, are one to one, and opposites are opposites
+-- the literals of a size and the variables of its studies, with signs, are one to one, and opposites are opposites; those of profile p are the variables from p * n + 1 to (p + 1) * n, where a profile has n
 pub record AreVariables (size : Extent) : Type 0 where
   pub in_range : (l : Literal) → IsTrue (is_literal size l) → (1 ≤ (lit_of size l).variable) × ((lit_of size l).variable ≤ variable_count size)
   pub literal : (s : Signed) → 1 ≤ s.variable → s.variable ≤ variable_count size → IsTrue (is_literal size (literal_of size s))
   pub of_literal : (s : Signed) → 1 ≤ s.variable → s.variable ≤ variable_count size → lit_of size (literal_of size s) ≡ s
   pub of_variable : (l : Literal) → IsTrue (is_literal size l) → literal_of size (lit_of size l) ≡ l
   pub opposite : (l : Literal) → IsTrue (is_literal size l) → lit_of size (opposite_of l) ≡ opposite_lit (lit_of size l)
+  pub from_profile : (l : Literal) → IsTrue (is_literal size l) →
+      (profile_of l * bits size.kind size.alternatives + 1 ≤ (lit_of size l).variable) × ((lit_of size l).variable ≤ (profile_of l + 1) * bits size.kind size.alternatives)
+  pub to_profile : (p : ℕ) (s : Signed) → p * bits size.kind size.alternatives + 1 ≤ s.variable → s.variable ≤ (p + 1) * bits size.kind size.alternatives →
+      profile_of (literal_of size s) ≡ p
 
 -- of each size of a kind that has literals
 abbrev pub LiteralsAreVariables : Type 0

@@ -3,7 +3,7 @@
 ghost use Rattle.meaning.specs.Rankings.{AreAllRankings};
 ghost use Rattle.meaning.specs.Digits.{AreAllNumbered, AreProfiles};
 ghost use Rattle.meaning.specs.Tarski.{IsTarskis};
-ghost use Rattle.meaning.specs.Laws.{TermsHaveValues, SentencesHaveInstances, TruthIsWritten, FormulasHaveLiterals, PartialTruthIsSound, AcceptedStoryHasNoRule, FaultlessIsAccepted, ClausesSayTruth, ClausesDecide, ClausesOfIff, FormulasHaveCounts, LiteralsAreVariables, RulesHaveBits, FramesSayOutcome, ClausesSayStudy, AssignmentsAreRules, ClausesAreSatisfiable, ClausesHaveReasons};
+ghost use Rattle.meaning.specs.Laws.{TermsHaveValues, SentencesHaveInstances, TruthIsWritten, FormulasHaveLiterals, OneOfOppositesHolds, PartialTruthIsSound, AcceptedStoryHasNoRule, FaultlessIsAccepted, ClausesSayTruth, ClausesDecide, ClausesOfIff, FormulasHaveCounts, LiteralsAreVariables, RulesHaveBits, FramesSayOutcome, ClausesSayStudy, AssignmentsAreRules, ClausesAreSatisfiable, ClausesHaveReasons};
 
 /// The rankings are all strict rankings, each once, in lexicographic order.
 pub fn rankings_are_all()
@@ -45,7 +45,12 @@ pub fn formulas_have_literals()
     ensures { FormulasHaveLiterals }
 {}
 
-/// A formula that is false under some literals is false of each rule of which they hold.
+/// Of an outcome exactly one of a literal of the size and its opposite holds.
+pub fn one_of_opposites_holds()
+    ensures { OneOfOppositesHolds }
+{}
+
+/// A formula that is known to be false under some literals is false of each rule of which they hold, and one that is known to be true is true of it.
 pub fn partial_truth_is_sound()
     ensures { PartialTruthIsSound }
 {}
