@@ -1,5 +1,5 @@
 -- Of an outcome exactly one of a literal of the size and its opposite holds.
-use Rattle.std.proofs.Common.{◌<◌, Bool, ap, arith, eq-eqb, false, le-ltb, ltb-true, not, refl, sym, true, true≢false, ℕ, ◌≡◌}
+use Rattle.std.proofs.Common.{◌<◌, Bool, List, arith, eq-eqb, false, le-ltb, ltb-true, not, refl, sym, true, true≢false, ℕ, ◌≡◌}
 use Rattle.std.proofs.lemmas.Bool.{both_ways}
 use Rattle.std.specs.Prelude.{◌==◌}
 use Rattle.vocab.specs.Literal.{opposite_of}
@@ -22,7 +22,10 @@ opposites_differ size Ranking o in_o (Wins x p) h = absurd (true≢false (sym h)
 opposites_differ size Ranking o in_o (Loses x p) h = absurd (true≢false (sym h))
 opposites_differ size Ranking o in_o (Above x y p) h = cases (is_above r x y) refl
   where
+    m : ℕ
     m = size.alternatives
+
+    r : List ℕ
     r = ranking size.alternatives o
 
     cases : (b : Bool) → is_above r x y ≡ b → is_above r y x ≡ not b

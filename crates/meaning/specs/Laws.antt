@@ -17,13 +17,14 @@ use Rattle.cnf.specs.Signed.{Signed}
 use Rattle.cnf.specs.Sat.{opposite_lit, is_lit_true, is_satisfied, is_falsified}
 use Rattle.meaning.specs.declared.three.Three.TheVariants.{True, False}
 use Rattle.meaning.specs.declared.stories.Lemma.{Lemma}
+use Rattle.meaning.specs.declared.stories.Reason.TheVariants.{Axiom as ByAxiom, Outcome as ByOutcome}
 use Rattle.meaning.specs.Space.{below}
 use Rattle.meaning.specs.Truth.{value, is_rule, is_true_at, holds_of, holds, satisfies}
 use Rattle.meaning.specs.Instances.{instance_values, is_instance_true}
 use Rattle.meaning.specs.Literals.{is_literal}
 use Rattle.meaning.specs.Written.{Written, Known, Fact, Neg, And, Or, Iff, write_out, evaluate}
 use Rattle.meaning.specs.Kleene.{partial_truth}
-use Rattle.meaning.specs.Stories.{are_false, is_outcome_excluded, is_instance_false, has_literals, is_story}
+use Rattle.meaning.specs.Stories.{are_false, refutes, has_literals, is_story}
 use Rattle.meaning.specs.StoryFaults.{story_refusal}
 use Rattle.meaning.specs.Clauses.{Disjunction, plus, minus}
 use Rattle.meaning.specs.Measure.{plus_counts, minus_counts, counts_of}
@@ -213,13 +214,14 @@ abbrev pub IfAxiom : Option Titled → (Titled → Type 0) → Type 0
 IfAxiom None P = ⊥
 IfAxiom (Some a) P = P a
 
--- the origin of a clause is a reason that refutes the known literals
-abbrev pub RefuteOrigin : Extent → List Titled → List Literal → Origin → Type 0
-RefuteOrigin size axioms known (Frame p) = IsTrue (is_outcome_excluded size known p)
-RefuteOrigin size axioms known (Instance place k) = IfAxiom (slice_get axioms place) (λ a. IsTrue (is_instance_false size known (Some a) (instance_values size a.sentence k)))
+-- the origin of a clause is a reason that refutes the known literals, in a story whose core is the chosen axioms: the profile of a frame; the place of an axiom with the values of its instance k, which there is
+abbrev pub RefuteOrigin : Extent → List Titled → List ℕ → List Literal → Origin → Type 0
+RefuteOrigin size axioms chosen known (Frame p) = IsTrue (refutes size axioms chosen [] known (ByOutcome p))
+RefuteOrigin size axioms chosen known (Instance place k) = IfAxiom (slice_get axioms place) (λ a.
+    (k < instance_count size a.sentence) × IsTrue (refutes size axioms chosen [] known (ByAxiom place (instance_values size a.sentence k))))
 
--- where known literals falsify a clause of a study, its origin is a reason that refutes them
+-- where known literals, of which no two are opposites, falsify a clause of a study, its origin is a reason that refutes them
 abbrev pub ClausesHaveReasons : Type 0
 ClausesHaveReasons = (size : Extent) → size.kind ≢ Sets → (axioms : List Titled) → IsTrue (list_all (is_sentence size) axioms) → (chosen : List ℕ) →
     (known : List Literal) → IsTrue (list_all (is_literal size) known) → HasNoPair known →
-    AllByRecursion (λ (s : Sourced). IsTrue (is_falsified (map (lit_of size) known) s.clause) → RefuteOrigin size axioms known s.origin) (study_clauses size axioms chosen)
+    AllByRecursion (λ (s : Sourced). IsTrue (is_falsified (map (lit_of size) known) s.clause) → RefuteOrigin size axioms chosen known s.origin) (study_clauses size axioms chosen)
