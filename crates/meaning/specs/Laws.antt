@@ -1,5 +1,5 @@
 -- What holds of these definitions: the statements of the laws. Each is proved as the contract of a function of the
--- same name in src/laws.rt; those on rankings, digits and Tarski's truth stand with their definitions.
+-- same name in src/laws.rt; the statements of four stand with their definitions, in Rankings, Digits (two) and Tarski.
 use Rattle.std.specs.Prelude.{◌≡◌, ◌≢◌, ℕ, ◌<◌, ◌≤◌, ◌+◌, ◌*◌, Bool, true, not, ◌&&◌, ◌↔◌, nat_lt, length, List, [], map, slice_get, Option, Some, None, IsTrue, IsFalse}
 use Rattle.std.specs.List.{list_all, list_any, AllByRecursion}
 use Rattle.vocab.specs.declared.kinds.Kind.TheVariants.{Sets}
@@ -97,7 +97,7 @@ FaultlessIsAccepted = (size : Extent) (axioms : List Titled) (core : List ℕ) (
 abbrev pub IsProper : (Literal → Bool) → Written → Type 0
 IsProper v w = AllFacts (λ l. v (opposite_of l) ≡ not (v l)) w
 
--- the plus clauses of a formula hold exactly where it is true, and the minus clauses exactly where it is false
+-- where opposites have opposite truth values, the plus clauses of a formula hold exactly where it is true, and the minus clauses exactly where it is false
 abbrev pub ClausesSayTruth : Type 0
 ClausesSayTruth = (v : Literal → Bool) (w : Written) → IsProper v w →
     (list_all (list_any v) (plus w) ≡ evaluate v w) × (list_all (list_any v) (minus w) ≡ not (evaluate v w))
@@ -110,7 +110,7 @@ HasNoPair known = (l : Literal) → IsTrue (has known l) → IsFalse (has known 
 abbrev pub some_false : List Literal → List Disjunction → Bool
 some_false known rows = list_any (are_false known) rows
 
--- where known literals falsify a plus clause of a formula it is known to be false, and where they falsify a minus clause it is known to be true
+-- where known literals, of which no two are opposites, falsify a plus clause of a formula it is known to be false, and where they falsify a minus clause it is known to be true
 abbrev pub ClausesDecide : Type 0
 ClausesDecide = (known : List Literal) → HasNoPair known → (w : Written) →
     (IsTrue (some_false known (plus w)) → partial_truth known w ≡ False) × (IsTrue (some_false known (minus w)) → partial_truth known w ≡ True)
@@ -220,7 +220,7 @@ RefuteOrigin size axioms chosen known (Frame p) = IsTrue (refutes size axioms ch
 RefuteOrigin size axioms chosen known (Instance place k) = IfAxiom (slice_get axioms place) (λ a.
     (k < instance_count size a.sentence) × IsTrue (refutes size axioms chosen [] known (ByAxiom place (instance_values size a.sentence k))))
 
--- where known literals, of which no two are opposites, falsify a clause of a study, its origin is a reason that refutes them
+-- where known literals of the size, of which no two are opposites, falsify a clause of a study, its origin is a reason that refutes them
 abbrev pub ClausesHaveReasons : Type 0
 ClausesHaveReasons = (size : Extent) → size.kind ≢ Sets → (axioms : List Titled) → IsTrue (list_all (is_sentence size) axioms) → (chosen : List ℕ) →
     (known : List Literal) → IsTrue (list_all (is_literal size) known) → HasNoPair known →
