@@ -95,7 +95,13 @@ holds_consistent size table (Above x y p) h =
     let lt : place r y < place r x = ltb-true (place r y) (place r x) h in
     le-ltb (place r x) (place r y) (omega arith)
 
--- a formula that is false under some literals is false of each rule of which they hold
-pub false_of_rules : (size : Extent) (table : List ℕ) (known : List Literal) (f : Tree) (env : List ℕ) → Hold (holds size table) known → partial_truth known (write_out size f env) ≡ False → is_true_at size table f env ≡ false
-false_of_rules size table known f env hold e =
-    truth_written size table f env ∙ subst (Agrees (evaluate (holds size table) (write_out size f env))) e (partial_agrees (holds size table) known (holds_consistent size table) hold (write_out size f env))
+-- what is known of a formula is right of each rule of which the known literals hold
+module _ (size : Extent) (table : List ℕ) (known : List Literal) (f : Tree) (env : List ℕ) (hold : Hold (holds size table) known) where
+  rule_agrees : (t : Three) → partial_truth known (write_out size f env) ≡ t → Agrees (evaluate (holds size table) (write_out size f env)) t
+  rule_agrees t e = subst (Agrees (evaluate (holds size table) (write_out size f env))) e (partial_agrees (holds size table) known (holds_consistent size table) hold (write_out size f env))
+
+  pub false_of_rules : partial_truth known (write_out size f env) ≡ False → is_true_at size table f env ≡ false
+  false_of_rules e = truth_written size table f env ∙ rule_agrees False e
+
+  pub true_of_rules : partial_truth known (write_out size f env) ≡ True → is_true_at size table f env ≡ true
+  true_of_rules e = truth_written size table f env ∙ rule_agrees True e

@@ -218,45 +218,46 @@ All-firsts P seen [] h = tt
 All-firsts P seen (s ∷ ss) h =
     elim (list_any (pointwise same_lit s.clause) seen) as (λ b. AllByRecursion P (cond b (firsts seen ss) (s ∷ firsts (s.clause ∷ seen) ss))) [ true ↦ All-firsts P seen ss h.1 | false ↦ (h.0, All-firsts P (s.clause ∷ seen) ss h.1) ]
 
-module _ (size : Extent) (known_kind : size.kind ≢ Sets) (axioms : List Titled) (sentences : list_all (is_sentence size) axioms ≡ true) (known : List Literal) (all_known : list_all (is_literal size) known ≡ true) (no_pair : HasNoPair known) where
+module _ (size : Extent) (known_kind : size.kind ≢ Sets) (axioms : List Titled) (sentences : list_all (is_sentence size) axioms ≡ true) (chosen : List ℕ) (known : List Literal) (all_known : list_all (is_literal size) known ≡ true) (no_pair : HasNoPair known) where
   abbrev Told : Sourced → Type 0
-  Told s = is_falsified (map (lit_of size) known) s.clause ≡ true → RefuteOrigin size axioms known s.origin
+  Told s = is_falsified (map (lit_of size) known) s.clause ≡ true → RefuteOrigin size axioms chosen known s.origin
 
   frame_told : (p : ℕ) → p < sort_count size Profile → AllByRecursion Told (from_frame size p)
   frame_told p in_p =
-      each_clause size known all_known (is_outcome_excluded size known p ≡ true) (λ c. record { clause = c; origin = Frame p }) (λ c. refl) (RefuteOrigin size axioms known) (λ c e. e)
+      each_clause size known all_known (is_outcome_excluded size known p ≡ true) (λ c. record { clause = c; origin = Frame p }) (λ c. refl) (RefuteOrigin size axioms chosen known) (λ c e. e)
       (frame_of size size.kind p) (right_here size p in_p (frame_of size size.kind p) (frame_here size p in_p size.kind)) (excluded size p in_p known_kind known)
 
   false_from : (t : Three) → t ≡ False → is_false t ≡ true
   false_from t e = ap is_false e
 
-  instance_told : (k i : ℕ) (a : Titled) → slice_get axioms k ≡ Some a → is_sorted size [] a.sentence ≡ true → i < instance_count size a.sentence → AllByRecursion Told (from_instance size k a.sentence i)
-  instance_told k i a is sorted lt =
+  instance_told : (k i : ℕ) (a : Titled) → slice_get axioms k ≡ Some a → is_sorted size [] a.sentence ≡ true → i < instance_count size a.sentence → list_any (λ c. c == k) chosen ≡ true → AllByRecursion Told (from_instance size k a.sentence i)
+  instance_told k i a is sorted lt inside =
       let values = digits_of (bases_of size a.sentence) i in
       let digits = (are_numbered (bases_of size a.sentence)).digits i lt in
       let facts = instance_literals size known_kind a.sentence sorted i lt in
-      each_clause size known all_known (is_instance_false size known (Some a) values ≡ true) (λ c. record { clause = c; origin = Instance k i }) (λ c. refl) (RefuteOrigin size axioms known)
-      (λ c e. subst (λ o. IfAxiom o (λ x. IsTrue (is_instance_false size known (Some x) (instance_values size x.sentence i)))) (sym is) e)
+      each_clause size known all_known (is_instance_false size known (Some a) values ≡ true) (λ c. record { clause = c; origin = Instance k i }) (λ c. refl) (RefuteOrigin size axioms chosen known)
+      (λ c e. subst (λ o. IfAxiom o (λ x. (i < instance_count size x.sentence) × IsTrue (list_any (λ d. d == k) chosen && is_instance_false size known o (instance_values size x.sentence i)))) (sym is) (lt, and_from _ _ inside e))
       (plus (instance_of size a.sentence i)) (rows_right size (instance_of size a.sentence i) facts).0
       (λ f. and_from _ _ digits (false_from _ ((clauses_decide known no_pair (instance_of size a.sentence i)).0 f)))
 
-  axiom_told : (k : ℕ) (o : Option Titled) → slice_get axioms k ≡ o → IfSorted size o → AllByRecursion Told (from_axiom size k o)
-  axiom_told k None is h = tt
-  axiom_told k (Some a) is h =
+  axiom_told : (k : ℕ) (o : Option Titled) → slice_get axioms k ≡ o → IfSorted size o → list_any (λ c. c == k) chosen ≡ true → AllByRecursion Told (from_axiom size k o)
+  axiom_told k None is h inside = tt
+  axiom_told k (Some a) is h inside =
       All-firsts Told [] (flat_map (from_instance size k a.sentence) (below (instance_count size a.sentence)))
-      (All-flat_map Told (from_instance size k a.sentence) (below (instance_count size a.sentence)) (all_numbers _ (instance_count size a.sentence) 0 (λ i lt. instance_told k i a is h (omega (arith, lt)))))
+      (All-flat_map Told (from_instance size k a.sentence) (below (instance_count size a.sentence)) (all_numbers _ (instance_count size a.sentence) 0 (λ i lt. instance_told k i a is h (omega (arith, lt)) inside)))
 
-  everywhere_told : (chosen : List ℕ) → AllByRecursion (λ (k : ℕ). AllByRecursion Told (from_axiom size k (slice_get axioms k))) chosen
-  everywhere_told [] = tt
-  everywhere_told (k ∷ chosen) = (axiom_told k (slice_get axioms k) refl (sorted_at size axioms k sentences), everywhere_told chosen)
+  everywhere_told : (places : List ℕ) → ((k : ℕ) → list_any (λ c. c == k) places ≡ true → list_any (λ c. c == k) chosen ≡ true) → AllByRecursion (λ (k : ℕ). AllByRecursion Told (from_axiom size k (slice_get axioms k))) places
+  everywhere_told [] inside = tt
+  everywhere_told (k ∷ places) inside =
+      (axiom_told k (slice_get axioms k) refl (sorted_at size axioms k sentences) (inside k (or_left _ _ (eq-eqb k k refl))), everywhere_told places (λ j h. inside j (or_right _ _ h)))
 
-  study_told : (chosen : List ℕ) → AllByRecursion Told (study_clauses size axioms chosen)
-  study_told chosen =
+  study_told : AllByRecursion Told (study_clauses size axioms chosen)
+  study_told =
       All-append Told (flat_map (from_frame size) (below (sort_count size Profile))) (flat_map (λ (k : ℕ). from_axiom size k (slice_get axioms k)) chosen)
       (All-flat_map Told (from_frame size) (below (sort_count size Profile)) (all_numbers _ (sort_count size Profile) 0 (λ p lt. frame_told p (omega (arith, lt)))))
-      (All-flat_map Told (λ (k : ℕ). from_axiom size k (slice_get axioms k)) chosen (everywhere_told chosen))
+      (All-flat_map Told (λ (k : ℕ). from_axiom size k (slice_get axioms k)) chosen (everywhere_told chosen (λ k h. h)))
 
 pub have_reasons : (size : Extent) → size.kind ≢ Sets → (axioms : List Titled) → list_all (is_sentence size) axioms ≡ true → (chosen : List ℕ) →
     (known : List Literal) → list_all (is_literal size) known ≡ true → HasNoPair known →
-    AllByRecursion (λ (s : Sourced). is_falsified (map (lit_of size) known) s.clause ≡ true → RefuteOrigin size axioms known s.origin) (study_clauses size axioms chosen)
-have_reasons size n axioms sentences chosen known all_known no_pair = study_told size n axioms sentences known all_known no_pair chosen
+    AllByRecursion (λ (s : Sourced). is_falsified (map (lit_of size) known) s.clause ≡ true → RefuteOrigin size axioms chosen known s.origin) (study_clauses size axioms chosen)
+have_reasons size n axioms sentences chosen known all_known no_pair = study_told size n axioms sentences chosen known all_known no_pair

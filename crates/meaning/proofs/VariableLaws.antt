@@ -1,11 +1,11 @@
 -- Literals of a size and the variables of its studies are one to one.
-use Rattle.std.proofs.Common.{◌%◌, ◌&&◌, ◌*◌, ◌+◌, ◌-◌, ◌/◌, ◌<◌, Bool, List, ap, ap₂, arith, cond, eq-eqb, eqb-true, false, inl, inr, le-ltb, length, lt-ltb, map, mul_comm, not, refl, subst, sym, true, true≢false, ℕ, ◌∙◌, ◌∷◌, ◌≡◌, ◌≢◌, ◌≤◌, []}
+use Rattle.std.proofs.Common.{◌%◌, ◌&&◌, ◌*◌, ◌+◌, ◌-◌, ◌/◌, ◌<◌, Bool, List, add-mul, ap, ap₂, arith, cond, eq-eqb, eqb-true, false, inl, inr, le-ltb, length, lt-ltb, map, mul_comm, not, refl, subst, sym, true, true≢false, ℕ, ◌∙◌, ◌∷◌, ◌≡◌, ◌≢◌, ◌≤◌, []}
 use Rattle.std.proofs.Math.Nat.{div-add-mod'}
 use Rattle.std.proofs.lemmas.Bool.{and_parts, both_ways, cases_order, or_cases, or_left, or_right}
 use Rattle.std.proofs.lemmas.Nat.{div-mul-add, div_below, mod-mul-add, mod_below, mul-add-lt}
 use Rattle.std.specs.List.{list_all}
 use Rattle.std.specs.Prelude.{nat_lt}
-use Rattle.vocab.specs.Literal.{has, opposite_of, same_literal}
+use Rattle.vocab.specs.Literal.{has, opposite_of, profile_of, same_literal}
 use Rattle.vocab.specs.Size.{Extent, sort_count}
 use Rattle.vocab.specs.declared.kinds.Kind.{Kind}
 use Rattle.vocab.specs.declared.kinds.Kind.TheVariants.{Choice, Ranking, Sets}
@@ -25,6 +25,9 @@ use Rattle.meaning.proofs.PairLaws.{pair_at, pair_found, pair_rises, place_of_pa
 -- the profile of a variable, and its place there
 split_at : (p n j k : ℕ) → j < n → k ≡ p * n + j → (k / n ≡ p) × (k % n ≡ j)
 split_at p n j k lt e = (ap (λ (x : ℕ). x / n) e ∙ div-mul-add p n j lt, ap (λ (x : ℕ). x % n) e ∙ mod-mul-add p n j lt)
+
+quotient : (p n v : ℕ) → p * n ≤ v → v < (p + 1) * n → v / n ≡ p
+quotient p n v low high = (split_at p n (v - p * n) v (omega (arith, add-mul p 1 n)) (omega arith)).0
 
 module _ (size : Extent) where
   -- ---- the variables of comparisons
@@ -181,6 +184,39 @@ module _ (size : Extent) where
       ]
   lit_of_literal Sets n v sign lt = absurd (n refl)
 
+  -- ---- the variables of a profile
+
+  pub lit-at : (k : Kind) (l : Literal) → is_literal_of size k l ≡ true → (profile_of l * bits k size.alternatives + 1 ≤ (lit_of size l).variable) × ((lit_of size l).variable ≤ (profile_of l + 1) * bits k size.alternatives)
+  lit-at Choice (Wins x p) h = let e = choice_in size x p h in (omega arith, omega (arith, add-mul p 1 size.alternatives))
+  lit-at Choice (Loses x p) h = let e = choice_in size x p h in (omega arith, omega (arith, add-mul p 1 size.alternatives))
+  lit-at Choice (Above x y p) h = absurd (true≢false (sym h))
+  lit-at Ranking (Wins x p) h = absurd (true≢false (sym h))
+  lit-at Ranking (Loses x p) h = absurd (true≢false (sym h))
+  lit-at Ranking (Above x y p) h =
+      let r = ranking_in size x y p h in
+      elim (cases_order x y) [
+        | inl e ↦ absurd (both_ways _ r.2 (eq-eqb x y e))
+        | inr o ↦ elim o [
+          | inl lt ↦ subst (λ (s : Signed). (p * length (pairs size.alternatives) + 1 ≤ s.variable) × (s.variable ≤ (p + 1) * length (pairs size.alternatives))) (sym (lit_up x y p lt)) (in_profile x y lt r.1)
+          | inr gt ↦ subst (λ (s : Signed). (p * length (pairs size.alternatives) + 1 ≤ s.variable) × (s.variable ≤ (p + 1) * length (pairs size.alternatives))) (sym (lit_down x y p gt)) (in_profile y x gt r.0)
+        ]
+      ]
+    where
+      in_profile : (a b : ℕ) → a < b → b < size.alternatives → (p * length (pairs size.alternatives) + 1 ≤ p * length (pairs size.alternatives) + 1 + pair_place size.alternatives a b) × (p * length (pairs size.alternatives) + 1 + pair_place size.alternatives a b ≤ (p + 1) * length (pairs size.alternatives))
+      in_profile a b lt in_b =
+          let c = length (pairs size.alternatives) in
+          let f : pair_place size.alternatives a b < c = (pair_found size.alternatives a b lt in_b).0 in
+          (omega arith, omega (arith, add-mul p 1 c))
+  lit-at Sets l h = absurd (true≢false (sym h))
+
+  profile_at : (k : Kind) (p v : ℕ) (sign : Bool) → p * bits k size.alternatives ≤ v → v < (p + 1) * bits k size.alternatives → profile_of (literal_at size k v sign) ≡ p
+  profile_at Choice p v sign low high =
+      let e = quotient p size.alternatives v low high in elim sign as (λ s. profile_of (literal_at size Choice v s) ≡ p) [ true ↦ e | false ↦ e ]
+  profile_at Ranking p v sign low high =
+      let e = quotient p (length (pairs size.alternatives)) v low high in elim sign as (λ s. profile_of (literal_at size Ranking v s) ≡ p) [ true ↦ e | false ↦ e ]
+  profile_at Sets p v sign low high =
+      let e = quotient p size.alternatives v low high in elim sign as (λ s. profile_of (literal_at size Sets v s) ≡ p) [ true ↦ e | false ↦ e ]
+
 pub are_variables : (size : Extent) → size.kind ≢ Sets → AreVariables size
 are_variables size n = record {
   in_range = lit-in size size.kind;
@@ -188,4 +224,6 @@ are_variables size n = record {
   of_literal = λ s low high. lit_of_literal size size.kind n (s.variable - 1) s.positive (omega (arith, low, high)) ∙ ap (λ (z : ℕ). let l : Signed = record { variable = z; positive = s.positive } in l) (omega (arith, low));
   of_variable = literal-lit_of size size.kind;
   opposite = lit_of-opposite size size.kind;
+  from_profile = lit-at size size.kind;
+  to_profile = λ p s low high. profile_at size size.kind p (s.variable - 1) s.positive (omega (arith, low, high)) (omega (arith, low, high));
 }

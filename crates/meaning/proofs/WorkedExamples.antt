@@ -1,5 +1,5 @@
 -- Worked examples, as the definitions compute them.
-use Rattle.std.proofs.Common.{◌≡◌, refl, ℕ, List, [], ◌∷◌, true, false, length, map, Option, Some, None}
+use Rattle.std.proofs.Common.{◌≡◌, ◌∙◌, ap, min, refl, ℕ, List, [], ◌∷◌, true, false, length, map, Option, Some, None}
 use Rattle.std.specs.Prelude.{codes}
 use Rattle.vocab.specs.declared.kinds.Kind.TheVariants.{Choice, Ranking}
 use Rattle.vocab.specs.declared.kinds.Sort.TheVariants.{Voter, Alt, Profile}
@@ -23,7 +23,7 @@ use Rattle.meaning.specs.declared.cores.Witness.TheVariants.{Rule, Open}
 use Rattle.meaning.specs.Cores.{is_core_right}
 use Rattle.meaning.specs.Instances.{is_instance_true}
 use Rattle.meaning.specs.declared.clauses.Counts.{Counts}
-use Rattle.meaning.specs.Measure.{plus_counts}
+use Rattle.meaning.specs.Measure.{largest, measure_of, plus_counts}
 use Rattle.meaning.specs.Space.{rankings, ballots}
 use Rattle.meaning.specs.Stories.{is_story}
 use Rattle.meaning.specs.StoryFaults.{story_refusal}
@@ -31,7 +31,8 @@ use Rattle.meaning.specs.StudyClauses.{from_frame, study_clauses}
 use Rattle.meaning.specs.Texts.{profile_text}
 use Rattle.meaning.specs.Tidy.{is_tidy}
 use Rattle.meaning.specs.Truth.{is_true_at}
-use Rattle.meaning.specs.Written.{write_out}
+use Rattle.meaning.specs.Written.{Written, write_out}
+use Rattle.meaning.proofs.MeasureLaws.{are_counts}
 
 -- rules that choose, and rules that rank, for n voters and m alternatives
 abbrev choice : ℕ → ℕ → Extent
@@ -115,13 +116,22 @@ equal_clauses_of_one_axiom_are_kept_once = refl
 -- ---- a body that is too wide
 
 -- some p: profile. (wins(@a, p) & wins(@b, with(p, #1, <bac>))): 2 ^ 36 clauses of 36 literals
-body_over_36_profiles : Counts
+body_over_36_profiles : Written
 body_over_36_profiles =
-    plus_counts (write_out (choice 2 3) (Exists Profile (Both (Leaf (WinsAt (Const 0) (Var 0))) (Leaf (WinsAt (Const 1) (With (Var 0) (Const 0) (Const 2)))))) [])
+    write_out (choice 2 3) (Exists Profile (Both (Leaf (WinsAt (Const 0) (Var 0))) (Leaf (WinsAt (Const 1) (With (Var 0) (Const 0) (Const 2)))))) []
 
-chain_of_36_conjunctions_has_68719476736_clauses_and_2473901162496_literals : body_over_36_profiles ≡ record { clauses = 68719476736; literals = 2473901162496 }
+-- by arithmetic
+chain_of_36_conjunctions_has_68719476736_clauses_and_2473901162496_literals : plus_counts body_over_36_profiles ≡ record { clauses = 68719476736; literals = 2473901162496 }
 unfolding body_over_36_profiles
 chain_of_36_conjunctions_has_68719476736_clauses_and_2473901162496_literals = refl
+
+-- and of the clauses, none of which is written down
+its_clauses_measure_68719476736_and_2473901162496 : measure_of body_over_36_profiles ≡ record { clauses = 68719476736; literals = 2473901162496 }
+its_clauses_measure_68719476736_and_2473901162496 =
+    ap ended ((are_counts body_over_36_profiles).0 ∙ chain_of_36_conjunctions_has_68719476736_clauses_and_2473901162496_literals)
+  where
+    ended : Counts → Counts
+    ended c = record { clauses = min c.clauses largest; literals = min c.literals largest }
 
 -- all p: profile. all q: profile. all x: alt. all y: alt. (all i: voter. (prefers(i, x, y, p) <-> prefers(i, x, y, q)) -> (ranks(x, y, p) <-> ranks(x, y, q)))
 abbrev independence : Tree

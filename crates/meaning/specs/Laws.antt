@@ -1,6 +1,6 @@
 -- What holds of these definitions: the statements of the laws. Each is proved as the contract of a function of the
--- same name in src/laws.rt; those on rankings, digits and Tarski's truth stand with their definitions.
-use Rattle.std.specs.Prelude.{◌≡◌, ◌≢◌, ℕ, ◌<◌, ◌≤◌, Bool, true, not, ◌&&◌, ◌↔◌, nat_lt, length, List, [], map, slice_get, Option, Some, None, IsTrue, IsFalse}
+-- same name in src/laws.rt; the statements of four stand with their definitions, in Rankings, Digits (two) and Tarski.
+use Rattle.std.specs.Prelude.{◌≡◌, ◌≢◌, ℕ, ◌<◌, ◌≤◌, ◌+◌, ◌*◌, Bool, true, not, ◌&&◌, ◌↔◌, nat_lt, length, List, [], map, slice_get, Option, Some, None, IsTrue, IsFalse}
 use Rattle.std.specs.List.{list_all, list_any, AllByRecursion}
 use Rattle.vocab.specs.declared.kinds.Kind.TheVariants.{Sets}
 use Rattle.vocab.specs.declared.kinds.Sort.{Sort}
@@ -17,17 +17,18 @@ use Rattle.cnf.specs.Signed.{Signed}
 use Rattle.cnf.specs.Sat.{opposite_lit, is_lit_true, is_satisfied, is_falsified}
 use Rattle.meaning.specs.declared.three.Three.TheVariants.{True, False}
 use Rattle.meaning.specs.declared.stories.Lemma.{Lemma}
+use Rattle.meaning.specs.declared.stories.Reason.TheVariants.{Axiom as ByAxiom, Outcome as ByOutcome}
 use Rattle.meaning.specs.Space.{below}
 use Rattle.meaning.specs.Truth.{value, is_rule, is_true_at, holds_of, holds, satisfies}
 use Rattle.meaning.specs.Instances.{instance_values, is_instance_true}
 use Rattle.meaning.specs.Literals.{is_literal}
 use Rattle.meaning.specs.Written.{Written, Known, Fact, Neg, And, Or, Iff, write_out, evaluate}
 use Rattle.meaning.specs.Kleene.{partial_truth}
-use Rattle.meaning.specs.Stories.{are_false, is_outcome_excluded, is_instance_false, has_literals, is_story}
+use Rattle.meaning.specs.Stories.{are_false, refutes, has_literals, is_story}
 use Rattle.meaning.specs.StoryFaults.{story_refusal}
 use Rattle.meaning.specs.Clauses.{Disjunction, plus, minus}
 use Rattle.meaning.specs.Measure.{plus_counts, minus_counts, counts_of}
-use Rattle.meaning.specs.Variables.{variable_count, lit_of, literal_of, bits_of}
+use Rattle.meaning.specs.Variables.{bits, variable_count, lit_of, literal_of, bits_of}
 use Rattle.meaning.specs.declared.clauses.Origin.{Origin}
 use Rattle.meaning.specs.declared.clauses.Origin.TheVariants.{Frame, Instance}
 use Rattle.meaning.specs.StudyClauses.{Sourced, frame_of, instance_of, study_clauses}
@@ -63,16 +64,22 @@ abbrev pub FormulasHaveLiterals : Type 0
 FormulasHaveLiterals = (size : Extent) → size.kind ≢ Sets → (sorts : List Sort) (env : List ℕ) → IsTrue (are_of_sorts size sorts env) →
     (f : Tree) → IsTrue (is_sorted size sorts f) → AllFacts (λ l. IsTrue (is_literal size l)) (write_out size f env)
 
+-- of an outcome in range exactly one of a literal of the size and its opposite holds
+abbrev pub OneOfOppositesHolds : Type 0
+OneOfOppositesHolds = (size : Extent) (o : ℕ) → o < outcome_count size.kind size.alternatives → (l : Literal) → IsTrue (is_literal size l) →
+    holds_of size o (opposite_of l) ≡ not (holds_of size o l)
+
 -- ---- partial truth and stories
 
 -- each known literal holds
 abbrev pub Hold : (Literal → Bool) → List Literal → Type 0
 Hold v known = (l : Literal) → IsTrue (has known l) → IsTrue (v l)
 
--- a formula that is false under some literals is false of each rule of which they hold
+-- a formula that is known to be false under some literals is false of each rule of which they hold, and one that is known to be true is true of it
 abbrev pub PartialTruthIsSound : Type 0
 PartialTruthIsSound = (size : Extent) (table : List ℕ) (known : List Literal) (f : Tree) (env : List ℕ) → Hold (holds size table) known →
-    partial_truth known (write_out size f env) ≡ False → IsFalse (is_true_at size table f env)
+    (partial_truth known (write_out size f env) ≡ False → IsFalse (is_true_at size table f env))
+    × (partial_truth known (write_out size f env) ≡ True → IsTrue (is_true_at size table f env))
 
 -- where a story is accepted, no rule satisfies the core
 abbrev pub AcceptedStoryHasNoRule : Type 0
@@ -90,7 +97,7 @@ FaultlessIsAccepted = (size : Extent) (axioms : List Titled) (core : List ℕ) (
 abbrev pub IsProper : (Literal → Bool) → Written → Type 0
 IsProper v w = AllFacts (λ l. v (opposite_of l) ≡ not (v l)) w
 
--- the plus clauses of a formula hold exactly where it is true, and the minus clauses exactly where it is false
+-- where opposites have opposite truth values, the plus clauses of a formula hold exactly where it is true, and the minus clauses exactly where it is false
 abbrev pub ClausesSayTruth : Type 0
 ClausesSayTruth = (v : Literal → Bool) (w : Written) → IsProper v w →
     (list_all (list_any v) (plus w) ≡ evaluate v w) × (list_all (list_any v) (minus w) ≡ not (evaluate v w))
@@ -103,7 +110,7 @@ HasNoPair known = (l : Literal) → IsTrue (has known l) → IsFalse (has known 
 abbrev pub some_false : List Literal → List Disjunction → Bool
 some_false known rows = list_any (are_false known) rows
 
--- where known literals falsify a plus clause of a formula it is known to be false, and where they falsify a minus clause it is known to be true
+-- where known literals, of which no two are opposites, falsify a plus clause of a formula it is known to be false, and where they falsify a minus clause it is known to be true
 abbrev pub ClausesDecide : Type 0
 ClausesDecide = (known : List Literal) → HasNoPair known → (w : Written) →
     (IsTrue (some_false known (plus w)) → partial_truth known w ≡ False) × (IsTrue (some_false known (minus w)) → partial_truth known w ≡ True)
@@ -119,13 +126,17 @@ FormulasHaveCounts = (w : Written) → (counts_of (plus w) ≡ plus_counts w) ×
 
 -- ---- literals and variables
 
--- the literals of a size and the variables of its studies, with signs, are one to one, and opposites are opposites
+-- the literals of a size and the variables of its studies, with signs, are one to one, and opposites are opposites; those of profile p are the variables from p * n + 1 to (p + 1) * n, where a profile has n
 pub record AreVariables (size : Extent) : Type 0 where
   pub in_range : (l : Literal) → IsTrue (is_literal size l) → (1 ≤ (lit_of size l).variable) × ((lit_of size l).variable ≤ variable_count size)
   pub literal : (s : Signed) → 1 ≤ s.variable → s.variable ≤ variable_count size → IsTrue (is_literal size (literal_of size s))
   pub of_literal : (s : Signed) → 1 ≤ s.variable → s.variable ≤ variable_count size → lit_of size (literal_of size s) ≡ s
   pub of_variable : (l : Literal) → IsTrue (is_literal size l) → literal_of size (lit_of size l) ≡ l
   pub opposite : (l : Literal) → IsTrue (is_literal size l) → lit_of size (opposite_of l) ≡ opposite_lit (lit_of size l)
+  pub from_profile : (l : Literal) → IsTrue (is_literal size l) →
+      (profile_of l * bits size.kind size.alternatives + 1 ≤ (lit_of size l).variable) × ((lit_of size l).variable ≤ (profile_of l + 1) * bits size.kind size.alternatives)
+  pub to_profile : (p : ℕ) (s : Signed) → p * bits size.kind size.alternatives + 1 ≤ s.variable → s.variable ≤ (p + 1) * bits size.kind size.alternatives →
+      profile_of (literal_of size s) ≡ p
 
 -- of each size of a kind that has literals
 abbrev pub LiteralsAreVariables : Type 0
@@ -203,13 +214,14 @@ abbrev pub IfAxiom : Option Titled → (Titled → Type 0) → Type 0
 IfAxiom None P = ⊥
 IfAxiom (Some a) P = P a
 
--- the origin of a clause is a reason that refutes the known literals
-abbrev pub RefuteOrigin : Extent → List Titled → List Literal → Origin → Type 0
-RefuteOrigin size axioms known (Frame p) = IsTrue (is_outcome_excluded size known p)
-RefuteOrigin size axioms known (Instance place k) = IfAxiom (slice_get axioms place) (λ a. IsTrue (is_instance_false size known (Some a) (instance_values size a.sentence k)))
+-- the origin of a clause is a reason that refutes the known literals, in a story whose core is the chosen axioms: the profile of a frame; the place of an axiom with the values of its instance k, which there is
+abbrev pub RefuteOrigin : Extent → List Titled → List ℕ → List Literal → Origin → Type 0
+RefuteOrigin size axioms chosen known (Frame p) = IsTrue (refutes size axioms chosen [] known (ByOutcome p))
+RefuteOrigin size axioms chosen known (Instance place k) = IfAxiom (slice_get axioms place) (λ a.
+    (k < instance_count size a.sentence) × IsTrue (refutes size axioms chosen [] known (ByAxiom place (instance_values size a.sentence k))))
 
--- where known literals falsify a clause of a study, its origin is a reason that refutes them
+-- where known literals of the size, of which no two are opposites, falsify a clause of a study, its origin is a reason that refutes them
 abbrev pub ClausesHaveReasons : Type 0
 ClausesHaveReasons = (size : Extent) → size.kind ≢ Sets → (axioms : List Titled) → IsTrue (list_all (is_sentence size) axioms) → (chosen : List ℕ) →
     (known : List Literal) → IsTrue (list_all (is_literal size) known) → HasNoPair known →
-    AllByRecursion (λ (s : Sourced). IsTrue (is_falsified (map (lit_of size) known) s.clause) → RefuteOrigin size axioms known s.origin) (study_clauses size axioms chosen)
+    AllByRecursion (λ (s : Sourced). IsTrue (is_falsified (map (lit_of size) known) s.clause) → RefuteOrigin size axioms chosen known s.origin) (study_clauses size axioms chosen)

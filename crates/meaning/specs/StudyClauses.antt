@@ -81,7 +81,7 @@ module _ (size : Extent) where
   from_axiom place None = []
   from_axiom place (Some a) = firsts [] (flat_map (from_instance place a.sentence) (below (instance_count size a.sentence)))
 
-  -- the clauses of a study for chosen axioms: the frames by profile, and then the axioms
+  -- the clauses of a study for chosen axioms: the frames by profile, and then the axioms in the order of the places chosen, which callers give rising
   abbrev pub study_clauses : List Titled → List ℕ → List Sourced
   study_clauses axioms chosen =
       flat_map from_frame (below (sort_count size Profile)) ++ flat_map (λ place. from_axiom place (slice_get axioms place)) chosen

@@ -3,7 +3,7 @@
 ghost use Rattle.meaning.specs.Rankings.{AreAllRankings};
 ghost use Rattle.meaning.specs.Digits.{AreAllNumbered, AreProfiles};
 ghost use Rattle.meaning.specs.Tarski.{IsTarskis};
-ghost use Rattle.meaning.specs.Laws.{TermsHaveValues, SentencesHaveInstances, TruthIsWritten, FormulasHaveLiterals, PartialTruthIsSound, AcceptedStoryHasNoRule, FaultlessIsAccepted, ClausesSayTruth, ClausesDecide, ClausesOfIff, FormulasHaveCounts, LiteralsAreVariables, RulesHaveBits, FramesSayOutcome, ClausesSayStudy, AssignmentsAreRules, ClausesAreSatisfiable, ClausesHaveReasons};
+ghost use Rattle.meaning.specs.Laws.{TermsHaveValues, SentencesHaveInstances, TruthIsWritten, FormulasHaveLiterals, OneOfOppositesHolds, PartialTruthIsSound, AcceptedStoryHasNoRule, FaultlessIsAccepted, ClausesSayTruth, ClausesDecide, ClausesOfIff, FormulasHaveCounts, LiteralsAreVariables, RulesHaveBits, FramesSayOutcome, ClausesSayStudy, AssignmentsAreRules, ClausesAreSatisfiable, ClausesHaveReasons};
 
 /// The rankings are all strict rankings, each once, in lexicographic order.
 pub fn rankings_are_all()
@@ -45,7 +45,12 @@ pub fn formulas_have_literals()
     ensures { FormulasHaveLiterals }
 {}
 
-/// A formula that is false under some literals is false of each rule of which they hold.
+/// Of an outcome exactly one of a literal of the size and its opposite holds.
+pub fn one_of_opposites_holds()
+    ensures { OneOfOppositesHolds }
+{}
+
+/// A formula that is known to be false under some literals is false of each rule of which they hold, and one that is known to be true is true of it.
 pub fn partial_truth_is_sound()
     ensures { PartialTruthIsSound }
 {}
@@ -60,12 +65,12 @@ pub fn faultless_is_accepted()
     ensures { FaultlessIsAccepted }
 {}
 
-/// The plus clauses of a formula hold exactly where it is true, and the minus clauses exactly where it is false.
+/// Where opposites have opposite truth values, the plus clauses of a formula hold exactly where it is true, and the minus clauses exactly where it is false.
 pub fn clauses_say_truth()
     ensures { ClausesSayTruth }
 {}
 
-/// Where known literals falsify a clause of a formula, they decide the formula.
+/// Where known literals, of which no two are opposites, falsify a clause of a formula, they decide the formula.
 pub fn clauses_decide()
     ensures { ClausesDecide }
 {}
@@ -80,12 +85,12 @@ pub fn formulas_have_counts()
     ensures { FormulasHaveCounts }
 {}
 
-/// The literals of a size and the variables of its studies, with signs, are one to one.
+/// The literals of a size and the variables of its studies, with signs, are one to one, profile by profile.
 pub fn literals_are_variables()
     ensures { LiteralsAreVariables }
 {}
 
-/// The bits of a rule give each literal the truth value that it has of the rule.
+/// The bits of a rule give each literal of the size the truth value that it has of the rule.
 pub fn rules_have_bits()
     ensures { RulesHaveBits }
 {}
@@ -110,7 +115,7 @@ pub fn clauses_are_satisfiable()
     ensures { ClausesAreSatisfiable }
 {}
 
-/// Where known literals falsify a clause of a study, its origin is a reason that refutes them.
+/// Where known literals of the size, of which no two are opposites, falsify a clause of a study, its origin is a reason of a story that refutes them.
 pub fn clauses_have_reasons()
     ensures { ClausesHaveReasons }
 {}

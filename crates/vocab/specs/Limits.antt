@@ -13,6 +13,7 @@ term_depth (SwapVoters p i j) = max (term_depth p) (max (term_depth i) (term_dep
 term_depth (SwapAlts p x y) = max (term_depth p) (max (term_depth x) (term_depth y)) + 1
 term_depth (Swap x y z) = max (term_depth x) (max (term_depth y) (term_depth z)) + 1
 
+-- an atom is one deeper than the deepest of its terms
 abbrev pub atom_depth : AtomTree → ℕ
 atom_depth (Equal s t) = max (term_depth s) (term_depth t) + 1
 atom_depth (Prefers i x y p) = max (max (term_depth i) (term_depth x)) (max (term_depth y) (term_depth p)) + 1
@@ -22,6 +23,7 @@ atom_depth (Majority x y p) = max (term_depth x) (max (term_depth y) (term_depth
 atom_depth (WinsAt x p) = max (term_depth x) (term_depth p) + 1
 atom_depth (Ranks x y p) = max (term_depth x) (max (term_depth y) (term_depth p)) + 1
 
+-- a formula is as deep as its atom, or one deeper than the deepest of its parts
 abbrev pub depth : Tree → ℕ
 depth (Leaf a) = atom_depth a
 depth (Not f) = depth f + 1
@@ -36,6 +38,7 @@ depth (Exists s f) = depth f + 1
 abbrev pub bases_of : Extent → Tree → List ℕ
 bases_of size sentence = map (sort_count size) (prefix_of sentence)
 
+-- the product of some numbers, which for none is 1
 abbrev pub product : List ℕ → ℕ
 product [] = 1
 product (b ∷ bases) = b * product bases
@@ -55,6 +58,7 @@ atom_count size (Same f g) = atom_count size f + atom_count size g
 atom_count size (All s f) = sort_count size s * atom_count size f
 atom_count size (Exists s f) = sort_count size s * atom_count size f
 
+-- the limits of the bench: depth 64, 20,000,000 instances, 1,000,000 atoms in the body and 200,000,000 in the whole
 abbrev pub is_within_limits : Extent → Tree → Bool
 is_within_limits size f =
     nat_le (depth f) 64 && nat_le (instance_count size f) 20000000 && nat_le (atom_count size (body_of f)) 1000000 && nat_le (atom_count size f) 200000000

@@ -16,6 +16,7 @@ mutual
     NoArguments : NamedTermTrees
     Argument : NamedTermTree → NamedTermTrees → NamedTermTrees
 
+-- a predicate at its arguments, an equation, the connectives, and the two quantifiers with a name and a sort
 pub data NamedTree : Type 0 where
   Pred : (name : List ℕ) → NamedTermTrees → NamedTree
   Equal : (s t : NamedTermTree) → NamedTree

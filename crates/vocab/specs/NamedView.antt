@@ -21,13 +21,15 @@ term_step (NamedTerm-F.Alt number) = tree.Alt number
 term_step (NamedTerm-F.Ballot letters) = tree.Ballot letters
 term_step (NamedTerm-F.Call name arguments) = tree.Call name arguments
 
+-- the arguments of a call from the trees of its terms
 abbrev pub terms_step : Terms-F NamedTermTree NamedTermTrees → NamedTermTrees
 terms_step terms = arguments_of terms.items.items
 
--- the tree of a term, and of the arguments of a call
+-- the tree of a term
 abbrev pub named_term_tree : NamedTerm → NamedTermTree
 named_term_tree = fold-NamedTerm NamedTermTree NamedTermTrees term_step terms_step
 
+-- the trees of the arguments of a call
 abbrev pub named_terms_tree : Terms → NamedTermTrees
 named_terms_tree = fold-Terms NamedTermTree NamedTermTrees term_step terms_step
 
