@@ -6,8 +6,12 @@ fn space(rt: &impl Abort, voters: i64, alternatives: i64) -> Space {
     Space::new(Size::check(Kind::Choice, voters, alternatives).expect(rt, "a size"))
 }
 
+/// Takes what workers on several threads may read.
+fn share<T: Send + Sync>(_shared: &T) {}
+
 #[test]
 fn texts_and_numbers(rt: HostRuntime) {
+    share(&space(&rt, 2, 2));
     let rows: [(i64, i64, u32, &[u8]); 16] = [
         (2, 2, 0, b"ab|ab"),
         (2, 2, 1, b"ab|ba"),

@@ -6,6 +6,9 @@ use crate::{
 };
 use std::test::Fail;
 
+/// Takes what workers on several threads may read.
+fn share<T: Send + Sync>(_shared: &T) {}
+
 #[test]
 fn names_have_1_to_32_bytes_of_their_shape(rt: HostRuntime) {
     for text in ["a", "z9_", "a23456789_123456789_123456789_12"] {
@@ -114,6 +117,10 @@ fn studies_keep_their_parts(rt: HostRuntime) -> Result<(), Fail> {
     assert_eq!(rt; study.size(), size);
     assert_eq!(rt; study.conflicts(), 1);
     assert!(rt; study.axioms().is_empty());
+    share(&size);
+    share(axiom.sentence());
+    share(&axiom);
+    share(&study);
     Ok(())
 }
 
