@@ -26,7 +26,7 @@ same_place text m n s t =
 few_or_many : (text : List ℕ) (ks ls : List Lexeme) → AreFew text ks → IsLexed text ls → 600 < length ls → ⊥
 few_or_many text ks ls a d h = let few = a.few in let same = ap length (same_lexemes text ks ls a.lexed d) in omega arith
 
-same_tree : (text : List ℕ) (f g : NamedTree) → HasReading text f → HasReading text g → f ≡ g
+pub same_tree : (text : List ℕ) (f g : NamedTree) → HasReading text f → HasReading text g → f ≡ g
 same_tree text f g r s = one_reading r.reads (subst (λ l. Reads l g) (same_lexemes text s.lexemes r.lexemes s.are.lexed r.are.lexed) s.reads)
 
 read_or_not : (text : List ℕ) (ls : List Lexeme) (f : NamedTree) → AreFew text ls → ((g : NamedTree) → Reads ls g → ⊥) → HasReading text f → ⊥

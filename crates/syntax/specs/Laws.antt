@@ -5,7 +5,11 @@ use Rattle.syntax.specs.declared.faults.SyntaxFault.{SyntaxFault}
 use Rattle.syntax.specs.declared.lexemes.Lexeme.{Lexeme}
 use Rattle.syntax.specs.Canonical.{text_of}
 use Rattle.syntax.specs.Lexemes.{IsLexed}
-use Rattle.syntax.specs.Sentence.{IsAnswer, IsSentence}
+use Rattle.syntax.specs.Sentence.{HasReading, IsAnswer, IsSentence}
+
+-- two trees that one text reads as are the same
+abbrev pub HaveOneReading : Type 0
+HaveOneReading = (text : List ℕ) (f g : NamedTree) → HasReading text f → HasReading text g → f ≡ g
 
 -- two answers of one text are the same
 abbrev pub HaveOneAnswer : Type 0

@@ -1,6 +1,11 @@
 //! What holds of all texts of sentences.
 
-ghost use Rattle.syntax.specs.Laws.{HaveOneAnswer, AreReadBack};
+ghost use Rattle.syntax.specs.Laws.{HaveOneReading, HaveOneAnswer, AreReadBack};
+
+/// A text reads as at most one tree, whatever its depth and its quantifiers.
+pub fn texts_have_one_reading()
+    ensures { HaveOneReading }
+{}
 
 /// A text has at most one answer, want of memory aside. So each refusal comes exactly where it holds.
 pub fn texts_have_one_answer()

@@ -64,6 +64,7 @@ fn after(lexemes: &[Lexeme], mark: Lexeme) -> Option<&[Lexeme]>
 
 /// The term that the lexemes begin with, and what follows it.
 #[cycle(terms)]
+#[inline(never)]
 fn term(alloc: Global, lexemes: &[Lexeme]) -> Result<(NamedTerm, &[Lexeme]), Stop>
     ensures found { IfOk result (λ x. TermAt lexemes.now (named_term_tree x.0) x.1.now) }
     ensures none { IsErrOf result Stop.NoReading → NoTerm lexemes.now }
@@ -93,6 +94,7 @@ fn term(alloc: Global, lexemes: &[Lexeme]) -> Result<(NamedTerm, &[Lexeme]), Sto
 
 /// The terms up to the closing mark, which go to the end of `parts`.
 #[cycle(terms)]
+#[inline(never)]
 fn terms<'a>(alloc: Global, lexemes: &'a [Lexeme], parts: &mut Terms) -> Result<&'a [Lexeme], Stop>
     ensures found { IfOk result
         (λ rest. ListAt lexemes.now (named_terms_tree parts.old) (named_terms_tree parts.new) rest.now) }

@@ -130,8 +130,8 @@ fn only_the_grammar_is_read(rt: HostRuntime) {
 #[test]
 fn limits_are_kept(rt: HostRuntime) -> Result<(), Fail> {
     let alloc = rt.alloc();
-    let cases: [(&[u8], &[u8], u16, &[u8], Option<SyntaxFault>); 18] = [
-        // Depth 64 and 65, with formulas and with terms; 600 and 601 lexemes.
+    let cases: [(&[u8], &[u8], u16, &[u8], Option<SyntaxFault>); 22] = [
+        // Depth 64 and 65 by formulas; 600 and 601 lexemes.
         (b"all p: profile. ", b"!", 61, b"wins(@a, p)", None),
         (
             b"all p: profile. ",
@@ -154,7 +154,8 @@ fn limits_are_kept(rt: HostRuntime) -> Result<(), Fail> {
             b"wins(@a, p)",
             Some(SyntaxFault::Long(601)),
         ),
-        (b"x = ", b"f(@a, ", 62, b"", Some(SyntaxFault::NoReading)),
+        // The deepest nesting of terms that 600 lexemes allow.
+        (b"x = ", b"f(", 299, b"", Some(SyntaxFault::NoReading)),
         (b"@a = f(x", b", x", 297, b")", None),
         (b"@a = f(x", b", x", 298, b")", Some(SyntaxFault::Long(602))),
         // Signs and brackets alone.
@@ -163,11 +164,22 @@ fn limits_are_kept(rt: HostRuntime) -> Result<(), Fail> {
         (b"", b"!", 601, b"", Some(SyntaxFault::Long(601))),
         (b"", b"(", 60000, b"", Some(SyntaxFault::Long(60000))),
         (b"", b"!", 700, b"?", Some(SyntaxFault::Lexeme(700))),
+        // `#12a` and `@a@` are two lexemes each, `<->` is one.
+        (b"", b"#12a ", 301, b"", Some(SyntaxFault::Long(602))),
+        (b"", b"@a@b", 301, b"", Some(SyntaxFault::Long(602))),
+        (b"", b"<->", 601, b"", Some(SyntaxFault::Long(601))),
         // 12 and 13 quantifiers on a path, on two paths, and where the depth is above 64 too.
         (b"", b"all x: alt. ", 12, b"x = x", None),
         (
             b"",
             b"some x: alt. ",
+            13,
+            b"x = x",
+            Some(SyntaxFault::Variables),
+        ),
+        (
+            b"",
+            b"all x: alt. ",
             13,
             b"x = x",
             Some(SyntaxFault::Variables),
@@ -222,6 +234,13 @@ fn canonical_texts_are_printed(rt: HostRuntime) -> Result<(), Fail> {
         assert_eq!(rt; print(&read(rt.alloc(), text)?, &mut sink), Ok(()));
         assert_eq!(rt; sink.bytes(), wanted);
     }
+    // The sink has room for three bytes.
+    let mut sink = MemorySink::new(rt.alloc(), 3, &[])?;
+    assert_eq!(rt;
+        print(&read(rt.alloc(), b"(a=a&b=b)")?, &mut sink),
+        Err(Failed)
+    );
+    assert_eq!(rt; sink.bytes(), b"(a ".as_slice());
     // The third write fails.
     let mut sink = MemorySink::new(rt.alloc(), 100, &[2])?;
     assert_eq!(rt;
