@@ -1,6 +1,9 @@
 // The baseline of measure/check.sh: the test of a report that holds a rule, in plain Rust, with nothing proved.
 // It does what `bench check` does over such a study: reads the report, cuts its lines off one by one, and tests
 // unanimity and Pareto at each instance by one recursion over the sentence's tree.
+mod rankings;
+
+use rankings::rankings;
 use std::{env, fs, process};
 
 enum Sort { Voter, Alt, Profile }
@@ -20,21 +23,6 @@ enum Formula {
 use Formula::*;
 
 struct Space { voters: u32, alternatives: u32, ballots: u32, profiles: u32, weights: Vec<u32>, rankings: Vec<Vec<u8>>, places: Vec<Vec<u8>> }
-
-fn rankings(items: &[u8]) -> Vec<Vec<u8>> {
-    if items.is_empty() { return vec![vec![]]; }
-    let mut all = Vec::new();
-    for (i, x) in items.iter().enumerate() {
-        let mut others = items.to_vec();
-        others.remove(i);
-        for rest in rankings(&others) {
-            let mut ranking = vec![*x];
-            ranking.extend(rest);
-            all.push(ranking);
-        }
-    }
-    all
-}
 
 impl Space {
     fn new(voters: u32, alternatives: u32) -> Space {

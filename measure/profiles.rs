@@ -1,23 +1,11 @@
 // The baseline of measure/profiles.sh: the calls of a space in plain Rust, with nothing proved. It numbers profiles and
 // ballots in the same way, with places and rankings of ballots in tables and a weight for each voter.
+mod rankings;
+
+use rankings::rankings;
 use std::time::Instant;
 
 struct Space { voters: u32, alternatives: u32, ballots: u32, profiles: u32, weights: [u32; 8], rankings: Vec<[u8; 5]>, places: Vec<[u8; 5]>, exchanged: Vec<Vec<u8>> }
-
-fn rankings(items: &[u8]) -> Vec<Vec<u8>> {
-    if items.is_empty() { return vec![vec![]]; }
-    let mut all = Vec::new();
-    for (i, x) in items.iter().enumerate() {
-        let mut others = items.to_vec();
-        others.remove(i);
-        for rest in rankings(&others) {
-            let mut ranking = vec![*x];
-            ranking.extend(rest);
-            all.push(ranking);
-        }
-    }
-    all
-}
 
 impl Space {
     fn new(voters: u32, alternatives: u32) -> Space {
