@@ -6,7 +6,7 @@ use Rattle.vocab.specs.Terms.{terms_of}
 use Rattle.vocab.specs.NamedView.{named_term_tree, named_terms_tree, arguments_of}
 use Rattle.vocab.specs.declared.named.NamedTerm.{NamedTerm}
 use Rattle.vocab.specs.declared.named.Terms.{Terms}
-use Rattle.syntax.specs.Depth.{term_depth, terms_depth}
+use Rattle.vocab.specs.NamedDepth.{term_depth, terms_depth}
 use Rattle.syntax.proofs.Views.{named_terms_tree-items}
 
 abbrev pub list_depth : List NamedTerm → ℕ

@@ -7,7 +7,7 @@ use Rattle.syntax.specs.declared.faults.SyntaxFault.TheVariants as fault
 use Rattle.syntax.specs.Lexemes.{IsLexed, IsStuck}
 use Rattle.syntax.specs.Grammar.{Reads}
 use Rattle.syntax.specs.Sentence.{AreFew, HasReading, IsAnswer}
-use Rattle.syntax.specs.Depth.{depth, quantifiers}
+use Rattle.vocab.specs.NamedDepth.{depth, quantifiers}
 use Rattle.syntax.proofs.Unique.{one_reading}
 use Rattle.syntax.proofs.Lexings.{one_halt}
 

@@ -7,7 +7,7 @@ use Rattle.vocab.specs.NamedView.{named_term_tree, named_terms_tree, arguments_o
 use Rattle.vocab.specs.declared.named.NamedTerm.{NamedTerm}
 use Rattle.vocab.specs.declared.named.Terms.{Terms}
 use Rattle.syntax.specs.Canonical.{term_text, list_text, more_text}
-use Rattle.syntax.specs.Depth.{term_depth, terms_depth}
+use Rattle.vocab.specs.NamedDepth.{term_depth, terms_depth}
 use Rattle.syntax.specs.Told.{IsWritten, IsPartWritten}
 use Rattle.syntax.proofs.Views.{named_terms_tree-items}
 use Rattle.syntax.proofs.Depths.{member_depth}

@@ -1,6 +1,5 @@
 pub mod Lexemes
 pub mod Grammar
-pub mod Depth
 pub mod Sentence
 pub mod Canonical
 pub mod Scanning

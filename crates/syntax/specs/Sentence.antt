@@ -5,7 +5,7 @@ use Rattle.syntax.specs.declared.lexemes.Lexeme.{Lexeme}
 use Rattle.syntax.specs.declared.faults.SyntaxFault.{SyntaxFault}
 use Rattle.syntax.specs.declared.faults.SyntaxFault.TheVariants as fault
 use Rattle.syntax.specs.Lexemes.{IsLexed, IsStuck}
-use Rattle.syntax.specs.Depth.{depth, quantifiers}
+use Rattle.vocab.specs.NamedDepth.{depth, quantifiers}
 use Rattle.syntax.specs.Grammar.{Reads}
 
 -- the text's lexemes, where there are few enough

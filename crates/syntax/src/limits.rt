@@ -2,7 +2,7 @@
 
 ghost use Rattle.std.specs.Prelude.{◌≡◌, ◌≤◌, nat_le};
 ghost use Rattle.vocab.specs.NamedView.{named_term_tree, named_terms_tree, named_tree};
-ghost use Rattle.syntax.specs.Depth.{term_depth, terms_depth, depth, quantifiers};
+ghost use Rattle.vocab.specs.NamedDepth.{term_depth, terms_depth, depth, quantifiers};
 
 use vocab::{Named, NamedTerm, Terms};
 

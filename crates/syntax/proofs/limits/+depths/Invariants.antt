@@ -1,7 +1,7 @@
 use Rattle.std.proofs.Common.{◌+◌, ◌*◌, ◌≤◌, take, map}
 use Rattle.vocab.specs.Terms.{terms_of}
 use Rattle.vocab.specs.NamedView.{named_term_tree, arguments_of}
-use Rattle.syntax.specs.Depth.{terms_depth}
+use Rattle.vocab.specs.NamedDepth.{terms_depth}
 use Rattle.syntax.proofs.limits.+depths.Given as goal
 
 abbrev pub decreases-term_fits : goal.decreases-term_fits

@@ -1,6 +1,6 @@
 use Rattle.std.proofs.Common.{◌+◌, ◌*◌, max}
 use Rattle.vocab.specs.NamedView.{named_tree}
-use Rattle.syntax.specs.Depth.{depth}
+use Rattle.vocab.specs.NamedDepth.{depth}
 use Rattle.syntax.proofs.printer.+print_formulas.Given as goal
 
 abbrev pub decreases-print_formula : goal.decreases-print_formula

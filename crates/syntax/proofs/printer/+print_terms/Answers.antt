@@ -1,7 +1,7 @@
 use Rattle.std.proofs.Common.{arith, ◌≤◌, [], ◌∷◌, codes}
 use Rattle.vocab.specs.NamedView.{named_term_tree, named_terms_tree}
 use Rattle.syntax.specs.Canonical.{list_text}
-use Rattle.syntax.specs.Depth.{term_depth, terms_depth}
+use Rattle.vocab.specs.NamedDepth.{term_depth, terms_depth}
 use Rattle.syntax.proofs.Telling.{cut, stops_next, goes_on, whole_is_part}
 use Rattle.syntax.proofs.Texts.{list_begins, list_goes_on, list_ends, list_stops_first, list_stops_comma, list_stops_next, empty_list, get_depth}
 use Rattle.syntax.proofs.printer.+print_terms.Goals as goal

@@ -1,6 +1,6 @@
 use Rattle.std.proofs.Common.{◌+◌, ◌*◌, ◌≤◌}
 use Rattle.vocab.specs.NamedView.{named_term_tree, named_terms_tree}
-use Rattle.syntax.specs.Depth.{term_depth, terms_depth}
+use Rattle.vocab.specs.NamedDepth.{term_depth, terms_depth}
 use Rattle.syntax.proofs.Texts.{AreWritten}
 use Rattle.syntax.proofs.printer.+print_terms.Given as goal
 
