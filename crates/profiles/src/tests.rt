@@ -61,12 +61,23 @@ fn ballots(rt: HostRuntime) {
 #[test]
 fn refusals(rt: HostRuntime) {
     let space = space(&rt, 2, 2);
-    let texts: [&[u8]; 11] = [
-        b"", b"ab", b"ab|", b"ab|ab|", b"ab|ac", b"aa|ab", b"AB|ab", b"ab||ab", b"ab|abc",
-        b"ab/ab", b"|ab|ab",
+    let texts: [&[u8]; 14] = [
+        b"", b"ab", b"ab|", b"|ab", b"ab|ab|", b"ab|ac", b"aa|ab", b"AB|ab", b"ab||ab", b"ab|abc",
+        b"ab/ab", b"|ab|ab", b"ab| ab", b"ab|ab ",
     ];
     for text in texts {
         assert_eq!(rt; space.read_profile(text), Err(NotAProfile));
+    }
+}
+
+#[test]
+fn every_number_is_that_of_its_text(rt: HostRuntime) {
+    for (voters, alternatives) in [(1, 1), (1, 5), (8, 2), (2, 5), (5, 3)] {
+        let space = space(&rt, voters, alternatives);
+        for p in 0..space.count() {
+            let text = space.profile_text(p);
+            assert_eq!(rt; space.read_profile(text.bytes()), Ok(p), "profile {p}");
+        }
     }
 }
 
@@ -140,6 +151,19 @@ fn changes(rt: HostRuntime) {
     for (z, other) in [(0, 1), (1, 0), (2, 2)] {
         assert!(rt; z < 3);
         assert_eq!(rt; space.swap(0, 1, z), other, "at {z}");
+    }
+}
+
+#[test]
+fn two_exchanges_of_two_alternatives_are_none(rt: HostRuntime) {
+    let space = space(&rt, 2, 3);
+    assert!(rt; space.size().alternatives() == 3);
+    for p in 0..space.count() {
+        for (x, y) in [(0, 1), (0, 2), (1, 2), (1, 1)] {
+            assert!(rt; x < 3 && y < 3);
+            let once = space.swap_alts(p, x, y);
+            assert_eq!(rt; space.swap_alts(once, x, y), p, "profile {p}");
+        }
     }
 }
 
