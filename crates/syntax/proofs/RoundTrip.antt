@@ -17,6 +17,7 @@ use Rattle.syntax.specs.declared.lexemes.Lexeme.TheVariants as lexeme
 use Rattle.syntax.specs.Grammar.{IsFree, IsTerm, IsTerms, variable, call, voter, alternative, ballot, last_term, more_terms, pred, equal, IsFormula, quantified, negation, group, atom, IsChain, last_part, more_parts, joined, bound, word_of_sort}
 use Rattle.syntax.specs.Lexemes.{IsLexed, IsSpelled, IsVoterText, IsBallotText, IsRunEnd, Lexes, no_more, blank, one_more, starts_without}
 use Rattle.syntax.specs.Sentence.{IsSentence}
+use Rattle.vocab.specs.NamedDepth.{depth, quantifiers}
 use Rattle.syntax.specs.Canonical.{decimal, term_text, more_text, text_of}
 
 -- ---- trees of which each part has a spelling
@@ -351,12 +352,19 @@ tree_lexed (tree.Exists n s f) tail ls end w stop d =
     subst (λ x. Lexes x (tree_lexemes (tree.Exists n s f) ls) end) (sym (bound_text (codes "some ") n (word_of_sort s) (text_of f) tail))
     (bound_lexed (codes "some") n (text_of f) tail s (tree_lexemes f ls) end some_word w.1 (tree_lexed f tail ls end w.2 stop d))
 
+-- the canonical text is the canonical lexemes
+pub text_lexed : (f : NamedTree) → IsWritable f → IsLexed (text_of f) (tree_lexemes f [])
+text_lexed f w = subst (λ x. Lexes x (tree_lexemes f []) []) (append-nil (text_of f)) (tree_lexed f [] [] [] w refl no_more)
+
+-- a tree of which each part has a spelling is read from its canonical text, where it is within the limits
+pub writable_read : (f : NamedTree) → IsWritable f → length (tree_lexemes f []) ≤ 600 → depth f ≤ 64 → quantifiers f ≤ 12 → IsSentence (text_of f) f
+writable_read f w few shallow few_variables = record {
+  reading = record { lexemes = tree_lexemes f []; are = record { lexed = text_lexed f w; few = few }; reads = tree_derived f [] w };
+  shallow = shallow;
+  few_variables = few_variables;
+}
+
 pub round_trip : (text : List ℕ) (f : NamedTree) → IsSentence text f → ((ls : List Lexeme) → IsLexed (text_of f) ls → length ls ≤ 600) → IsSentence (text_of f) f
 round_trip text f s few =
     let w = (tree_writable s.reading.reads (spelled_lexed s.reading.are.lexed)).0 in
-    let lexed : IsLexed (text_of f) (tree_lexemes f []) = subst (λ x. Lexes x (tree_lexemes f []) []) (append-nil (text_of f)) (tree_lexed f [] [] [] w refl no_more) in
-    record {
-      reading = record { lexemes = tree_lexemes f []; are = record { lexed = lexed; few = few (tree_lexemes f []) lexed }; reads = tree_derived f [] w };
-      shallow = s.shallow;
-      few_variables = s.few_variables;
-    }
+    writable_read f w (few (tree_lexemes f []) (text_lexed f w)) s.shallow s.few_variables

@@ -1,0 +1,4 @@
+pub mod Trees
+pub mod Writing
+pub mod Reading
+pub mod Entries

@@ -1,0 +1,11 @@
+//! The library of axioms: the sentences that the bench knows by name, for each kind of rule.
+#![tactic(auto)]
+
+mod finding;
+pub mod laws;
+mod table;
+#[cfg(test)]
+mod tests;
+
+pub use finding::{find, name_at, text_under};
+pub use table::text_at;
