@@ -3,6 +3,9 @@
 
 mod choice;
 mod kind;
+mod places;
+mod ranking;
 
 pub use choice::ChoiceKind;
 pub use kind::OutcomeKind;
+pub use ranking::RankingKind;
