@@ -1,1 +1,3 @@
 pub mod PlaceTables
+pub mod Growth
+pub mod FrameRows

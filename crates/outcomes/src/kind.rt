@@ -55,7 +55,6 @@ pub trait OutcomeKind: Sync {
     fn frame(&self, p: u32, out: &mut Clauses) -> Result<(), PushFault>
         requires { p < sort_count (size self.now) Profile }
         ensures ok { OnOk result (out.new ≡ with_clauses out.old (frame_clauses (size self.now) p) p) }
-        ensures room { OnOk result (¬ IsFullForAll out.old (frame_clauses (size self.now) p)) }
         ensures full { result ≡ Err PushFault.Full → IsFullForAll out.old (frame_clauses (size self.now) p) };
 
     /// The text of an outcome.

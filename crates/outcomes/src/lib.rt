@@ -2,6 +2,7 @@
 #![tactic(auto)]
 
 mod choice;
+mod frames;
 mod kind;
 mod places;
 mod ranking;

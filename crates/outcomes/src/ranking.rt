@@ -1,13 +1,11 @@
 //! Rankings: an outcome is a strict ranking, and a profile has a variable for each pair of alternatives.
 
-ghost use Rattle.std.specs.Prelude.{◌≡◌, ◌≢◌, ◌+◌, ◌*◌, ◌<◌, ◌≤◌, IsTrue, length};
+ghost use Rattle.std.specs.Prelude.{◌≡◌};
 ghost use Rattle.vocab.specs.declared.kinds.Kind.TheVariants.{Ranking};
 ghost use Rattle.vocab.specs.Size.{IsSize};
-ghost use Rattle.meaning.specs.Variables.{pairs, pair_place};
-ghost use Rattle.outcomes.specs.Places.{pair_lit};
 
 use crate::kind::OutcomeKind;
-use crate::places;
+use crate::{frames, places};
 use cnf::{Clauses, Lit, PushFault};
 use profiles::{Space, laws};
 use vocab::{Literal, Name, Sort};
@@ -18,18 +16,6 @@ pub struct RankingKind {
     space: Space,
     ghost ranks: { space.kind ≡ Ranking },
     ghost whole: { IsSize space },
-}
-
-/// The variable of a pair at a profile, with a sign.
-fn pair_lit(alternatives: u8, p: u32, positive: bool, x: u8, y: u8) -> Lit
-    requires few { alternatives ≤ 5 }
-    requires profile { p ≤ 20000 }
-    requires rises { x < y }
-    requires below { y < alternatives }
-    ensures { result ≡ pair_lit alternatives p positive x y }
-{
-    let first = p * places::pair_count(alternatives) + 1;
-    Lit::new(first + places::place_of(alternatives, x, y), positive)
 }
 
 impl RankingKind {
@@ -70,9 +56,9 @@ impl OutcomeKind for RankingKind {
         match *literal {
             Literal::Above(x, y, p) => {
                 if x < y {
-                    pair_lit(alternatives, p, true, x, y)
+                    frames::pair_lit(alternatives, p, true, x, y)
                 } else {
-                    pair_lit(alternatives, p, false, y, x)
+                    frames::pair_lit(alternatives, p, false, y, x)
                 }
             }
             _ => unreachable!(),
@@ -92,8 +78,8 @@ impl OutcomeKind for RankingKind {
         }
     }
 
-    fn frame(&self, _p: u32, _out: &mut Clauses) -> Result<(), PushFault> {
-        Err(PushFault::NoMemory)
+    fn frame(&self, p: u32, out: &mut Clauses) -> Result<(), PushFault> {
+        frames::push_ranking(self.space.size().alternatives(), p, out)
     }
 
     fn text(&self, outcome: u32) -> Name {
