@@ -1,14 +1,13 @@
 -- The clauses of frames, in order and with their literals by variable.
-use Rattle.std.proofs.Common.{◌≡◌, refl, sym, ap, ap₂, ◌∙◌, ℕ, zero, suc, ◌+◌, ◌*◌, ◌<◌, ◌≤◌, Bool, true, false, not, cond, ◌&&◌, ◌||◌, List, [], ◌∷◌, ◌++◌, map, filter, take, length, arith, eq-eqb, lt-ltb, le-ltb, ltb-true}
-use Rattle.std.specs.Prelude.{◌==◌, nat_lt}
+use Rattle.std.proofs.Common.{◌≡◌, refl, sym, ap, ap₂, ◌∙◌, ℕ, zero, suc, ◌+◌, ◌*◌, ◌<◌, ◌≤◌, Bool, true, false, not, cond, ◌&&◌, List, [], ◌∷◌, ◌++◌, map, take, length, arith, eq-eqb, lt-ltb, le-ltb, ltb-true}
+use Rattle.std.specs.Prelude.{nat_lt}
 use Rattle.std.specs.Bool.{beq}
 use Rattle.std.specs.List.{flat_map, list_all, list_any}
 use Rattle.std.proofs.lemmas.List.Concat.{flat_map_single}
 use Rattle.std.proofs.lemmas.Bool.{and_parts, and_from, or_from, or_parts}
 use Rattle.vocab.specs.Size.{Extent}
 use Rattle.vocab.specs.declared.kinds.Kind.TheVariants.{Choice, Ranking}
-use Rattle.vocab.specs.declared.literals.Literal.{Literal}
-use Rattle.vocab.specs.declared.literals.Literal.TheVariants.{Wins, Loses, Above}
+use Rattle.vocab.specs.declared.literals.Literal.TheVariants.{Wins, Above}
 use Rattle.cnf.specs.Sat.{Clause, has_lit, is_tautology, opposite_lit, same_lit}
 use Rattle.cnf.specs.Signed.{Signed}
 use Rattle.meaning.specs.Clauses.{Disjunction}

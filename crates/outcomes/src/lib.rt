@@ -2,8 +2,10 @@
 #![tactic(auto)]
 
 mod choice;
+mod decode;
 mod frames;
 mod kind;
+pub mod laws;
 mod places;
 mod ranking;
 

@@ -1,9 +1,9 @@
-use Rattle.std.proofs.Common.{rules, ◌≡◌, ℕ, ◌+◌, ◌<◌, [], ◌∷◌, ap, subst, sym, length, arith}
+use Rattle.std.proofs.Common.{rules, ℕ, ◌<◌, [], ◌∷◌, subst, length, arith}
 use Rattle.cnf.specs.ClauseList.{ClauseList}
 use Rattle.cnf.specs.Sat.{Clause}
 use Rattle.std.proofs.Common.{List}
 use Rattle.meaning.specs.Variables.{pairs}
-use Rattle.outcomes.specs.Frames.{with_clauses, IsFullForAll}
+use Rattle.outcomes.specs.Frames.{IsFullForAll}
 use Rattle.outcomes.specs.Places.{pair_at}
 use Rattle.outcomes.specs.Rows.{some_wins, one_loses}
 use Rattle.outcomes.proofs.FrameRows.{choice_rows-each}

@@ -1,5 +1,4 @@
 use Rattle.std.proofs.Common.{◌≡◌, ℕ, [], ◌∷◌}
-use Rattle.cnf.specs.Sat.{Clause}
 use Rattle.meaning.specs.Variables.{pairs}
 use Rattle.outcomes.specs.Frames.{with_clauses}
 use Rattle.outcomes.specs.Rows.{some_wins, one_loses}

@@ -1,4 +1,4 @@
-use Rattle.std.proofs.Common.{rules, ◌≡◌, ◌<◌, [], ◌∷◌, subst, length, arith}
+use Rattle.std.proofs.Common.{rules, ◌<◌, [], subst, length, arith}
 use Rattle.cnf.specs.ClauseList.{ClauseList}
 use Rattle.meaning.specs.Variables.{triples}
 use Rattle.outcomes.specs.Frames.{IsFullForAll}

@@ -1,4 +1,4 @@
-use Rattle.std.proofs.Common.{◌≡◌, ℕ, ◌+◌, ap, subst, Err, OnOk, length, inl, inr, arith}
+use Rattle.std.proofs.Common.{◌≡◌, ℕ, ap, subst, OnOk, length, inl, inr, arith}
 use Rattle.cnf.specs.ClauseList.{with_clause}
 use Rattle.cnf.specs.Sat.{Clause}
 use Rattle.outcomes.specs.Rows.{some_wins}

@@ -1,4 +1,4 @@
-use Rattle.std.proofs.Common.{◌≡◌, ◌∙◌, ap, subst, Err, List, OnOk}
+use Rattle.std.proofs.Common.{◌≡◌, ◌∙◌, ap, subst, List, OnOk}
 use Rattle.cnf.specs.Sat.{Clause}
 use Rattle.outcomes.specs.Frames.{with_clauses, IsFullForAll}
 use Rattle.outcomes.proofs.FrameRows.{choice_clauses}
