@@ -12,3 +12,6 @@ mod ranking;
 pub use choice::ChoiceKind;
 pub use kind::OutcomeKind;
 pub use ranking::RankingKind;
+
+#[cfg(test)]
+mod tests;
