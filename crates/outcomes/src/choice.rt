@@ -22,7 +22,7 @@ impl ChoiceKind {
     /// The choices at the profiles of a space.
     pub fn new(space: Space) -> ChoiceKind
         requires { space.kind ≡ Choice }
-        ensures { result.space ≡ space }
+        ensures { ⟦<ChoiceKind as OutcomeKind>⟧.size result ≡ space }
     {
         laws::spaces_have_sizes(&space);
         ChoiceKind { space }

@@ -22,7 +22,7 @@ impl RankingKind {
     /// The rankings at the profiles of a space.
     pub fn new(space: Space) -> RankingKind
         requires { space.kind ≡ Ranking }
-        ensures { result.space ≡ space }
+        ensures { ⟦<RankingKind as OutcomeKind>⟧.size result ≡ space }
     {
         laws::spaces_have_sizes(&space);
         RankingKind { space }
