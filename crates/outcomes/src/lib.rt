@@ -1,0 +1,17 @@
+//! Kinds of outcomes: what holds of an outcome, the variables that stand for it, and its text.
+#![tactic(auto)]
+
+mod choice;
+mod decode;
+mod frames;
+mod kind;
+pub mod laws;
+mod places;
+mod ranking;
+
+pub use choice::ChoiceKind;
+pub use kind::OutcomeKind;
+pub use ranking::RankingKind;
+
+#[cfg(test)]
+mod tests;
