@@ -1,3 +1,4 @@
+pub mod BoardLemmas
 pub mod ChainLemmas
 pub mod ConditionLemmas
 pub mod RuleLemmas

@@ -1,3 +1,4 @@
+pub mod Boards
 pub mod Conditions
 pub mod Meanings
 pub mod Shapes

@@ -3,13 +3,18 @@
 
 mod algebra;
 mod atoms;
+mod boards;
 mod evaluation;
 mod failures;
+mod kleene;
 mod literals;
 mod tarski;
 mod terms;
+mod threes;
 
 pub use algebra::Algebra;
+pub use boards::Board;
 pub use evaluation::eval;
 pub use failures::{first_failure, instance_count};
+pub use kleene::partial;
 pub use tarski::truth;
