@@ -185,7 +185,7 @@ module _ (size : Extent) where
   -- ---- formulas
 
   -- a quantifier's body, at a value of its sort
-  quantified : (s : Sort) (f : Tree) (sorts : List Sort) (env : List ℕ) (v : ℕ) → are_of_sorts size sorts env ≡ true → is_sorted size (sorts ++ s ∷ []) f ≡ true → length env + (quantifier_depth f + 1) ≤ 12 → v < sort_count size s
+  pub quantified : (s : Sort) (f : Tree) (sorts : List Sort) (env : List ℕ) (v : ℕ) → are_of_sorts size sorts env ≡ true → is_sorted size (sorts ++ s ∷ []) f ≡ true → length env + (quantifier_depth f + 1) ≤ 12 → v < sort_count size s
       → IsFormulaAt size f (env ++ v ∷ [])
   quantified s f sorts env v h k room lt = record {
     sorts = sorts ++ s ∷ [];

@@ -1,12 +1,13 @@
 //! Known literals, each found at once.
 
 ghost use Rattle.std.specs.Prelude.{◌≡◌, ◌<◌, ◌+◌, ◌*◌, List, [], ◌∷◌, ◌++◌, length, slice_get, Some, IsTrue, IsFalse, IfOk};
+ghost use Rattle.std.specs.List.{list_all};
 ghost use Rattle.vocab.specs.declared.kinds.Sort.TheVariants.{Profile};
 ghost use Rattle.vocab.specs.declared.literals.Literal.{Literal};
 ghost use Rattle.vocab.specs.Literal.{has};
 ghost use Rattle.vocab.specs.Size.{Extent, IsSize, sort_count};
 ghost use Rattle.meaning.specs.Literals.{is_literal};
-ghost use Rattle.worlds.specs.Boards.{mark_of, without};
+ghost use Rattle.worlds.specs.Boards.{are_distinct, mark_of, without};
 
 use crate::literals::is_same;
 use lists::NoMemory;
@@ -110,9 +111,11 @@ impl Board {
         self.marks[mark_of(literal)]
     }
 
-    /// All literals in order.
+    /// All literals in order: they are of the size, and none stands twice.
     pub fn as_slice(&self) -> &[Literal]
-        ensures { result.now ≡ self.now.literals }
+        ensures value { result.now ≡ self.now.literals }
+        ensures ours { IsTrue (list_all (is_literal self.now.size) self.now.literals) }
+        ensures distinct { IsTrue (are_distinct self.now.literals) }
     {
         self.literals.as_slice()
     }

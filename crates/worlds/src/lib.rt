@@ -5,8 +5,10 @@ mod algebra;
 mod atoms;
 mod boards;
 mod evaluation;
+mod exclusion;
 mod failures;
 mod kleene;
+pub mod laws;
 mod literals;
 mod tarski;
 mod terms;
@@ -15,6 +17,10 @@ mod threes;
 pub use algebra::Algebra;
 pub use boards::Board;
 pub use evaluation::eval;
+pub use exclusion::excludes;
 pub use failures::{first_failure, instance_count};
 pub use kleene::partial;
 pub use tarski::truth;
+
+#[cfg(test)]
+mod tests;
