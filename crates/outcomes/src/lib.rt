@@ -2,7 +2,13 @@
 #![tactic(auto)]
 
 mod choice;
+mod decode;
+mod frames;
 mod kind;
+pub mod laws;
+mod places;
+mod ranking;
 
 pub use choice::ChoiceKind;
 pub use kind::OutcomeKind;
+pub use ranking::RankingKind;
