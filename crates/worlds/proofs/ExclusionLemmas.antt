@@ -61,21 +61,7 @@ module _ (t q : Literal → Bool) where
             ]
       ]
 
--- ---- a few variables
-
-few_pairs : (m : ℕ) → m ≤ 5 → length (pairs m) ≤ 10
-few_pairs zero h = omega arith
-few_pairs (suc zero) h = omega arith
-few_pairs (suc (suc zero)) h = omega arith
-few_pairs (suc (suc (suc zero))) h = omega arith
-few_pairs (suc (suc (suc (suc zero)))) h = omega arith
-few_pairs (suc (suc (suc (suc (suc zero))))) h = omega arith
-few_pairs (suc (suc (suc (suc (suc (suc m)))))) h = absurd (omega arith)
-
-pub few_bits : (k : Kind) (m : ℕ) → m ≤ 5 → bits k m ≤ 10
-few_bits Choice m h = omega arith
-few_bits Ranking m h = few_pairs m h
-few_bits Sets m h = omega arith
+-- ---- outcomes and variables
 
 some_outcome : (k : Kind) (m : ℕ) → k ≢ Sets → 1 ≤ m → 0 < outcome_count k m
 some_outcome Choice m ne h = h

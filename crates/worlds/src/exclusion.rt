@@ -1,11 +1,10 @@
 //! What known literals leave of the outcomes at a profile.
 
-ghost use Rattle.std.specs.Prelude.{◌≡◌, ◌≢◌, ◌+◌, ◌*◌, ◌^◌, ◌≤◌, ◌<◌, ◌==◌, ◌&&◌, not, filter, IsTrue};
+ghost use Rattle.std.specs.Prelude.{◌≡◌, ◌+◌, ◌*◌, ◌^◌, ◌≤◌, ◌<◌, ◌==◌, ◌&&◌, not, filter, IsTrue};
 ghost use Rattle.std.specs.List.{list_all};
-ghost use Rattle.vocab.specs.declared.kinds.Kind.TheVariants.{Sets};
 ghost use Rattle.vocab.specs.declared.kinds.Sort.TheVariants.{Profile};
 ghost use Rattle.vocab.specs.Literal.{has, profile_of};
-ghost use Rattle.vocab.specs.Size.{IsSize, sort_count, outcome_count};
+ghost use Rattle.vocab.specs.Size.{sort_count, outcome_count};
 ghost use Rattle.meaning.specs.Stories.{is_outcome_excluded};
 ghost use Rattle.meaning.specs.Truth.{holds_of};
 ghost use Rattle.meaning.specs.Variables.{bits, variable_count, literal_of};
@@ -13,6 +12,7 @@ ghost use Rattle.meaning.specs.Variables.{bits, variable_count, literal_of};
 use crate::boards::Board;
 use cnf::Lit;
 use outcomes::OutcomeKind;
+use outcomes::laws::kinds_have_sizes;
 
 /// Whether no outcome at profile p makes all literals of the board there hold. However many literals the board has,
 /// only those of the profile are looked at. No memory is taken.
@@ -20,7 +20,7 @@ pub fn excludes<K: OutcomeKind>(kind: &K, board: &Board, p: u32) -> bool
     requires { board.now.size ≡ K.size kind.now }
     ensures { result ≡ is_outcome_excluded (K.size kind.now) board.now.literals p }
 {
-    has_literals(kind);
+    kinds_have_sizes(kind);
     let _known = board.as_slice();
     if p >= kind.space().count() {
         return false;
@@ -40,7 +40,7 @@ fn allows<K: OutcomeKind>(kind: &K, board: &Board, p: u32, outcome: u32) -> bool
     requires outcome { outcome < outcome_count (K.size kind.now).kind (K.size kind.now).alternatives }
     ensures { result ≡ list_all (holds_of (K.size kind.now) outcome) (filter (λ l. profile_of l == p) board.now.literals) }
 {
-    has_literals(kind);
+    kinds_have_sizes(kind);
     let _known = board.as_slice();
     let _profiles = kind.space().count();
     let bits = kind.bits();
@@ -73,13 +73,7 @@ fn is_broken<K: OutcomeKind>(kind: &K, board: &Board, outcome: u32, lit: Lit) ->
     requires high { lit.variable ≤ variable_count (K.size kind.now) }
     ensures { result ≡ (has board.now.literals (literal_of (K.size kind.now) lit) && not (holds_of (K.size kind.now) outcome (literal_of (K.size kind.now) lit))) }
 {
-    has_literals(kind);
+    kinds_have_sizes(kind);
     let literal = kind.literal(lit);
     board.has(&literal) && !kind.holds(outcome, &literal)
 }
-
-/// The laws of a kind.
-fn has_literals<K: OutcomeKind>(_kind: &K)
-    ensures kind { (K.size _kind.now).kind ≢ Sets }
-    ensures size { IsSize (K.size _kind.now) }
-{}
