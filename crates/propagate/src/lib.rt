@@ -1,0 +1,10 @@
+//! A trail of assigned literals over a list of clauses, with unit propagation.
+#![tactic(auto)]
+
+mod entry;
+mod marks;
+mod scan;
+mod trail;
+
+pub use entry::Entry;
+pub use trail::{Outcome, Trail};
