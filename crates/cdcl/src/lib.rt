@@ -7,3 +7,6 @@ mod lines;
 mod search;
 
 pub use search::{Search, solve};
+
+#[cfg(test)]
+mod tests;

@@ -3,8 +3,10 @@
 
 mod entry;
 mod marks;
+mod range;
 mod scan;
 mod trail;
 
 pub use entry::Entry;
+pub use range::stay_within;
 pub use trail::{Outcome, Trail};
