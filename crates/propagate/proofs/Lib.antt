@@ -7,3 +7,4 @@ pub mod CutBack
 pub mod Levels
 pub mod Apart
 pub mod Words
+pub mod LevelLaws

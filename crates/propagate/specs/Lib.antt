@@ -5,3 +5,4 @@ pub mod Kept
 pub mod TrailState
 pub mod Scan
 pub mod Outcome
+pub mod Laws

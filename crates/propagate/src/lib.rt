@@ -2,6 +2,7 @@
 #![tactic(auto)]
 
 mod entry;
+pub mod laws;
 mod marks;
 mod range;
 mod scan;
@@ -10,3 +11,6 @@ mod trail;
 pub use entry::Entry;
 pub use range::stay_within;
 pub use trail::{Outcome, Trail};
+
+#[cfg(test)]
+mod tests;
