@@ -1,0 +1,13 @@
+pub mod NumberLaws
+pub mod WordLaws
+pub mod LineLaws
+pub mod FitLaws
+pub mod PrefixLaws
+pub mod SoundLaws
+pub mod JudgeLaws
+pub mod TextLaws
+pub mod ReadLaws
+pub mod CompleteLaws
+pub mod ReportLaws
+pub mod StepLaws
+pub mod PrintLaws
