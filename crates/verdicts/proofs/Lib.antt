@@ -1,3 +1,4 @@
+pub mod WorkedExamples
 pub mod NumberLaws
 pub mod WordLaws
 pub mod LineLaws
