@@ -4,6 +4,7 @@ pub mod WordLaws
 pub mod LineLaws
 pub mod FitLaws
 pub mod PrefixLaws
+pub mod RightLaws
 pub mod SoundLaws
 pub mod JudgeLaws
 pub mod TextLaws
@@ -12,3 +13,4 @@ pub mod CompleteLaws
 pub mod ReportLaws
 pub mod StepLaws
 pub mod PrintLaws
+pub mod ShortLaws

@@ -20,6 +20,11 @@ use Rattle.verdicts.specs.declared.verdicts.Verdict.{Verdict}
 use Rattle.verdicts.specs.declared.verdicts.Verdict.TheVariants.{Possible, Impossible, Undecided}
 use Rattle.verdicts.specs.Lines.{Line, Title, KindIs, VotersAre, AlternativesAre, AxiomsAre, SaysPossible, SaysImpossible, SaysUndecided, LimitIs, RuleOf, Row, CoreIs, LemmasAre, Heading, Suppose, So, Clash, WithRule, WithOpen, End, line_text, name_at, sorts_of}
 
+-- how many lemmas the story of a verdict has
+abbrev pub lemma_count : Verdict → ℕ
+lemma_count (Impossible core story witnesses) = length story
+lemma_count _ = 0
+
 -- ---- the text of a verdict
 
 -- the rows of a table, from the row of a profile on
