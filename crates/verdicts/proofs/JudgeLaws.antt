@@ -89,6 +89,5 @@ judge_sound study text v e =
     record {
       claims_some = right.2;
       right = right.0;
-      written = right.1;
       is = text_pieces text ∙ ap (λ rest. ended (front (pieces text)) ++ rest) c.2 ∙ append-nil (ended (front (pieces text))) ∙ ap ended r.2 ∙ ended_map study r.0 ∙ ap (flat_map (λ line. line_text study line ++ 10 ∷ [])) (sym read.1);
     }

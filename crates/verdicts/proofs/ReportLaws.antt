@@ -1,22 +1,28 @@
 -- The judge confirms the reports of right verdicts and nothing else.
-use Rattle.std.proofs.Common.{◌≡◌, refl, sym, ap, ◌∙◌, subst, ℕ, ◌+◌, Bool, true, false, not, List, [], ◌∷◌, ◌++◌, map, length, Some, None, arith, true≢false, cond, append-nil}
+use Rattle.std.proofs.Common.{◌≡◌, refl, sym, ap, ◌∙◌, subst, ℕ, ◌+◌, ◌^◌, ◌<◌, ◌≢◌, Bool, true, false, not, List, [], ◌∷◌, ◌++◌, map, length, Some, None, arith, true≢false, cond, append-nil}
 use Rattle.std.specs.Prelude.{◌==◌, nat_lt}
-use Rattle.std.specs.List.{list_all, join_with_byte}
-use Rattle.std.proofs.lemmas.List.Splits.{join_with_byte-slice_split, length-slice_split}
+use Rattle.std.specs.List.{list_all, join_with_byte, onto_first}
+use Rattle.std.proofs.lemmas.List.Splits.{join_with_byte-slice_split, length-slice_split, slice_split-cons_no}
 use Rattle.std.proofs.lemmas.Bool.{and_parts, and_from}
 use Rattle.vocab.specs.Study.{Question}
 use Rattle.verdicts.specs.Texts.{words_of}
 use Rattle.verdicts.specs.Lines.{Line, line_text}
 use Rattle.verdicts.specs.declared.verdicts.Verdict.{Verdict}
-use Rattle.verdicts.specs.Report.{report_lines, report_text, has_text, IsReport, IsConfirmed}
-use Rattle.verdicts.specs.Places.{Place, AtNothing, Standing, start, wanted}
-use Rattle.verdicts.specs.Judge.{advance, read_line, settle_at, settle, judge_from, judge, pieces, front, final, Confirmed, at_end, conclude, answer}
+use Rattle.verdicts.specs.declared.refusals.Refusal.TheVariants.{Form}
+use Rattle.verdicts.specs.Report.{lemma_count, report_lines, report_text, has_text, is_right, IsReport, IsConfirmed}
+use Rattle.verdicts.specs.Places.{Place, AtTitle, AtKind, AtVoters, AtAlternatives, AtAxioms, AtVerdict, AtLimit, AtRule, AtRow, AtCore, AtLemmas, AtLemma, AtSuppose, AtStep, AtWitness, AtWitnessRow, AtEnd, AtNothing, Standing, start, wanted}
+use Rattle.verdicts.specs.Judge.{advance, Good, read_line, judge_from, judge, pieces, front, final, Confirmed, Faulty, at_end, conclude, answer}
 use Rattle.verdicts.specs.Laws.{IsReportable, IsShort}
+use Rattle.verdicts.proofs.RightLaws.{right_has_text}
 use Rattle.verdicts.proofs.WordLaws.{lacks, split_ended}
 use Rattle.verdicts.proofs.FitLaws.{Fits}
 use Rattle.verdicts.proofs.ReadLaws.{is_plain, wanted_is, words_are, line_lacks}
 use Rattle.verdicts.proofs.JudgeLaws.{ended, ended_map}
 use Rattle.verdicts.proofs.CompleteLaws.{Runs, report_run}
+use Rattle.verdicts.proofs.FaultLaws.{past}
+use Rattle.verdicts.proofs.ShortLaws.{is_short, report_short}
+use Rattle.meaning.proofs.SpaceLaws.{list_all-map_of}
+use Rattle.meaning.proofs.TestLaws.{list_all-both}
 
 abbrev short : List ℕ → Bool
 short line = not (nat_lt 4096 (length line))
@@ -30,6 +36,11 @@ front_snoc [] y = refl
 front_snoc (x ∷ []) y = refl
 front_snoc (x ∷ z ∷ xs) y = ap (λ ws. x ∷ ws) (front_snoc (z ∷ xs) y)
 
+front_more : (xs : List (List ℕ)) (q y : List ℕ) (ys : List (List ℕ)) → front (xs ++ q ∷ y ∷ ys) ≡ xs ++ q ∷ front (y ∷ ys)
+front_more [] q y ys = refl
+front_more (x ∷ []) q y ys = refl
+front_more (x ∷ z ∷ xs) q y ys = ap (λ ws. x ∷ ws) (front_more (z ∷ xs) q y ys)
+
 final_snoc : (xs : List (List ℕ)) (y : List ℕ) → final (xs ++ y ∷ []) ≡ y
 final_snoc [] y = refl
 final_snoc (x ∷ []) y = refl
@@ -40,21 +51,20 @@ all_left t [] ys h = refl
 all_left t (x ∷ xs) ys h = let p = and_parts (t x) (list_all t (xs ++ ys)) h in and_from _ _ p.0 (all_left t xs ys p.1)
 
 module _ (study : Question) (is : IsReportable study) where
+  -- a line that fits is read
+  line_read : (s : Standing) (l : Line) → Fits study s.place (length s.earlier + 1) l → is_plain l ≡ true → short (line_text study l) ≡ true → read_line study s (line_text study l) ≡ Some l
+  line_read s l f p h =
+      ap (λ b. cond b None (wanted study s.place (length s.earlier + 1) (words_of (line_text study l)))) (not_true _ h)
+      ∙ ap (wanted study s.place (length s.earlier + 1)) (words_are study is l p)
+      ∙ wanted_is study is s.place (length s.earlier + 1) l f p
+
   -- the judge goes along lines without a fault
   judged : (n : ℕ) (s t : Standing) (ls : List Line) (more : List (List ℕ)) → Runs study is true s ls t → list_all short (map (line_text study) ls) ≡ true → (k : ℕ) × (judge_from study n s (map (line_text study) ls ++ more) ≡ judge_from study k t more)
   judged n s t [] more r h = (n, ap (λ u. judge_from study n u more) r)
   judged n s t (l ∷ ls) more r h =
       let p = and_parts (short (line_text study l)) (list_all short (map (line_text study) ls)) h in
-      let read : read_line study s (line_text study l) ≡ Some l =
-      ap (λ b. cond b None (wanted study s.place (length s.earlier + 1) (words_of (line_text study l)))) (not_true _ p.0)
-      ∙ ap (wanted study s.place (length s.earlier + 1)) (words_are study is l r.1)
-      ∙ wanted_is study is s.place (length s.earlier + 1) l r.0 r.1 in
-      let later = judged (n + 1) (advance study s l) t ls more r.3 p.1 in (
-        later.0,
-        ap (λ o. settle study n s o (λ next. judge_from study (n + 1) next (map (line_text study) ls ++ more))) read
-            ∙ ap (λ o. settle_at study n s l o (λ next. judge_from study (n + 1) next (map (line_text study) ls ++ more))) (r.2 refl)
-            ∙ later.1,
-      )
+      let later = judged (n + 1) (advance study s l) t ls more r.3 p.1 in
+      (later.0, past study n s (line_text study l) (map (line_text study) ls ++ more) l (line_read s l r.0 r.1 p.0) (r.2 refl) ∙ later.1)
 
   lines_lack : (b : Bool) (s t : Standing) (ls : List Line) → Runs study is b s ls t → list_all (lacks 10) (map (line_text study) ls) ≡ true
   lines_lack b s t [] r = refl
@@ -66,12 +76,12 @@ module _ (study : Question) (is : IsReportable study) where
   -- the pieces of a report with something after it
   report_pieces : (text rest : List ℕ) (v : Verdict) → IsReport study v text → pieces (text ++ rest) ≡ texts_of v ++ pieces rest
   report_pieces text rest v r =
-      let run = report_run study is true v (λ _. r.claims_some) (λ _. r.right) r.written in
+      let run = report_run study is true v (λ _. r.claims_some) (λ _. r.right) (right_has_text study is v r.right) in
       ap (λ t. pieces (t ++ rest)) (r.is ∙ sym (ended_map study (report_lines study v))) ∙ split_ended 10 (texts_of v) rest (lines_lack true start run.0 (report_lines study v) run.1)
 
   report_judged : (text : List ℕ) (v : Verdict) (more : List (List ℕ)) → list_all short (texts_of v) ≡ true → IsReport study v text → (s : Standing) × (k : ℕ) × (judge study (texts_of v ++ more) ≡ judge_from study k s more) × (s.place ≡ AtNothing v)
   report_judged text v more h r =
-      let run = report_run study is true v (λ _. r.claims_some) (λ _. r.right) r.written in
+      let run = report_run study is true v (λ _. r.claims_some) (λ _. r.right) (right_has_text study is v r.right) in
       let j = judged 1 start run.0 (report_lines study v) more run.1 h in
       (run.0, j.0, j.1, run.2)
 
@@ -87,6 +97,7 @@ module _ (study : Question) (is : IsReportable study) where
       ∙ ap (conclude (length (texts_of v ++ [] ∷ [])) []) j.2
       ∙ ap (at_end (length (texts_of v ++ [] ∷ [])) []) j.3
 
+-- a report whose lines are short
 pub judge_complete : (study : Question) → IsReportable study → (text : List ℕ) (v : Verdict) → IsShort text → IsReport study v text → answer study text ≡ Confirmed v
 judge_complete study is text v h r = complete study is text v h r
 
@@ -157,11 +168,6 @@ module _ (study : Question) (is : IsReportable study) where
       cons_none : (q : List ℕ) (qs : List (List ℕ)) → q ∷ qs ≡ [] → ⊥
       cons_none q qs e = cc
 
-      front_more : (xs : List (List ℕ)) (q y : List ℕ) (ys : List (List ℕ)) → front (xs ++ q ∷ y ∷ ys) ≡ xs ++ q ∷ front (y ∷ ys)
-      front_more [] q y ys = refl
-      front_more (x ∷ []) q y ys = refl
-      front_more (x ∷ z ∷ xs) q y ys = ap (λ ws. x ∷ ws) (front_more (z ∷ xs) q y ys)
-
   no_prefix : (v w : Verdict) (rest : List ℕ) → has_text study v ≡ true → has_text study w ≡ true → report_text study v ++ rest ≡ report_text study w → rest ≡ []
   no_prefix v w rest a b e =
       let r = report_run study is false v (λ t. absurd (true≢false (sym t))) (λ t. absurd (true≢false (sym t))) a in
@@ -177,4 +183,95 @@ module _ (study : Question) (is : IsReportable study) where
           ∙ split_ended 10 (map (line_text study) (report_lines study v)) rest (lines_lack study is false start s (report_lines study v) r)
 
 pub no_confirmed_prefix : (study : Question) → IsReportable study → (text rest : List ℕ) → IsConfirmed study text → IsConfirmed study (text ++ rest) → rest ≡ []
-no_confirmed_prefix study is text rest a b = no_prefix study is a.0 b.0 rest a.1.written b.1.written (ap (λ t. t ++ rest) (sym a.1.is) ∙ b.1.is)
+no_confirmed_prefix study is text rest a b = no_prefix study is a.0 b.0 rest (right_has_text study is a.0 a.1.right) (right_has_text study is b.0 b.1.right) (ap (λ t. t ++ rest) (sym a.1.is) ∙ b.1.is)
+
+-- ---- short lines, and reports that are cut
+
+-- what stands after a text goes on its last piece
+pieces_append : (text rest : List ℕ) → pieces (text ++ rest) ≡ front (pieces text) ++ pieces (final (pieces text) ++ rest)
+pieces_append [] rest = refl
+pieces_append (b ∷ text) rest = by_test (b == 10) refl (pieces text) (omega (arith, length-slice_split (λ b. b == 10) text)) (pieces_append text rest)
+  where
+    by_test : (c : Bool) → (b == 10) ≡ c → (ps : List (List ℕ)) → 0 < length ps → pieces (text ++ rest) ≡ front ps ++ pieces (final ps ++ rest) →
+        cond c ([] ∷ pieces (text ++ rest)) (onto_first b (pieces (text ++ rest))) ≡ front (cond c ([] ∷ ps) (onto_first b ps)) ++ pieces (final (cond c ([] ∷ ps) (onto_first b ps)) ++ rest)
+    by_test c e [] some h = absurd (omega (arith, some))
+    by_test true e (x ∷ ps) some h = ap (λ qs. [] ∷ qs) h
+    by_test false e (x ∷ []) some h = ap (onto_first b) h ∙ sym (slice_split-cons_no (λ b. b == 10) b (x ++ rest) e)
+    by_test false e (x ∷ y ∷ ps) some h = ap (onto_first b) h
+
+-- a place that is not past the end
+at_end_other : (n : ℕ) (rest : List ℕ) (p : Place) → ((v : Verdict) → p ≡ AtNothing v → ⊥) → at_end n rest p ≡ Faulty n Form
+at_end_other n (c ∷ rest) p h = refl
+at_end_other n [] (AtNothing v) h = absurd (h v refl)
+at_end_other n [] AtTitle h = refl
+at_end_other n [] AtKind h = refl
+at_end_other n [] AtVoters h = refl
+at_end_other n [] AtAlternatives h = refl
+at_end_other n [] AtAxioms h = refl
+at_end_other n [] AtVerdict h = refl
+at_end_other n [] AtLimit h = refl
+at_end_other n [] AtRule h = refl
+at_end_other n [] AtRow h = refl
+at_end_other n [] AtCore h = refl
+at_end_other n [] AtLemmas h = refl
+at_end_other n [] AtLemma h = refl
+at_end_other n [] AtSuppose h = refl
+at_end_other n [] AtStep h = refl
+at_end_other n [] AtWitness h = refl
+at_end_other n [] AtWitnessRow h = refl
+at_end_other n [] (AtEnd v) h = refl
+
+module _ (study : Question) (is : IsReportable study) where
+  shorts : (v : Verdict) → is_right study v ≡ true → lemma_count v < 2 ^ 64 → list_all short (map (line_text study) (report_lines study v)) ≡ true
+  shorts v h few = list_all-map_of (is_short study is) short (line_text study) (report_lines study v) (λ l e. e) (report_short study is v h few)
+
+  lines_short : (v : Verdict) → is_right study v ≡ true → lemma_count v < 2 ^ 64 → IsShort (report_text study v)
+  lines_short v h few =
+      let run = report_run study is false v (λ t. absurd (true≢false (sym t))) (λ t. absurd (true≢false (sym t))) (right_has_text study is v h) in
+      ap (λ t. list_all short (pieces t)) (sym (ended_map study (report_lines study v)) ∙ sym (append-nil (ended (map (line_text study) (report_lines study v)))))
+      ∙ ap (list_all short) (split_ended 10 (map (line_text study) (report_lines study v)) [] (lines_lack study is false start run.0 (report_lines study v) run.1))
+      ∙ list_all-both short (map (line_text study) (report_lines study v)) ([] ∷ []) (shorts v h few) refl
+
+  -- the judge goes along some lines of a report, and wants another
+  stops_before : (n : ℕ) (s t : Standing) (ls : List Line) (before : List (List ℕ)) (line : List ℕ) (more : List (List ℕ)) → Runs study is true s ls t → list_all short (map (line_text study) ls) ≡ true → map (line_text study) ls ≡ before ++ line ∷ more →
+      (u : Standing) × (judge_from study n s before ≡ Good u) × ((v : Verdict) → u.place ≡ AtNothing v → ⊥)
+  stops_before n s t [] [] line more r h e = absurd (cc)
+  stops_before n s t [] (b ∷ before) line more r h e = absurd (cc)
+  stops_before n s t (l ∷ ls) [] line more r h e = (s, refl, λ v p. nothing_fits study is s.place (length s.earlier + 1) l v p r.0)
+  stops_before n s t (l ∷ ls) (b ∷ before) line more r h e =
+      let p = and_parts (short (line_text study l)) (list_all short (map (line_text study) ls)) h in
+      let c = texts_cons study is (line_text study l) b (map (line_text study) ls) (before ++ line ∷ more) e in
+      let later = stops_before (n + 1) (advance study s l) t ls before line more r.3 p.1 c.1 in
+      let read = ap (read_line study s) (sym c.0) ∙ line_read study is s l r.0 r.1 p.0 in
+      (later.0, past study n s b before l read (r.2 refl) ∙ later.1, later.2)
+
+  cut_here : (v : Verdict) (text rest : List ℕ) → list_all short (map (line_text study) (report_lines study v)) ≡ true → IsReport study v (text ++ rest) → (qs : List (List ℕ)) → pieces (final (pieces text) ++ rest) ≡ qs → rest ≢ [] → answer study text ≡ Faulty (length (pieces text)) Form
+  cut_here v text rest h r [] e some = absurd (omega (arith, length-slice_split (λ b. b == 10) (final (pieces text) ++ rest), ap length e))
+  cut_here v text rest h r (q ∷ []) e some =
+      let all : front (pieces text) ++ q ∷ [] ≡ map (line_text study) (report_lines study v) ++ [] ∷ [] = sym (pieces_append text rest ∙ ap (λ ps. front (pieces text) ++ ps) e) ∙ whole_pieces in
+      let none : q ≡ [] = sym (final_snoc (front (pieces text)) q) ∙ ap final all ∙ final_snoc (map (line_text study) (report_lines study v)) [] in
+      let empty : final (pieces text) ++ rest ≡ [] = sym (join_with_byte-slice_split 10 (final (pieces text) ++ rest)) ∙ ap (join_with_byte 10) e ∙ none in
+      absurd (some (right_empty (final (pieces text)) rest empty))
+    where
+      right_empty : (xs ys : List ℕ) → xs ++ ys ≡ [] → ys ≡ []
+      right_empty [] ys e = e
+      right_empty (x ∷ xs) ys e = absurd (cc)
+
+      whole_pieces : pieces (text ++ rest) ≡ map (line_text study) (report_lines study v) ++ [] ∷ []
+      whole_pieces = ap pieces (sym (append-nil (text ++ rest))) ∙ report_pieces study is (text ++ rest) [] v r
+  cut_here v text rest h r (q ∷ y ∷ ps) e some =
+      let all : front (pieces text) ++ q ∷ y ∷ ps ≡ map (line_text study) (report_lines study v) ++ [] ∷ [] =
+      sym (pieces_append text rest ∙ ap (λ ps. front (pieces text) ++ ps) e) ∙ ap pieces (sym (append-nil (text ++ rest))) ∙ report_pieces study is (text ++ rest) [] v r in
+      let lines : map (line_text study) (report_lines study v) ≡ front (pieces text) ++ q ∷ front (y ∷ ps) = sym (front_snoc (map (line_text study) (report_lines study v)) []) ∙ ap front (sym all) ∙ front_more (front (pieces text)) q y ps in
+      let run = report_run study is true v (λ _. r.claims_some) (λ _. r.right) (right_has_text study is v r.right) in
+      let stop = stops_before 1 start run.0 (report_lines study v) (front (pieces text)) q (front (y ∷ ps)) run.1 h lines in
+      ap (conclude (length (pieces text)) (final (pieces text))) stop.1 ∙ at_end_other (length (pieces text)) (final (pieces text)) stop.0.place stop.2
+
+pub right_lines_short : (study : Question) → IsReportable study → (v : Verdict) → is_right study v ≡ true → lemma_count v < 2 ^ 64 → IsShort (report_text study v)
+right_lines_short study is v h few = lines_short study is v h few
+
+pub right_is_confirmed : (study : Question) → IsReportable study → (text : List ℕ) (v : Verdict) → IsReport study v text → lemma_count v < 2 ^ 64 → answer study text ≡ Confirmed v
+right_is_confirmed study is text v r few = judge_complete study is text v (subst IsShort (sym r.is) (lines_short study is v r.right few)) r
+
+pub cut_is_form : (study : Question) → IsReportable study → (v : Verdict) (text rest : List ℕ) → IsReport study v (text ++ rest) → lemma_count v < 2 ^ 64 → rest ≢ [] → answer study text ≡ Faulty (length (pieces text)) Form
+cut_is_form study is v text rest r few some = cut_here study is v text rest (shorts study is v r.right few) r (pieces (final (pieces text) ++ rest)) refl some

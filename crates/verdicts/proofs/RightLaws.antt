@@ -1,5 +1,5 @@
 -- What a right verdict names is in range.
-use Rattle.std.proofs.Common.{◌≡◌, refl, sym, ap, ◌∙◌, subst, ℕ, suc, ◌+◌, ◌<◌, ◌≤◌, ◌≢◌, inl, inr, Bool, true, false, not, ◌&&◌, List, [], ◌∷◌, ◌++◌, map, length, filter, Option, Some, None, arith, true≢false, cond, ltb-true, lt-ltb, eqb-true, length-append}
+use Rattle.std.proofs.Common.{◌≡◌, refl, sym, ap, ◌∙◌, subst, ℕ, ◌+◌, ◌<◌, ◌≤◌, ◌≢◌, inl, inr, Bool, true, false, not, ◌&&◌, List, [], ◌∷◌, ◌++◌, map, length, filter, Option, Some, None, arith, true≢false, cond, lt-ltb, eqb-true, length-append}
 use Rattle.std.specs.Prelude.{◌==◌, nat_lt, slice_get}
 use Rattle.std.specs.List.{list_all, list_any}
 use Rattle.std.specs.Cmp.Lexicographic.{pointwise}
@@ -20,10 +20,10 @@ use Rattle.meaning.specs.declared.stories.Reason.TheVariants.{Axiom as ByAxiom, 
 use Rattle.meaning.specs.declared.stories.StoryStep.{StoryStep}
 use Rattle.meaning.specs.declared.stories.Lemma.{Lemma}
 use Rattle.meaning.specs.Space.{below}
-use Rattle.meaning.specs.Truth.{holds_of, is_rule, is_axiom_true, satisfies}
+use Rattle.meaning.specs.Truth.{holds_of, is_rule}
 use Rattle.meaning.specs.Literals.{is_literal}
 use Rattle.meaning.specs.Stories.{is_claim_false, is_instance_false, is_outcome_excluded, refutes, is_decided, are_new, has_literals, are_forced, is_lemma, is_story_from, is_story}
-use Rattle.meaning.specs.Cores.{is_core_from, is_witness, is_core_right}
+use Rattle.meaning.specs.Cores.{is_core_from, is_witness}
 use Rattle.meaning.proofs.LiteralLaws.{is_literal-opposite, profile_in}
 use Rattle.meaning.proofs.SpaceLaws.{any_from, factorial_pos}
 use Rattle.verdicts.specs.declared.verdicts.Verdict.{Verdict}

@@ -1,6 +1,6 @@
 -- No line of a right report is longer than 4,096 bytes: it has at most 77 words of at most 52 bytes each.
-use Rattle.std.proofs.Common.{◌≡◌, refl, sym, ap, ◌∙◌, subst, ℕ, zero, suc, ◌+◌, ◌*◌, ◌^◌, ◌%◌, ◌<◌, ◌≤◌, inl, inr, Bool, true, false, not, ◌&&◌, List, [], ◌∷◌, ◌++◌, map, length, replicate, Option, Some, None, arith, true≢false, cond, ltb-true, lt-ltb, leb-true, le-leb, le-ltb, length-append, eqb-true}
-use Rattle.std.specs.Prelude.{◌==◌, nat_lt, nat_le, slice_get, codes}
+use Rattle.std.proofs.Common.{◌≡◌, refl, sym, ap, ◌∙◌, subst, ℕ, zero, suc, ◌+◌, ◌*◌, ◌^◌, ◌%◌, ◌<◌, ◌≤◌, inl, inr, Bool, true, not, ◌&&◌, List, [], ◌∷◌, ◌++◌, map, length, arith, true≢false, ltb-true, lt-ltb, leb-true, le-leb, le-ltb, length-append, eqb-true}
+use Rattle.std.specs.Prelude.{nat_lt, nat_le, slice_get}
 use Rattle.std.specs.List.{list_all, join_with_byte}
 use Rattle.std.specs.Cmp.Lexicographic.{pointwise}
 use Rattle.std.proofs.lemmas.Bool.{and_parts, and_from, cases_lt}
@@ -25,7 +25,7 @@ use Rattle.meaning.specs.Texts.{ballot_text, profile_text, outcome_text_of, outc
 use Rattle.meaning.proofs.RankingLaws.{are_rankings}
 use Rattle.meaning.proofs.SpaceLaws.{length-rankings}
 use Rattle.verdicts.specs.Numbers.{number_text}
-use Rattle.verdicts.specs.Texts.{joined, value_text, literal_text}
+use Rattle.verdicts.specs.Texts.{value_text, literal_text}
 use Rattle.verdicts.specs.declared.verdicts.Verdict.{Verdict}
 use Rattle.verdicts.specs.declared.verdicts.Verdict.TheVariants.{Possible, Impossible, Undecided}
 use Rattle.meaning.specs.declared.cores.Witness.{Witness}
@@ -38,11 +38,11 @@ use Rattle.meaning.specs.Literals.{is_literal}
 use Rattle.meaning.specs.Stories.{is_story}
 use Rattle.meaning.specs.Cores.{is_core_from, is_witness}
 use Rattle.meaning.proofs.TestLaws.{list_all-both}
-use Rattle.verdicts.specs.Lines.{Line, Title, KindIs, VotersAre, AlternativesAre, AxiomsAre, SaysPossible, SaysImpossible, SaysUndecided, LimitIs, RuleOf, Row, CoreIs, LemmasAre, Heading, Suppose, So, Clash, WithRule, WithOpen, End, sorts_of, name_at, value_words, reason_words, line_words, line_text}
+use Rattle.verdicts.specs.Lines.{Line, KindIs, VotersAre, AlternativesAre, AxiomsAre, SaysImpossible, LimitIs, RuleOf, Row, CoreIs, LemmasAre, Heading, Suppose, Clash, WithRule, WithOpen, End, sorts_of, name_at, value_words, reason_words, line_words, line_text}
 use Rattle.verdicts.specs.Report.{row_lines, step_line, lemma_lines, story_lines, head_lines, witness_lines, all_witness_lines, verdict_lines, report_lines, is_reason, is_right, lemma_count}
 use Rattle.verdicts.specs.Laws.{IsReportable}
 use Rattle.verdicts.proofs.PrintLaws.{decimal_is}
-use Rattle.verdicts.proofs.RightLaws.{cites_below, is_sound_reason, is_sound_step, is_sound_lemma, sound_story}
+use Rattle.verdicts.proofs.RightLaws.{is_sound_reason, is_sound_step, is_sound_lemma, sound_story}
 
 abbrev within : ℕ → List ℕ → Bool
 within n w = nat_le (length w) n
@@ -147,7 +147,7 @@ few_places from end (k ∷ core) le h =
 -- an axiom has at most 12 leading universals
 few_sorts : (size : Extent) (axioms : List Titled) → list_all (is_sentence size) axioms ≡ true → (k : ℕ) → length (sorts_of (slice_get axioms k)) ≤ 12
 few_sorts size [] h k = omega arith
-few_sorts size (a ∷ axioms) h zero = 
+few_sorts size (a ∷ axioms) h zero =
     let p = and_parts (is_sorted size [] a.sentence) (nat_le (quantifier_depth a.sentence) 12) (and_parts (is_sentence size a) (list_all (is_sentence size) axioms) h).0 in
     omega (arith, leb-true (quantifier_depth a.sentence) 12 p.1, prefix_within_depth a.sentence)
 few_sorts size (a ∷ axioms) h (suc k) = few_sorts size axioms (and_parts (is_sentence size a) (list_all (is_sentence size) axioms) h).1 k

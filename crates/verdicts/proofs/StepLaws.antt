@@ -41,7 +41,7 @@ module _ (study : Question) where
       by_line (Some l) later = by_fault l (fault_of study s l) later
 
   -- of the earlier lemmas a reason sees the suppositions alone
-  abbrev supposed : List Lemma → List (List Literal)
+  abbrev pub supposed : List Lemma → List (List Literal)
   supposed ls = map (λ l. l.suppose) ls
 
   lengths_same : (es bs : List Lemma) → supposed es ≡ supposed bs → length es ≡ length bs

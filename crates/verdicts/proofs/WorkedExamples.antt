@@ -1,5 +1,5 @@
 -- Worked examples: the text of a verdict, and the answer to a report, as the definitions compute them.
-use Rattle.std.proofs.Common.{◌≡◌, refl, ℕ, ◌+◌, ◌-◌, List, [], ◌∷◌, ◌++◌, map, length, take, drop, true, false, replicate}
+use Rattle.std.proofs.Common.{◌≡◌, refl, ℕ, ◌+◌, ◌-◌, List, [], ◌∷◌, ◌++◌, map, length, take, drop, true, replicate}
 use Rattle.std.specs.Prelude.{codes, slice_set}
 use Rattle.std.specs.List.{flat_map}
 use Rattle.vocab.specs.declared.kinds.Sort.TheVariants.{Voter, Alt, Profile}
@@ -13,7 +13,7 @@ use Rattle.meaning.specs.Space.{below}
 use Rattle.meaning.proofs.WorkedExamples.{choice, ranked, unanimity, independence, anonymity, neutrality, step, a_does_not_win, nothing_wins, non_dictatorship, pareto, right_of}
 use Rattle.verdicts.specs.declared.refusals.Refusal.TheVariants as refusal
 use Rattle.verdicts.specs.declared.verdicts.Verdict.{Verdict}
-use Rattle.verdicts.specs.declared.verdicts.Verdict.TheVariants.{Possible, Impossible, Undecided}
+use Rattle.verdicts.specs.declared.verdicts.Verdict.TheVariants.{Possible, Impossible}
 use Rattle.verdicts.specs.Report.{report_text, has_text, is_right}
 use Rattle.verdicts.specs.Judge.{Answer, Confirmed, Faulty, answer}
 

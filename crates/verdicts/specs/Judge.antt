@@ -1,7 +1,7 @@
 -- The first faulty line of a report, or the verdict that is confirmed.
 use Rattle.std.specs.Prelude.{ℕ, ◌+◌, ◌==◌, nat_lt, List, [], ◌∷◌, ◌++◌, length, Option, Some, None, if◌then◌else◌}
 use Rattle.std.specs.List.{slice_split}
-use Rattle.std.specs.Option.{unwrap_or}
+use Rattle.std.specs.Option.{unwrap_or, option_map_or}
 use Rattle.vocab.specs.declared.kinds.Sort.TheVariants.{Profile}
 use Rattle.vocab.specs.Size.{sort_count}
 use Rattle.vocab.specs.Study.{Question}
@@ -75,6 +75,10 @@ module _ (study : Question) where
   -- what a line says, if it has at most 4,096 bytes and is the one that is wanted
   abbrev pub read_line : Standing → List ℕ → Option Line
   read_line s text = if nat_lt 4096 (length text) then None else wanted study s.place (length s.earlier + 1) (words_of text)
+
+  -- the refusal of a line, if it has one
+  abbrev pub line_fault : Standing → List ℕ → Option Refusal
+  line_fault s text = option_map_or (fault_of study s) (read_line s text) (Some refusal.Form)
 
   -- past a line without a fault
   abbrev pub settle_at : ℕ → Standing → Line → Option Refusal → (Standing → Told) → Told

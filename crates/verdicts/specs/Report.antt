@@ -120,7 +120,6 @@ module _ (study : Question) where
   pub record IsReport (verdict : Verdict) (text : List ℕ) : Type 0 where
     pub claims_some : IsTrue (claims verdict)
     pub right : IsTrue (is_right verdict)
-    pub written : IsTrue (has_text verdict)
     pub is : text ≡ report_text verdict
 
   -- a confirmed report: the text of some such verdict

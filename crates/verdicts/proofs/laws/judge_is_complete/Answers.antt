@@ -1,5 +1,5 @@
-use Rattle.verdicts.proofs.ReportLaws.{judge_complete}
+use Rattle.verdicts.proofs.ReportLaws.{right_is_confirmed}
 use Rattle.verdicts.proofs.laws.judge_is_complete.Goals as goal
 
 pub returns : goal.returns
-returns c = judge_complete
+returns c = right_is_confirmed
