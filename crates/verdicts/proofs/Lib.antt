@@ -6,6 +6,7 @@ pub mod LineLaws
 pub mod FitLaws
 pub mod ReadLaws
 pub mod PrefixLaws
+pub mod TableLaws
 pub mod FaultLaws
 pub mod SoundLaws
 pub mod JudgeLaws

@@ -1,20 +1,24 @@
 -- What holds of reports: the statements of the laws. Each is proved as the contract of a function of the same name in src/laws.rt.
-use Rattle.std.specs.Prelude.{◌≡◌, ◌≢◌, ℕ, ◌<◌, ◌+◌, ◌^◌, ◌↔◌, nat_lt, not, List, [], ◌∷◌, ◌++◌, length, Some, IsTrue}
+use Rattle.std.specs.Prelude.{◌≡◌, ◌≢◌, ℕ, ◌<◌, ◌+◌, ◌^◌, ◌↔◌, nat_lt, not, List, [], ◌∷◌, ◌++◌, length, slice_get, Some, None, IsTrue}
 use Rattle.std.specs.List.{list_all}
 use Rattle.vocab.specs.declared.kinds.Kind.TheVariants.{Sets}
+use Rattle.vocab.specs.Limits.{instance_count}
 use Rattle.vocab.specs.Name.{is_name}
 use Rattle.vocab.specs.Size.{IsSize}
 use Rattle.vocab.specs.Study.{Question, IsStudy}
+use Rattle.vocab.specs.Titled.{Titled}
 use Rattle.meaning.specs.declared.cores.Witness.{Witness}
 use Rattle.meaning.specs.declared.stories.Lemma.{Lemma}
 use Rattle.meaning.specs.Space.{below}
-use Rattle.meaning.specs.Truth.{satisfies}
+use Rattle.meaning.specs.Truth.{is_axiom_true, satisfies}
+use Rattle.meaning.specs.Instances.{IsFirstFailure}
 use Rattle.verdicts.specs.declared.refusals.Refusal.{Refusal}
-use Rattle.verdicts.specs.declared.refusals.Refusal.TheVariants.{Form}
+use Rattle.verdicts.specs.declared.refusals.Refusal.TheVariants.{Form, Fails}
 use Rattle.verdicts.specs.declared.verdicts.Verdict.{Verdict}
 use Rattle.verdicts.specs.declared.verdicts.Verdict.TheVariants.{Possible, Impossible}
 use Rattle.verdicts.specs.Report.{lemma_count, has_text, report_text, is_right, IsReport, IsConfirmed}
 use Rattle.verdicts.specs.Places.{Standing}
+use Rattle.verdicts.specs.Faults.{table_fault}
 use Rattle.verdicts.specs.Judge.{Good, Refused, line_fault, judge, Confirmed, Faulty, answer, pieces}
 
 -- what the laws ask of a study: the bench takes it, at a size of a kind whose outcomes have texts, and its axioms have names
@@ -86,6 +90,24 @@ pub record IsFirstFault (study : Question) (lines : List (List ℕ)) (n : ℕ) (
 -- the judge names the first faulty line, and no line after it plays a part
 abbrev pub FaultsAreFirst : Type 0
 FaultsAreFirst = (study : Question) (lines : List (List ℕ)) (n : ℕ) (word : Refusal) → (judge study lines ≡ Refused n word) ↔ IsFirstFault study lines n word
+
+-- the first of the axioms at some places that a table does not satisfy, by its name, and its least instance that is false of the table
+pub record IsFirstFailing (study : Question) (table places name : List ℕ) (instance : ℕ) : Type 0 where
+  pub before : List ℕ
+  pub place : ℕ
+  pub after : List ℕ
+  pub failing : Titled
+  pub split : places ≡ before ++ place ∷ after
+  pub at : slice_get study.axioms place ≡ Some failing
+  pub named : name ≡ failing.name
+  pub satisfied : IsTrue (list_all (λ k. is_axiom_true study.size table (slice_get study.axioms k)) before)
+  pub first : IsFirstFailure study.size table failing.sentence 0 (instance_count study.size failing.sentence) instance
+
+-- a table has no fault exactly where it satisfies the axioms that are asked, and else names the first that fails
+abbrev pub TableFaultsAreFirst : Type 0
+TableFaultsAreFirst = (study : Question) (table places : List ℕ) → IsTrue (list_all (λ k. nat_lt k (length study.axioms)) places) →
+    ((table_fault study table places ≡ None) ↔ IsTrue (list_all (λ k. is_axiom_true study.size table (slice_get study.axioms k)) places))
+    × ((name : List ℕ) (instance : ℕ) → (table_fault study table places ≡ Some (Fails name instance)) ↔ IsFirstFailing study table places name instance)
 
 -- a right report that is cut anywhere before its end has its first faulty line where it is cut, which is not what the grammar wants
 abbrev pub CutReportsAreForm : Type 0

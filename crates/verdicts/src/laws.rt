@@ -1,6 +1,6 @@
 //! What holds of reports. Each law is the contract of a function that does nothing.
 
-ghost use Rattle.verdicts.specs.Laws.{AreTextsDistinct, ConfirmedClaimsHold, CutReportsAreForm, FaultsAreFirst, HasNoConfirmedPrefix, IsJudgeComplete, IsJudgeSound, LinesAreShort, RightVerdictsHaveTexts};
+ghost use Rattle.verdicts.specs.Laws.{AreTextsDistinct, ConfirmedClaimsHold, CutReportsAreForm, FaultsAreFirst, HasNoConfirmedPrefix, IsJudgeComplete, IsJudgeSound, LinesAreShort, RightVerdictsHaveTexts, TableFaultsAreFirst};
 
 /// Each right verdict has a text: all that it names is in range.
 pub fn right_verdicts_have_texts()
@@ -40,6 +40,11 @@ pub fn prefixes_are_refused()
 /// The judge names the first faulty line, and no line after it plays a part.
 pub fn faults_are_first()
     ensures { FaultsAreFirst }
+{}
+
+/// The fault of a table is the first axiom that it does not satisfy, at its least instance, and there is none where it satisfies all.
+pub fn table_faults_are_first()
+    ensures { TableFaultsAreFirst }
 {}
 
 /// A right report that is cut anywhere before its end is refused where it is cut.
