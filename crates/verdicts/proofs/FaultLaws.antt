@@ -10,7 +10,7 @@ use Rattle.verdicts.specs.Faults.{fault_of}
 use Rattle.verdicts.specs.Judge.{advance, Good, Refused, read_line, line_fault, settle_at, settle, judge_from, judge}
 use Rattle.verdicts.specs.Laws.{IsFirstFault}
 
-same_good : (s t : Standing) → Good s ≡ Good t → s ≡ t
+pub same_good : (s t : Standing) → Good s ≡ Good t → s ≡ t
 same_good s t e = cc
 
 same_refused : (m n : ℕ) (v w : Refusal) → Refused m v ≡ Refused n w → (m ≡ n) × (v ≡ w)

@@ -1,4 +1,5 @@
 -- A judge that reaches the end has read the report of a right verdict.
+use Rattle.verdicts.proofs.FaultLaws.{same_good}
 use Rattle.std.proofs.Common.{◌≡◌, refl, sym, ap, ◌∙◌, subst, ℕ, ◌+◌, ◌<◌, Bool, true, false, List, [], ◌∷◌, ◌++◌, map, length, Option, Some, None, arith, cond, append_assoc, append-nil}
 use Rattle.std.specs.Prelude.{◌==◌, nat_lt}
 use Rattle.std.specs.List.{flat_map, join_with_byte}
@@ -19,9 +20,6 @@ use Rattle.verdicts.proofs.SoundLaws.{Holds, printed, IsIdle, HasRead, step_read
 not_long : (b : Bool) (o : Option Line) (l : Line) → cond b None o ≡ Some l → o ≡ Some l
 not_long true o l e = absurd (cc)
 not_long false o l e = e
-
-same_good : (s t : Standing) → Good s ≡ Good t → s ≡ t
-same_good s t e = cc
 
 module _ (study : Question) where
   -- the lines that are read, and what the reader knows then

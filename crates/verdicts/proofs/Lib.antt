@@ -1,11 +1,11 @@
 pub mod WorkedExamples
+pub mod PrefixLaws
 pub mod NumberLaws
 pub mod WordLaws
 pub mod TextLaws
 pub mod LineLaws
 pub mod FitLaws
 pub mod ReadLaws
-pub mod PrefixLaws
 pub mod TableLaws
 pub mod FaultLaws
 pub mod SoundLaws

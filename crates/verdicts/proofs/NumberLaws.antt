@@ -1,4 +1,5 @@
 -- Numbers and their texts are one to one.
+use Rattle.verdicts.proofs.PrefixLaws.{all_snoc}
 use Rattle.std.proofs.Common.{◌≡◌, refl, sym, ap, ◌∙◌, subst, ℕ, zero, suc, ◌+◌, ◌-◌, ◌*◌, ◌/◌, ◌%◌, ◌<◌, ◌≤◌, ◌≢◌, Bool, true, false, not, ◌&&◌, inl, inr, List, [], ◌∷◌, ◌++◌, Some, arith, lt-ltb, le-ltb, ltb-false, leb-true, le-leb, true≢false, append-nil, append_assoc}
 use Rattle.std.specs.Prelude.{◌==◌, nat_lt, nat_le}
 use Rattle.std.specs.List.{list_all}
@@ -102,10 +103,6 @@ by_digits P w (suc k) n h = elim (cases_lt n 10) [
 pub value_of_text : (n : ℕ) → value_after 0 (number_text n) ≡ n
 value_of_text n = by_digits (λ n. value_after 0 (number_text n) ≡ n) (λ n l. ap (value_after 0) (text_small n l) ∙ omega arith, λ a d h l e. ap (value_after 0) (text_push a d h l) ∙ value_push 0 (number_text a) (48 + d) ∙ omega (arith, e)) (suc n) n (omega arith)
 
-all_push : (t : ℕ → Bool) (cs : List ℕ) (d : ℕ) → list_all t cs ≡ true → t d ≡ true → list_all t (cs ++ d ∷ []) ≡ true
-all_push t [] d h e = and_from (t d) true e refl
-all_push t (c ∷ cs) d h e = let p = and_parts (t c) (list_all t cs) h in and_from _ _ p.0 (all_push t cs d p.1 e)
-
 number_push : (cs : List ℕ) (d : ℕ) → is_number cs ≡ true → 0 < value_after 0 cs → is_digit d ≡ true → is_number (cs ++ d ∷ []) ≡ true
 number_push [] d h v e = absurd (true≢false (sym h))
 number_push (c ∷ []) d h v e = and_from (is_digit c && not (c == 48)) _ (and_from (is_digit c) (not (c == 48)) h not_zero) (and_from (is_digit d) true e refl)
@@ -115,13 +112,13 @@ number_push (c ∷ []) d h v e = and_from (is_digit c && not (c == 48)) _ (and_f
       | true ↦ λ same. absurd (omega (arith, v, (Decides-eqb c 48).0 same))
       | false ↦ λ other. refl
     ] refl
-number_push (c ∷ f ∷ fs) d h v e = let p = and_parts (is_digit c && not (c == 48)) (list_all is_digit (f ∷ fs)) h in and_from _ _ p.0 (all_push is_digit (f ∷ fs) d p.1 e)
+number_push (c ∷ f ∷ fs) d h v e = let p = and_parts (is_digit c && not (c == 48)) (list_all is_digit (f ∷ fs)) h in and_from _ _ p.0 (all_snoc is_digit (f ∷ fs) d p.1 e)
 
 pub text_is_number : (n : ℕ) → is_number (number_text n) ≡ true
 text_is_number n = by_digits (λ n. is_number (number_text n) ≡ true) (λ n l. ap is_number (text_small n l) ∙ digit_from n l, λ a d h l e. ap is_number (text_push a d h l) ∙ number_push (number_text a) (48 + d) e (omega (arith, h, value_of_text a)) (digit_from d l)) (suc n) n (omega arith)
 
 pub number_digits : (n : ℕ) → list_all is_digit (number_text n) ≡ true
-number_digits n = by_digits (λ n. list_all is_digit (number_text n) ≡ true) (λ n l. ap (list_all is_digit) (text_small n l) ∙ and_from (is_digit (48 + n)) true (digit_from n l) refl, λ a d h l e. ap (list_all is_digit) (text_push a d h l) ∙ all_push is_digit (number_text a) (48 + d) e (digit_from d l)) (suc n) n (omega arith)
+number_digits n = by_digits (λ n. list_all is_digit (number_text n) ≡ true) (λ n l. ap (list_all is_digit) (text_small n l) ∙ and_from (is_digit (48 + n)) true (digit_from n l) refl, λ a d h l e. ap (list_all is_digit) (text_push a d h l) ∙ all_snoc is_digit (number_text a) (48 + d) e (digit_from d l)) (suc n) n (omega arith)
 
 pub read_text : (n : ℕ) → read_number (number_text n) ≡ Some n
 read_text n = grind (arith, text_is_number n, value_of_text n)

@@ -3,7 +3,7 @@ use Rattle.std.proofs.Common.{◌≡◌, refl, sym, ap, ◌∙◌, subst, ℕ, z
 use Rattle.std.specs.Prelude.{◌==◌, nat_lt, slice_get, codes}
 use Rattle.std.specs.List.{list_all, flat_map}
 use Rattle.std.specs.Cmp.Lexicographic.{pointwise}
-use Rattle.std.proofs.lemmas.Bool.{and_parts, and_from}
+use Rattle.std.proofs.lemmas.Bool.{and_parts, and_from, not-true}
 use Rattle.std.proofs.lemmas.Slice.Eq.{bytes_eq-Decides}
 use Rattle.vocab.specs.declared.kinds.Kind.{Kind}
 use Rattle.vocab.specs.declared.kinds.Kind.TheVariants.{Choice, Ranking, Sets}
@@ -54,10 +54,6 @@ test_true b o a h e = ap (λ c. cond c o None) h ∙ e
 or_first : {A : Type 0} (o p : Option A) (a : A) → o ≡ Some a → option_or o p ≡ Some a
 or_first o p a e = ap (λ q. option_or q p) e
 
-not_true : (b : Bool) → not b ≡ true → b ≡ false
-not_true true e = absurd (true≢false (sym e))
-not_true false e = refl
-
 module _ (size : Extent) where
   in_literals_at : (k : Kind) (l : Literal) → is_literal_of size k l ≡ true → IsIn (literals_at size k (profile_of l)) l × (profile_of l < sort_count size Profile)
   in_literals_at Choice (Wins x p) e =
@@ -70,7 +66,7 @@ module _ (size : Extent) where
       let q = and_parts (nat_lt x size.alternatives && nat_lt y size.alternatives && not (x == y)) (nat_lt p (sort_count size Profile)) e in
       let r = and_parts (nat_lt x size.alternatives && nat_lt y size.alternatives) (not (x == y)) q.0 in
       let s = and_parts (nat_lt x size.alternatives) (nat_lt y size.alternatives) r.0 in
-      let here : IsIn (cond (x == y) [] (Above x y p ∷ [])) (Above x y p) = subst (λ b. IsIn (cond b [] (Above x y p ∷ [])) (Above x y p)) (sym (not_true (x == y) r.1)) (inl refl) in (
+      let here : IsIn (cond (x == y) [] (Above x y p ∷ [])) (Above x y p) = subst (λ b. IsIn (cond b [] (Above x y p ∷ [])) (Above x y p)) (sym (not-true (x == y) r.1)) (inl refl) in (
         in_flat (λ x. flat_map (λ y. cond (x == y) [] (Above x y p ∷ [])) (below size.alternatives)) (below size.alternatives) x (Above x y p) (in_below _ x (ltb-true x _ s.0))
             (in_flat (λ y. cond (x == y) [] (Above x y p ∷ [])) (below size.alternatives) y (Above x y p) (in_below _ y (ltb-true y _ s.1)) here),
         ltb-true p _ q.1,

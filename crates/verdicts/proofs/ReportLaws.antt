@@ -3,7 +3,7 @@ use Rattle.std.proofs.Common.{◌≡◌, refl, sym, ap, ◌∙◌, subst, ℕ, �
 use Rattle.std.specs.Prelude.{◌==◌, nat_lt}
 use Rattle.std.specs.List.{list_all, join_with_byte, onto_first}
 use Rattle.std.proofs.lemmas.List.Splits.{join_with_byte-slice_split, length-slice_split, slice_split-cons_no}
-use Rattle.std.proofs.lemmas.Bool.{and_parts, and_from}
+use Rattle.std.proofs.lemmas.Bool.{and_parts, and_from, not-true}
 use Rattle.vocab.specs.Study.{Question}
 use Rattle.verdicts.specs.Texts.{words_of}
 use Rattle.verdicts.specs.Lines.{Line, line_text}
@@ -26,10 +26,6 @@ use Rattle.meaning.proofs.TestLaws.{list_all-both}
 
 abbrev short : List ℕ → Bool
 short line = not (nat_lt 4096 (length line))
-
-not_true : (b : Bool) → not b ≡ true → b ≡ false
-not_true true e = absurd (true≢false (sym e))
-not_true false e = refl
 
 front_snoc : (xs : List (List ℕ)) (y : List ℕ) → front (xs ++ y ∷ []) ≡ xs
 front_snoc [] y = refl
@@ -54,7 +50,7 @@ module _ (study : Question) (is : IsReportable study) where
   -- a line that fits is read
   line_read : (s : Standing) (l : Line) → Fits study s.place (length s.earlier + 1) l → is_plain l ≡ true → short (line_text study l) ≡ true → read_line study s (line_text study l) ≡ Some l
   line_read s l f p h =
-      ap (λ b. cond b None (wanted study s.place (length s.earlier + 1) (words_of (line_text study l)))) (not_true _ h)
+      ap (λ b. cond b None (wanted study s.place (length s.earlier + 1) (words_of (line_text study l)))) (not-true _ h)
       ∙ ap (wanted study s.place (length s.earlier + 1)) (words_are study is l p)
       ∙ wanted_is study is s.place (length s.earlier + 1) l f p
 

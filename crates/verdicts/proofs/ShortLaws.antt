@@ -1,5 +1,6 @@
 -- No line of a right report is longer than 4,096 bytes: it has at most 77 words of at most 52 bytes each.
-use Rattle.std.proofs.Common.{◌≡◌, refl, sym, ap, ◌∙◌, subst, ℕ, zero, suc, ◌+◌, ◌*◌, ◌^◌, ◌%◌, ◌<◌, ◌≤◌, inl, inr, Bool, true, not, ◌&&◌, List, [], ◌∷◌, ◌++◌, map, length, arith, true≢false, ltb-true, lt-ltb, leb-true, le-leb, le-ltb, length-append, eqb-true}
+use Rattle.verdicts.proofs.TextLaws.{length_digits}
+use Rattle.std.proofs.Common.{◌≡◌, refl, sym, ap, ◌∙◌, subst, ℕ, zero, suc, ◌+◌, ◌*◌, ◌^◌, ◌<◌, ◌≤◌, inl, inr, Bool, true, not, ◌&&◌, List, [], ◌∷◌, ◌++◌, map, length, arith, true≢false, ltb-true, lt-ltb, leb-true, le-leb, le-ltb, length-append, eqb-true}
 use Rattle.std.specs.Prelude.{nat_lt, nat_le, slice_get}
 use Rattle.std.specs.List.{list_all, join_with_byte}
 use Rattle.std.specs.Cmp.Lexicographic.{pointwise}
@@ -13,14 +14,13 @@ use Rattle.vocab.specs.declared.kinds.Sort.TheVariants.{Voter, Alt, Ballot, Prof
 use Rattle.vocab.specs.declared.literals.Literal.{Literal}
 use Rattle.vocab.specs.declared.literals.Literal.TheVariants.{Wins, Loses, Above}
 use Rattle.vocab.specs.Formula.{quantifier_depth}
-use Rattle.vocab.specs.Limits.{product}
 use Rattle.vocab.specs.Name.{is_name, has_name_shape}
 use Rattle.vocab.specs.Size.{Extent, IsSize, factorial, sort_count}
 use Rattle.vocab.specs.Sorted.{is_sorted}
 use Rattle.vocab.specs.Study.{Question, is_sentence}
 use Rattle.vocab.specs.Titled.{Titled}
 use Rattle.vocab.proofs.PrefixLemmas.{prefix_within_depth}
-use Rattle.meaning.specs.Space.{rankings, ranking, digits_of, ballots, ballot_bases}
+use Rattle.meaning.specs.Space.{rankings, ranking, ballots, ballot_bases}
 use Rattle.meaning.specs.Texts.{ballot_text, profile_text, outcome_text_of, outcome_text, letter}
 use Rattle.meaning.proofs.RankingLaws.{are_rankings}
 use Rattle.meaning.proofs.SpaceLaws.{length-rankings}
@@ -83,10 +83,6 @@ module _ (size : Extent) (is : IsSize size) where
   ballots_within : (bs : List ℕ) → list_all (within 5) (map (ballot_text size) bs) ≡ true
   ballots_within [] = refl
   ballots_within (b ∷ bs) = and_from _ _ (within_from 5 (ballot_text size b) (ballot_within b)) (ballots_within bs)
-
-  length_digits : (bases : List ℕ) (k : ℕ) → length (digits_of bases k) ≡ length bases
-  length_digits [] k = refl
-  length_digits (b ∷ bases) k = ap suc (length_digits bases (k % product bases))
 
   profile_within : (p : ℕ) → length (profile_text size p) ≤ 48
   profile_within p =
@@ -160,14 +156,14 @@ module _ (study : Question) (is : IsReportable study) where
   few_words : (l : Line) → list_all (within 52) (line_words study l) ≡ true → length (line_words study l) ≤ 77 → is_short l ≡ true
   few_words l h k = ap not (le-ltb 4096 (length (line_text study l)) (omega (arith, joined_within 32 52 (line_words study l) h, k)))
 
-  number_word : (n : ℕ) → n < 2 ^ 64 → list_all (within 52) (number_text n ∷ []) ≡ true
-  number_word n h = and_from _ _ (within_from 52 (number_text n) (omega (arith, number_within n h))) refl
+  short_number : (n : ℕ) → n < 2 ^ 64 → list_all (within 52) (number_text n ∷ []) ≡ true
+  short_number n h = and_from _ _ (within_from 52 (number_text n) (omega (arith, number_within n h))) refl
 
-  profile_word : (p : ℕ) → within 52 (profile_text study.size p) ≡ true
-  profile_word p = within_from 52 (profile_text study.size p) (omega (arith, profile_within study.size is.size p))
+  short_profile : (p : ℕ) → within 52 (profile_text study.size p) ≡ true
+  short_profile p = within_from 52 (profile_text study.size p) (omega (arith, profile_within study.size is.size p))
 
-  literal_word : (l : Literal) → within 52 (literal_text study.size l) ≡ true
-  literal_word l = within_from 52 (literal_text study.size l) (literal_within study.size is.size l)
+  short_literal : (l : Literal) → within 52 (literal_text study.size l) ≡ true
+  short_literal l = within_from 52 (literal_text study.size l) (literal_within study.size is.size l)
 
   few_profiles : sort_count study.size Profile < 2 ^ 64
   few_profiles = omega (arith, is.size.few_profiles)
@@ -187,22 +183,22 @@ module _ (study : Question) (is : IsReportable study) where
         let p = and_parts (nat_lt k (length study.axioms)) _ (and_parts (is_reason study (ByAxiom k values)) true h).0 in
         let v = values_short (sorts_of (slice_get study.axioms k)) values p.1 in
         (and_from _ _ (name_at_within study.axioms is.names k) v.0, omega (arith, v.1, few_sorts study.size study.axioms is.taken.sentences k))
-    reason_short (ByOutcome p) h = (and_from _ _ (profile_word p) refl, omega arith)
+    reason_short (ByOutcome p) h = (and_from _ _ (short_profile p) refl, omega arith)
     reason_short (ByLemma j) h =
         let less = ltb-true j n h in
-        (number_word (j + 1) (omega (arith, less, few)), omega arith)
+        (short_number (j + 1) (omega (arith, less, few)), omega arith)
 
     -- ---- the lines of a story
 
     suppose_short : (ls : List Literal) → list_all is_short (map Suppose ls) ≡ true
     suppose_short [] = refl
-    suppose_short (l ∷ ls) = and_from _ _ (few_words (Suppose l) (and_from _ _ (literal_word l) refl) (omega arith)) (suppose_short ls)
+    suppose_short (l ∷ ls) = and_from _ _ (few_words (Suppose l) (and_from _ _ (short_literal l) refl) (omega arith)) (suppose_short ls)
 
     step_short : (step : StoryStep) → is_sound_step study is n step ≡ true → is_short (step_line step) ≡ true
     step_short step h =
         let p = and_parts (is_literal study.size step.literal) (is_sound_reason study is n step.reason) h in
         let r = reason_short step.reason p.1 in
-        few_words (step_line step) (and_from _ _ (literal_word step.literal) r.0) (omega (arith, r.1))
+        few_words (step_line step) (and_from _ _ (short_literal step.literal) r.0) (omega (arith, r.1))
 
     steps_short : (steps : List StoryStep) → list_all (is_sound_step study is n) steps ≡ true → list_all is_short (map step_line steps) ≡ true
     steps_short [] h = refl
@@ -213,7 +209,7 @@ module _ (study : Question) (is : IsReportable study) where
         let p = and_parts (list_all (is_literal study.size) lemma.suppose && list_all (is_sound_step study is n) lemma.steps) (is_sound_reason study is n lemma.last) h in
         let q = and_parts (list_all (is_literal study.size) lemma.suppose) (list_all (is_sound_step study is n) lemma.steps) p.0 in
         let r = reason_short lemma.last p.1 in
-        let heading = few_words (Heading number) (number_word number less) (omega arith) in
+        let heading = few_words (Heading number) (short_number number less) (omega arith) in
         let last = few_words (Clash lemma.last) r.0 (omega (arith, r.1)) in
         list_all-both is_short (Heading number ∷ map Suppose lemma.suppose ++ map step_line lemma.steps) (Clash lemma.last ∷ [])
         (list_all-both is_short (Heading number ∷ map Suppose lemma.suppose) (map step_line lemma.steps) (and_from _ _ heading (suppose_short lemma.suppose)) (steps_short lemma.steps q.1))
@@ -228,7 +224,7 @@ module _ (study : Question) (is : IsReportable study) where
   -- ---- the other lines
 
   row_short : (p o : ℕ) → is_short (Row p o) ≡ true
-  row_short p o = few_words (Row p o) (and_from _ _ (profile_word p) (and_from _ _ (within_from 52 (outcome_text study.size o) (outcome_within_of study.size is.size study.size.kind o)) refl)) (omega arith)
+  row_short p o = few_words (Row p o) (and_from _ _ (short_profile p) (and_from _ _ (within_from 52 (outcome_text study.size o) (outcome_within_of study.size is.size study.size.kind o)) refl)) (omega arith)
 
   rows_short : (p : ℕ) (table : List ℕ) → list_all is_short (row_lines p table) ≡ true
   rows_short p [] = refl
@@ -241,16 +237,16 @@ module _ (study : Question) (is : IsReportable study) where
 
   head_short : list_all is_short (head_lines study) ≡ true
   head_short =
-      let voters = few_words (VotersAre study.size.voters) (number_word study.size.voters (omega (arith, is.size.few_voters))) (omega arith) in
-      let alternatives = few_words (AlternativesAre study.size.alternatives) (number_word study.size.alternatives (omega (arith, is.size.few_alternatives))) (omega arith) in
+      let voters = few_words (VotersAre study.size.voters) (short_number study.size.voters (omega (arith, is.size.few_voters))) (omega arith) in
+      let alternatives = few_words (AlternativesAre study.size.alternatives) (short_number study.size.alternatives (omega (arith, is.size.few_alternatives))) (omega arith) in
       let names = few_words (AxiomsAre (map (λ a. a.name) study.axioms)) (own_names_within study.axioms is.names) (omega (arith, length-map study.axioms (λ (a : Titled). a.name), is.taken.few_axioms)) in
       and_from _ _ (kind_short study.size.kind) (and_from _ _ voters (and_from _ _ alternatives (and_from _ _ names refl)))
 
   witness_short : (whole : List ℕ) (k : ℕ) (witness : Witness) → is_witness study.size study.axioms study.conflicts whole k witness ≡ true → list_all is_short (witness_lines study k witness) ≡ true
   witness_short whole k (Rule table) h =
-      and_from _ _ (few_words (WithRule (name_at study.axioms k) (sort_count study.size Profile)) (and_from _ _ (name_at_within study.axioms is.names k) (number_word (sort_count study.size Profile) few_profiles)) (omega arith)) (rows_short 0 table)
+      and_from _ _ (few_words (WithRule (name_at study.axioms k) (sort_count study.size Profile)) (and_from _ _ (name_at_within study.axioms is.names k) (short_number (sort_count study.size Profile) few_profiles)) (omega arith)) (rows_short 0 table)
   witness_short whole k (Open limit) h =
-      and_from _ _ (few_words (WithOpen (name_at study.axioms k) limit) (and_from _ _ (name_at_within study.axioms is.names k) (number_word limit (omega (arith, eqb-true limit study.conflicts h, is.taken.few_conflicts)))) (omega arith)) refl
+      and_from _ _ (few_words (WithOpen (name_at study.axioms k) limit) (and_from _ _ (name_at_within study.axioms is.names k) (short_number limit (omega (arith, eqb-true limit study.conflicts h, is.taken.few_conflicts)))) (omega arith)) refl
 
   witnesses_short : (whole core : List ℕ) (witnesses : List Witness) → pointwise (is_witness study.size study.axioms study.conflicts whole) core witnesses ≡ true → list_all is_short (all_witness_lines study core witnesses) ≡ true
   witnesses_short whole [] witnesses h = refl
@@ -260,17 +256,17 @@ module _ (study : Question) (is : IsReportable study) where
       list_all-both is_short (witness_lines study k witness) (all_witness_lines study core witnesses) (witness_short whole k witness p.0) (witnesses_short whole core witnesses p.1)
 
   verdict_short : (verdict : Verdict) → is_right study verdict ≡ true → lemma_count verdict < 2 ^ 64 → list_all is_short (verdict_lines study verdict) ≡ true
-  verdict_short (Possible table) h few = and_from _ _ (few_words (RuleOf (sort_count study.size Profile)) (number_word (sort_count study.size Profile) few_profiles) (omega arith)) (rows_short 0 table)
+  verdict_short (Possible table) h few = and_from _ _ (few_words (RuleOf (sort_count study.size Profile)) (short_number (sort_count study.size Profile) few_profiles) (omega arith)) (rows_short 0 table)
   verdict_short (Impossible core story witnesses) h few =
       let p = and_parts (is_story study.size study.axioms core story) _ h in
       let q = and_parts (is_core_from 0 (length study.axioms) core) _ p.1 in
       let lemmas = sound_story study is core (length story) [] story (omega arith) p.0 in
       let names = few_words (CoreIs (map (name_at study.axioms) core)) (core_names_within study.axioms is.names core) (omega (arith, length-map core (name_at study.axioms), few_places 0 (length study.axioms) core (omega arith) q.0, is.taken.few_axioms)) in
-      let count = few_words (LemmasAre (length story)) (number_word (length story) few) (omega arith) in
+      let count = few_words (LemmasAre (length story)) (short_number (length story) few) (omega arith) in
       list_all-both is_short (SaysImpossible ∷ CoreIs (map (name_at study.axioms) core) ∷ LemmasAre (length story) ∷ story_lines 1 story) (all_witness_lines study core witnesses)
       (and_from _ _ names (and_from _ _ count (story_short (length story) few 1 story (omega (arith, few)) lemmas)))
       (witnesses_short core core witnesses q.1)
-  verdict_short Undecided h few = and_from _ _ (few_words (LimitIs study.conflicts) (number_word study.conflicts (omega (arith, is.taken.few_conflicts))) (omega arith)) refl
+  verdict_short Undecided h few = and_from _ _ (few_words (LimitIs study.conflicts) (short_number study.conflicts (omega (arith, is.taken.few_conflicts))) (omega arith)) refl
 
   -- each line of the report of a right verdict is short
   pub report_short : (verdict : Verdict) → is_right study verdict ≡ true → lemma_count verdict < 2 ^ 64 → list_all is_short (report_lines study verdict) ≡ true

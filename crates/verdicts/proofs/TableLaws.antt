@@ -1,20 +1,19 @@
 -- The fault of a table is the first axiom that it does not satisfy, at its least instance.
 use Rattle.std.proofs.Common.{◌≡◌, refl, sym, ap, ◌∙◌, subst, ℕ, zero, suc, ◌+◌, ◌<◌, ◌≤◌, inl, inr, Bool, true, false, not, ◌&&◌, ◌||◌, cond, List, [], ◌∷◌, ◌++◌, length, get_or, Option, Some, None, arith, true≢false, ltb-true, ◌↔◌}
-use Rattle.std.specs.Prelude.{nat_lt, slice_get, IsTrue, IsFalse}
-use Rattle.std.specs.List.{list_all, list_any, position_or_len}
-use Rattle.std.proofs.lemmas.Bool.{and_parts, and_from, cases_lt}
+use Rattle.std.specs.Prelude.{nat_lt, slice_get, IsTrue}
+use Rattle.std.specs.List.{list_all, list_any}
+use Rattle.std.proofs.lemmas.Bool.{and_parts, and_from, cases_lt, not-true, not-false}
 use Rattle.std.proofs.lemmas.List.Sums.{fails_before_first}
 use Rattle.vocab.specs.Limits.{instance_count}
 use Rattle.vocab.specs.Study.{Question}
 use Rattle.vocab.specs.Titled.{Titled}
 use Rattle.meaning.specs.Instances.{is_instance_true, IsFirstFailure}
 use Rattle.meaning.specs.Space.{up_from, below}
-use Rattle.meaning.specs.Truth.{is_true_at, is_axiom_true}
+use Rattle.meaning.specs.Truth.{is_axiom_true}
 use Rattle.meaning.proofs.InstanceLaws.{have_instances}
 use Rattle.meaning.proofs.RankingLaws.{first_place}
 use Rattle.meaning.proofs.SpaceLaws.{length-up_from}
 use Rattle.meaning.proofs.ValueLoops.{all_fails}
-use Rattle.verdicts.specs.declared.refusals.Refusal.{Refusal}
 use Rattle.verdicts.specs.declared.refusals.Refusal.TheVariants.{Fails}
 use Rattle.verdicts.specs.Faults.{least_false, failing, table_fault}
 use Rattle.verdicts.specs.Laws.{IsFirstFailing}
@@ -35,14 +34,6 @@ some_fails f (x ∷ xs) h = by_test (f x) h (some_fails f xs)
     by_test : (b : Bool) → (b && list_all f xs) ≡ false → (list_all f xs ≡ false → list_any (λ k. not (f k)) xs ≡ true) → (not b || list_any (λ k. not (f k)) xs) ≡ true
     by_test true e go = go e
     by_test false e go = refl
-
-not_true : (b : Bool) → not b ≡ true → b ≡ false
-not_true true e = absurd (true≢false (sym e))
-not_true false e = refl
-
-not_false : (b : Bool) → not b ≡ false → b ≡ true
-not_false true e = refl
-not_false false e = absurd (true≢false e)
 
 -- there is an axiom at each place of a list
 some_there : (axioms : List Titled) (k : ℕ) → k < length axioms → slice_get axioms k ≡ None → ⊥
@@ -72,10 +63,10 @@ module _ (study : Question) (table : List ℕ) where
       within = omega (arith, found.0, length-up_from 0 (count a))
 
       fails : is_instance_true study.size table a.sentence (least_false study table a) ≡ false
-      fails = not_true _ (ap (is_false a) (sym (get_or-below (count a) (least_false study table a) within)) ∙ found.1)
+      fails = not-true _ (ap (is_false a) (sym (get_or-below (count a) (least_false study table a) within)) ∙ found.1)
 
       first : (k : ℕ) → 0 ≤ k → k < least_false study table a → is_instance_true study.size table a.sentence k ≡ true
-      first k low less = not_false _ (ap (is_false a) (sym (get_or-below (count a) k (omega (arith, less, within)))) ∙ fails_before_first (is_false a) (below (count a)) k 0 less)
+      first k low less = not-false _ (ap (is_false a) (sym (get_or-below (count a) k (omega (arith, less, within)))) ∙ fails_before_first (is_false a) (below (count a)) k 0 less)
 
   failure_is_false : (a : Titled) (k : ℕ) → Failure a k → is_axiom_true study.size table (Some a) ≡ false
   failure_is_false a k f = have_instances study.size table a.sentence ∙ all_fails (is_instance_true study.size table a.sentence) (instance_count study.size a.sentence) k f.within f.fails

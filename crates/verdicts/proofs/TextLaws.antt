@@ -3,7 +3,7 @@ use Rattle.std.proofs.Common.{◌≡◌, refl, sym, ap, ap₂, ◌∙◌, ℕ, z
 use Rattle.std.specs.Prelude.{◌==◌, nat_lt, nat_le, nat_eq}
 use Rattle.std.specs.List.{list_all, list_any, join_with_byte, slice_split}
 use Rattle.std.specs.Cmp.Lexicographic.{pointwise}
-use Rattle.std.proofs.lemmas.Bool.{and_parts, and_from, or_cases}
+use Rattle.std.proofs.lemmas.Bool.{and_parts, and_from, or_cases, not-true, or_parts}
 use Rattle.std.proofs.lemmas.Slice.Eq.{bytes_eq-Decides}
 use Rattle.vocab.specs.declared.kinds.Kind.{Kind}
 use Rattle.vocab.specs.declared.kinds.Kind.TheVariants.{Choice, Ranking, Sets}
@@ -13,7 +13,7 @@ use Rattle.vocab.specs.declared.literals.Literal.{Literal}
 use Rattle.vocab.specs.declared.literals.Literal.TheVariants.{Wins, Loses, Above}
 use Rattle.vocab.specs.Name.{is_digit, is_lower, is_name_byte, is_name}
 use Rattle.vocab.specs.Literal.{profile_of}
-use Rattle.std.proofs.lemmas.List.{length-replicate}
+use Rattle.std.proofs.lemmas.List.{length-replicate, length-map}
 use Rattle.vocab.specs.Size.{Extent, IsSize, factorial, sort_count, outcome_count}
 use Rattle.vocab.specs.Study.{have_own_names}
 use Rattle.vocab.specs.Titled.{Titled}
@@ -37,18 +37,6 @@ tail_same x y xs ys e = cc
 
 cons_same : (x y : List ℕ) (xs ys : List (List ℕ)) → x ∷ xs ≡ y ∷ ys → (x ≡ y) × (xs ≡ ys)
 cons_same x y xs ys e = let h : x ≡ y = cc in let t : xs ≡ ys = cc in (h, t)
-
-or_first : (a b : Bool) → (a || b) ≡ false → a ≡ false
-or_first true b e = e
-or_first false b e = refl
-
-or_second : (a b : Bool) → (a || b) ≡ false → b ≡ false
-or_second true b e = absurd (true≢false e)
-or_second false b e = e
-
-not_true : (b : Bool) → not b ≡ true → b ≡ false
-not_true true e = absurd (true≢false (sym e))
-not_true false e = refl
 
 -- lists of words that are joined to one text are one
 joins_same : (ws vs : List (List ℕ)) → list_all (lacks 124) ws ≡ true → list_all (lacks 124) vs ≡ true → 0 < length ws → 0 < length vs → join_with_byte 124 ws ≡ join_with_byte 124 vs → ws ≡ vs
@@ -102,6 +90,11 @@ letters_word (x ∷ xs) = and_from _ _ (lt-ltb 32 (letter x) (omega arith)) (let
 word_append : (v w : List ℕ) → is_word v ≡ true → is_word w ≡ true → is_word (v ++ w) ≡ true
 word_append [] w h k = k
 word_append (b ∷ v) w h k = let p = and_parts (nat_lt 32 b) (is_word v) h in and_from _ _ p.0 (word_append v w p.1 k)
+
+-- there is a digit for each base
+pub length_digits : (bases : List ℕ) (k : ℕ) → length (digits_of bases k) ≡ length bases
+length_digits [] k = refl
+length_digits (b ∷ bases) k = ap suc (length_digits bases (k % product bases))
 
 module _ (size : Extent) (is : IsSize size) where
   abbrev m : ℕ
@@ -164,12 +157,8 @@ module _ (size : Extent) (is : IsSize size) where
       ∙ ap (number_of (ballot_bases size)) same
       ∙ (are_numbered (ballot_bases size)).of_digits q (omega (arith, k, are_profiles size))
     where
-      length_digits : (bases : List ℕ) (k : ℕ) → length (map (ballot_text size) (digits_of bases k)) ≡ length bases
-      length_digits [] k = refl
-      length_digits (b ∷ bases) k = ap suc (length_digits bases (k % product bases))
-
       some_ballot : (k : ℕ) → 0 < length (map (ballot_text size) (ballots size k))
-      some_ballot k = omega (arith, length_digits (ballot_bases size) k, length-replicate size.voters (factorial m), is.some_voter)
+      some_ballot k = omega (arith, length_digits (ballot_bases size) k, length-map (ballots size k) (ballot_text size), length-replicate size.voters (factorial m), is.some_voter)
 
   outcomes_same_of : (k : Kind) (o u : ℕ) → k ≢ Sets → o < outcome_count k m → u < outcome_count k m → outcome_text_of size k o ≡ outcome_text_of size k u → o ≡ u
   outcomes_same_of Choice o u n h k e = omega (arith, head_same (letter o) (letter u) [] [] e)
@@ -244,12 +233,12 @@ name_word (c ∷ cs) e =
 -- axioms with names of their own
 own_head : (a : Titled) (axioms : List Titled) (k : ℕ) → k < length axioms → list_any (λ b. pointwise nat_eq a.name b.name) axioms ≡ false → a.name ≡ name_at axioms k → ⊥
 own_head a [] k h e same = omega (arith, h)
-own_head a (b ∷ axioms) zero h e same = true≢false (sym ((bytes_eq-Decides a.name b.name).1 same) ∙ or_first (pointwise nat_eq a.name b.name) _ e)
-own_head a (b ∷ axioms) (suc k) h e same = own_head a axioms k (omega (arith, h)) (or_second (pointwise nat_eq a.name b.name) _ e) same
+own_head a (b ∷ axioms) zero h e same = true≢false (sym ((bytes_eq-Decides a.name b.name).1 same) ∙ (or_parts (pointwise nat_eq a.name b.name) _ e).0)
+own_head a (b ∷ axioms) (suc k) h e same = own_head a axioms k (omega (arith, h)) ((or_parts (pointwise nat_eq a.name b.name) _ e).1) same
 
 pub names_own : (axioms : List Titled) → have_own_names axioms ≡ true → (j k : ℕ) → j < length axioms → k < length axioms → name_at axioms j ≡ name_at axioms k → j ≡ k
 names_own [] own j k h i e = absurd (omega (arith, h))
 names_own (a ∷ axioms) own zero zero h i e = refl
-names_own (a ∷ axioms) own zero (suc k) h i e = absurd (own_head a axioms k (omega (arith, i)) (not_true _ (and_parts (not (list_any (λ b. pointwise nat_eq a.name b.name) axioms)) (have_own_names axioms) own).0) e)
-names_own (a ∷ axioms) own (suc j) zero h i e = absurd (own_head a axioms j (omega (arith, h)) (not_true _ (and_parts (not (list_any (λ b. pointwise nat_eq a.name b.name) axioms)) (have_own_names axioms) own).0) (sym e))
+names_own (a ∷ axioms) own zero (suc k) h i e = absurd (own_head a axioms k (omega (arith, i)) (not-true _ (and_parts (not (list_any (λ b. pointwise nat_eq a.name b.name) axioms)) (have_own_names axioms) own).0) e)
+names_own (a ∷ axioms) own (suc j) zero h i e = absurd (own_head a axioms j (omega (arith, h)) (not-true _ (and_parts (not (list_any (λ b. pointwise nat_eq a.name b.name) axioms)) (have_own_names axioms) own).0) (sym e))
 names_own (a ∷ axioms) own (suc j) (suc k) h i e = ap suc (names_own axioms (and_parts (not (list_any (λ b. pointwise nat_eq a.name b.name) axioms)) (have_own_names axioms) own).1 j k (omega (arith, h)) (omega (arith, i)) e)

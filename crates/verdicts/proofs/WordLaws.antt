@@ -3,7 +3,7 @@ use Rattle.std.proofs.Common.{◌≡◌, refl, sym, ap, ◌∙◌, ℕ, zero, su
 use Rattle.std.specs.Prelude.{◌==◌}
 use Rattle.std.specs.List.{list_all, flat_map, slice_split, onto_first, join_with_byte}
 use Rattle.std.specs.Str.{bytes_eq}
-use Rattle.std.proofs.lemmas.Bool.{and_parts, cases_lt}
+use Rattle.std.proofs.lemmas.Bool.{and_parts, cases_lt, not-true}
 use Rattle.std.proofs.lemmas.Slice.Eq.{bytes_eq-Decides}
 use Rattle.std.proofs.lemmas.List.Splits.{slice_split-cons_yes, slice_split-cons_no}
 use Rattle.std.proofs.lemmas.Bool.Decides.{Decides-eqb}
@@ -14,22 +14,18 @@ use Rattle.verdicts.specs.Texts.{named_by}
 abbrev pub lacks : ℕ → List ℕ → Bool
 lacks c text = list_all (λ b. not (b == c)) text
 
-not_same : (b : Bool) → not b ≡ true → b ≡ false
-not_same true h = absurd (true≢false (sym h))
-not_same false h = refl
-
 module _ (c : ℕ) where
   split_at : (w rest : List ℕ) → lacks c w ≡ true → slice_split (λ b. b == c) (w ++ c ∷ rest) ≡ w ∷ slice_split (λ b. b == c) rest
   split_at [] rest h = slice_split-cons_yes (λ b. b == c) c rest ((Decides-eqb c c).1 refl)
   split_at (b ∷ w) rest h =
       let p = and_parts (not (b == c)) (lacks c w) h in
-      slice_split-cons_no (λ b. b == c) b (w ++ c ∷ rest) (not_same (b == c) p.0) ∙ ap (onto_first b) (split_at w rest p.1)
+      slice_split-cons_no (λ b. b == c) b (w ++ c ∷ rest) (not-true (b == c) p.0) ∙ ap (onto_first b) (split_at w rest p.1)
 
   split_none : (w : List ℕ) → lacks c w ≡ true → slice_split (λ b. b == c) w ≡ w ∷ []
   split_none [] h = refl
   split_none (b ∷ w) h =
       let p = and_parts (not (b == c)) (lacks c w) h in
-      slice_split-cons_no (λ b. b == c) b w (not_same (b == c) p.0) ∙ ap (onto_first b) (split_none w p.1)
+      slice_split-cons_no (λ b. b == c) b w (not-true (b == c) p.0) ∙ ap (onto_first b) (split_none w p.1)
 
   pub split_joined : (w : List ℕ) (words : List (List ℕ)) → list_all (lacks c) (w ∷ words) ≡ true → slice_split (λ b. b == c) (join_with_byte c (w ∷ words)) ≡ w ∷ words
   split_joined w [] h = split_none w (and_parts (lacks c w) true h).0
