@@ -3,7 +3,7 @@ use Rattle.std.proofs.Common.{◌≡◌, refl, ℕ, ◌+◌, ◌-◌, List, [], 
 use Rattle.std.specs.Prelude.{codes, slice_set}
 use Rattle.std.specs.List.{flat_map}
 use Rattle.vocab.specs.declared.kinds.Sort.TheVariants.{Voter, Alt, Profile}
-use Rattle.vocab.specs.declared.literals.Literal.TheVariants.{Wins, Loses}
+use Rattle.vocab.specs.declared.literals.Literal.TheVariants.{Wins, Loses, Above}
 use Rattle.vocab.specs.Study.{Question}
 use Rattle.vocab.specs.Titled.{Titled}
 use Rattle.vocab.specs.Tree.{Tree, Var, Prefers, Ranks, Leaf, Not, Both, Implies, All, Exists}
@@ -123,6 +123,13 @@ axiom_outside_the_core_is_not_in_core = refl
 
 last_lemma_that_supposes_is_supposes : with_more 15 (codes "suppose b@ab|ba" ∷ []) ≡ Faulty 15 refusal.Supposes
 last_lemma_that_supposes_is_supposes = refl
+
+-- of two faults of one line the first is named: a literal that is not new, then the axiom or the lemma, then what it forces
+first_of_two_faults_is_named : with_line 16 (codes "so !a@ab|ba by lemma 2") ≡ Faulty 16 refusal.Known
+first_of_two_faults_is_named = refl
+
+axiom_outside_the_core_comes_before_what_it_forces : answer symmetric (text_of (slice_set (slice_set no_symmetric_rule_report 6 (codes "core neutrality")) 10 (codes "so b@ba|ab by axiom anonymity ab|ba 1 2 a"))) ≡ Faulty 11 refusal.NotInCore
+axiom_outside_the_core_comes_before_what_it_forces = refl
 
 -- the whole line, reason and all, has to be well formed before its literal is looked at
 repeated_step_with_a_malformed_reason_is_form : with_line 16 (codes "so !a@ab|ba by lemma 0") ≡ Faulty 16 refusal.Form
@@ -316,3 +323,26 @@ voters_ranking_is_confirmed = refl
 first_failing_axiom_is_named : map (λ row. answer (ranking (axiom_of (codes "non_dictatorship") no_dictator ∷ [])) (codes "bench report 1\nkind ranking\nvoters 1\nalternatives 2\naxioms pareto independence non_dictatorship\nverdict possible\nrule 2\nab ab\n" ++ (row ++ codes "end\n"))) (codes "ba ba\n" ∷ codes "ba ab\n" ∷ []) ≡
     Faulty 9 (refusal.Fails (codes "non_dictatorship") 0) ∷ Faulty 9 (refusal.Fails (codes "pareto") 6) ∷ []
 first_failing_axiom_is_named = refl
+
+abbrev dictated : Question
+dictated = record { size = ranked 1 2; conflicts = 100000; axioms = axiom_of (codes "pareto") ranking_pareto ∷ axiom_of (codes "non_dictatorship") no_dictator ∷ [] }
+
+-- by Pareto the ranking is the voter's, who dictates; without Pareto it may always be ab
+abbrev voter_dictates : Verdict
+voter_dictates = Impossible (0 ∷ 1 ∷ []) (record { suppose = []; steps = step (Above 0 1 0) (ByAxiom 0 (0 ∷ 0 ∷ 1 ∷ [])) ∷ step (Above 1 0 1) (ByAxiom 0 (1 ∷ 1 ∷ 0 ∷ [])) ∷ []; last = ByAxiom 1 (0 ∷ []) } ∷ []) (Rule (0 ∷ 0 ∷ []) ∷ Rule (0 ∷ 1 ∷ []) ∷ [])
+
+abbrev voter_dictates_report : List (List ℕ)
+voter_dictates_report =
+    codes "bench report 1" ∷ codes "kind ranking" ∷ codes "voters 1" ∷ codes "alternatives 2" ∷ codes "axioms pareto non_dictatorship" ∷ codes "verdict impossible" ∷ codes "core pareto non_dictatorship" ∷ codes "lemmas 1"
+    ∷ codes "lemma 1" ∷ codes "so a>b@ab by axiom pareto ab a b" ∷ codes "so b>a@ba by axiom pareto ba b a" ∷ codes "clash by axiom non_dictatorship 1"
+    ∷ codes "without pareto rule 2" ∷ codes "ab ab" ∷ codes "ba ab" ∷ codes "without non_dictatorship rule 2" ∷ codes "ab ab" ∷ codes "ba ba" ∷ codes "end" ∷ []
+
+impossibility_of_rankings_has_this_text : report_text dictated voter_dictates ≡ text_of voter_dictates_report
+impossibility_of_rankings_has_this_text = refl
+
+impossibility_of_rankings_is_confirmed : answer dictated (text_of voter_dictates_report) ≡ Confirmed voter_dictates
+impossibility_of_rankings_is_confirmed = refl
+
+-- an alternative is not compared with itself, and none wins
+literal_of_no_ranking_is_form : map (λ literal. answer dictated (text_of (slice_set voter_dictates_report 9 (codes "suppose " ++ literal)))) (codes "a>a@ab" ∷ codes "a>c@ab" ∷ codes "a@ab" ∷ codes "!a>b@ab" ∷ []) ≡ replicate 4 (Faulty 10 refusal.Form)
+literal_of_no_ranking_is_form = refl
