@@ -16,6 +16,7 @@ use Rattle.verdicts.specs.declared.verdicts.Verdict.{Verdict}
 use Rattle.verdicts.specs.declared.verdicts.Verdict.TheVariants.{Possible, Impossible}
 use Rattle.verdicts.specs.Report.{report_text, has_text, is_right}
 use Rattle.verdicts.specs.Judge.{Answer, Confirmed, Faulty, answer}
+use Rattle.verdicts.specs.Words.{answer_text}
 
 -- lines, each with its end
 abbrev text_of : List (List ℕ) → List ℕ
@@ -50,6 +51,9 @@ with_rule_line n line = answer unanimous (text_of (slice_set best_is_chosen (n -
 -- profile 1 and alternative 1 of two: 1 * 2 + 1
 last_row_names_the_failing_axiom_and_instance : with_rule_line 9 (codes "ba a") ≡ Faulty 9 (refusal.Fails (codes "unanimity") 3)
 last_row_names_the_failing_axiom_and_instance = refl
+
+faulty_line_is_printed : answer_text (with_rule_line 9 (codes "ba a")) ≡ codes "refused line 9: fails unanimity 3\n"
+faulty_line_is_printed = refl
 
 row_of_an_earlier_profile_is_row : with_rule_line 9 (codes "ab a") ≡ Faulty 9 refusal.Row
 row_of_an_earlier_profile_is_row = refl
@@ -98,6 +102,9 @@ impossibility_is_in_range = refl
 
 impossibility_is_confirmed : answer symmetric (text_of no_symmetric_rule_report) ≡ Confirmed no_symmetric_rule
 impossibility_is_confirmed = refl
+
+confirmation_is_printed : answer_text (answer symmetric (text_of no_symmetric_rule_report)) ≡ codes "confirmed impossible\n"
+confirmation_is_printed = refl
 
 -- the answer where a line of the report, numbered from 1, is another, or another one stands before it
 abbrev with_line : ℕ → List ℕ → Answer

@@ -7,4 +7,5 @@ pub mod Reading
 pub mod Places
 pub mod Faults
 pub mod Judge
+pub mod Words
 pub mod Laws
