@@ -1,8 +1,8 @@
 -- What a confirmed report claims holds.
-use Rattle.std.proofs.Common.{◌≡◌, refl, ℕ, ◌+◌, Bool, true, not, ◌&&◌, List, [], ◌∷◌, length, arith, ltb-true}
+use Rattle.std.proofs.Common.{◌≡◌, refl, sym, ap, ◌∙◌, ℕ, ◌+◌, ◌≤◌, ◌↔◌, inl, inr, cond, take, lt-ltb, le-ltb, Bool, true, false, not, ◌&&◌, List, [], ◌∷◌, length, arith, ltb-true}
 use Rattle.std.specs.Prelude.{nat_lt, slice_get}
 use Rattle.std.specs.List.{list_all}
-use Rattle.std.proofs.lemmas.Bool.{and_parts, and_from}
+use Rattle.std.proofs.lemmas.Bool.{and_parts, and_from, cases_lt}
 use Rattle.vocab.specs.Study.{Question}
 use Rattle.meaning.specs.declared.cores.Witness.{Witness}
 use Rattle.meaning.specs.declared.stories.Lemma.{Lemma}
@@ -13,6 +13,8 @@ use Rattle.meaning.specs.Cores.{is_core_from}
 use Rattle.meaning.proofs.SpaceLaws.{all_at}
 use Rattle.meaning.proofs.StoryLaws.{no_rule}
 use Rattle.verdicts.specs.declared.verdicts.Verdict.TheVariants.{Possible, Impossible}
+use Rattle.verdicts.specs.declared.verdicts.Verdict.{Verdict}
+use Rattle.verdicts.specs.Judge.{Told, Good, Refused, judge, pieces, front, Confirmed, answer, beyond, answer_within}
 use Rattle.verdicts.specs.Laws.{IsRuleConfirmed, IsImpossibilityConfirmed}
 use Rattle.verdicts.proofs.JudgeLaws.{judge_sound}
 
@@ -41,3 +43,19 @@ module _ (study : Question) (text : List ℕ) where
 
   pub claims_hold : ((table : List ℕ) → IsRuleConfirmed study text table) × ((core : List ℕ) (story : List Lemma) (witnesses : List Witness) → IsImpossibilityConfirmed study text core story witnesses)
   claims_hold = (rule_holds, impossibility_holds)
+
+pub within_limit : (limit : ℕ) (study : Question) (text : List ℕ) (verdict : Verdict) → (answer_within limit study text ≡ Confirmed verdict) ↔ ((length text ≤ limit) × (answer study text ≡ Confirmed verdict))
+within_limit limit study text verdict = (
+  λ e. elim (cases_lt limit (length text)) [
+    | inl less ↦ absurd (not_beyond (judge study (front (pieces (take limit text)))) (sym (chosen true (lt-ltb limit (length text) less)) ∙ e))
+    | inr le ↦ (le, sym (chosen false (le-ltb limit (length text) le)) ∙ e)
+  ],
+  λ h. chosen false (le-ltb limit (length text) h.0) ∙ h.1,
+)
+  where
+    chosen : (b : Bool) → nat_lt limit (length text) ≡ b → answer_within limit study text ≡ cond b (beyond (judge study (front (pieces (take limit text))))) (answer study text)
+    chosen b e = ap (λ c. cond c (beyond (judge study (front (pieces (take limit text))))) (answer study text)) e
+
+    not_beyond : (told : Told) → beyond told ≡ Confirmed verdict → ⊥
+    not_beyond (Good s) e = cc
+    not_beyond (Refused n word) e = cc

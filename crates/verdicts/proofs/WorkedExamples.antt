@@ -15,7 +15,7 @@ use Rattle.verdicts.specs.declared.refusals.Refusal.TheVariants as refusal
 use Rattle.verdicts.specs.declared.verdicts.Verdict.{Verdict}
 use Rattle.verdicts.specs.declared.verdicts.Verdict.TheVariants.{Possible, Impossible}
 use Rattle.verdicts.specs.Report.{report_text, has_text, is_right}
-use Rattle.verdicts.specs.Judge.{Answer, Confirmed, Faulty, answer}
+use Rattle.verdicts.specs.Judge.{Answer, Confirmed, Faulty, TooLong, answer, answer_within}
 use Rattle.verdicts.specs.Words.{answer_text}
 
 -- lines, each with its end
@@ -269,6 +269,17 @@ many_names k = codes "axioms" ++ (flat_map (λ name. 32 ∷ name) (replicate 123
 -- without the line end
 line_has_4096_bytes_at_most : map {A = ℕ} {B = ℕ × Answer} (λ k. (length (many_names k), with_line 5 (many_names k))) (30 ∷ 31 ∷ []) ≡ (4096, Faulty 5 refusal.StudyDiffers) ∷ (4097, Faulty 5 refusal.Form) ∷ []
 line_has_4096_bytes_at_most = refl
+
+-- the report has 106 bytes: the lines are judged that end within the limit, and its last line does only where all is read
+abbrev within : ℕ → List (List ℕ) → Answer
+within limit lines = answer_within limit unanimous (text_of lines)
+
+report_within_the_limit_is_confirmed : map (λ limit. within limit best_is_chosen) (105 ∷ 106 ∷ 107 ∷ []) ≡ TooLong ∷ Confirmed (Possible (0 ∷ 1 ∷ [])) ∷ Confirmed (Possible (0 ∷ 1 ∷ [])) ∷ []
+report_within_the_limit_is_confirmed = refl
+
+-- line 9 is faulty, and ends with byte 102
+faulty_line_counts_where_it_ends_within_the_limit : map (λ limit. within limit (slice_set best_is_chosen 8 (codes "ab a"))) (101 ∷ 102 ∷ []) ≡ TooLong ∷ Faulty 9 refusal.Row ∷ []
+faulty_line_counts_where_it_ends_within_the_limit = refl
 
 -- ---- studies with one alternative
 

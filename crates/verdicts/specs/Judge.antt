@@ -1,5 +1,5 @@
 -- The first faulty line of a report, or the verdict that is confirmed.
-use Rattle.std.specs.Prelude.{ℕ, ◌+◌, ◌==◌, nat_lt, List, [], ◌∷◌, ◌++◌, length, Option, Some, None, if◌then◌else◌}
+use Rattle.std.specs.Prelude.{ℕ, ◌+◌, ◌==◌, nat_lt, List, [], ◌∷◌, ◌++◌, length, take, Option, Some, None, if◌then◌else◌}
 use Rattle.std.specs.List.{slice_split}
 use Rattle.std.specs.Option.{unwrap_or, option_map_or}
 use Rattle.vocab.specs.declared.kinds.Sort.TheVariants.{Profile}
@@ -117,10 +117,11 @@ final [] = []
 final (x ∷ []) = x
 final (x ∷ y ∷ xs) = final (y ∷ xs)
 
--- a report is confirmed, or has a first faulty line
+-- a report is confirmed, or has a first faulty line, or is longer than what is read of it
 pub data Answer : Type 0 where
   Confirmed : Verdict → Answer
   Faulty : (line : ℕ) → Refusal → Answer
+  TooLong : Answer
 
 -- where no line is faulty: the end must be read, and no byte may follow it
 abbrev pub at_end : ℕ → List ℕ → Place → Answer
@@ -135,3 +136,12 @@ conclude n rest (Good s) = at_end n rest s.place
 -- the answer to a text
 abbrev pub answer : Question → List ℕ → Answer
 answer study text = conclude (length (pieces text)) (final (pieces text)) (judge study (front (pieces text)))
+
+-- where no line that ends within the limit is faulty
+abbrev pub beyond : Told → Answer
+beyond (Refused line word) = Faulty line word
+beyond (Good s) = TooLong
+
+-- the answer to a text of which so many bytes are read: of a longer one the lines are judged that end within them
+abbrev pub answer_within : ℕ → Question → List ℕ → Answer
+answer_within limit study text = if nat_lt limit (length text) then beyond (judge study (front (pieces (take limit text)))) else answer study text

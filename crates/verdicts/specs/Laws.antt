@@ -1,5 +1,5 @@
 -- What holds of reports: the statements of the laws. Each is proved as the contract of a function of the same name in src/laws.rt.
-use Rattle.std.specs.Prelude.{◌≡◌, ◌≢◌, ℕ, ◌<◌, ◌+◌, ◌^◌, ◌↔◌, nat_lt, not, List, [], ◌∷◌, ◌++◌, length, slice_get, Some, None, IsTrue}
+use Rattle.std.specs.Prelude.{◌≡◌, ◌≢◌, ℕ, ◌<◌, ◌≤◌, ◌+◌, ◌^◌, ◌↔◌, nat_lt, not, List, [], ◌∷◌, ◌++◌, length, slice_get, Some, None, IsTrue}
 use Rattle.std.specs.List.{list_all}
 use Rattle.vocab.specs.declared.kinds.Kind.TheVariants.{Sets}
 use Rattle.vocab.specs.Limits.{instance_count}
@@ -19,7 +19,7 @@ use Rattle.verdicts.specs.declared.verdicts.Verdict.TheVariants.{Possible, Impos
 use Rattle.verdicts.specs.Report.{lemma_count, has_text, report_text, is_right, IsReport, IsConfirmed}
 use Rattle.verdicts.specs.Places.{Standing}
 use Rattle.verdicts.specs.Faults.{table_fault}
-use Rattle.verdicts.specs.Judge.{Good, Refused, line_fault, judge, Confirmed, Faulty, answer, pieces}
+use Rattle.verdicts.specs.Judge.{Good, Refused, line_fault, judge, Confirmed, Faulty, answer, answer_within, pieces}
 
 -- what the laws ask of a study: the bench takes it, at a size of a kind whose outcomes have texts, and its axioms have names
 pub record IsReportable (study : Question) : Type 0 where
@@ -73,6 +73,11 @@ ConfirmedClaimsHold = (study : Question) (text : List ℕ) →
 -- no proper prefix of a confirmed report is confirmed
 abbrev pub HasNoConfirmedPrefix : Type 0
 HasNoConfirmedPrefix = (study : Question) → IsReportable study → (text rest : List ℕ) → IsConfirmed study text → IsConfirmed study (text ++ rest) → rest ≡ []
+
+-- where only so many bytes of a text are read, exactly those confirmed reports are confirmed that have no more
+abbrev pub ConfirmedWithinLimit : Type 0
+ConfirmedWithinLimit = (limit : ℕ) (study : Question) (text : List ℕ) (verdict : Verdict) →
+    (answer_within limit study text ≡ Confirmed verdict) ↔ ((length text ≤ limit) × (answer study text ≡ Confirmed verdict))
 
 -- ---- faulty lines
 

@@ -1,4 +1,5 @@
--- Where a reader of a report stands, and which line the grammar wants there.
+-- Where a reader of a report stands, and which line the grammar wants there. A program that reads line by line stands for a
+-- standing; of the lemmas that are read it needs what they suppose alone.
 use Rattle.std.specs.Prelude.{ℕ, List, [], Option, None, option_map, codes}
 use Rattle.std.specs.Option.{option_or}
 use Rattle.vocab.specs.declared.literals.Literal.{Literal}

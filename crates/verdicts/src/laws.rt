@@ -1,6 +1,6 @@
 //! What holds of reports. Each law is the contract of a function that does nothing.
 
-ghost use Rattle.verdicts.specs.Laws.{AreTextsDistinct, ConfirmedClaimsHold, CutReportsAreForm, FaultsAreFirst, HasNoConfirmedPrefix, IsJudgeComplete, IsJudgeSound, LinesAreShort, RightVerdictsHaveTexts, TableFaultsAreFirst};
+ghost use Rattle.verdicts.specs.Laws.{AreTextsDistinct, ConfirmedClaimsHold, ConfirmedWithinLimit, CutReportsAreForm, FaultsAreFirst, HasNoConfirmedPrefix, IsJudgeComplete, IsJudgeSound, LinesAreShort, RightVerdictsHaveTexts, TableFaultsAreFirst};
 
 /// Each right verdict has a text: all that it names is in range.
 pub fn right_verdicts_have_texts()
@@ -35,6 +35,11 @@ pub fn confirmed_claims_hold()
 /// No proper prefix of a confirmed report is confirmed.
 pub fn prefixes_are_refused()
     ensures { HasNoConfirmedPrefix }
+{}
+
+/// Where only so many bytes of a text are read, exactly those confirmed reports are confirmed that have no more.
+pub fn confirmed_within_limit()
+    ensures { ConfirmedWithinLimit }
 {}
 
 /// The judge names the first faulty line, and no line after it plays a part.
