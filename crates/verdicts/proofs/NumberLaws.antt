@@ -77,7 +77,7 @@ text_of_value (c ∷ d ∷ ds) h =
     not_48 e same = absurd (true≢false (sym e ∙ ap not ((Decides-eqb c 48).1 same)))
 
 -- the value of the text of a number
-value_push : (a : ℕ) (cs : List ℕ) (d : ℕ) → value_after a (cs ++ d ∷ []) ≡ value_after a cs * 10 + (d - 48)
+pub value_push : (a : ℕ) (cs : List ℕ) (d : ℕ) → value_after a (cs ++ d ∷ []) ≡ value_after a cs * 10 + (d - 48)
 value_push a [] d = refl
 value_push a (c ∷ cs) d = value_push (a * 10 + (c - 48)) cs d
 

@@ -1,5 +1,5 @@
 -- What printing and reading in code need: std's decimal, and texts that name nothing.
-use Rattle.std.proofs.Common.{◌≡◌, refl, sym, ap, ◌∙◌, subst, ℕ, ◌^◌, ◌<◌, ◌≢◌, inl, inr, Bool, true, false, not, ◌&&◌, List, [], ◌∷◌, length, get_or, Some, None, arith, true≢false, cond, leb-true, decimal}
+use Rattle.std.proofs.Common.{◌≡◌, refl, sym, ap, ◌∙◌, subst, ℕ, ◌^◌, ◌<◌, ◌≢◌, inl, inr, Bool, true, false, not, ◌&&◌, List, [], ◌∷◌, length, get_or, Option, Some, None, arith, true≢false, cond, leb-true, decimal}
 use Rattle.std.specs.Prelude.{◌==◌, nat_le}
 use Rattle.std.specs.List.{list_all}
 use Rattle.std.specs.Str.{bytes_eq}
@@ -13,7 +13,7 @@ use Rattle.vocab.specs.Name.{is_digit}
 use Rattle.verdicts.specs.Numbers.{number_text, is_number, value_after}
 use Rattle.verdicts.specs.Texts.{named_by}
 use Rattle.verdicts.proofs.NumberLaws.{number_digits, text_is_number, value_of_text}
-use Rattle.verdicts.proofs.WordLaws.{IsIn}
+use Rattle.verdicts.proofs.WordLaws.{IsIn, named_in, text_named}
 
 -- a text that names nothing is the text of no item
 module _ {A : Type 0} (text_of : A → List ℕ) where
@@ -29,6 +29,15 @@ module _ {A : Type 0} (text_of : A → List ℕ) where
         | inl same ↦ true≢false (sym ((bytes_eq-Decides (text_of b) text).1 (ap text_of same ∙ sym s)) ∙ c.0)
         | inr j ↦ named_none items text c.1 a j s
       ]
+
+-- and the text of no item names nothing
+module _ {A : Type 0} (text_of : A → List ℕ) where
+  pub named_nothing : (items : List A) (text : List ℕ) → ((a : A) → IsIn items a → text ≢ text_of a) → named_by text_of items text ≡ None
+  named_nothing items text h = by_name (named_by text_of items text) refl
+    where
+      by_name : (o : Option A) → named_by text_of items text ≡ o → named_by text_of items text ≡ None
+      by_name None e = e
+      by_name (Some a) e = absurd (h a (named_in text_of items text a e) (text_named text_of items text a e))
 
 folds : FoldsDigits value_after
 folds = record { empty = λ n. refl; more = λ n c cs h. refl }
