@@ -1,21 +1,23 @@
 -- What a confirmed report claims holds.
-use Rattle.std.proofs.Common.{◌≡◌, refl, sym, ap, ◌∙◌, ℕ, ◌+◌, ◌≤◌, ◌↔◌, inl, inr, cond, take, lt-ltb, le-ltb, Bool, true, false, not, ◌&&◌, List, [], ◌∷◌, length, arith, ltb-true}
-use Rattle.std.specs.Prelude.{nat_lt, slice_get}
-use Rattle.std.specs.List.{list_all}
-use Rattle.std.proofs.lemmas.Bool.{and_parts, and_from, cases_lt}
+use Rattle.std.proofs.Common.{◌≡◌, refl, sym, subst, true≢false, eqb-true, filter, ap, ◌∙◌, ℕ, ◌+◌, ◌≤◌, ◌↔◌, inl, inr, cond, take, lt-ltb, le-ltb, Bool, true, false, not, ◌&&◌, List, [], ◌∷◌, length, arith, ltb-true}
+use Rattle.std.specs.Cmp.Lexicographic.{pointwise}
+use Rattle.std.specs.Prelude.{◌==◌, nat_lt, slice_get}
+use Rattle.std.specs.List.{list_all, list_any}
+use Rattle.std.proofs.lemmas.Bool.{and_parts, and_from, or_cases, cases_lt}
 use Rattle.vocab.specs.Study.{Question}
 use Rattle.meaning.specs.declared.cores.Witness.{Witness}
+use Rattle.meaning.specs.declared.cores.Witness.TheVariants.{Rule, Open}
 use Rattle.meaning.specs.declared.stories.Lemma.{Lemma}
 use Rattle.meaning.specs.Space.{below}
-use Rattle.meaning.specs.Truth.{is_rule, is_axiom_true}
+use Rattle.meaning.specs.Truth.{is_rule, is_axiom_true, satisfies}
 use Rattle.meaning.specs.Stories.{is_story}
-use Rattle.meaning.specs.Cores.{is_core_from}
+use Rattle.meaning.specs.Cores.{is_core_from, is_witness}
 use Rattle.meaning.proofs.SpaceLaws.{all_at}
 use Rattle.meaning.proofs.StoryLaws.{no_rule}
 use Rattle.verdicts.specs.declared.verdicts.Verdict.TheVariants.{Possible, Impossible}
 use Rattle.verdicts.specs.declared.verdicts.Verdict.{Verdict}
 use Rattle.verdicts.specs.Judge.{Told, Good, Refused, judge, pieces, front, Confirmed, answer, beyond, answer_within}
-use Rattle.verdicts.specs.Laws.{IsRuleConfirmed, IsImpossibilityConfirmed}
+use Rattle.verdicts.specs.Laws.{is_rule_given, IsRuleConfirmed, IsImpossibilityConfirmed, IsCoreConfirmed}
 use Rattle.verdicts.proofs.JudgeLaws.{judge_sound}
 
 -- what holds of all places of a study holds of those of a core
@@ -25,6 +27,19 @@ core_from_all t n from (k ∷ core) h e =
     let p = and_parts (not (nat_lt k from) && nat_lt k n) (is_core_from (k + 1) n core) e in
     let q = and_parts (not (nat_lt k from)) (nat_lt k n) p.0 in
     and_from _ _ (all_at t n 0 k h (omega arith) (omega (arith, ltb-true k n q.1))) (core_from_all t n (k + 1) core h p.1)
+
+-- the witness of an axiom is a rule that satisfies the others
+rule_without : (study : Question) (whole core : List ℕ) (witnesses : List Witness) (k : ℕ) → pointwise (is_witness study.size study.axioms study.conflicts whole) core witnesses ≡ true → list_all is_rule_given witnesses ≡ true → list_any (λ c. c == k) core ≡ true →
+    (table : List ℕ) × (satisfies study.size study.axioms (filter (λ c. not (c == k)) whole) table ≡ true)
+rule_without study whole [] witnesses k h given here = absurd (true≢false (sym here))
+rule_without study whole (c ∷ core) [] k h given here = absurd (true≢false (sym h))
+rule_without study whole (c ∷ core) (Open limit ∷ witnesses) k h given here = absurd (true≢false (sym given))
+rule_without study whole (c ∷ core) (Rule table ∷ witnesses) k h given here =
+    let p = and_parts (satisfies study.size study.axioms (filter (λ d. not (d == c)) whole) table) (pointwise (is_witness study.size study.axioms study.conflicts whole) core witnesses) h in
+    elim (or_cases (c == k) (list_any (λ c. c == k) core) here) [
+      | inl same ↦ (table, subst (λ (j : ℕ). satisfies study.size study.axioms (filter (λ d. not (d == j)) whole) table ≡ true) (eqb-true c k same) p.0)
+      | inr later ↦ rule_without study whole core witnesses k p.1 given later
+    ]
 
 module _ (study : Question) (text : List ℕ) where
   rule_holds : (table : List ℕ) → IsRuleConfirmed study text table
@@ -41,8 +56,14 @@ module _ (study : Question) (text : List ℕ) where
             none (and_from _ _ r.0 (core_from_all (λ k. is_axiom_true study.size table (slice_get study.axioms k)) (length study.axioms) 0 core r.1 q.0)),
       )
 
-  pub claims_hold : ((table : List ℕ) → IsRuleConfirmed study text table) × ((core : List ℕ) (story : List Lemma) (witnesses : List Witness) → IsImpossibilityConfirmed study text core story witnesses)
-  claims_hold = (rule_holds, impossibility_holds)
+  core_holds : (core : List ℕ) (story : List Lemma) (witnesses : List Witness) → IsCoreConfirmed study text core story witnesses
+  core_holds core story witnesses e given k here =
+      let p = and_parts (is_story study.size study.axioms core story) _ (judge_sound study text (Impossible core story witnesses) e).right in
+      let q = and_parts (is_core_from 0 (length study.axioms) core) _ p.1 in
+      rule_without study core core witnesses k q.1 given here
+
+  pub claims_hold : ((table : List ℕ) → IsRuleConfirmed study text table) × ((core : List ℕ) (story : List Lemma) (witnesses : List Witness) → IsImpossibilityConfirmed study text core story witnesses × IsCoreConfirmed study text core story witnesses)
+  claims_hold = (rule_holds, λ core story witnesses. (impossibility_holds core story witnesses, core_holds core story witnesses))
 
 pub within_limit : (limit : ℕ) (study : Question) (text : List ℕ) (verdict : Verdict) → (answer_within limit study text ≡ Confirmed verdict) ↔ ((length text ≤ limit) × (answer study text ≡ Confirmed verdict))
 within_limit limit study text verdict = (

@@ -1,6 +1,6 @@
 -- What holds of reports: the statements of the laws. Each is proved as the contract of a function of the same name in src/laws.rt.
-use Rattle.std.specs.Prelude.{◌≡◌, ◌≢◌, ℕ, ◌<◌, ◌≤◌, ◌+◌, ◌^◌, ◌↔◌, nat_lt, not, List, [], ◌∷◌, ◌++◌, length, slice_get, Some, None, IsTrue}
-use Rattle.std.specs.List.{list_all}
+use Rattle.std.specs.Prelude.{◌≡◌, ◌≢◌, ℕ, ◌<◌, ◌≤◌, ◌+◌, ◌^◌, ◌==◌, ◌↔◌, Bool, true, false, nat_lt, not, filter, List, [], ◌∷◌, ◌++◌, length, slice_get, Some, None, IsTrue}
+use Rattle.std.specs.List.{list_all, list_any}
 use Rattle.vocab.specs.declared.kinds.Kind.TheVariants.{Sets}
 use Rattle.vocab.specs.Limits.{instance_count}
 use Rattle.vocab.specs.Name.{is_name}
@@ -8,6 +8,7 @@ use Rattle.vocab.specs.Size.{IsSize}
 use Rattle.vocab.specs.Study.{Question, IsStudy}
 use Rattle.vocab.specs.Titled.{Titled}
 use Rattle.meaning.specs.declared.cores.Witness.{Witness}
+use Rattle.meaning.specs.declared.cores.Witness.TheVariants.{Rule, Open}
 use Rattle.meaning.specs.declared.stories.Lemma.{Lemma}
 use Rattle.meaning.specs.Space.{below}
 use Rattle.meaning.specs.Truth.{is_axiom_true, satisfies}
@@ -65,10 +66,21 @@ abbrev pub IsImpossibilityConfirmed : Question → List ℕ → List ℕ → Lis
 IsImpossibilityConfirmed study text core story witnesses = answer study text ≡ Confirmed (Impossible core story witnesses) → (table : List ℕ) →
     ¬ IsTrue (satisfies study.size study.axioms core table) × ¬ IsTrue (satisfies study.size study.axioms (below (length study.axioms)) table)
 
+-- the witness is a rule
+abbrev pub is_rule_given : Witness → Bool
+is_rule_given (Rule table) = true
+is_rule_given (Open limit) = false
+
+-- where no mark of a confirmed impossibility is open, no axiom of its core can be left out: some rule satisfies the others
+abbrev pub IsCoreConfirmed : Question → List ℕ → List ℕ → List Lemma → List Witness → Type 0
+IsCoreConfirmed study text core story witnesses = answer study text ≡ Confirmed (Impossible core story witnesses) → IsTrue (list_all is_rule_given witnesses) →
+    (k : ℕ) → IsTrue (list_any (λ c. c == k) core) → (table : List ℕ) × IsTrue (satisfies study.size study.axioms (filter (λ c. not (c == k)) core) table)
+
 -- what a confirmed report claims holds
 abbrev pub ConfirmedClaimsHold : Type 0
 ConfirmedClaimsHold = (study : Question) (text : List ℕ) →
-    ((table : List ℕ) → IsRuleConfirmed study text table) × ((core : List ℕ) (story : List Lemma) (witnesses : List Witness) → IsImpossibilityConfirmed study text core story witnesses)
+    ((table : List ℕ) → IsRuleConfirmed study text table)
+    × ((core : List ℕ) (story : List Lemma) (witnesses : List Witness) → IsImpossibilityConfirmed study text core story witnesses × IsCoreConfirmed study text core story witnesses)
 
 -- no proper prefix of a confirmed report is confirmed
 abbrev pub HasNoConfirmedPrefix : Type 0

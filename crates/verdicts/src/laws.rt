@@ -27,7 +27,8 @@ pub fn judge_is_complete()
     ensures { IsJudgeComplete }
 {}
 
-/// A confirmed rule satisfies all axioms, and no rule satisfies the core of a confirmed impossibility.
+/// A confirmed rule satisfies all axioms; no rule satisfies the core of a confirmed impossibility, and where no mark
+/// is open some rule satisfies it without any one of its axioms.
 pub fn confirmed_claims_hold()
     ensures { ConfirmedClaimsHold }
 {}
