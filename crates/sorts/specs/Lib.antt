@@ -1,5 +1,6 @@
 pub mod Symbols
 pub mod Scope
+pub mod ScopeView
 pub mod Constants
 pub mod Faults
 pub mod Resolved

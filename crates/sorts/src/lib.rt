@@ -3,6 +3,7 @@
 
 mod faults;
 mod resolving;
+mod scope;
 mod symbols;
 mod texts;
 
