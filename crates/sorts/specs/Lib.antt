@@ -5,5 +5,6 @@ pub mod Constants
 pub mod Faults
 pub mod Resolved
 pub mod NamedTruth
+pub mod Visits
 pub mod Answers
 pub mod Laws

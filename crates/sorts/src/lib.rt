@@ -1,10 +1,12 @@
 //! Sentences against a size: `resolve` gives the tree of a sentence without names, or the first of its faults.
 #![tactic(auto)]
 
+mod constants;
 mod faults;
 mod resolving;
 mod scope;
 mod symbols;
+mod terms;
 mod texts;
 
 pub use faults::SortFault;
