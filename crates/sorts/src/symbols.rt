@@ -1,6 +1,6 @@
 //! The functions and predicates of sentences.
 
-ghost use Rattle.std.specs.Prelude.{◌≡◌, length};
+ghost use Rattle.std.specs.Prelude.{◌≡◌, [], ◌∷◌, length};
 ghost use Rattle.sorts.specs.Symbols.{function_of, predicate_of, function_sorts, predicate_sorts, given_sort, is_said_of};
 ghost use Rattle.vocab.specs.Sorted.{has_winners, same_sort};
 
@@ -83,14 +83,14 @@ pub fn is_same(left: Sort, right: Sort) -> bool
 
 impl Function {
     /// The sorts of its arguments.
-    pub fn sorts(self) -> [Sort; 3]
-        ensures { result ≡ function_sorts self }
+    pub fn sorts(self) -> (Sort, Sort, Sort)
+        ensures { function_sorts self ≡ result.0 ∷ result.1 ∷ result.2 ∷ [] }
     {
         match self {
-            Function::With => [Sort::Profile, Sort::Voter, Sort::Ballot],
-            Function::SwapVoters => [Sort::Profile, Sort::Voter, Sort::Voter],
-            Function::SwapAlts => [Sort::Profile, Sort::Alt, Sort::Alt],
-            Function::Swap => [Sort::Alt, Sort::Alt, Sort::Alt],
+            Function::With => (Sort::Profile, Sort::Voter, Sort::Ballot),
+            Function::SwapVoters => (Sort::Profile, Sort::Voter, Sort::Voter),
+            Function::SwapAlts => (Sort::Profile, Sort::Alt, Sort::Alt),
+            Function::Swap => (Sort::Alt, Sort::Alt, Sort::Alt),
         }
     }
 

@@ -134,18 +134,18 @@ pub fn three_arguments(
     space: &Space,
     scope: &Scope,
     symbol: Symbol,
-    sorts: [Sort; 3],
+    sorts: (Sort, Sort, Sort),
     arguments: &Terms,
 ) -> Result<Three, SortFault>
     requires few { length (scope_of scope.now) ≤ 12 }
     requires count { length (terms_of arguments.now) ≡ 3 }
-    ensures { IsVisit (argument_faults space.now (scope_of scope.now) symbol 1 sorts (named_terms_tree arguments.now))
+    ensures { IsVisit (argument_faults space.now (scope_of scope.now) symbol 1 (sorts.0 ∷ sorts.1 ∷ sorts.2 ∷ []) (named_terms_tree arguments.now))
         (λ x. resolved_terms space.now (scope_of scope.now) (named_terms_tree arguments.now)
             ≡ term_tree x.first ∷ term_tree x.second ∷ term_tree x.third ∷ []) result }
 {
-    let first = argument(alloc, space, scope, symbol, 1, sorts[0], arguments.get(0))?;
-    let second = argument(alloc, space, scope, symbol, 2, sorts[1], arguments.get(1))?;
-    let third = argument(alloc, space, scope, symbol, 3, sorts[2], arguments.get(2))?;
+    let first = argument(alloc, space, scope, symbol, 1, sorts.0, arguments.get(0))?;
+    let second = argument(alloc, space, scope, symbol, 2, sorts.1, arguments.get(1))?;
+    let third = argument(alloc, space, scope, symbol, 3, sorts.2, arguments.get(2))?;
     Ok(Three {
         first,
         second,
