@@ -1,21 +1,22 @@
 -- What is wrong with a symbol at its arguments, once its name is known.
 use Rattle.std.proofs.Common.{◌≡◌, refl, sym, ◌∙◌, ap, ap₂, ℕ, Bool, true, false, List, [], ◌∷◌, ◌++◌, length, cond, Option, Some, None, eqb-true, arith}
-use Rattle.std.specs.Prelude.{◌≢◌, ◌==◌}
+use Rattle.std.specs.Prelude.{◌≢◌, ◌==◌, Result}
 use Rattle.vocab.specs.declared.kinds.Kind.{Kind}
 use Rattle.vocab.specs.declared.kinds.Sort.{Sort}
 use Rattle.vocab.specs.NamedTree.{NamedTermTrees}
 use Rattle.vocab.specs.Size.{Extent}
-use Rattle.vocab.specs.Tree.{TermTree}
+use Rattle.vocab.specs.Tree.{TermTree, atom_tree}
+use Rattle.vocab.specs.declared.sentences.Atom.{Atom}
 use Rattle.sorts.specs.declared.faults.SortFault.{SortFault}
 use Rattle.sorts.specs.declared.faults.SortFault.TheVariants as fault
 use Rattle.sorts.specs.declared.symbols.Function.{Function}
 use Rattle.sorts.specs.declared.symbols.Function.TheVariants.{With, SwapVoters, SwapAlts, Swap}
 use Rattle.sorts.specs.declared.symbols.Predicate.{Predicate}
 use Rattle.sorts.specs.Faults.{unless, function_faults, predicate_faults, argument_faults, count_of}
-use Rattle.sorts.specs.Resolved.{applied, function_tree}
+use Rattle.sorts.specs.Resolved.{applied, function_tree, predicate_tree, resolved_terms}
 use Rattle.sorts.specs.Scope.{Scope}
 use Rattle.sorts.specs.Symbols.{function_sorts, predicate_sorts, is_said_of}
-use Rattle.sorts.specs.Visits.{IsFirst}
+use Rattle.sorts.specs.Visits.{IsFirst, IsVisit}
 use Rattle.sorts.proofs.Arguments.{Stops, stops_first, stops_next, none_of_both}
 
 -- ---- tests of numbers
@@ -89,3 +90,14 @@ module _ (kind : Kind) (name : List ℕ) (o : Option Predicate) (p : Predicate) 
   -- a predicate that may
   pub said : count ≡ length (predicate_sorts p) → is_said_of kind p ≡ true → predicate_faults kind name o count in_arguments ≡ in_arguments (predicate_sorts p)
   said right may = with_right_count right ∙ ap (λ b. unless b (fault.Kind name) ++ in_arguments (predicate_sorts p)) may
+
+-- what a visit of the arguments of a known predicate answers is what one of the predicate answers
+pub said_visit : (size : Extent) (scope : Scope) (name symbol : List ℕ) (ts : NamedTermTrees) (o : Option Predicate) (p : Predicate)
+    → o ≡ Some p → symbol ≡ name → count_of ts ≡ length (predicate_sorts p) → is_said_of size.kind p ≡ true
+    → (r : Result Atom SortFault)
+    → IsVisit (argument_faults size scope symbol 1 (predicate_sorts p) ts) (λ a. atom_tree a ≡ predicate_tree (Some p) (resolved_terms size scope ts)) r
+    → IsVisit (predicate_faults size.kind name o (count_of ts) (λ sorts. argument_faults size scope name 1 sorts ts)) (λ a. atom_tree a ≡ predicate_tree o (resolved_terms size scope ts)) r
+said_visit size scope name symbol ts o p known same right may r visit =
+    let faults = said size.kind name o p known (count_of ts) (λ sorts. argument_faults size scope name 1 sorts ts) right may
+        ∙ ap (λ s. argument_faults size scope s 1 (predicate_sorts p) ts) (sym same) in
+    rw (faults, known) visit
