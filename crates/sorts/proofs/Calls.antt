@@ -1,5 +1,5 @@
 -- What is wrong with a symbol at its arguments, once its name is known.
-use Rattle.std.proofs.Common.{◌≡◌, refl, sym, ◌∙◌, ap, ap₂, ℕ, Bool, true, false, List, [], ◌∷◌, ◌++◌, length, cond, Option, Some, None, eqb-true, arith}
+use Rattle.std.proofs.Common.{◌≡◌, refl, sym, ◌∙◌, ap, ap₂, ℕ, true, false, List, [], ◌∷◌, ◌++◌, length, cond, Option, Some, eqb-true, arith}
 use Rattle.std.specs.Prelude.{◌≢◌, ◌==◌, Result}
 use Rattle.vocab.specs.declared.kinds.Kind.{Kind}
 use Rattle.vocab.specs.declared.kinds.Sort.{Sort}
@@ -17,7 +17,7 @@ use Rattle.sorts.specs.Resolved.{applied, function_tree, predicate_tree, resolve
 use Rattle.sorts.specs.Scope.{Scope}
 use Rattle.sorts.specs.Symbols.{function_sorts, predicate_sorts, is_said_of}
 use Rattle.sorts.specs.Visits.{IsFirst, IsVisit}
-use Rattle.sorts.proofs.Arguments.{Stops, stops_first, stops_next, none_of_both}
+use Rattle.sorts.proofs.Arguments.{Stops}
 
 -- ---- tests of numbers
 
@@ -26,9 +26,9 @@ same_number n k e = grind (arith, e)
 
 pub other_number : (n k : ℕ) → n ≢ k → (n == k) ≡ false
 other_number n k ne = elim (n == k) as (λ b. (n == k) ≡ b → b ≡ false) [
-    | true ↦ λ e. absurd (ne (eqb-true n k e))
-    | false ↦ λ e. refl
-  ] refl
+  | true ↦ λ e. absurd (ne (eqb-true n k e))
+  | false ↦ λ e. refl
+] refl
 
 -- ---- functions
 
@@ -99,5 +99,5 @@ pub said_visit : (size : Extent) (scope : Scope) (name symbol : List ℕ) (ts : 
     → IsVisit (predicate_faults size.kind name o (count_of ts) (λ sorts. argument_faults size scope name 1 sorts ts)) (λ a. atom_tree a ≡ predicate_tree o (resolved_terms size scope ts)) r
 said_visit size scope name symbol ts o p known same right may r visit =
     let faults = said size.kind name o p known (count_of ts) (λ sorts. argument_faults size scope name 1 sorts ts) right may
-        ∙ ap (λ s. argument_faults size scope s 1 (predicate_sorts p) ts) (sym same) in
+    ∙ ap (λ s. argument_faults size scope s 1 (predicate_sorts p) ts) (sym same) in
     rw (faults, known) visit

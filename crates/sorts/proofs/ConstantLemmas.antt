@@ -1,10 +1,10 @@
 -- Constants and their texts.
-use Rattle.std.proofs.Common.{◌≡◌, refl, sym, ◌∙◌, ap, subst, ℕ, zero, suc, ◌+◌, ◌/◌, ◌%◌, ◌<◌, ◌≤◌, Bool, true, false, List, [], ◌∷◌, ◌++◌, length, arith, length-append, true≢false, Option, Some, None, cond}
+use Rattle.std.proofs.Common.{◌≡◌, refl, sym, ◌∙◌, ap, ℕ, zero, suc, ◌+◌, ◌/◌, ◌%◌, ◌<◌, ◌≤◌, Bool, true, false, List, [], ◌∷◌, length, arith, length-append, true≢false, Option, Some, None, cond}
 use Rattle.std.specs.Prelude.{◌≢◌, find, IfSome, IfNone}
 use Rattle.std.specs.Cmp.Lexicographic.{bytes_decides}
 use Rattle.std.specs.Str.{bytes_eq}
 use Rattle.vocab.specs.Size.{Extent, factorial}
-use Rattle.meaning.specs.Space.{up_from, below}
+use Rattle.meaning.specs.Space.{up_from}
 use Rattle.meaning.specs.Texts.{ballot_text}
 use Rattle.profiles.specs.Distinct.{HaveTextsOfTheirOwn}
 use Rattle.sorts.specs.Constants.{digits, ballot_value}
@@ -40,9 +40,9 @@ find_none t a (suc n) fails =
 
 differs : (xs ys : List ℕ) → xs ≢ ys → bytes_eq xs ys ≡ false
 differs xs ys ne = elim (bytes_eq xs ys) as (λ r. bytes_eq xs ys ≡ r → r ≡ false) [
-    | true ↦ λ e. absurd (ne ((bytes_decides xs ys).0 e))
-    | false ↦ λ e. refl
-  ] refl
+  | true ↦ λ e. absurd (ne ((bytes_decides xs ys).0 e))
+  | false ↦ λ e. refl
+] refl
 
 -- a ballot that is read is the one of the letters, and where none is read there is none
 pub read_is_value : (size : Extent) (letters : List ℕ) (r : Option ℕ) → HaveTextsOfTheirOwn size
@@ -54,6 +54,6 @@ read_is_value size letters (Some b) own found none =
     let t : ℕ → Bool = λ x. bytes_eq letters (ballot_text size x) in
     let lt : b < 0 + factorial size.alternatives = omega (arith, found.0) in
     sym (find_only t 0 (factorial size.alternatives) b (omega arith) lt ((bytes_decides letters (ballot_text size b)).1 found.1)
-      (λ x below_it e. own.ballots x b (omega (arith, below_it)) found.0 (sym ((bytes_decides letters (ballot_text size x)).0 e) ∙ found.1)))
+    (λ x below_it e. own.ballots x b (omega (arith, below_it)) found.0 (sym ((bytes_decides letters (ballot_text size x)).0 e) ∙ found.1)))
 read_is_value size letters None own found none =
     sym (find_none (λ x. bytes_eq letters (ballot_text size x)) 0 (factorial size.alternatives) (λ x lt. differs letters (ballot_text size x) (none x (omega (arith, lt)))))

@@ -1,5 +1,5 @@
 -- A sentence without faults resolves to a tree that is as deep, with as many quantifiers on one path and the same leading universals.
-use Rattle.std.proofs.Common.{◌≡◌, refl, sym, ◌∙◌, ap, ap₂, ℕ, zero, suc, ◌+◌, ◌≤◌, true, max, List, [], ◌∷◌, ◌++◌, arith, Option, Some, None}
+use Rattle.std.proofs.Common.{◌≡◌, refl, ◌∙◌, ap, ap₂, ℕ, suc, ◌+◌, max, List, [], ◌∷◌, arith, Some}
 use Rattle.vocab.specs.declared.kinds.Sort.{Sort}
 use Rattle.vocab.specs.Formula.{prefix_of, quantifier_depth}
 use Rattle.vocab.specs.Limits as limits
@@ -7,8 +7,7 @@ use Rattle.vocab.specs.NamedDepth.{term_depth, terms_depth, depth, quantifiers}
 use Rattle.vocab.specs.NamedTree as tree
 use Rattle.vocab.specs.NamedTree.{NamedTermTree, NamedTermTrees, NamedTree}
 use Rattle.vocab.specs.Size.{Extent}
-use Rattle.vocab.specs.Tree.{TermTree, Tree}
-use Rattle.sorts.specs.declared.faults.SortFault.{SortFault}
+use Rattle.vocab.specs.Tree.{TermTree}
 use Rattle.sorts.specs.declared.symbols.Function.{Function}
 use Rattle.sorts.specs.declared.symbols.Function.TheVariants.{With, SwapVoters, SwapAlts, Swap}
 use Rattle.sorts.specs.declared.symbols.Predicate.{Predicate}

@@ -1,5 +1,5 @@
 -- Levels: the innermost quantifier of a name, counted from the outermost.
-use Rattle.std.proofs.Common.{◌≡◌, refl, sym, ◌∙◌, ap, ap₂, ℕ, zero, suc, ◌+◌, Bool, true, false, List, [], ◌∷◌, ◌++◌, length, length-append, cond, arith, Option, Some, None}
+use Rattle.std.proofs.Common.{◌≡◌, refl, sym, ◌∙◌, ap, ap₂, ℕ, zero, suc, true, false, List, [], ◌∷◌, ◌++◌, length, length-append, cond, arith, Some}
 use Rattle.std.specs.Prelude.{slice_get, slice_index}
 use Rattle.std.specs.Map.{lookup}
 use Rattle.std.specs.Str.{bytes_eq}
@@ -39,7 +39,7 @@ pub at_level : {A : Type 0} (name : List ℕ) (xs : List (List ℕ × A)) (v : A
 at_level name [] v h = absurd cc
 at_level name (q ∷ outer) v h =
     elim (bytes_eq name q.0) as (λ b. cond b (Some q.1) (lookup (bytes_eq name) outer) ≡ Some v
-        → slice_get (outermost_first outer ++ q.1 ∷ []) (cond b (length (names_of outer)) (level_by_names name (names_of outer))) ≡ Some v) [
+    → slice_get (outermost_first outer ++ q.1 ∷ []) (cond b (length (names_of outer)) (level_by_names name (names_of outer))) ≡ Some v) [
       | true ↦ λ k. get_last (outermost_first outer) q.1 (length (names_of outer)) (count_names outer ∙ sym (count_seconds outer)) ∙ k
       | false ↦ λ k. get_front (outermost_first outer) (q.1 ∷ []) (level_by_names name (names_of outer)) v (at_level name outer v k)
     ] h

@@ -1,6 +1,6 @@
 -- A sentence without faults resolves to a well-sorted tree of its shape.
-use Rattle.std.proofs.Common.{◌≡◌, refl, sym, ◌∙◌, ap, ap₂, subst, ℕ, zero, suc, ◌+◌, ◌-◌, ◌<◌, ◌≤◌, Bool, true, false, max, List, [], ◌∷◌, ◌++◌, length, cond, arith, Option, Some, None, true≢false, lt-ltb, ltb-true, leb-true, eqb-true, inl, inr}
-use Rattle.std.specs.Prelude.{◌≢◌, ◌==◌, ◌&&◌, ◌||◌, option_map, nat_lt, nat_le, slice_get, find}
+use Rattle.std.proofs.Common.{◌≡◌, refl, sym, ◌∙◌, ap, ℕ, zero, suc, ◌+◌, ◌-◌, ◌<◌, Bool, true, false, List, [], ◌∷◌, ◌++◌, length, cond, arith, Option, Some, None, lt-ltb, ltb-true, leb-true, eqb-true}
+use Rattle.std.specs.Prelude.{◌==◌, ◌&&◌, ◌||◌, option_map, nat_lt, nat_le, find}
 use Rattle.std.specs.List.{list_any}
 use Rattle.std.specs.Option.{unwrap_or}
 use Rattle.std.specs.Str.{bytes_eq}
@@ -14,7 +14,7 @@ use Rattle.vocab.specs.Size.{Extent, sort_count, factorial}
 use Rattle.vocab.specs.Sorted.{same_sort, all_sorts, is_option_sort, is_of_sort, is_atom_sorted, is_sorted}
 use Rattle.vocab.specs.Tree as plain
 use Rattle.vocab.specs.Tree.{TermTree, AtomTree, Tree}
-use Rattle.meaning.specs.Space.{up_from, below}
+use Rattle.meaning.specs.Space.{up_from}
 use Rattle.meaning.specs.Texts.{ballot_text}
 use Rattle.sorts.specs.declared.faults.SortFault.{SortFault}
 use Rattle.sorts.specs.declared.symbols.Function.{Function}
@@ -24,7 +24,7 @@ use Rattle.sorts.specs.declared.symbols.Predicate.TheVariants.{Prefers, Better, 
 use Rattle.sorts.specs.Constants.{voter_value, alternative_value, ballot_value}
 use Rattle.sorts.specs.Faults.{unless, where_none, count_of, sort_of, are_same, function_faults, predicate_faults, term_faults, argument_faults, faults}
 use Rattle.sorts.specs.Resolved.{function_tree, predicate_tree, resolved_term, resolved_terms, resolved}
-use Rattle.sorts.specs.Scope.{Scope, sort_in, level_in, outermost_first}
+use Rattle.sorts.specs.Scope.{Scope, sort_in, outermost_first}
 use Rattle.sorts.proofs.Levels.{sort_at_level}
 use Rattle.sorts.specs.Symbols.{function_of, predicate_of, function_sorts, predicate_sorts, given_sort, is_said_of}
 
@@ -57,7 +57,7 @@ pub function_right : (name : List ℕ) (o : Option Function) (count : ℕ) (K : 
 function_right name None count K h = absurd cc
 function_right name (Some f) count K h =
     elim (count == length (function_sorts f)) as (λ b. (count == length (function_sorts f)) ≡ b → cond b (K (function_sorts f)) (Rattle.sorts.specs.declared.faults.SortFault.TheVariants.Arity name ∷ []) ≡ []
-        → (g : Function) × (Some f ≡ Some g) × (count ≡ length (function_sorts g)) × (K (function_sorts g) ≡ [])) [
+    → (g : Function) × (Some f ≡ Some g) × (count ≡ length (function_sorts g)) × (K (function_sorts g) ≡ [])) [
       | true ↦ λ e k. (f, refl, eqb-true count (length (function_sorts f)) e, k)
       | false ↦ λ e k. absurd cc
     ] refl h
@@ -67,8 +67,8 @@ pub predicate_right : (kind : Kind) (name : List ℕ) (o : Option Predicate) (co
 predicate_right kind name None count K h = absurd cc
 predicate_right kind name (Some p) count K h =
     elim (count == length (predicate_sorts p)) as (λ b. (count == length (predicate_sorts p)) ≡ b
-        → cond b (unless (is_said_of kind p) (Rattle.sorts.specs.declared.faults.SortFault.TheVariants.Kind name) ++ K (predicate_sorts p)) (Rattle.sorts.specs.declared.faults.SortFault.TheVariants.Arity name ∷ []) ≡ []
-        → (q : Predicate) × (Some p ≡ Some q) × (count ≡ length (predicate_sorts q)) × (is_said_of kind q ≡ true) × (K (predicate_sorts q) ≡ [])) [
+    → cond b (unless (is_said_of kind p) (Rattle.sorts.specs.declared.faults.SortFault.TheVariants.Kind name) ++ K (predicate_sorts p)) (Rattle.sorts.specs.declared.faults.SortFault.TheVariants.Arity name ∷ []) ≡ []
+    → (q : Predicate) × (Some p ≡ Some q) × (count ≡ length (predicate_sorts q)) × (is_said_of kind q ≡ true) × (K (predicate_sorts q) ≡ [])) [
       | true ↦ λ e k. (p, refl, eqb-true count (length (predicate_sorts p)) e, holds_unless (is_said_of kind p) _ (none_left _ _ k), none_right _ _ k)
       | false ↦ λ e k. absurd cc
     ] refl h
@@ -88,10 +88,11 @@ are_right size scope symbol place [] tree.NoArguments n h = tt
 are_right size scope symbol place [] (tree.Argument t ts) n h = absurd (omega (arith, n))
 are_right size scope symbol place (s ∷ sorts) tree.NoArguments n h = absurd (omega (arith, n))
 are_right size scope symbol place (s ∷ sorts) (tree.Argument t ts) n h =
-    let own = none_left _ (argument_faults size scope symbol (place + 1) sorts ts) h in
-    ( none_left _ _ own
-    , holds_unless _ _ (none_right (term_faults size scope t) _ own)
-    , are_right size scope symbol (place + 1) sorts ts (omega (arith, n)) (none_right _ (argument_faults size scope symbol (place + 1) sorts ts) h) )
+    let own = none_left _ (argument_faults size scope symbol (place + 1) sorts ts) h in (
+      none_left _ _ own,
+      holds_unless _ _ (none_right (term_faults size scope t) _ own),
+      are_right size scope symbol (place + 1) sorts ts (omega (arith, n)) (none_right _ (argument_faults size scope symbol (place + 1) sorts ts) h),
+    )
 
 -- ---- constants
 

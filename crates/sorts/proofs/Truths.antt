@@ -1,20 +1,17 @@
 -- A sentence without faults and the tree that it resolves to have one truth.
-use Rattle.std.proofs.Common.{◌≡◌, refl, sym, ◌∙◌, ap, ap₂, ℕ, Bool, true, List, [], ◌∷◌, ◌++◌, map, Option, Some, None}
+use Rattle.std.proofs.Common.{◌≡◌, refl, sym, ◌∙◌, ap, ap₂, ℕ, Bool, List, [], ◌∷◌, map, Some}
 use Rattle.std.proofs.Math.Path.{fun_ext}
-use Rattle.std.specs.Prelude.{not, ◌&&◌, ◌||◌, ◌==◌, slice_index}
+use Rattle.std.specs.Prelude.{not, ◌&&◌, ◌||◌, ◌==◌}
 use Rattle.std.specs.Bool.{beq}
 use Rattle.std.specs.List.{list_all, list_any}
-use Rattle.std.specs.Map.{lookup}
 use Rattle.std.specs.Option.{unwrap_or}
-use Rattle.std.specs.Str.{bytes_eq}
 use Rattle.vocab.specs.declared.kinds.Sort.{Sort}
 use Rattle.vocab.specs.NamedTree as tree
 use Rattle.vocab.specs.NamedTree.{NamedTermTree, NamedTermTrees, NamedTree}
 use Rattle.vocab.specs.Size.{Extent, sort_count}
-use Rattle.vocab.specs.Tree.{TermTree, Tree}
+use Rattle.vocab.specs.Tree.{TermTree}
 use Rattle.meaning.specs.Space.{below}
 use Rattle.meaning.specs.Truth.{value, is_atom_true, is_true_at}
-use Rattle.sorts.specs.declared.faults.SortFault.{SortFault}
 use Rattle.sorts.specs.declared.symbols.Function.{Function}
 use Rattle.sorts.specs.declared.symbols.Function.TheVariants.{With, SwapVoters, SwapAlts, Swap}
 use Rattle.sorts.specs.declared.symbols.Predicate.{Predicate}

@@ -29,7 +29,7 @@ pub fn predicate(
 ) -> Result<Atom, SortFault>
     requires { length (scope_of scope.now) ≤ 12 }
     ensures { IsVisit (predicate_faults space.now.kind name.now (predicate_of name.now) (count_of (named_terms_tree arguments.now))
-            (λ sorts. argument_faults space.now (scope_of scope.now) name.now 1 sorts (named_terms_tree arguments.now)))
+        (λ sorts. argument_faults space.now (scope_of scope.now) name.now 1 sorts (named_terms_tree arguments.now)))
         (λ a. atom_tree a ≡ predicate_tree (predicate_of name.now) (resolved_terms space.now (scope_of scope.now) (named_terms_tree arguments.now))) result }
 {
     let Some(predicate) = predicate_named(name) else {
@@ -82,10 +82,26 @@ fn preference(
     ensures { IsVisit (argument_faults space.now (scope_of scope.now) symbol 1 (predicate_sorts Predicate.Prefers) (named_terms_tree arguments.now))
         (λ a. atom_tree a ≡ predicate_tree (Some Predicate.Prefers) (resolved_terms space.now (scope_of scope.now) (named_terms_tree arguments.now))) result }
 {
-    let voter = argument(alloc, space, scope, symbol, 1, Sort::Voter, arguments.get(0))?;
+    let voter = argument(
+        alloc,
+        space,
+        scope,
+        symbol,
+        1,
+        Sort::Voter,
+        arguments.get(0),
+    )?;
     let above = argument(alloc, space, scope, symbol, 2, Sort::Alt, arguments.get(1))?;
     let below = argument(alloc, space, scope, symbol, 3, Sort::Alt, arguments.get(2))?;
-    let profile = argument(alloc, space, scope, symbol, 4, Sort::Profile, arguments.get(3))?;
+    let profile = argument(
+        alloc,
+        space,
+        scope,
+        symbol,
+        4,
+        Sort::Profile,
+        arguments.get(3),
+    )?;
     Ok(Atom::Prefers(voter, above, below, profile))
 }
 
@@ -103,7 +119,15 @@ fn victory(
         (λ a. atom_tree a ≡ predicate_tree (Some Predicate.Wins) (resolved_terms space.now (scope_of scope.now) (named_terms_tree arguments.now))) result }
 {
     let winner = argument(alloc, space, scope, symbol, 1, Sort::Alt, arguments.get(0))?;
-    let profile = argument(alloc, space, scope, symbol, 2, Sort::Profile, arguments.get(1))?;
+    let profile = argument(
+        alloc,
+        space,
+        scope,
+        symbol,
+        2,
+        Sort::Profile,
+        arguments.get(1),
+    )?;
     Ok(Atom::Wins(winner, profile))
 }
 
@@ -174,7 +198,7 @@ pub fn equality(
 ) -> Result<Atom, SortFault>
     requires { length (scope_of scope.now) ≤ 12 }
     ensures { IsVisit (term_faults space.now (scope_of scope.now) (named_term_tree left.now) ++ term_faults space.now (scope_of scope.now) (named_term_tree right.now)
-            ++ unless (are_same (sort_of (scope_of scope.now) (named_term_tree left.now)) (sort_of (scope_of scope.now) (named_term_tree right.now))) (SortFault.Sort (codes "=") 2))
+        ++ unless (are_same (sort_of (scope_of scope.now) (named_term_tree left.now)) (sort_of (scope_of scope.now) (named_term_tree right.now))) (SortFault.Sort (codes "=") 2))
         (λ a. atom_tree a ≡ Equal (resolved_term space.now (scope_of scope.now) (named_term_tree left.now)) (resolved_term space.now (scope_of scope.now) (named_term_tree right.now))) result }
 {
     let first = term(alloc, space, scope, left)?;

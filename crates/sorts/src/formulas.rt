@@ -124,7 +124,7 @@ fn two_formulas(
     requires right { length (scope_of scope.now) + quantifiers (named_tree right.now) ≤ 12 }
     ensures { IsVisit (faults space.now (scope_of scope.now) (named_tree left.now) ++ faults space.now (scope_of scope.now) (named_tree right.now))
         (λ x. (tree_of x.left ≡ resolved space.now (scope_of scope.now) (named_tree left.now))
-            × (tree_of x.right ≡ resolved space.now (scope_of scope.now) (named_tree right.now))) result }
+        × (tree_of x.right ≡ resolved space.now (scope_of scope.now) (named_tree right.now))) result }
 {
     let left = formula(alloc, space, scope, left)?;
     let right = formula(alloc, space, scope, right)?;

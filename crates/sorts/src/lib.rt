@@ -5,6 +5,7 @@ mod atoms;
 mod constants;
 mod faults;
 mod formulas;
+pub mod laws;
 mod resolving;
 mod scope;
 mod symbols;

@@ -11,6 +11,8 @@ ghost use Rattle.sorts.specs.Answers.{answer_of};
 ghost use Rattle.sorts.specs.Laws.{HasTruthOf};
 
 use crate::faults::SortFault;
+use crate::formulas::formula;
+use crate::scope::Scope;
 use profiles::Space;
 use std::alloc::Global;
 use vocab::{Formula, Named};
@@ -30,5 +32,5 @@ pub fn resolve(alloc: Global, sentence: &Named, space: &Space) -> Result<Formula
     ensures shallow_tree { IfOk result (λ f. tree_depth (tree_of f) ≤ 64) }
     ensures same_truth { IfOk result (λ f. HasTruthOf space.now (named_tree sentence.now) (tree_of f)) }
 {
-    Err(SortFault::NoMemory)
+    formula(alloc, space, &Scope::Outside, sentence)
 }

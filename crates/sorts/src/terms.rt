@@ -113,7 +113,7 @@ fn call(
 ) -> Result<Term, SortFault>
     requires { length (scope_of scope.now) ≤ 12 }
     ensures { IsVisit (function_faults name.now (function_of name.now) (count_of (named_terms_tree arguments.now))
-            (λ sorts. argument_faults space.now (scope_of scope.now) name.now 1 sorts (named_terms_tree arguments.now)))
+        (λ sorts. argument_faults space.now (scope_of scope.now) name.now 1 sorts (named_terms_tree arguments.now)))
         (λ t. term_tree t ≡ function_tree (function_of name.now) (resolved_terms space.now (scope_of scope.now) (named_terms_tree arguments.now))) result }
 {
     let Some(function) = function_named(name) else {
@@ -141,7 +141,7 @@ pub fn three_arguments(
     requires count { length (terms_of arguments.now) ≡ 3 }
     ensures { IsVisit (argument_faults space.now (scope_of scope.now) symbol 1 (sorts.0 ∷ sorts.1 ∷ sorts.2 ∷ []) (named_terms_tree arguments.now))
         (λ x. resolved_terms space.now (scope_of scope.now) (named_terms_tree arguments.now)
-            ≡ term_tree x.first ∷ term_tree x.second ∷ term_tree x.third ∷ []) result }
+        ≡ term_tree x.first ∷ term_tree x.second ∷ term_tree x.third ∷ []) result }
 {
     let first = argument(alloc, space, scope, symbol, 1, sorts.0, arguments.get(0))?;
     let second = argument(alloc, space, scope, symbol, 2, sorts.1, arguments.get(1))?;
@@ -166,7 +166,7 @@ pub fn argument(
 ) -> Result<Term, SortFault>
     requires { length (scope_of scope.now) ≤ 12 }
     ensures { IsVisit (term_faults space.now (scope_of scope.now) (named_term_tree given.now)
-            ++ unless (is_option_sort sort (sort_of (scope_of scope.now) (named_term_tree given.now))) (SortFault.Sort symbol place))
+        ++ unless (is_option_sort sort (sort_of (scope_of scope.now) (named_term_tree given.now))) (SortFault.Sort symbol place))
         (λ t. term_tree t ≡ resolved_term space.now (scope_of scope.now) (named_term_tree given.now)) result }
 {
     let tree = term(alloc, space, scope, given)?;

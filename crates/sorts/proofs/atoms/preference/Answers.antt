@@ -1,6 +1,6 @@
-use Rattle.std.proofs.Common.{◌≡◌, sym, ap, [], ◌∷◌, Some}
+use Rattle.std.proofs.Common.{sym, ap, [], ◌∷◌, Some}
 use Rattle.std.proofs.lemmas.Result.{err_from_is_err_and}
-use Rattle.vocab.specs.declared.kinds.Sort.TheVariants.{Voter, Alt, Profile}
+use Rattle.vocab.specs.declared.kinds.Sort.TheVariants.{Alt, Profile}
 use Rattle.vocab.specs.Terms.{terms_of}
 use Rattle.sorts.specs.declared.symbols.Predicate.TheVariants.{Prefers}
 use Rattle.sorts.specs.Resolved.{predicate_tree}
@@ -44,13 +44,14 @@ returns-in_err-profile c =
 pub returns : goal.returns
 returns c =
     let xs = terms_of c.args.arguments.now in
-    rw from_start
-    ( one_more_right _ _ _ xs 0 1 _ (Alt ∷ Alt ∷ Profile ∷ []) _ c.get.ensures c.in_ok-voter.ensures.0
-      (one_more_right _ _ _ xs 1 2 _ (Alt ∷ Profile ∷ []) _ c.get-2.ensures c.in_ok-above.ensures.0
-      (one_more_right _ _ _ xs 2 3 _ (Profile ∷ []) _ c.get-3.ensures c.in_ok-below.ensures.0
-      (one_more_right _ _ _ xs 3 4 _ ([]) _ c.get-4.ensures c.in_ok-profile.ensures.0 (no_more _ _ _ xs 4 5))))
-    , sym (ap (predicate_tree (Some Prefers))
-      (resolved_step _ _ xs 0 _ _ _ c.get.ensures c.in_ok-voter.ensures.1
-      (resolved_step _ _ xs 1 _ _ _ c.get-2.ensures c.in_ok-above.ensures.1
-      (resolved_step _ _ xs 2 _ _ _ c.get-3.ensures c.in_ok-below.ensures.1
-      (resolved_step _ _ xs 3 _ _ _ c.get-4.ensures c.in_ok-profile.ensures.1 (resolved_end _ _ xs 4 c.requires.count)))))))
+    rw from_start (
+      one_more_right _ _ _ xs 0 1 _ (Alt ∷ Alt ∷ Profile ∷ []) _ c.get.ensures c.in_ok-voter.ensures.0
+          (one_more_right _ _ _ xs 1 2 _ (Alt ∷ Profile ∷ []) _ c.get-2.ensures c.in_ok-above.ensures.0
+          (one_more_right _ _ _ xs 2 3 _ (Profile ∷ []) _ c.get-3.ensures c.in_ok-below.ensures.0
+          (one_more_right _ _ _ xs 3 4 _ ([]) _ c.get-4.ensures c.in_ok-profile.ensures.0 (no_more _ _ _ xs 4 5)))),
+      sym (ap (predicate_tree (Some Prefers))
+          (resolved_step _ _ xs 0 _ _ _ c.get.ensures c.in_ok-voter.ensures.1
+          (resolved_step _ _ xs 1 _ _ _ c.get-2.ensures c.in_ok-above.ensures.1
+          (resolved_step _ _ xs 2 _ _ _ c.get-3.ensures c.in_ok-below.ensures.1
+          (resolved_step _ _ xs 3 _ _ _ c.get-4.ensures c.in_ok-profile.ensures.1 (resolved_end _ _ xs 4 c.requires.count)))))),
+    )

@@ -1,4 +1,4 @@
-use Rattle.std.proofs.Common.{◌≡◌, ◌≤◌, ◌∙◌, sym, arith, rules, [], ◌∷◌}
+use Rattle.std.proofs.Common.{◌≡◌, ◌≤◌, ◌∙◌, sym, arith, [], ◌∷◌}
 use Rattle.std.proofs.lemmas.Result.{err_from_is_err_and}
 use Rattle.vocab.specs.NamedDepth.{term_depth, terms_depth}
 use Rattle.vocab.specs.NamedView.{named_term_tree, named_terms_tree}
@@ -28,9 +28,10 @@ pub call-returns : goal.call-returns
 call-returns t c =
     let known = sym c.function_named.ensures ∙ c.in-Some.is in
     let count = count_of_terms c.args.arguments.now in
-    let three : count_of (named_terms_tree c.args.arguments.now) ≡ 3 = grind (arith, count, c.len.ensures, c.if-len-ne3.false) in
-    ( called c.args.name.now _ _ known _ _ three ∙ by_name c.args.space.now (scope_of c.args.scope.now) c.args.name.now _ _ _ _ c.of-symbol.ensures c.sorts.ensures ∙ c.in_ok-terms.ensures.0
-    , c.in_ok-apply.ensures ∙ sym (applied_tree _ _ _ _ _ _ known c.in_ok-terms.ensures.1))
+    let three : count_of (named_terms_tree c.args.arguments.now) ≡ 3 = grind (arith, count, c.len.ensures, c.if-len-ne3.false) in (
+      called c.args.name.now _ _ known _ _ three ∙ by_name c.args.space.now (scope_of c.args.scope.now) c.args.name.now _ _ _ _ c.of-symbol.ensures c.sorts.ensures ∙ c.in_ok-terms.ensures.0,
+      c.in_ok-apply.ensures ∙ sym (applied_tree _ _ _ _ _ _ known c.in_ok-terms.ensures.1),
+    )
 
 pub three_arguments-argument-requires : goal.three_arguments-argument-requires
 three_arguments-argument-requires t c =
@@ -73,10 +74,11 @@ three_arguments-returns-in_err-third t c =
 pub three_arguments-returns : goal.three_arguments-returns
 three_arguments-returns t c =
     let xs = terms_of c.args.arguments.now in
-    rw from_start
-    ( one_more_right _ _ _ xs 0 1 _ (c.args.sorts.1 ∷ c.args.sorts.2 ∷ []) _ c.get.ensures c.in_ok-first.ensures.0
-      (one_more_right _ _ _ xs 1 2 _ (c.args.sorts.2 ∷ []) _ c.get-2.ensures c.in_ok-second.ensures.0
-      (one_more_right _ _ _ xs 2 3 _ [] _ c.get-3.ensures c.in_ok-third.ensures.0 (no_more _ _ _ xs 3 4)))
-    , resolved_step _ _ xs 0 _ _ _ c.get.ensures c.in_ok-first.ensures.1
-      (resolved_step _ _ xs 1 _ _ _ c.get-2.ensures c.in_ok-second.ensures.1
-      (resolved_step _ _ xs 2 _ _ _ c.get-3.ensures c.in_ok-third.ensures.1 (resolved_end _ _ xs 3 c.requires.count))))
+    rw from_start (
+      one_more_right _ _ _ xs 0 1 _ (c.args.sorts.1 ∷ c.args.sorts.2 ∷ []) _ c.get.ensures c.in_ok-first.ensures.0
+          (one_more_right _ _ _ xs 1 2 _ (c.args.sorts.2 ∷ []) _ c.get-2.ensures c.in_ok-second.ensures.0
+          (one_more_right _ _ _ xs 2 3 _ [] _ c.get-3.ensures c.in_ok-third.ensures.0 (no_more _ _ _ xs 3 4))),
+      resolved_step _ _ xs 0 _ _ _ c.get.ensures c.in_ok-first.ensures.1
+          (resolved_step _ _ xs 1 _ _ _ c.get-2.ensures c.in_ok-second.ensures.1
+          (resolved_step _ _ xs 2 _ _ _ c.get-3.ensures c.in_ok-third.ensures.1 (resolved_end _ _ xs 3 c.requires.count))),
+    )

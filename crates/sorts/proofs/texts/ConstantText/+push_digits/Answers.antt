@@ -1,4 +1,4 @@
-use Rattle.std.proofs.Common.{◌≡◌, ◌+◌, ◌-◌, ◌/◌, ap, ◌∙◌, length, length-append, arith}
+use Rattle.std.proofs.Common.{◌-◌, ◌/◌, ap, ◌∙◌, length, length-append, arith}
 use Rattle.sorts.specs.Constants.{digits}
 use Rattle.sorts.proofs.ConstantLemmas.{length-digits}
 use Rattle.sorts.proofs.texts.ConstantText.+push_digits.Goals as goal
