@@ -1,9 +1,12 @@
 //! Reads a study, the question that the bench is asked, from the bytes of a TOML document.
 #![tactic(auto)]
 
+mod document;
+mod drafts;
 mod entries;
 mod faults;
 pub mod laws;
+mod listing;
 mod reading;
 
 pub use faults::{StudyFault, Text};
