@@ -24,15 +24,15 @@ abbrev pub or_own : Option (List ℕ) → Option (List ℕ) → Option (List ℕ
 or_own (Some text) own = Some text
 or_own None own = own
 
+-- a name with its text, if it has one
+abbrev pub entry_of : List ℕ → Option (List ℕ) → Result Entry StudyFault
+entry_of name None = Err (fault.Unknown name)
+entry_of name (Some text) = Ok (record { name = name; text = text })
+
 module _ (kind : Kind) (own : List Entry) where
   -- the text under a name: the library's for the kind, or else one of the study's own sentences
   abbrev pub text_of : List ℕ → Option (List ℕ)
   text_of name = or_own (text_under kind name) (text_among own name)
-
-  -- a name with its text
-  abbrev pub entry_of : List ℕ → Option (List ℕ) → Result Entry StudyFault
-  entry_of name None = Err (fault.Unknown name)
-  entry_of name (Some text) = Ok (record { name = name; text = text })
 
   -- each name with its text, or the first that has none
   abbrev pub listed : List (List ℕ) → Result (List Entry) StudyFault

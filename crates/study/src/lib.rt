@@ -6,8 +6,10 @@ mod drafts;
 mod entries;
 mod faults;
 pub mod laws;
+mod limits;
 mod listing;
 mod reading;
+mod sentences;
 
 pub use faults::{StudyFault, Text};
 pub use reading::read_study;
