@@ -10,6 +10,8 @@ mod limits;
 mod listing;
 mod reading;
 mod sentences;
+#[cfg(test)]
+mod tests;
 
 pub use faults::{StudyFault, Text};
 pub use reading::read_study;
