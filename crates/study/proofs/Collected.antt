@@ -1,58 +1,61 @@
--- The axioms that items name, gathered one after another.
-use Rattle.std.proofs.Common.{◌≡◌, List, [], ◌∷◌, ◌++◌, Bool, true, false, if◌then◌else◌, Option, Some, None, option_and_then, refl, ap, ◌∙◌, append_assoc}
+-- What the values of an array and of a table say, gathered one after another.
+use Rattle.std.proofs.Common.{◌≡◌, ℕ, List, [], ◌∷◌, ◌++◌, Option, Some, None, option_map, option_and_then, Result, Ok, Err, refl, ap, ◌∙◌, append_assoc}
 use Rattle.std.proofs.lemmas.List.{append-nil}
-use Rattle.std.specs.List.{list_any}
-use Rattle.std.specs.Str.{bytes_eq}
-use Rattle.toml.specs.Data.{Items, no_items, item}
-use Rattle.vocab.specs.Study.{have_own_names}
-use Rattle.vocab.specs.Titled.{Titled}
-use Rattle.study.specs.Document.{axiom_of, axioms_named, axioms_in}
-use Rattle.study.proofs.OwnNames.{have_own_names-push, have_own_names-repeated}
+use Rattle.toml.specs.Data.{Items, no_items, item, Members, no_members, member, as_str}
+use Rattle.axiom_library.specs.Library.{Entry}
+use Rattle.study.specs.Document.{texts_in, own_sentence, sentences_in}
+use Rattle.study.specs.Refusing.{and_then}
 
--- the axioms that items name, after those before; none, if an item names no axiom or one that stands earlier
-abbrev pub collected : List Titled → Items → Option (List Titled)
-collected before no_items = Some before
-collected before (item value rest) =
-    option_and_then (λ a. if list_any (λ known. bytes_eq known.name a.name) before then None else collected (before ++ a ∷ []) rest) (axiom_of value)
+-- the texts of items, after those before
+abbrev pub texts_after : List (List ℕ) → Items → Option (List (List ℕ))
+texts_after before no_items = Some before
+texts_after before (item value rest) = option_and_then (λ text. texts_after (before ++ text ∷ []) rest) (as_str value)
 
--- the axioms, if each name stands once
-abbrev owned : List Titled → Option (List Titled)
-owned axioms = if have_own_names axioms then Some axioms else None
+more_texts : (before : List (List ℕ)) (text : List ℕ) (found : Option (List (List ℕ)))
+    → option_map (λ texts. (before ++ text ∷ []) ++ texts) found ≡ option_map (λ texts. before ++ texts) (option_map (λ texts. text ∷ texts) found)
+more_texts before text None = refl
+more_texts before text (Some texts) = ap Some (append_assoc before (text ∷ []) texts)
 
--- after an axiom whose name stands earlier none are found
-repeated : (before : List Titled) (a : Titled) (found : Option (List Titled)) → list_any (λ known. bytes_eq known.name a.name) before ≡ true
-    → None ≡ option_and_then (λ axioms. owned (before ++ axioms)) (option_and_then (λ axioms. Some (a ∷ axioms)) found)
-repeated before a None known = refl
-repeated before a (Some axioms) known = rw (have_own_names-repeated before a axioms known)
+one_text : (before : List (List ℕ)) (gather : List (List ℕ) → Option (List (List ℕ))) (found : Option (List (List ℕ)))
+    → ((others : List (List ℕ)) → gather others ≡ option_map (λ texts. others ++ texts) found) → (text : Option (List ℕ))
+    → option_and_then (λ t. gather (before ++ t ∷ [])) text ≡ option_map (λ texts. before ++ texts) (option_and_then (λ t. option_map (λ texts. t ∷ texts) found) text)
+one_text before gather found goes_on None = refl
+one_text before gather found goes_on (Some t) = goes_on (before ++ t ∷ []) ∙ more_texts before t found
 
--- an axiom at the end of those before, or at the front of those after it
-moved : (before : List Titled) (a : Titled) (found : Option (List Titled))
-    → option_and_then (λ axioms. owned ((before ++ a ∷ []) ++ axioms)) found ≡ option_and_then (λ axioms. owned (before ++ axioms)) (option_and_then (λ axioms. Some (a ∷ axioms)) found)
-moved before a None = refl
-moved before a (Some axioms) = ap owned (append_assoc before (a ∷ []) axioms)
+texts_each : (items : Items) (before : List (List ℕ)) → texts_after before items ≡ option_map (λ texts. before ++ texts) (texts_in items)
+texts_each no_items before = rw append-nil
+texts_each (item value rest) before = one_text before (λ others. texts_after others rest) (texts_in rest) (texts_each rest) (as_str value)
 
--- an item, where gathering goes on as it should
-one_more : (before : List Titled) (gather : List Titled → Option (List Titled)) (found : Option (List Titled))
-    → ((others : List Titled) → have_own_names others ≡ true → gather others ≡ option_and_then (λ axioms. owned (others ++ axioms)) found)
-    → have_own_names before ≡ true → (a : Titled) (known : Bool) → list_any (λ known. bytes_eq known.name a.name) before ≡ known
-    → (if known then None else gather (before ++ a ∷ [])) ≡ option_and_then (λ axioms. owned (before ++ axioms)) (option_and_then (λ axioms. Some (a ∷ axioms)) found)
-one_more before gather found goes_on own a true is = repeated before a found is
-one_more before gather found goes_on own a false is = goes_on (before ++ a ∷ []) (have_own_names-push before a own is) ∙ moved before a found
+all_there : (found : Option (List (List ℕ))) → option_map (λ texts. [] ++ texts) found ≡ found
+all_there None = refl
+all_there (Some texts) = refl
 
-named_item : (before : List Titled) (gather : List Titled → Option (List Titled)) (found : Option (List Titled))
-    → ((others : List Titled) → have_own_names others ≡ true → gather others ≡ option_and_then (λ axioms. owned (others ++ axioms)) found)
-    → have_own_names before ≡ true → (named : Option Titled)
-    → option_and_then (λ a. if list_any (λ known. bytes_eq known.name a.name) before then None else gather (before ++ a ∷ [])) named
-    ≡ option_and_then (λ axioms. owned (before ++ axioms)) (option_and_then (λ a. option_and_then (λ axioms. Some (a ∷ axioms)) found) named)
-named_item before gather found goes_on own None = refl
-named_item before gather found goes_on own (Some a) = one_more before gather found goes_on own a (list_any (λ known. bytes_eq known.name a.name) before) refl
+pub texts_all : (items : Items) → texts_after [] items ≡ texts_in items
+texts_all items = texts_each items [] ∙ all_there (texts_in items)
 
--- gathering gives the axioms that the items name, where no name stands twice
-collected_after : (items : Items) (before : List Titled) → have_own_names before ≡ true → collected before items ≡ option_and_then (λ axioms. owned (before ++ axioms)) (axioms_named items)
-collected_after no_items before own = rw (append-nil, own)
-collected_after (item value rest) before own =
-    named_item before (λ others. collected others rest) (axioms_named rest) (collected_after rest) own (axiom_of value)
+-- the sentences of members, after those before
+abbrev pub sentences_after : List Entry → Members → Result (List Entry) (List ℕ)
+sentences_after before no_members = Ok before
+sentences_after before (member key value rest) = and_then (λ e. sentences_after (before ++ e ∷ []) rest) (own_sentence key value)
 
-pub collected_all : (items : Items) → collected [] items ≡ axioms_in items
-unfolding axioms_in
-collected_all items = collected_after items [] refl
+more_sentences : (before : List Entry) (e : Entry) (found : Result (List Entry) (List ℕ))
+    → and_then (λ own. Ok ((before ++ e ∷ []) ++ own)) found ≡ and_then (λ own. Ok (before ++ own)) (and_then (λ own. Ok (e ∷ own)) found)
+more_sentences before e (Err key) = refl
+more_sentences before e (Ok own) = ap Ok (append_assoc before (e ∷ []) own)
+
+one_sentence : (before : List Entry) (gather : List Entry → Result (List Entry) (List ℕ)) (found : Result (List Entry) (List ℕ))
+    → ((others : List Entry) → gather others ≡ and_then (λ own. Ok (others ++ own)) found) → (sentence : Result Entry (List ℕ))
+    → and_then (λ e. gather (before ++ e ∷ [])) sentence ≡ and_then (λ own. Ok (before ++ own)) (and_then (λ e. and_then (λ own. Ok (e ∷ own)) found) sentence)
+one_sentence before gather found goes_on (Err key) = refl
+one_sentence before gather found goes_on (Ok e) = goes_on (before ++ e ∷ []) ∙ more_sentences before e found
+
+sentences_each : (members : Members) (before : List Entry) → sentences_after before members ≡ and_then (λ own. Ok (before ++ own)) (sentences_in members)
+sentences_each no_members before = rw append-nil
+sentences_each (member key value rest) before = one_sentence before (λ others. sentences_after others rest) (sentences_in rest) (sentences_each rest) (own_sentence key value)
+
+all_own : (found : Result (List Entry) (List ℕ)) → and_then (λ own. Ok ([] ++ own)) found ≡ found
+all_own (Err key) = refl
+all_own (Ok own) = refl
+
+pub sentences_all : (members : Members) → sentences_after [] members ≡ sentences_in members
+sentences_all members = sentences_each members [] ∙ all_own (sentences_in members)

@@ -1,8 +1,6 @@
-pub mod Axioms
-pub mod Bytes
+pub mod OneAnswer
 pub mod Collected
-pub mod Keys
-pub mod Library
-pub mod Limits
-pub mod OwnNames
-pub mod Studies
+pub mod Listings
+pub mod Resolved
+pub mod Counting
+pub mod Whole

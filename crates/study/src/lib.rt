@@ -2,13 +2,16 @@
 #![tactic(auto)]
 
 mod document;
+mod drafts;
+mod entries;
 mod faults;
-mod laws;
+pub mod laws;
+mod limits;
+mod listing;
 mod reading;
 mod sentences;
 #[cfg(test)]
 mod tests;
 
-pub use faults::StudyFault;
-pub use laws::studies_are_of_the_library;
+pub use faults::{StudyFault, Text};
 pub use reading::read_study;

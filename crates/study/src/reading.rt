@@ -1,68 +1,93 @@
 //! Studies, read from bytes.
 
-ghost use Rattle.std.specs.Prelude.{◌≡◌, Ok, Err, IfOk, IsErrOf};
-ghost use Rattle.toml.specs.View.{table_view};
-ghost use Rattle.study.specs.Reading.{extent_of, study_of, study_of_bytes};
+ghost use Rattle.std.specs.Prelude.{◌≡◌, ◌≢◌, Ok, Err, IfOk, IfErr, map};
+ghost use Rattle.study.specs.Document.{document_of};
+ghost use Rattle.study.specs.Listing.{IsListing};
+ghost use Rattle.study.specs.Reading.{listing_in, IsAnswer, IsStudyOf};
+ghost use Rattle.study.specs.Refusing.{Gives};
+ghost use Rattle.study.specs.Sentences.{AreReadAs, study_of};
+ghost use Rattle.study.specs.Written.{worded_of};
 
-use crate::document::{axioms_of, conflicts_of, has_known_keys, integer_of, kind_of, value_at};
+use crate::document::draft_of;
 use crate::faults::StudyFault;
-use lists::NoMemory;
+use crate::limits::{Limit, within};
+use crate::listing::{Listing, listing_of};
+use crate::sentences::{Written, read_all, resolve_all};
 use std::alloc::Global;
-use toml::Table;
-use vocab::{Size, Study};
+use vocab::Study;
 
-/// The size that the first three keys give.
-fn size_of(table: &Table) -> Option<Size>
-    ensures { result ≡ extent_of (table_view table.now) }
+/// The study of a listing whose texts are read.
+#[tactic(auto, unfolding(crate::specs::Sentences::study_of))]
+fn study_of(alloc: Global, listing: &Listing, sentences: &[Written]) -> Result<Study, StudyFault>
+    requires whole { IsListing listing.now }
+    requires read { AreReadAs listing.now.axioms (map worded_of sentences.now) }
+    ensures { Gives (study_of listing.now.size listing.now.conflicts (map worded_of sentences.now)) result }
 {
-    let kind = kind_of(value_at(table, "kind"))?;
-    let voters = integer_of(value_at(table, "voters"))?;
-    let alternatives = integer_of(value_at(table, "alternatives"))?;
-    Size::check(kind, voters, alternatives).ok()
+    let size = listing.size;
+    let axioms = resolve_all(alloc, size, sentences)?;
+    within(Limit::Instances, size, axioms.as_slice())?;
+    within(Limit::Body, size, axioms.as_slice())?;
+    within(Limit::Work, size, axioms.as_slice())?;
+    Ok(Study::new(size, listing.conflicts, axioms))
 }
 
-/// The study that a document gives.
-#[tactic(auto, unfolding(crate::specs::Reading::study_of))]
-fn study_of(alloc: Global, table: &Table) -> Result<Option<Study>, NoMemory>
-    ensures { IfOk result (λ found. found ≡ study_of (table_view table.now)) }
+/// The study of a listing, or the first refusal of a text or a sentence.
+fn answer_of(alloc: Global, listing: &Listing) -> Result<Study, StudyFault>
+    requires { IsListing listing.now }
+    ensures ok { IfOk result (λ study. IsAnswer listing.now (Ok study)) }
+    ensures refused { IfErr result (λ fault. fault ≢ StudyFault.NoMemory → IsAnswer listing.now (Err fault)) }
 {
-    let Some(size) = size_of(table) else {
-        return Ok(None);
+    let sentences = match read_all(alloc, listing.axioms.as_slice()) {
+        Ok(sentences) => sentences,
+        Err(fault) => return Err(fault),
     };
-    let Some(conflicts) = conflicts_of(value_at(table, "conflicts")) else {
-        return Ok(None);
-    };
-    let Some(axioms) = axioms_of(alloc, value_at(table, "axioms"))? else {
-        return Ok(None);
-    };
-    if !has_known_keys(table) {
-        return Ok(None);
+    match study_of(alloc, listing, sentences.as_slice()) {
+        Ok(study) => Ok(study),
+        Err(fault) => Err(fault),
     }
-    Ok(Some(Study::new(size, conflicts, axioms)))
 }
 
-/// The study that the bytes give, as a TOML document. It has these keys, and no other:
-///
-/// | Key | Value |
-/// |---|---|
-/// | `kind` | the string `choice` |
-/// | `voters` | an integer from 1 to 8 |
-/// | `alternatives` | an integer from 1 to 5; there are at most 20,000 profiles |
-/// | `conflicts` | an integer from 1 to 1,000,000, or missing, which stands for 100,000 |
-/// | `axioms` | an array of distinct strings, each one of `unanimity`, `pareto` and `onto` |
-#[tactic(auto, using(crate::proofs::Bytes::bytes_refused))]
-pub fn read_study(alloc: Global, bytes: &[u8]) -> Result<Study, StudyFault>
-    ensures ok { IfOk result (λ study. study_of_bytes bytes.now ≡ Ok study) }
-    ensures not_toml { IsErrOf result StudyFault.NotToml → study_of_bytes bytes.now ≡ Err StudyFault.NotToml }
-    ensures not_built { IsErrOf result StudyFault.NotBuilt → study_of_bytes bytes.now ≡ Err StudyFault.NotBuilt }
+/// What the bytes list, or the first refusal of their document.
+#[tactic(auto, using(crate::proofs::Whole::bytes_refused))]
+fn listing_in(alloc: Global, bytes: &[u8]) -> Result<Listing, StudyFault>
+    ensures { Gives (listing_in (document_of bytes.now)) result }
 {
     let table = match toml::table_from_slice(alloc, bytes) {
         Ok(table) => table,
         Err(error) if error.is_memory() => return Err(StudyFault::NoMemory),
-        Err(_) => return Err(StudyFault::NotToml),
+        Err(_) => return Err(StudyFault::Toml),
     };
-    match study_of(alloc, &table)? {
-        Some(study) => Ok(study),
-        None => Err(StudyFault::NotBuilt),
+    let draft = match draft_of(alloc, &table) {
+        Ok(draft) => draft,
+        Err(fault) => return Err(fault),
+    };
+    match listing_of(alloc, &draft) {
+        Ok(listing) => Ok(listing),
+        Err(fault) => Err(fault),
+    }
+}
+
+/// The study that the bytes give, as a TOML document, or the first reason why they give none.
+///
+/// | Key | Value |
+/// |---|---|
+/// | `kind` | the string `choice` or `ranking` |
+/// | `voters`, `alternatives` | integers that are a size |
+/// | `conflicts` | an integer from 1 to 1,000,000, or missing, which stands for 100,000 |
+/// | `axioms` | an array of strings, at most 40, each once, of the library for the kind or among `sentences` |
+/// | `sentences` | a table of names, each with the text of a sentence, or missing |
+///
+/// There is no other key. There is at most one answer beside want of memory (`laws::studies_have_one_answer`).
+pub fn read_study(alloc: Global, bytes: &[u8]) -> Result<Study, StudyFault>
+    ensures ok { IfOk result (λ study. IsStudyOf bytes.now (Ok study)) }
+    ensures refused { IfErr result (λ fault. fault ≢ StudyFault.NoMemory → IsStudyOf bytes.now (Err fault)) }
+{
+    let listing = match listing_in(alloc, bytes) {
+        Ok(listing) => listing,
+        Err(fault) => return Err(fault),
+    };
+    match answer_of(alloc, &listing) {
+        Ok(study) => Ok(study),
+        Err(fault) => Err(fault),
     }
 }

@@ -1,105 +1,84 @@
-//! The sentences of the library that a study may name so far.
+//! The sentences of a study's axioms: read, resolved, and measured.
 
-ghost use Rattle.std.specs.Prelude.{◌≡◌, IfOk, option_map};
-ghost use Rattle.vocab.specs.Tree.{tree_of, Var, Equal, Prefers, WinsAt, Leaf, Not, Either, Implies, All, Exists};
-ghost use Rattle.study.specs.Sentences.{unanimity, pareto, onto, sentence_of};
+ghost use Rattle.std.specs.Prelude.{◌≢◌, map, IsTrue, IfOk, IfErr};
+ghost use Rattle.std.specs.List.{list_all};
+ghost use Rattle.study.specs.Refusing.{Gives};
+ghost use Rattle.study.specs.Sentences.{AreReadAs, resolved_one, resolved_all};
+ghost use Rattle.study.specs.Written.{worded_of, IsReadAs, IsRefused, IsFirstRefused, IsSmall, AreSmall, is_sound};
 
-use lists::NoMemory;
+use crate::entries::Entry;
+use crate::faults::StudyFault;
+use lists::Items;
+use profiles::Space;
+use sorts::{SortFault, resolve};
 use std::alloc::Global;
-use vocab::{Atom, Formula, Sort, Term};
+use syntax::{SyntaxFault, read};
+use vocab::{Axiom, Axioms, Name, Named, Size};
 
-fn equal(left: u8, right: u8) -> Formula
-    ensures { tree_of result ≡ Leaf (Equal (Var left) (Var right)) }
-{
-    Formula::Leaf(Atom::Equal(Term::Var(left), Term::Var(right)))
+/// A name and a sentence as it is written.
+#[derive(Drop)]
+pub(crate) struct Written {
+    pub(crate) name: Name,
+    pub(crate) sentence: Named,
 }
 
-fn prefers(voter: u8, better: u8, worse: u8, profile: u8) -> Formula
-    ensures { tree_of result ≡ Leaf (Prefers (Var voter) (Var better) (Var worse) (Var profile)) }
+/// The sentence of a text, or why it has none.
+fn read_one(alloc: Global, entry: &Entry) -> Result<Written, StudyFault>
+    ensures read { IfOk result (λ w. IsReadAs entry.now (worded_of w)) }
+    ensures refused { IfErr result (λ fault. fault ≢ StudyFault.NoMemory → IsRefused entry.now fault) }
 {
-    Formula::Leaf(Atom::Prefers(
-        Term::Var(voter),
-        Term::Var(better),
-        Term::Var(worse),
-        Term::Var(profile),
-    ))
-}
-
-fn wins(alternative: u8, profile: u8) -> Formula
-    ensures { tree_of result ≡ Leaf (WinsAt (Var alternative) (Var profile)) }
-{
-    Formula::Leaf(Atom::Wins(Term::Var(alternative), Term::Var(profile)))
-}
-
-fn not(alloc: Global, part: Formula) -> Result<Formula, NoMemory>
-    ensures { IfOk result (λ formula. tree_of formula ≡ Not (tree_of part)) }
-{
-    Ok(Formula::Not(Box::new(alloc, part)?))
-}
-
-fn either(alloc: Global, left: Formula, right: Formula) -> Result<Formula, NoMemory>
-    ensures { IfOk result (λ formula. tree_of formula ≡ Either (tree_of left) (tree_of right)) }
-{
-    Ok(Formula::Either(Box::new(alloc, left)?, Box::new(alloc, right)?))
-}
-
-fn implies(alloc: Global, premise: Formula, conclusion: Formula) -> Result<Formula, NoMemory>
-    ensures { IfOk result (λ formula. tree_of formula ≡ Implies (tree_of premise) (tree_of conclusion)) }
-{
-    Ok(Formula::Implies(Box::new(alloc, premise)?, Box::new(alloc, conclusion)?))
-}
-
-fn all(alloc: Global, sort: Sort, body: Formula) -> Result<Formula, NoMemory>
-    ensures { IfOk result (λ formula. tree_of formula ≡ All sort (tree_of body)) }
-{
-    Ok(Formula::All(sort, Box::new(alloc, body)?))
-}
-
-fn some(alloc: Global, sort: Sort, body: Formula) -> Result<Formula, NoMemory>
-    ensures { IfOk result (λ formula. tree_of formula ≡ Exists sort (tree_of body)) }
-{
-    Ok(Formula::Exists(sort, Box::new(alloc, body)?))
-}
-
-/// An alternative wins wherever every voter has it on top.
-fn unanimity(alloc: Global) -> Result<Formula, NoMemory>
-    ensures { IfOk result (λ formula. tree_of formula ≡ unanimity) }
-{
-    let (p, x, i, y) = (0, 1, 2, 3);
-    let least = either(alloc, equal(x, y), prefers(i, x, y, p))?;
-    let on_top = all(alloc, Sort::Voter, all(alloc, Sort::Alt, least)?)?;
-    let body = implies(alloc, on_top, wins(x, p))?;
-    all(alloc, Sort::Profile, all(alloc, Sort::Alt, body)?)
-}
-
-/// No alternative wins where every voter has another one above it.
-fn pareto(alloc: Global) -> Result<Formula, NoMemory>
-    ensures { IfOk result (λ formula. tree_of formula ≡ pareto) }
-{
-    let (p, x, y, i) = (0, 1, 2, 3);
-    let above = all(alloc, Sort::Voter, prefers(i, x, y, p))?;
-    let body = implies(alloc, above, not(alloc, wins(y, p))?)?;
-    let pairs = all(alloc, Sort::Alt, all(alloc, Sort::Alt, body)?)?;
-    all(alloc, Sort::Profile, pairs)
-}
-
-/// Each alternative wins at some profile.
-fn onto(alloc: Global) -> Result<Formula, NoMemory>
-    ensures { IfOk result (λ formula. tree_of formula ≡ onto) }
-{
-    let (x, p) = (0, 1);
-    all(alloc, Sort::Alt, some(alloc, Sort::Profile, wins(x, p))?)
-}
-
-/// The sentence that the library has under a name.
-#[tactic(auto, unfolding(crate::specs::Sentences::sentence_of))]
-pub(crate) fn sentence_of(alloc: Global, name: &str) -> Result<Option<Formula>, NoMemory>
-    ensures { IfOk result (λ found. option_map tree_of found ≡ sentence_of name.now) }
-{
-    match name {
-        "unanimity" => Ok(Some(unanimity(alloc)?)),
-        "pareto" => Ok(Some(pareto(alloc)?)),
-        "onto" => Ok(Some(onto(alloc)?)),
-        _ => Ok(None),
+    let name = entry.name();
+    match read(alloc, entry.text().as_slice()) {
+        Ok(sentence) => Ok(Written { name, sentence }),
+        Err(SyntaxFault::NoMemory) => Err(StudyFault::NoMemory),
+        Err(fault) => Err(StudyFault::Syntax(name, fault)),
     }
+}
+
+/// The sentences of all texts, or the first text that is none.
+pub(crate) fn read_all(alloc: Global, entries: &[Entry]) -> Result<Items<Written>, StudyFault>
+    ensures read { IfOk result (λ sentences. AreReadAs entries.now (map worded_of sentences)) }
+    ensures refused { IfErr result (λ fault. fault ≢ StudyFault.NoMemory → IsFirstRefused entries.now fault) }
+{
+    let mut sentences = Items::new(alloc);
+    for entry in entries {
+        match read_one(alloc, entry) {
+            Ok(written) => sentences.push(written)?,
+            Err(fault) => return Err(fault),
+        }
+    }
+    Ok(sentences)
+}
+
+/// An axiom of a size, or the first fault of its sentence.
+fn resolve_one(alloc: Global, space: &Space, written: &Written) -> Result<Axiom, StudyFault>
+    requires { IsSmall (worded_of written.now) }
+    ensures gives { Gives (resolved_one space.now (worded_of written.now)) result }
+    ensures sentence { IfOk result (λ a. IsTrue (is_sound space.now a)) }
+{
+    match resolve(alloc, &written.sentence, space) {
+        Ok(formula) => Ok(Axiom::new(written.name, formula)),
+        Err(SortFault::NoMemory) => Err(StudyFault::NoMemory),
+        Err(fault) => Err(StudyFault::Sort(written.name, fault)),
+    }
+}
+
+/// The axioms of a size, or the first fault of a sentence.
+#[tactic(auto, using(crate::proofs::Resolved::resolved_every))]
+pub(crate) fn resolve_all(
+    alloc: Global,
+    size: Size,
+    sentences: &[Written],
+) -> Result<Axioms, StudyFault>
+    requires { AreSmall (map worded_of sentences.now) }
+    ensures gives { Gives (resolved_all size (map worded_of sentences.now)) result }
+    ensures sentences { IfOk result (λ axioms. IsTrue (list_all (is_sound size) axioms)) }
+{
+    let space = Space::new(size);
+    let mut axioms = Axioms::new(alloc);
+    for written in sentences {
+        let axiom = resolve_one(alloc, &space, written)?;
+        axioms.push(axiom)?;
+    }
+    Ok(axioms)
 }

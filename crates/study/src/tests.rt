@@ -2,86 +2,236 @@
 
 use crate::faults::StudyFault;
 use crate::reading::read_study;
+use sorts::SortFault;
 use std::alloc::{AllocError, Global};
 use std::test::Fail;
-use vocab::Study;
+use syntax::SyntaxFault;
+use vocab::{Name, SizeFault, Study};
 
-const PLAIN: &str = "kind = 'choice'\nvoters = 1\nalternatives = 2\naxioms = ['unanimity']\n";
+const PLAIN: &str = "kind = 'choice'\nvoters = 2\nalternatives = 3\naxioms = ['pareto']\n";
 
 /// A part of the plain document, what stands in its place, and what the document then gives.
 const CASES: &[(&str, &str, &str)] = &[
-    ("", "", "1 2 100000 unanimity"),
-    (PLAIN, "", "not built"),
-    (PLAIN, "# nothing", "not built"),
-    ("kind", "\nkind", "1 2 100000 unanimity"),
-    ("'choice'", "\"choice\"", "1 2 100000 unanimity"),
-    ("'choice'", "'ranking'", "not built"),
-    ("'choice'", "'Choice'", "not built"),
-    ("'choice'", "1", "not built"),
-    ("'choice'", "", "not toml"),
-    ("kind = 'choice'", "", "not built"),
-    ("voters = 1", "voters = 0", "not built"),
-    ("voters = 1", "voters = 8", "8 2 100000 unanimity"),
-    ("voters = 1", "voters = 9", "not built"),
-    ("voters = 1", "voters = -1", "not built"),
-    ("voters = 1", "voters = 0x2", "2 2 100000 unanimity"),
-    ("voters = 1", "voters = +2", "2 2 100000 unanimity"),
-    ("voters = 1", "voters = 1.0", "not built"),
-    ("voters = 1", "voters = '1'", "not built"),
-    ("voters = 1", "voters = 1\nvoters = 1", "not toml"),
-    ("voters = 1", "", "not built"),
-    ("alternatives = 2", "alternatives = 0", "not built"),
+    ("", "", "2 3 100000 pareto"),
+    // The document.
+    ("'choice'", "", "toml"),
+    ("voters = 2", "voters = 2\nvoters = 2", "toml"),
+    (PLAIN, "# nothing", "key kind"),
+    ("'choice'", "'sets'", "key kind"),
+    ("'choice'", "1", "key kind"),
+    ("'choice'", "'ranking'", "2 3 100000 pareto"),
+    ("voters = 2\n", "", "key voters"),
+    ("voters = 2", "voters = 1.0", "key voters"),
+    ("voters = 2", "voters = 0x2", "2 3 100000 pareto"),
+    ("alternatives = 3", "alternatives = '3'", "key alternatives"),
+    ("axioms", "conflicts = '1'\naxioms", "key conflicts"),
+    ("axioms = ['pareto']", "", "key axioms"),
+    ("['pareto']", "'pareto'", "key axioms"),
+    ("'pareto'", "'pareto', 1", "key axioms"),
+    ("axioms", "sentences = 1\naxioms", "key sentences"),
+    ("axioms", "sentences = {}\naxioms", "2 3 100000 pareto"),
+    ("axioms", "sentences = { b = 1, a = 2 }\naxioms", "key a"),
     (
-        "alternatives = 2",
-        "alternatives = 1",
-        "1 1 100000 unanimity",
+        "axioms",
+        "sentences = { b = 'x', B = 'x' }\naxioms",
+        "key B",
     ),
     (
-        "alternatives = 2",
-        "alternatives = 5",
-        "1 5 100000 unanimity",
+        "axioms",
+        "sentences = { a23456789_123456789_123456789_123 = 'x' }\naxioms",
+        "key a23456789_123456789_123456789_123",
     ),
-    ("alternatives = 2", "alternatives = 6", "not built"),
-    ("alternatives = 2", "alternatives = true", "not built"),
-    ("alternatives = 2", "", "not built"),
     (
-        "1\nalternatives = 2",
-        "2\nalternatives = 5",
-        "2 5 100000 unanimity",
+        "axioms",
+        "sentences = { a23456789_123456789_123456789_12 = 'x' }\naxioms",
+        "2 3 100000 pareto",
     ),
-    ("1\nalternatives = 2", "3\nalternatives = 5", "not built"),
+    ("axioms", "a = 1\nsentences = { b = 1 }\naxioms", "key b"),
+    ("axioms", "title = 1\nauthor = 2\naxioms", "key author"),
+    // The size, the limit, the number of axioms.
+    ("voters = 2", "voters = 9\ntitle = 1", "key title"),
     (
-        "1\nalternatives = 2",
-        "5\nalternatives = 3",
-        "5 3 100000 unanimity",
+        "voters = 2",
+        "voters = 9223372036854775807",
+        "voters 9223372036854775807",
     ),
-    ("1\nalternatives = 2", "6\nalternatives = 3", "not built"),
-    ("axioms", "conflicts = 0\naxioms", "not built"),
-    ("axioms", "conflicts = 1\naxioms", "1 2 1 unanimity"),
-    ("axioms", "conflicts = 1_0\naxioms", "1 2 10 unanimity"),
+    ("voters = 2", "voters = -1", "voters -1"),
+    (
+        "alternatives = 3",
+        "alternatives = 6\nconflicts = 0",
+        "alternatives 6",
+    ),
+    (
+        "2\nalternatives = 3",
+        "3\nalternatives = 5",
+        "profiles 1728000",
+    ),
+    ("axioms", "conflicts = 0\naxioms", "conflicts 0"),
+    ("axioms", "conflicts = 1\naxioms", "2 3 1 pareto"),
     (
         "axioms",
         "conflicts = 1000000\naxioms",
-        "1 2 1000000 unanimity",
+        "2 3 1000000 pareto",
     ),
-    ("axioms", "conflicts = 1000001\naxioms", "not built"),
-    ("axioms", "conflicts = -5\naxioms", "not built"),
-    ("axioms", "conflicts = 1.0\naxioms", "not built"),
-    ("'unanimity'", "", "1 2 100000"),
-    ("'unanimity'", "'pareto'", "1 2 100000 pareto"),
+    ("axioms", "conflicts = 1000001\naxioms", "conflicts 1000001"),
+    // The names.
+    ("'pareto'", "", "2 3 100000"),
     (
-        "'unanimity'",
-        "'onto', 'unanimity', 'pareto'",
-        "1 2 100000 onto unanimity pareto",
+        "'pareto'",
+        "'onto', 'maskin', 'pareto'",
+        "2 3 100000 onto maskin pareto",
     ),
-    ("'unanimity'", "'onto', 'pareto', 'onto'", "not built"),
-    ("'unanimity'", "'unanimity', 'condorcet'", "not built"),
-    ("'unanimity'", "'unanimity', 1", "not built"),
-    ("['unanimity']", "'unanimity'", "not built"),
-    ("axioms = ['unanimity']", "", "not built"),
-    ("axioms", "sentences = {}\naxioms", "not built"),
-    ("axioms", "title = 'plain'\naxioms", "not built"),
+    (
+        "'pareto'",
+        "'pareto', 'independence'",
+        "unknown independence",
+    ),
+    ("'pareto'", "'pareto', 'pareto', 'No'", "unknown No"),
+    (
+        "'pareto'",
+        "'onto', 'pareto', 'onto', 'pareto'",
+        "twice onto",
+    ),
+    (
+        "axioms",
+        "sentences = { pareto = 'x', onto = 'x' }\naxioms",
+        "twice pareto",
+    ),
+    (
+        "axioms",
+        "sentences = { onto = 'x' }\naxioms",
+        "2 3 100000 pareto",
+    ),
+    // The texts, of which only those that are listed are read.
+    (
+        "axioms = ['pareto']",
+        "sentences = { b = '@ab', a = 'x = ?', c = '(' }\naxioms = ['pareto', 'b', 'a']",
+        "lexeme b 0",
+    ),
+    (
+        "axioms = ['pareto']",
+        "sentences = { a = 'x = y', b = '(' }\naxioms = ['a', 'b']",
+        "no reading b",
+    ),
+    (
+        "axioms = ['pareto']",
+        "sentences = { a = 'x = y', b = '(' }\naxioms = ['pareto', 'a']",
+        "unbound x",
+    ),
+    (
+        "axioms = ['pareto']",
+        "sentences = { a = 'all p: profile. ranks(@a, @b, p)' }\naxioms = ['a']",
+        "kind ranks",
+    ),
+    (
+        "axioms = ['pareto']",
+        "sentences = { a = 'some p: profile. wins(@c, p)' }\naxioms = ['a', 'pareto']",
+        "2 3 100000 a pareto",
+    ),
+    // Counts that pass every number.
+    (
+        "3\naxioms = ['pareto']",
+        "5\nsentences = { a = 'all x: profile. all x: profile. all x: profile. all x: profile. x = x' }\naxioms = ['a']",
+        "instances a 42998169600000000",
+    ),
+    (
+        "3\naxioms = ['pareto']",
+        "5\nsentences = { a = 'all x: profile. all x: profile. all x: profile. all x: profile. all x: profile. x = x' }\naxioms = ['a']",
+        "instances a 18446744073709551615",
+    ),
+    (
+        "3\naxioms = ['pareto']",
+        "5\nsentences = { a = 'some x: profile. some x: profile. some x: profile. some x: profile. some x: profile. x = x' }\naxioms = ['a']",
+        "body a 18446744073709551615",
+    ),
 ];
+
+/// Quantifiers of a sentence over five voters and two alternatives, what follows them, and what is then said.
+const SIZES: &[(&str, &str, &str)] = &[
+    ("VVVVVVVPAAA", "x = x", "5 2 100000 a"),
+    ("VVVVVVVVAAAAAA", "x = x", "variables a"),
+    ("VVVVVVVVAAAA", "x = x", "5 2 100000 a"),
+    ("VVVVVVVVAAAP", "x = x", "instances a 100000000"),
+    ("vvvvvvaaaaaa", "x = x", "5 2 100000 a"),
+    ("vvvvvvvaaaaa", "x = x", "body a 2500000"),
+    (
+        "pppppppppppp",
+        "(x = x & (x = x & x = x))",
+        "body a 3458764513820540928",
+    ),
+    ("VVVVVVVPvaaa", "(x = x & x = x)", "5 2 100000 a"),
+    (
+        "VVVVVVVPvaaa",
+        "(x = x & (x = x & x = x))",
+        "work a 300000000",
+    ),
+];
+
+/// A word and some bytes.
+fn said(alloc: Global, word: &str, bytes: &[u8]) -> Result<String, AllocError> {
+    let mut text = String::from_str(alloc, word)?;
+    text.push(' ')?;
+    for byte in bytes {
+        text.push(char::from(*byte))?;
+    }
+    Ok(text)
+}
+
+/// A word, a name and a count.
+fn counted(alloc: Global, word: &str, name: &Name, count: u64) -> Result<String, AllocError> {
+    let mut text = said(alloc, word, name.bytes())?;
+    text.push_str(format!(in alloc; " {count}")?.as_str())?;
+    Ok(text)
+}
+
+/// What a text is refused for.
+fn unread(alloc: Global, name: &Name, fault: SyntaxFault) -> Result<String, AllocError> {
+    match fault {
+        SyntaxFault::Lexeme(offset) => counted(alloc, "lexeme", name, offset),
+        SyntaxFault::Long(count) => counted(alloc, "long", name, count),
+        SyntaxFault::NoReading => said(alloc, "no reading", name.bytes()),
+        SyntaxFault::Deep => said(alloc, "deep", name.bytes()),
+        SyntaxFault::Variables => said(alloc, "variables", name.bytes()),
+        SyntaxFault::NoMemory => String::from_str(alloc, "no memory"),
+    }
+}
+
+/// What a sentence is refused for.
+fn unsorted(alloc: Global, fault: SortFault) -> Result<String, AllocError> {
+    match fault {
+        SortFault::Unbound(name) => said(alloc, "unbound", name.bytes()),
+        SortFault::Kind(symbol) => said(alloc, "kind", symbol.bytes()),
+        _ => String::from_str(alloc, "sort"),
+    }
+}
+
+/// What a size is refused for.
+fn no_size(alloc: Global, fault: SizeFault) -> Result<String, AllocError> {
+    match fault {
+        SizeFault::Voters(number) => format!(in alloc; "voters {number}"),
+        SizeFault::Alternatives(number) => format!(in alloc; "alternatives {number}"),
+        SizeFault::Profiles(count) => format!(in alloc; "profiles {count}"),
+    }
+}
+
+/// What a document is refused for.
+fn refused(alloc: Global, fault: &StudyFault) -> Result<String, AllocError> {
+    match fault {
+        StudyFault::Toml => String::from_str(alloc, "toml"),
+        StudyFault::Key(key) => said(alloc, "key", key.as_slice()),
+        StudyFault::Size(fault) => no_size(alloc, *fault),
+        StudyFault::Conflicts(number) => format!(in alloc; "conflicts {number}"),
+        StudyFault::Many(count) => format!(in alloc; "many {count}"),
+        StudyFault::Unknown(text) => said(alloc, "unknown", text.as_slice()),
+        StudyFault::Twice(name) => said(alloc, "twice", name.bytes()),
+        StudyFault::Syntax(name, fault) => unread(alloc, name, *fault),
+        StudyFault::Sort(_, fault) => unsorted(alloc, *fault),
+        StudyFault::Instances(name, count) => counted(alloc, "instances", name, *count),
+        StudyFault::Body(name, count) => counted(alloc, "body", name, *count),
+        StudyFault::Work(name, count) => counted(alloc, "work", name, *count),
+        StudyFault::NoMemory => String::from_str(alloc, "no memory"),
+    }
+}
 
 /// The numbers of a study, and the names of its axioms.
 fn shown(alloc: Global, study: &Study) -> Result<String, AllocError> {
@@ -89,11 +239,8 @@ fn shown(alloc: Global, study: &Study) -> Result<String, AllocError> {
     let alternatives = study.size().alternatives();
     let conflicts = study.conflicts();
     let mut text = format!(in alloc; "{voters} {alternatives} {conflicts}")?;
-    for axiom in study.axioms().as_slice() {
-        text.push(' ')?;
-        for byte in axiom.name().bytes() {
-            text.push(char::from(*byte))?;
-        }
+    for named in study.axioms().as_slice() {
+        text.push_str(said(alloc, "", named.name().bytes())?.as_str())?;
     }
     Ok(text)
 }
@@ -102,9 +249,7 @@ fn shown(alloc: Global, study: &Study) -> Result<String, AllocError> {
 fn answer(alloc: Global, bytes: &[u8]) -> Result<String, AllocError> {
     match read_study(alloc, bytes) {
         Ok(study) => shown(alloc, &study),
-        Err(StudyFault::NotToml) => String::from_str(alloc, "not toml"),
-        Err(StudyFault::NotBuilt) => String::from_str(alloc, "not built"),
-        Err(StudyFault::NoMemory) => String::from_str(alloc, "no memory"),
+        Err(fault) => refused(alloc, &fault),
     }
 }
 
@@ -120,6 +265,60 @@ fn documents_give_studies(rt: HostRuntime) -> Result<(), Fail> {
         assert_eq!(rt; found.as_str(), *want, "at {text}");
     }
     let found = answer(alloc, b"kind = 'choice\xff'")?;
-    assert_eq!(rt; found.as_str(), "not toml");
+    assert_eq!(rt; found.as_str(), "toml");
+    Ok(())
+}
+
+/// A sentence with these quantifiers, all over one name.
+fn quantified(alloc: Global, quantifiers: &str, body: &str) -> Result<String, AllocError> {
+    let mut text = String::new(alloc);
+    for letter in quantifiers.chars() {
+        text.push_str(match letter {
+            'V' => "all x: voter. ",
+            'A' => "all x: alt. ",
+            'P' => "all x: profile. ",
+            'v' => "some x: voter. ",
+            'a' => "some x: alt. ",
+            _ => "some x: profile. ",
+        })?;
+    }
+    text.push_str(body)?;
+    Ok(text)
+}
+
+#[test]
+fn sentences_have_limits(rt: HostRuntime) -> Result<(), Fail> {
+    let alloc = rt.alloc();
+    let head = "kind = 'ranking'\nvoters = 5\nalternatives = 2\naxioms = ['a']\n[sentences]\na = ";
+    for (quantifiers, body, want) in SIZES {
+        let sentence = quantified(alloc, *quantifiers, *body)?;
+        let text = format!(in alloc; "{head}'{sentence}'\n")?;
+        let found = answer(alloc, text.as_bytes())?;
+        assert_eq!(rt; found.as_str(), *want, "at {quantifiers}");
+    }
+    Ok(())
+}
+
+/// A study with so many axioms, all of one name.
+fn repeated(alloc: Global, count: u32) -> Result<String, AllocError> {
+    let mut text = String::from_str(
+        alloc,
+        "kind = 'choice'\nvoters = 1\nalternatives = 1\naxioms = [",
+    )?;
+    for _i in 0..count {
+        text.push_str("'no', ")?;
+    }
+    text.push_str("]\n")?;
+    Ok(text)
+}
+
+#[test]
+fn studies_have_few_axioms(rt: HostRuntime) -> Result<(), Fail> {
+    let alloc = rt.alloc();
+    for (count, want) in [(40, "unknown no"), (41, "many 41")] {
+        let text = repeated(alloc, count)?;
+        let found = answer(alloc, text.as_bytes())?;
+        assert_eq!(rt; found.as_str(), want);
+    }
     Ok(())
 }

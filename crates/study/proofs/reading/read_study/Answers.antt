@@ -1,13 +1,11 @@
-use Rattle.std.proofs.Common.{sym, ap, ◌∙◌}
-use Rattle.std.specs.Option.{ok_or}
-use Rattle.study.specs.declared.faults.StudyFault.TheVariants.{NotBuilt}
-use Rattle.study.proofs.Bytes.{bytes_document}
+use Rattle.study.proofs.Whole.{listing_in_whole, answered}
+use Rattle.study.specs.Document.{document_of}
+use Rattle.study.specs.Reading.{listing_in}
 use Rattle.study.proofs.reading.read_study.Goals as goal
 
-pub returns-in-Some-clause-ok : goal.returns-in-Some-clause-ok
-returns-in-Some-clause-ok c =
-    bytes_document _ _ c.in-Ok.ensures.ok.0 c.in-Ok.ensures.ok.1 ∙ ap (λ o. ok_or o NotBuilt) (sym c.in_ok-study.ensures ∙ c.in-Some.is)
+pub answer_of-requires : goal.answer_of-requires
+answer_of-requires c = listing_in_whole (document_of c.args.bytes.now) c.in-Ok.listing c.in-Ok.ensures
 
-pub returns-clause-not_built : goal.returns-clause-not_built
-returns-clause-not_built c _ =
-    bytes_document _ _ c.in-Ok.ensures.ok.0 c.in-Ok.ensures.ok.1 ∙ ap (λ o. ok_or o NotBuilt) (sym c.in_ok-study.ensures ∙ c.in-None.is)
+pub returns-clause-refused : goal.returns-clause-refused
+returns-clause-refused c other =
+    answered (listing_in (document_of c.args.bytes.now)) c.in-Ok.listing _ c.in-Ok.ensures (c.in-Err-answer_of.ensures.refused other)

@@ -1,13 +1,12 @@
-use Rattle.std.proofs.Common.{option_map, sym, ◌∙◌}
-use Rattle.toml.specs.View.{view, table_view}
-use Rattle.study.proofs.Studies.{parts_are_of_library}
+use Rattle.std.proofs.Common.{sym, map}
+use Rattle.study.specs.Written.{worded_of}
+use Rattle.study.proofs.Whole.{small_from_read, whole_study}
 use Rattle.study.proofs.reading.study_of.Goals as goal
+
+pub resolve_all-requires : goal.resolve_all-requires
+resolve_all-requires c = small_from_read c.args.listing.now.axioms (map worded_of c.args.sentences.now) c.requires.read
 
 pub new-requires : goal.new-requires
 new-requires c =
-    let size = sym c.size_of.ensures ∙ c.in-Some.is in
-    let conflicts = sym c.conflicts_of.ensures ∙ c.in-Some-conflicts_of.is in
-    let axioms = sym c.in_ok-axioms.ensures ∙ c.in-Some-2.is in
-    let limit = option_map (λ value. view value.now) c.value_at.result in
-    let named = option_map (λ value. view value.now) c.value_at-2.result in
-    (parts_are_of_library (table_view c.args.table.now) limit named _ _ _ size conflicts axioms).whole
+    whole_study c.args.listing.now (map worded_of c.args.sentences.now) c.in_ok-axioms.axioms c.requires.whole c.requires.read c.in_ok-axioms.ensures.gives c.in_ok-axioms.ensures.sentences
+    (rw (← c.as_slice.ensures) (sym c.in_ok-within.ensures)) (rw (← c.as_slice-2.ensures) (sym c.in_ok-within-2.ensures)) (rw (← c.as_slice-3.ensures) (sym c.in_ok-within-3.ensures))
