@@ -1,27 +1,33 @@
 -- Rows of a table: what a row begins with decides it, and two tables at the front of one text are one.
-use Rattle.std.proofs.Common.{◌≡◌, refl, sym, ap, subst, ◌∙◌, ℕ, suc, ◌+◌, ◌<◌, Bool, true, List, [], ◌∷◌, ◌++◌, map, length, Option, None, Some, Bor, arith, ltb-true, lt-ltb, append_assoc, add-zero}
-use Rattle.std.specs.Prelude.{nat_lt}
+use Rattle.std.proofs.Common.{◌≡◌, refl, sym, ap, subst, ◌∙◌, ℕ, suc, ◌+◌, ◌<◌, ◌≤◌, Bool, true, false, eqb-true, List, [], ◌∷◌, ◌++◌, map, length, Option, None, Some, Bor, arith, ltb-true, append_assoc, add-zero}
+use Rattle.std.specs.Prelude.{◌==◌, ◌≢◌, not, nat_lt}
 use Rattle.std.specs.List.{list_all}
 use Rattle.std.proofs.lemmas.Bool.{and_parts, and_from}
 use Rattle.std.proofs.lemmas.Grind.{flat_map-append}
 use Rattle.std.proofs.lemmas.List.{append_cancel_left}
+use Rattle.std.proofs.lemmas.List.Folds.{list_all-append}
 use Rattle.vocab.specs.declared.kinds.Kind.{Kind}
 use Rattle.vocab.specs.declared.kinds.Kind.TheVariants.{Choice, Ranking, Sets}
 use Rattle.vocab.specs.Size.{Extent, outcome_count}
 use Rattle.meaning.specs.Space.{ranking, ranking_number}
 use Rattle.meaning.specs.Texts.{letter, profile_text, outcome_text_of, outcome_text}
 use Rattle.meaning.proofs.RankingLaws.{are_rankings}
-use Rattle.report.specs.Cutting.{IsOutcomeCut, IsRowCut}
+use Rattle.profiles.proofs.TableLemmas.{factorial_small}
+use Rattle.report.specs.Cutting.{has_no_end, IsOutcomeCut, IsRowCut}
 use Rattle.report.specs.Lines.{Line, Row, line_text, lines_text}
 use Rattle.report.specs.Report.{row_lines}
 
--- no byte is a line end
-abbrev pub has_no_end : List ℕ → Bool
-has_no_end text = list_all (λ c. nat_lt 10 c) text
+-- a number above that of a line end is none
+above_end : (n : ℕ) → 10 < n → (n == 10) ≡ false
+above_end n above = cases (n == 10) refl
+  where
+    cases : (b : Bool) → (n == 10) ≡ b → (n == 10) ≡ false
+    cases true e = absurd (let same : n ≡ 10 = eqb-true n 10 e in omega arith)
+    cases false e = e
 
 letters_have_no_end : (r : List ℕ) → has_no_end (map letter r) ≡ true
 letters_have_no_end [] = refl
-letters_have_no_end (x ∷ r) = and_from _ _ (lt-ltb 10 (97 + x) (omega arith)) (letters_have_no_end r)
+letters_have_no_end (x ∷ r) = and_from _ _ (ap not (above_end (97 + x) (omega arith))) (letters_have_no_end r)
 
 outcome_has_no_end : (size : Extent) (kind : Kind) (o : ℕ) → has_no_end (outcome_text_of size kind o) ≡ true
 outcome_has_no_end size Choice o = letters_have_no_end (o ∷ [])
@@ -46,16 +52,26 @@ outcome_same size Ranking o o' h h' e =
     sym ((are_rankings m).numbered o h) ∙ ap (ranking_number m) (letters_same (ranking m o) (ranking m o') e) ∙ (are_rankings m).numbered o' h'
 outcome_same size Sets o o' h h' e = absurd (omega arith)
 
+-- the byte of a line end is no other
+not_end : (text : List ℕ) → has_no_end (10 ∷ text) ≡ true → ⊥
+not_end text h = let e : false ≡ true = h in cc
+
 -- two texts without a line end that stand at the front of one text, each before a line end, are one
-until_end : (x y a b : List ℕ) → has_no_end x ≡ true → has_no_end y ≡ true → x ++ (10 ∷ a) ≡ y ++ (10 ∷ b) → (x ≡ y) × (a ≡ b)
+pub until_end : (x y a b : List ℕ) → has_no_end x ≡ true → has_no_end y ≡ true → x ++ (10 ∷ a) ≡ y ++ (10 ∷ b) → (x ≡ y) × (a ≡ b)
 until_end [] [] a b h k e = (refl, cc)
-until_end [] (d ∷ y) a b h k e = let same : 10 ≡ d = cc in let above : 10 < d = ltb-true 10 d (and_parts (nat_lt 10 d) (has_no_end y) k).0 in absurd (omega arith)
-until_end (c ∷ x) [] a b h k e = let same : c ≡ 10 = cc in let above : 10 < c = ltb-true 10 c (and_parts (nat_lt 10 c) (has_no_end x) h).0 in absurd (omega arith)
+until_end [] (d ∷ y) a b h k e = let same : 10 ≡ d = cc in absurd (not_end y (subst (λ (c : ℕ). has_no_end (c ∷ y) ≡ true) (sym same) k))
+until_end (c ∷ x) [] a b h k e = let same : c ≡ 10 = cc in absurd (not_end x (subst (λ (d : ℕ). has_no_end (d ∷ x) ≡ true) same h))
 until_end (c ∷ x) (d ∷ y) a b h k e =
     let first : c ≡ d = cc in
     let others : x ++ (10 ∷ a) ≡ y ++ (10 ∷ b) = cc in
-    let rest = until_end x y a b (and_parts (nat_lt 10 c) (has_no_end x) h).1 (and_parts (nat_lt 10 d) (has_no_end y) k).1 others in
+    let rest = until_end x y a b (and_parts (not (c == 10)) (has_no_end x) h).1 (and_parts (not (d == 10)) (has_no_end y) k).1 others in
     (rw (first, rest.0) refl, rest.1)
+
+-- at up to five alternatives there are few outcomes
+pub few_outcomes : (kind : Kind) (m : ℕ) → m ≤ 5 → outcome_count kind m ≤ 120
+few_outcomes Choice m h = omega arith
+few_outcomes Ranking m h = factorial_small m h
+few_outcomes Sets m h = omega arith
 
 -- a row is the text of its profile, a blank, the text of its outcome and a line end
 row_split : (size : Extent) (p o : ℕ) (after : List ℕ) → line_text size (Row p o) ++ after ≡ profile_text size p ++ (32 ∷ (outcome_text size o ++ (10 ∷ after)))
@@ -64,19 +80,32 @@ row_split size p o after =
     let outcome = outcome_text size o in
     append_assoc (profile ++ (32 ∷ outcome)) (10 ∷ []) after ∙ append_assoc profile (32 ∷ outcome) (10 ∷ after)
 
-choice_row : (size : Extent) (p x : ℕ) (after : List ℕ) → size.kind ≡ Choice → line_text size (Row p x) ++ after ≡ profile_text size p ++ (32 ∷ letter x ∷ 10 ∷ after)
-choice_row size p x after choice = row_split size p x after ∙ ap (λ (k : Kind). profile_text size p ++ (32 ∷ (outcome_text_of size k x ++ (10 ∷ after)))) choice
-
 -- behind the text of its profile a row is its outcome and its end
-pub row_cut : (size : Extent) (p : ℕ) (text between : List ℕ) (cut : Option (ℕ × Bor (List ℕ))) → size.kind ≡ Choice → text ≡ profile_text size p ++ between
-    → IsOutcomeCut size.alternatives between cut → IsRowCut size p text cut
-row_cut size p text between None choice split none = λ o after below same.
-    none o after (subst (λ (k : Kind). o < outcome_count k size.alternatives) choice below)
-    (append_cancel_left (profile_text size p) between _ (sym split ∙ same ∙ choice_row size p o after choice))
-row_cut size p text between (Some row) choice split found = (
-  subst (λ (k : Kind). row.0 < outcome_count k size.alternatives) (sym choice) found.0,
-  split ∙ ap (λ (rest : List ℕ). profile_text size p ++ rest) found.1 ∙ sym (choice_row size p row.0 row.1.now choice),
+pub row_cut : (size : Extent) (p : ℕ) (text between : List ℕ) (cut : Option (ℕ × Bor (List ℕ))) → text ≡ profile_text size p ++ between
+    → IsOutcomeCut size between cut → IsRowCut size p text cut
+row_cut size p text between None split none = λ o after below same.
+    none o after below (append_cancel_left (profile_text size p) between _ (sym split ∙ same ∙ row_split size p o after))
+row_cut size p text between (Some row) split found = (
+  found.0,
+  split ∙ ap (λ (rest : List ℕ). profile_text size p ++ rest) found.1 ∙ sym (row_split size p row.0 row.1.now),
 )
+
+-- a text with no line end has none of an outcome, and a word that is no outcome's is none of a row
+pub no_outcome_end : (size : Extent) (text : List ℕ) → has_no_end text ≡ true → (o : ℕ) (after : List ℕ) → text ≢ outcome_text size o ++ (10 ∷ after)
+no_outcome_end size text h o after e =
+    let parts = list_all-append (λ (c : ℕ). not (c == 10)) (outcome_text size o) (10 ∷ after) in
+    not_end after (and_parts (has_no_end (outcome_text size o)) (has_no_end (10 ∷ after)) (sym parts ∙ ap has_no_end (sym e) ∙ h)).1
+
+pub word_is_outcome : (size : Extent) (word rest after : List ℕ) (o : ℕ) → has_no_end word ≡ true → word ++ (10 ∷ rest) ≡ outcome_text size o ++ (10 ∷ after) → word ≡ outcome_text size o
+word_is_outcome size word rest after o h e = (until_end word (outcome_text size o) rest after h (outcome_has_no_end size size.kind o) e).0
+
+-- behind a blank a word that is the text of no outcome ends no row
+pub no_outcome : (size : Extent) (text rest word after : List ℕ) → text ≡ 32 ∷ rest → rest ≡ word ++ (10 ∷ after) → has_no_end word ≡ true
+    → ((o : ℕ) → o < outcome_count size.kind size.alternatives → word ≢ outcome_text size o) → IsOutcomeCut size text None
+no_outcome size text rest word after blank split h none = λ o later below same.
+    let both : 32 ∷ rest ≡ 32 ∷ (outcome_text size o ++ (10 ∷ later)) = sym blank ∙ same in
+    let behind : rest ≡ outcome_text size o ++ (10 ∷ later) = cc in
+    none o below (word_is_outcome size word after later o h (sym split ∙ behind))
 
 -- two rows of one profile at the front of one text are one
 row_same : (size : Extent) (p o o' : ℕ) (a b : List ℕ) → o < outcome_count size.kind size.alternatives → o' < outcome_count size.kind size.alternatives

@@ -1,13 +1,14 @@
 -- Cutting pieces off the front of a text: what a cut gives, and the pieces in which a report is cut.
-use Rattle.std.specs.Prelude.{◌≡◌, ◌≢◌, ℕ, ◌<◌, IsTrue, List, [], ◌∷◌, ◌++◌, codes, Option, MatchOption}
+use Rattle.std.specs.Prelude.{◌≡◌, ◌≢◌, ℕ, ◌<◌, ◌==◌, Bool, true, not, IsTrue, List, [], ◌∷◌, ◌++◌, take, length, slice_index, codes, Option, MatchOption}
 use Rattle.std.specs.Fmt.{decimal}
-use Rattle.std.specs.List.{flat_map}
+use Rattle.std.specs.List.{flat_map, list_all}
 use denote.Ref.{Bor}
+use Rattle.vocab.specs.declared.kinds.Kind.{Kind}
 use Rattle.vocab.specs.declared.kinds.Sort.TheVariants.{Profile}
 use Rattle.vocab.specs.Size.{Extent, sort_count, outcome_count}
 use Rattle.vocab.specs.Study.{Question}
 use Rattle.vocab.specs.Titled.{Titled}
-use Rattle.meaning.specs.Texts.{letter}
+use Rattle.meaning.specs.Texts.{kind_text, outcome_text}
 use Rattle.meaning.specs.Truth.{is_rule}
 use Rattle.report.specs.Lines.{Row, End, line_text, lines_text}
 use Rattle.report.specs.Report.{row_lines, head_lines}
@@ -19,6 +20,10 @@ IsCut text piece cut = MatchOption cut ((after : List ℕ) → text ≢ piece ++
 -- a line of a key, which ends with a blank, and a number
 abbrev pub count_text : List ℕ → ℕ → List ℕ
 count_text key count = key ++ (decimal count ++ 10 ∷ [])
+
+-- the first two lines, of which the second has the kind of rule
+abbrev pub title_text : Kind → List ℕ
+title_text kind = codes "bench report 1\nkind " ++ (kind_text kind ++ 10 ∷ [])
 
 -- the lines with the numbers of voters and alternatives
 abbrev pub size_text : Extent → List ℕ
@@ -40,11 +45,25 @@ verdict_text count = codes "verdict possible\n" ++ count_text (codes "rule ") co
 abbrev pub front_text : Question → Extent → List ℕ
 front_text study space = lines_text study.size (head_lines study) ++ verdict_text (sort_count space Profile)
 
--- the alternative at the end of a row and what follows the row, or that the text begins with no such end
-abbrev pub IsOutcomeCut : ℕ → List ℕ → Option (ℕ × Bor (List ℕ)) → Type 0
-IsOutcomeCut alternatives text cut = MatchOption cut
-    ((x : ℕ) (after : List ℕ) → x < alternatives → text ≢ 32 ∷ letter x ∷ 10 ∷ after)
-    (λ end. (end.0 < alternatives) × (text ≡ 32 ∷ letter end.0 ∷ 10 ∷ end.1.now))
+-- no byte is a line end
+abbrev pub has_no_end : List ℕ → Bool
+has_no_end text = list_all (λ c. not (c == 10)) text
+
+-- the first line end of a text stands at this place
+pub record IsFirstEnd (text : List ℕ) (place : ℕ) : Type 0 where
+  pub within : place < length text
+  pub ends : slice_index text place ≡ 10
+  pub first : has_no_end (take place text) ≡ true
+
+-- what stands before the first line end and what follows it, or that there is none
+abbrev pub IsWordCut : List ℕ → Option (Bor (List ℕ) × Bor (List ℕ)) → Type 0
+IsWordCut text cut = MatchOption cut (has_no_end text ≡ true) (λ parts. (text ≡ parts.0.now ++ (10 ∷ parts.1.now)) × (has_no_end parts.0.now ≡ true))
+
+-- the outcome at the end of a row and what follows the row, or that the text begins with no such end
+abbrev pub IsOutcomeCut : Extent → List ℕ → Option (ℕ × Bor (List ℕ)) → Type 0
+IsOutcomeCut size text cut = MatchOption cut
+    ((o : ℕ) (after : List ℕ) → o < outcome_count size.kind size.alternatives → text ≢ 32 ∷ (outcome_text size o ++ (10 ∷ after)))
+    (λ end. (end.0 < outcome_count size.kind size.alternatives) × (text ≡ 32 ∷ (outcome_text size end.0 ++ (10 ∷ end.1.now))))
 
 -- the outcome in the row of a profile and what follows the row, or that the text begins with no such row
 abbrev pub IsRowCut : Extent → ℕ → List ℕ → Option (ℕ × Bor (List ℕ)) → Type 0

@@ -1,8 +1,8 @@
 //! Cuts what is expected off the front of a text.
 
-ghost use Rattle.std.specs.Prelude.{◌≡◌, ◌++◌, ◌∷◌, [], ℕ, List};
+ghost use Rattle.std.specs.Prelude.{◌≡◌, ◌++◌, ◌∷◌, [], ℕ, true, List, MatchOption};
 ghost use Rattle.std.specs.Fmt.{decimal};
-ghost use Rattle.report.specs.Cutting.{IsCut, count_text};
+ghost use Rattle.report.specs.Cutting.{IsCut, IsWordCut, IsFirstEnd, has_no_end, count_text};
 
 use itoa::Buffer;
 
@@ -27,4 +27,24 @@ pub(crate) fn cut_count<'a>(text: &'a [u8], key: &[u8], count: u32) -> Option<&'
     let number = cut(text, key)?;
     let end = cut_number(number, count)?;
     cut(end, b"\n")
+}
+
+/// The place of the first line end.
+fn first_end(text: &[u8]) -> Option<usize>
+    ensures { MatchOption result (has_no_end text.now ≡ true) (IsFirstEnd text.now) }
+{
+    for (place, byte) in text.iter().enumerate() {
+        if *byte == b'\n' {
+            return Some(place);
+        }
+    }
+    None
+}
+
+/// What stands before the first line end, and what follows that line end.
+pub(crate) fn cut_word(text: &[u8]) -> Option<(&[u8], &[u8])>
+    ensures { IsWordCut text.now result }
+{
+    let end = first_end(text)?;
+    Some((&text[..end], &text[end + 1..]))
 }

@@ -1,7 +1,8 @@
 //! The first lines of a report, which say what the study is.
 
 ghost use Rattle.std.specs.Prelude.{◌≡◌, ◌++◌, ◌∷◌, [], ℕ, List, codes};
-ghost use Rattle.report.specs.Cutting.{IsCut, count_text, size_text, names_text, axioms_text};
+ghost use Rattle.meaning.specs.Texts.{kind_text};
+ghost use Rattle.report.specs.Cutting.{IsCut, title_text, size_text, names_text, axioms_text};
 ghost use Rattle.report.specs.Lines.{lines_text};
 ghost use Rattle.report.specs.Report.{head_lines};
 
@@ -35,6 +36,26 @@ fn cut_axioms<'a>(text: &'a [u8], axioms: &[Axiom]) -> Option<&'a [u8]>
     cut(end, b"\n")
 }
 
+/// The word of a kind.
+fn kind_word(kind: Kind) -> &'static [u8]
+    ensures { result.now ≡ kind_text kind }
+{
+    match kind {
+        Kind::Choice => b"choice",
+        Kind::Ranking => b"ranking",
+        Kind::Sets => b"sets",
+    }
+}
+
+/// What follows the first two lines, of which the second has the kind of rule.
+fn cut_title(text: &[u8], kind: Kind) -> Option<&[u8]>
+    ensures { IsCut text.now (title_text kind) result }
+{
+    let word = cut(text, b"bench report 1\nkind ")?;
+    let end = cut(word, kind_word(kind))?;
+    cut(end, b"\n")
+}
+
 /// What follows the lines with the numbers of voters and alternatives.
 fn cut_size(text: &[u8], size: Size) -> Option<&[u8]>
     ensures { IsCut text.now (size_text size) result }
@@ -45,10 +66,9 @@ fn cut_size(text: &[u8], size: Size) -> Option<&[u8]>
 
 /// What follows the lines that say what the study is, if the text begins with them.
 pub(crate) fn cut_head<'a>(text: &'a [u8], study: &Study) -> Option<&'a [u8]>
-    requires { study.now.size.kind ≡ Kind.Choice }
     ensures { IsCut text.now (lines_text study.now.size (head_lines study.now)) result }
 {
-    let voters = cut(text, b"bench report 1\nkind choice\n")?;
+    let voters = cut_title(text, study.size().kind())?;
     let axioms = cut_size(voters, study.size())?;
     cut_axioms(axioms, study.axioms().as_slice())
 }

@@ -12,37 +12,36 @@ mod table;
 
 use head::cut_head;
 use lists::NoMemory;
+use outcomes::OutcomeKind;
 use profiles::Space;
 use std::alloc::Global;
 use table::{cut_verdict, read_table};
-use vocab::{Kind, Study, Table};
+use vocab::{Study, Table};
 
 /// What follows the lines before the table, if the report begins with them.
 fn cut_front<'a>(report: &'a [u8], space: &Space, study: &Study) -> Option<&'a [u8]>
-    requires { study.now.size.kind ≡ Kind.Choice }
     ensures { IsCut report.now (front_text study.now space.now) result }
 {
     cut_verdict(cut_head(report, study)?, space.count())
 }
 
-/// The rule whose report the text is, where it is the report of one, over the space of the study's profiles.
+/// The rule whose report the text is, where it is the report of one, over the outcomes of the study's kind.
 /// `None` comes of every other text: one in which a line is not the line that the study wants at its place, in
 /// which a line is missing, or in which something follows the line `end`.
-pub fn read_rule(
+pub fn read_rule<K: OutcomeKind>(
     alloc: Global,
-    space: &Space,
+    kind: &K,
     study: &Study,
     report: &[u8],
 ) -> Result<Option<Table>, NoMemory>
-    requires size { study.now.size ≡ space.now }
-    requires choice { study.now.size.kind ≡ Kind.Choice }
+    requires size { study.now.size ≡ K.size kind.now }
     ensures { IfOk result (λ found. MatchOption found
         ((t : List ℕ) → ¬ IsRuleReport study.now report.now t)
         (λ table. IsRuleReport study.now report.now table)) }
 {
-    match cut_front(report, space, study) {
+    match cut_front(report, kind.space(), study) {
         None => Ok(None),
-        Some(text) => read_table(alloc, text, space),
+        Some(text) => read_table(alloc, text, kind),
     }
 }
 

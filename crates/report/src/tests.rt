@@ -6,8 +6,9 @@ ghost use Rattle.vocab.specs.Tree.{tree_of, All, Leaf, Equal, Var};
 
 use super::*;
 use lists::Items;
+use outcomes::ChoiceKind;
 use std::test::Fail;
-use vocab::{Atom, Axiom, Axioms, Formula, Name, Size, Sort, Term};
+use vocab::{Atom, Axiom, Axioms, Formula, Kind, Name, Size, Sort, Term};
 
 fn small_size() -> Result<Size, Fail>
     ensures { IfOk result (λ size. size ≡ record { kind = Kind.Choice; voters = 1; alternatives = 2 }) }
@@ -68,7 +69,8 @@ fn outcomes(alloc: Global, study: &Study, from: &str, to: &str) -> Result<Table,
     requires { study.now.size.kind ≡ Kind.Choice }
 {
     let report = BEST.replace(alloc, from, to)?;
-    let found = read_rule(alloc, &Space::new(study.size()), study, report.as_bytes())?;
+    let kind = ChoiceKind::new(Space::new(study.size()));
+    let found = read_rule(alloc, &kind, study, report.as_bytes())?;
     Ok(found.unwrap_or(Items::new(alloc)))
 }
 
