@@ -5,17 +5,17 @@ use Rattle.edge.specs.Shelf.{Files}
 use Rattle.edge.specs.Told.{AppendsPrefix}
 use Rattle.bench.specs.declared.answers.Answer.{Answer}
 use Rattle.bench.specs.declared.answers.Stop.{Stop}
-use Rattle.bench.specs.Words.{Command, command_of}
+use Rattle.bench.specs.Words.{IsCheck}
 use Rattle.bench.specs.CheckTable.{Checked}
 use Rattle.bench.specs.Lawful.{Lawful, check}
 use Rattle.bench.specs.TopCall.{Answered, AnsweredInPart}
 
-pub check_row : (told : Option Files) (words : List (List ℕ)) (c : Command) (result : Result Answer Stop) → command_of words ≡ Some c
-    → IfSome told (λ files. IfOk result (λ answer. Checked files c.study c.report answer.status answer.text))
+pub check_row : (told : Option Files) (words : List (List ℕ)) (study report : List ℕ) (result : Result Answer Stop) → IsCheck words study report
+    → IfSome told (λ files. IfOk result (λ answer. Checked files study report answer.status answer.text))
     → IfSome told (λ files. IfOk result (λ answer. Lawful words files answer.status answer.text))
-check_row None words c result asked given = tt
-check_row (Some files) words c (Err e) asked given = tt
-check_row (Some files) words c (Ok answer) asked given = check c asked given
+check_row None words study report result asked given = tt
+check_row (Some files) words study report (Err e) asked given = tt
+check_row (Some files) words study report (Ok answer) asked given = check study report asked given
 
 kept_all : (a b c : Option (List ℕ)) (p : List ℕ) → Appends a b p → Keeps b c → Appends a c (take (length p) p)
 kept_all None b c p h k = tt
