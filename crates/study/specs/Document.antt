@@ -1,27 +1,22 @@
--- What the values of a TOML document say of a study, key by key.
-use Rattle.std.specs.Prelude.{ℕ, List, [], ◌∷◌, Bool, true, ◌&&◌, ◌||◌, if◌then◌else◌, ℤ, nat_abs, Option, None, Some, option_and_then, codes}
+-- What the values of a TOML document say of a study, key by key. The members of a table stand in the byte order of their keys.
+use Rattle.std.specs.Prelude.{ℕ, List, [], ◌∷◌, Bool, ◌||◌, if◌then◌else◌, ℤ, pos, Option, None, Some, option_map, Result, Ok, Err, codes}
+use Rattle.std.specs.Option.{ok_or}
 use Rattle.std.specs.Str.{bytes_eq, is_utf8}
-use Rattle.toml.specs.Data.{Data, string, integer, array, Items, no_items, item, Members, no_members, member}
+use Rattle.toml.specs.Data.{Data, string, integer, array, table, Items, no_items, item, Members, no_members, member, get_member}
 use Rattle.toml.specs.Parse.{parse_document}
 use Rattle.vocab.specs.declared.kinds.Kind.{Kind}
-use Rattle.vocab.specs.declared.kinds.Kind.TheVariants.{Choice}
-use Rattle.vocab.specs.SizeFault.{is_between}
-use Rattle.vocab.specs.Study.{have_own_names}
-use Rattle.vocab.specs.Titled.{Titled}
-use Rattle.study.specs.Sentences.{sentence_of}
-
--- one step after another, each of which may find nothing
-infixl 10 ◌>>=◌
-abbrev pub ◌>>=◌ : {A B : Type 0} → Option A → (A → Option B) → Option B
-o >>= f = option_and_then f o
+use Rattle.vocab.specs.declared.kinds.Kind.TheVariants.{Choice, Ranking}
+use Rattle.vocab.specs.Name.{is_name}
+use Rattle.axiom_library.specs.Library.{Entry}
+use Rattle.study.specs.Refusing.{◌>>=◌}
 
 -- the document that the bytes are, if they are UTF-8 and TOML
 abbrev pub document_of : List ℕ → Option Members
 document_of bytes = if is_utf8 bytes then parse_document bytes else None
 
--- `kind`: the string `choice`
+-- `kind`: the string `choice` or `ranking`
 abbrev pub kind_of : Option Data → Option Kind
-kind_of (Some (string text)) = if bytes_eq text (codes "choice") then Some Choice else None
+kind_of (Some (string text)) = if bytes_eq text (codes "choice") then Some Choice else if bytes_eq text (codes "ranking") then Some Ranking else None
 kind_of _ = None
 
 -- `voters`, `alternatives`: an integer
@@ -29,43 +24,64 @@ abbrev pub integer_of : Option Data → Option ℤ
 integer_of (Some (integer z)) = Some z
 integer_of _ = None
 
--- `conflicts`: an integer from 1 to 1,000,000, or nothing, which stands for 100,000
-abbrev pub conflicts_of : Option Data → Option ℕ
-conflicts_of None = Some 100000
-conflicts_of (Some (integer z)) = if is_between 1 z 1000000 then Some (nat_abs z) else None
+-- `conflicts`: an integer, or nothing, which stands for 100,000
+abbrev pub conflicts_of : Option Data → Option ℤ
+conflicts_of None = Some (pos 100000)
+conflicts_of (Some (integer z)) = Some z
 conflicts_of _ = None
 
--- the axiom that a value names: it is a string, and the library has a sentence under it
-unfoldable pub axiom_of : Data → Option Titled
-axiom_of (string name) = do
-  sentence ← sentence_of name
-  Some (record { name = name; sentence = sentence })
-axiom_of _ = None
+-- the texts that are the items of an array, if each is a string
+abbrev pub texts_in : Items → Option (List (List ℕ))
+texts_in no_items = Some []
+texts_in (item (string text) rest) = option_map (λ texts. text ∷ texts) (texts_in rest)
+texts_in (item _ rest) = None
 
--- the axioms that the items of an array name
-abbrev pub axioms_named : Items → Option (List Titled)
-axioms_named no_items = Some []
-axioms_named (item value rest) = do
-  named ← axiom_of value
-  axioms ← axioms_named rest
-  Some (named ∷ axioms)
-
--- those axioms, if each name stands once
-unfoldable pub axioms_in : Items → Option (List Titled)
-axioms_in items = do
-  axioms ← axioms_named items
-  if have_own_names axioms then Some axioms else None
-
--- `axioms`: an array of distinct strings, each the name of a sentence of the library
-abbrev pub axioms_of : Option Data → Option (List Titled)
-axioms_of (Some (array items)) = axioms_in items
+-- `axioms`: an array of strings
+abbrev pub axioms_of : Option Data → Option (List (List ℕ))
+axioms_of (Some (array items)) = texts_in items
 axioms_of _ = None
+
+-- the sentences of a table, or its first key that is no name or has no string
+abbrev pub sentences_in : Members → Result (List Entry) (List ℕ)
+sentences_in no_members = Ok []
+sentences_in (member key (string text) rest) =
+    if is_name key then sentences_in rest >>= (λ own. Ok (record { name = key; text = text } ∷ own)) else Err key
+sentences_in (member key _ rest) = Err key
+
+-- `sentences`: a table of such, or nothing, which stands for none
+abbrev pub sentences_of : Option Data → Result (List Entry) (List ℕ)
+sentences_of None = Ok []
+sentences_of (Some (table members)) = sentences_in members
+sentences_of _ = Err (codes "sentences")
 
 -- the keys that a study may have
 abbrev pub is_key : List ℕ → Bool
-is_key key = bytes_eq key (codes "kind") || bytes_eq key (codes "voters") || bytes_eq key (codes "alternatives") || bytes_eq key (codes "conflicts") || bytes_eq key (codes "axioms")
+is_key key =
+    bytes_eq key (codes "kind") || bytes_eq key (codes "voters") || bytes_eq key (codes "alternatives") || bytes_eq key (codes "conflicts")
+    || bytes_eq key (codes "axioms") || bytes_eq key (codes "sentences")
 
--- there is no other key
-abbrev pub has_known_keys : Members → Bool
-has_known_keys no_members = true
-has_known_keys (member key value rest) = is_key key && has_known_keys rest
+-- there is no other key; else the first of them
+abbrev pub known_keys : Members → Result (Unit {0}) (List ℕ)
+known_keys no_members = Ok tt
+known_keys (member key value rest) = if is_key key then known_keys rest else Err key
+
+-- what a document says, if each key has its form
+pub record Draft : Type 0 where
+  pub kind : Kind
+  pub voters : ℤ
+  pub alternatives : ℤ
+  pub conflicts : ℤ
+  pub axioms : List (List ℕ)
+  pub sentences : List Entry
+
+-- what the document says, or its first key that has not its form
+unfoldable pub draft_of : Members → Result Draft (List ℕ)
+draft_of document = do
+  kind ← ok_or (kind_of (get_member (codes "kind") document)) (codes "kind")
+  voters ← ok_or (integer_of (get_member (codes "voters") document)) (codes "voters")
+  alternatives ← ok_or (integer_of (get_member (codes "alternatives") document)) (codes "alternatives")
+  conflicts ← ok_or (conflicts_of (get_member (codes "conflicts") document)) (codes "conflicts")
+  axioms ← ok_or (axioms_of (get_member (codes "axioms") document)) (codes "axioms")
+  sentences ← sentences_of (get_member (codes "sentences") document)
+  _ ← known_keys document
+  Ok (record { kind = kind; voters = voters; alternatives = alternatives; conflicts = conflicts; axioms = axioms; sentences = sentences })

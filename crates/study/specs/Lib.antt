@@ -1,4 +1,8 @@
-pub mod Sentences
+-- In reading order.
+pub mod Refusing
 pub mod Document
+pub mod Listing
+pub mod Sentences
 pub mod Reading
 pub mod Laws
+pub mod EntryCode

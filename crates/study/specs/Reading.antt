@@ -1,36 +1,44 @@
--- The study that a document gives, and that bytes give.
-use Rattle.std.specs.Prelude.{ℕ, List, Option, None, Some, if◌then◌else◌, Result, Err, codes}
-use Rattle.std.specs.Option.{ok_or}
-use Rattle.std.specs.Result.{result_ok}
-use Rattle.toml.specs.Data.{Members, get_member}
-use Rattle.vocab.specs.Size.{Extent}
-use Rattle.vocab.specs.SizeFault.{size_of}
+-- The study that bytes give, or their first refusal.
+use Rattle.std.specs.Prelude.{◌≡◌, ◌≢◌, ℕ, List, ◌∷◌, ◌++◌, Option, None, Some, Result, Ok, Err}
+use Rattle.toml.specs.Data.{Members}
 use Rattle.vocab.specs.Study.{Question}
+use Rattle.syntax.specs.declared.faults.SyntaxFault.{SyntaxFault}
+use Rattle.syntax.specs.declared.faults.SyntaxFault.TheVariants as syntax_fault
+use Rattle.syntax.specs.Sentence.{IsFault}
+use Rattle.axiom_library.specs.Library.{Entry}
 use Rattle.study.specs.declared.faults.StudyFault.{StudyFault}
-use Rattle.study.specs.declared.faults.StudyFault.TheVariants.{NotToml, NotBuilt}
-use Rattle.study.specs.Document.{◌>>=◌, document_of, kind_of, integer_of, conflicts_of, axioms_of, has_known_keys}
+use Rattle.study.specs.declared.faults.StudyFault.TheVariants as fault
+use Rattle.study.specs.Refusing.{and_then, refused_as}
+use Rattle.study.specs.Document.{document_of, draft_of}
+use Rattle.study.specs.Listing.{Listing, listing_of}
+use Rattle.study.specs.Sentences.{Worded, AreReadAs, study_of}
 
--- the size that the first three keys give
-abbrev pub extent_of : Members → Option Extent
-extent_of document = do
-  kind ← kind_of (get_member (codes "kind") document)
-  voters ← integer_of (get_member (codes "voters") document)
-  alternatives ← integer_of (get_member (codes "alternatives") document)
-  result_ok (size_of kind voters alternatives)
+-- what a document that may be missing lists, or its first refusal
+abbrev pub listing_in : Option Members → Result Listing StudyFault
+listing_in None = Err fault.Toml
+listing_in (Some document) = and_then listing_of (refused_as fault.Key (draft_of document))
 
--- the study that a document gives, if each key has its form and there is no other
-unfoldable pub study_of : Members → Option Question
-study_of document = do
-  size ← extent_of document
-  conflicts ← conflicts_of (get_member (codes "conflicts") document)
-  axioms ← axioms_of (get_member (codes "axioms") document)
-  if has_known_keys document then Some (record { size = size; conflicts = conflicts; axioms = axioms }) else None
+-- a text does not read, for this reason, and those before it do
+pub record IsUnread (entries : List Entry) (name : List ℕ) (reason : SyntaxFault) : Type 0 where
+  pub before : List Entry
+  pub text : List ℕ
+  pub after : List Entry
+  pub listed : entries ≡ before ++ record { name = name; text = text } ∷ after
+  pub sentences : List Worded
+  pub read : AreReadAs before sentences
+  pub unread : IsFault text reason
+  pub not_memory : reason ≢ syntax_fault.NoMemory
 
--- the study of a document that may be missing
-abbrev pub answer_of : Option Members → Result Question StudyFault
-answer_of None = Err NotToml
-answer_of (Some document) = ok_or (study_of document) NotBuilt
+-- what is answered of a listing: the first text that does not read, or what all texts read as
+pub data IsAnswer (listing : Listing) (answer : Result Question StudyFault) : Type 0 where
+  refused : (name : List ℕ) (reason : SyntaxFault) → IsUnread listing.axioms name reason → answer ≡ Err (fault.Syntax name reason) → IsAnswer listing answer
+  read : (sentences : List Worded) → AreReadAs listing.axioms sentences → answer ≡ study_of listing.size listing.conflicts sentences → IsAnswer listing answer
 
--- the study that bytes give, or why they give none
-unfoldable pub study_of_bytes : List ℕ → Result Question StudyFault
-study_of_bytes bytes = answer_of (document_of bytes)
+-- what is answered of a listing that may have been refused
+abbrev pub IsAnswered : Result Listing StudyFault → Result Question StudyFault → Type 0
+IsAnswered (Ok listing) answer = IsAnswer listing answer
+IsAnswered (Err e) answer = answer ≡ Err e
+
+-- the bytes give this study, or this refusal
+abbrev pub IsStudyOf : List ℕ → Result Question StudyFault → Type 0
+IsStudyOf bytes answer = IsAnswered (listing_in (document_of bytes)) answer

@@ -1,30 +1,52 @@
--- The sentences of the library that a study may name so far. A variable is numbered by the quantifiers outside its own.
-use Rattle.std.specs.Prelude.{ℕ, List, [], ◌∷◌, Option, codes}
-use Rattle.std.specs.Map.{lookup}
-use Rattle.std.specs.Str.{bytes_eq}
-use Rattle.vocab.specs.declared.kinds.Sort.TheVariants.{Voter, Alt, Profile}
-use Rattle.vocab.specs.Tree.{Var, Equal, Prefers, WinsAt, Tree, Leaf, Not, Either, Implies, All, Exists}
+-- The sentences of a study's axioms: what they read as, what they resolve to, and how large they are.
+use Rattle.std.specs.Prelude.{◌≡◌, ℕ, ◌-◌, ◌^◌, min, List, [], ◌∷◌, nat_le, if◌then◌else◌, Result, Ok, Err}
+use Rattle.vocab.specs.Formula.{body_of}
+use Rattle.vocab.specs.Limits.{instance_count, atom_count}
+use Rattle.vocab.specs.NamedTree.{NamedTree}
+use Rattle.vocab.specs.Size.{Extent}
+use Rattle.vocab.specs.Study.{Question}
+use Rattle.vocab.specs.Titled.{Titled}
+use Rattle.vocab.specs.Tree.{Tree}
+use Rattle.syntax.specs.Sentence.{IsSentence}
+use Rattle.sorts.specs.Answers.{answer_of}
+use Rattle.axiom_library.specs.Library.{Entry}
+use Rattle.study.specs.declared.faults.StudyFault.{StudyFault}
+use Rattle.study.specs.declared.faults.StudyFault.TheVariants as fault
+use Rattle.study.specs.Refusing.{◌>>=◌, refused_as}
 
--- all p: profile. all x: alt. (all i: voter. all y: alt. (x = y | prefers(i, x, y, p)) -> wins(x, p))
-abbrev pub unanimity : Tree
-unanimity =
-    let p = Var 0 in let x = Var 1 in let i = Var 2 in let y = Var 3 in
-    All Profile (All Alt (Implies (All Voter (All Alt (Either (Leaf (Equal x y)) (Leaf (Prefers i x y p))))) (Leaf (WinsAt x p))))
+-- a name and a sentence as it is written
+pub record Worded : Type 0 where
+  pub name : List ℕ
+  pub sentence : NamedTree
 
--- all p: profile. all x: alt. all y: alt. (all i: voter. prefers(i, x, y, p) -> !wins(y, p))
-abbrev pub pareto : Tree
-pareto =
-    let p = Var 0 in let x = Var 1 in let y = Var 2 in let i = Var 3 in
-    All Profile (All Alt (All Alt (Implies (All Voter (Leaf (Prefers i x y p))) (Not (Leaf (WinsAt y p))))))
+-- the texts read as these sentences, one by one
+abbrev pub AreReadAs : List Entry → List Worded → Type 0
+AreReadAs [] [] = Unit {0}
+AreReadAs (e ∷ entries) (w ∷ sentences) = (w.name ≡ e.name) × IsSentence e.text w.sentence × AreReadAs entries sentences
+AreReadAs _ _ = ⊥
 
--- all x: alt. some p: profile. wins(x, p)
-abbrev pub onto : Tree
-onto = let x = Var 0 in let p = Var 1 in All Alt (Exists Profile (Leaf (WinsAt x p)))
+-- each sentence without names, or the first fault of the first that has one
+abbrev pub resolved_all : Extent → List Worded → Result (List Titled) StudyFault
+resolved_all size [] = Ok []
+resolved_all size (w ∷ sentences) = do
+  tree ← refused_as (fault.Sort w.name) (answer_of size w.sentence)
+  axioms ← resolved_all size sentences
+  Ok (record { name = w.name; sentence = tree } ∷ axioms)
 
--- the sentences of the library under their names
-abbrev pub library : List (List ℕ × Tree)
-library = (codes "unanimity", unanimity) ∷ (codes "pareto", pareto) ∷ (codes "onto", onto) ∷ []
+-- the greatest count that is told
+abbrev pub told : ℕ → ℕ
+told count = min count (2 ^ 64 - 1)
 
--- the sentence that the library has under a name
-unfoldable pub sentence_of : List ℕ → Option Tree
-sentence_of name = lookup (bytes_eq name) library
+-- no axiom has more than so many; else the first that has, and how many
+abbrev pub at_most : ℕ → (Tree → ℕ) → (List ℕ → ℕ → StudyFault) → List Titled → Result (Unit {0}) StudyFault
+at_most limit count refusal [] = Ok tt
+at_most limit count refusal (a ∷ axioms) = if nat_le (count a.sentence) limit then at_most limit count refusal axioms else Err (refusal a.name (told (count a.sentence)))
+
+-- the study of these sentences, or the first refusal: of a sort, of the instances of an axiom, of the atoms in a body, of the atoms in a whole sentence
+unfoldable pub study_of : Extent → ℕ → List Worded → Result Question StudyFault
+study_of size conflicts sentences = do
+  axioms ← resolved_all size sentences
+  _ ← at_most 20000000 (instance_count size) fault.Instances axioms
+  _ ← at_most 1000000 (λ sentence. atom_count size (body_of sentence)) fault.Body axioms
+  _ ← at_most 200000000 (atom_count size) fault.Work axioms
+  Ok (record { size = size; conflicts = conflicts; axioms = axioms })

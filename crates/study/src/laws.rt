@@ -1,9 +1,8 @@
-//! What holds of each study that is read.
+//! What holds of all bytes.
 
-ghost use Rattle.study.specs.Laws.{StudiesAreOfTheLibrary};
+ghost use Rattle.study.specs.Laws.{HaveOneAnswer};
 
-/// Each study that bytes give is one of a rule that chooses an alternative, within all limits. Its axioms
-/// have names, and sentences that are among the library's three.
-pub fn studies_are_of_the_library()
-    ensures { StudiesAreOfTheLibrary }
+/// Bytes have at most one answer, want of memory aside. So each refusal comes exactly where it is the first that holds.
+pub fn studies_have_one_answer()
+    ensures { HaveOneAnswer }
 {}

@@ -1,14 +1,10 @@
 //! Reads a study, the question that the bench is asked, from the bytes of a TOML document.
 #![tactic(auto)]
 
-mod document;
+mod entries;
 mod faults;
-mod laws;
+pub mod laws;
 mod reading;
-mod sentences;
-#[cfg(test)]
-mod tests;
 
-pub use faults::StudyFault;
-pub use laws::studies_are_of_the_library;
+pub use faults::{StudyFault, Text};
 pub use reading::read_study;

@@ -1,0 +1,65 @@
+-- The size, the limit and the axioms' texts of a study, or what is refused of them.
+use Rattle.std.specs.Prelude.{ℕ, List, [], ◌∷◌, ◌++◌, length, Bool, ◌&&◌, ◌||◌, nat_le, nat_abs, ℤ, if◌then◌else◌, Option, None, Some, is_some, Result, Ok, Err}
+use Rattle.std.specs.List.{list_any}
+use Rattle.std.specs.Str.{bytes_eq}
+use Rattle.vocab.specs.declared.kinds.Kind.{Kind}
+use Rattle.vocab.specs.Size.{Extent}
+use Rattle.vocab.specs.SizeFault.{is_between, size_of}
+use Rattle.axiom_library.specs.Library.{Entry, text_among, text_under}
+use Rattle.study.specs.declared.faults.StudyFault.{StudyFault}
+use Rattle.study.specs.declared.faults.StudyFault.TheVariants as fault
+use Rattle.study.specs.Refusing.{◌>>=◌, refused_as}
+use Rattle.study.specs.Document.{Draft}
+
+-- the limit of a search is from 1 to 1,000,000
+abbrev pub limit_of : ℤ → Result ℕ StudyFault
+limit_of z = if is_between 1 z 1000000 then Ok (nat_abs z) else Err (fault.Conflicts z)
+
+-- there are at most 40 axioms
+abbrev pub few_of : List (List ℕ) → Result (Unit {0}) StudyFault
+few_of names = if nat_le (length names) 40 then Ok tt else Err (fault.Many (length names))
+
+-- the library's text, or else the study's own
+abbrev pub or_own : Option (List ℕ) → Option (List ℕ) → Option (List ℕ)
+or_own (Some text) own = Some text
+or_own None own = own
+
+module _ (kind : Kind) (own : List Entry) where
+  -- the text under a name: the library's for the kind, or else one of the study's own sentences
+  abbrev pub text_of : List ℕ → Option (List ℕ)
+  text_of name = or_own (text_under kind name) (text_among own name)
+
+  -- a name with its text
+  abbrev pub entry_of : List ℕ → Option (List ℕ) → Result Entry StudyFault
+  entry_of name None = Err (fault.Unknown name)
+  entry_of name (Some text) = Ok (record { name = name; text = text })
+
+  -- each name with its text, or the first that has none
+  abbrev pub listed : List (List ℕ) → Result (List Entry) StudyFault
+  listed [] = Ok []
+  listed (name ∷ names) = entry_of name (text_of name) >>= (λ e. listed names >>= (λ entries. Ok (e ∷ entries)))
+
+  -- a name is in the library for the kind and among the study's own sentences
+  abbrev pub is_in_both : List ℕ → Bool
+  is_in_both name = is_some (text_under kind name) && is_some (text_among own name)
+
+  -- no name stands earlier in the list or has two texts; else the first that does
+  abbrev pub once : List (List ℕ) → List (List ℕ) → Result (Unit {0}) StudyFault
+  once earlier [] = Ok tt
+  once earlier (name ∷ names) = if list_any (λ other. bytes_eq other name) earlier || is_in_both name then Err (fault.Twice name) else once (earlier ++ name ∷ []) names
+
+-- a size, a limit, and axioms with their texts
+pub record Listing : Type 0 where
+  pub size : Extent
+  pub conflicts : ℕ
+  pub axioms : List Entry
+
+-- what a draft lists, or the first refusal: of the size, the limit, the number of axioms, an unknown name, a name that stands twice
+unfoldable pub listing_of : Draft → Result Listing StudyFault
+listing_of draft = do
+  size ← refused_as fault.Size (size_of draft.kind draft.voters draft.alternatives)
+  conflicts ← limit_of draft.conflicts
+  _ ← few_of draft.axioms
+  axioms ← listed draft.kind draft.sentences draft.axioms
+  _ ← once draft.kind draft.sentences [] draft.axioms
+  Ok (record { size = size; conflicts = conflicts; axioms = axioms })
