@@ -1,2 +1,5 @@
+pub mod ChainLemmas
 pub mod ConditionLemmas
+pub mod RuleLemmas
+pub mod SortLemmas
 pub mod WalkLemmas

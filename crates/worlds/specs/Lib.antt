@@ -1,2 +1,4 @@
 pub mod Conditions
+pub mod Meanings
+pub mod Shapes
 pub mod Walk

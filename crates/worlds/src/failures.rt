@@ -1,7 +1,6 @@
 //! The first instance of a sentence that is false of a rule.
 
 ghost use Rattle.std.specs.Prelude.{◌≡◌, ◌≤◌, ◌-◌, ◌^◌, min, IsTrue, MatchOption};
-ghost use Rattle.vocab.specs.declared.kinds.Kind.TheVariants.{Choice};
 ghost use Rattle.vocab.specs.Limits.{instance_count};
 ghost use Rattle.vocab.specs.Study.{is_sentence};
 ghost use Rattle.vocab.specs.Tree.{tree_of};
@@ -10,7 +9,8 @@ ghost use Rattle.meaning.specs.Truth.{is_rule};
 ghost use Rattle.worlds.specs.Conditions.{IsEvaluable};
 ghost use Rattle.worlds.specs.Walk.{AreTrueIn, IsFirstFalseIn};
 
-use crate::formulas::is_true;
+use crate::tarski::is_true;
+use outcomes::OutcomeKind;
 use profiles::Space;
 use vocab::{Axiom, Env, Formula, Table};
 
@@ -30,7 +30,8 @@ pub fn instance_count(space: &Space, formula: &Formula) -> u64
 /// The least instance from `from` up to `to` whose body is false of the rule, where the free variables of the formula
 /// have the values of the environment. The instances of one value of the outermost universal are a block, and follow
 /// those of the value before it.
-fn first_false(
+fn first_false<K: OutcomeKind>(
+    kind: &K,
     space: &Space,
     table: &Table,
     formula: &Formula,
@@ -38,8 +39,8 @@ fn first_false(
     from: u64,
     to: u64,
 ) -> Option<u64>
+    requires same { space.now ≡ K.size kind.now }
     requires rule { IsTrue (is_rule space.now table.now) }
-    requires choice { space.now.kind ≡ Choice }
     requires fits { IsEvaluable space.now (tree_of formula.now) env.now }
     requires within { to ≤ instance_count space.now (tree_of formula.now) }
     ensures { MatchOption result (AreTrueIn space.now table.now (tree_of formula.now) env.now from to)
@@ -59,14 +60,14 @@ fn first_false(
                 }
                 let (low, high) = (from.saturating_sub(start), block.min(to - start));
                 let values = env.with(value);
-                if let Some(instance) = first_false(space, table, inner, &values, low, high) {
+                if let Some(instance) = first_false(kind, space, table, inner, &values, low, high) {
                     return Some(start + instance);
                 }
             }
             None
         }
         _ => {
-            if is_true(space, table, formula, env) {
+            if is_true(kind, table, formula, env) {
                 None
             } else {
                 Some(from)
@@ -75,14 +76,19 @@ fn first_false(
     }
 }
 
-/// The least instance of the axiom from `from` up to `to` that is false of the rule.
-pub fn first_failure(space: &Space, table: &Table, named: &Axiom, from: u64, to: u64) -> Option<u64>
-    requires rule { IsTrue (is_rule space.now table.now) }
-    requires choice { space.now.kind ≡ Choice }
-    requires sentence { IsTrue (is_sentence space.now named.now) }
-    requires within { to ≤ instance_count space.now named.now.sentence }
-    ensures { MatchOption result (AreInstancesTrue space.now table.now named.now.sentence from to)
-        (IsFirstFailure space.now table.now named.now.sentence from to) }
+/// The least instance of the axiom from `from` up to `to` that is false of the rule. No memory is taken.
+pub fn first_failure<K: OutcomeKind>(
+    kind: &K,
+    table: &Table,
+    named: &Axiom,
+    from: u64,
+    to: u64,
+) -> Option<u64>
+    requires rule { IsTrue (is_rule (K.size kind.now) table.now) }
+    requires sentence { IsTrue (is_sentence (K.size kind.now) named.now) }
+    requires within { to ≤ instance_count (K.size kind.now) named.now.sentence }
+    ensures { MatchOption result (AreInstancesTrue (K.size kind.now) table.now named.now.sentence from to)
+        (IsFirstFailure (K.size kind.now) table.now named.now.sentence from to) }
 {
-    first_false(space, table, named.sentence(), &Env::none(), from, to)
+    first_false(kind, kind.space(), table, named.sentence(), &Env::none(), from, to)
 }

@@ -1,12 +1,15 @@
-//! Whether sentences are true of a rule, and at which instance one fails first.
+//! Whether sentences are true of a rule, or known to be under some literals, and at which instance one fails first.
 #![tactic(auto)]
 
+mod algebra;
+mod atoms;
+mod evaluation;
 mod failures;
-mod formulas;
+mod literals;
+mod tarski;
 mod terms;
 
+pub use algebra::Algebra;
+pub use evaluation::eval;
 pub use failures::{first_failure, instance_count};
-pub use formulas::truth;
-
-#[cfg(test)]
-mod tests;
+pub use tarski::truth;

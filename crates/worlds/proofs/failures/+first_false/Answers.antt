@@ -7,7 +7,7 @@ use Rattle.worlds.proofs.WalkLemmas.{most, IsBlock, is_block, first_block, past_
 use Rattle.worlds.proofs.failures.+first_false.Goals as goal
 
 pub overflow_step-value : goal.overflow_step-value
-overflow_step-value t c =
+overflow_step-value g t c =
     let p : ℕ = instance_count c.args.space.now (tree_of c.in-All.inner.value) in
     let n : ℕ = sort_count c.args.space.now c.in-All.sort in
     let cut : c.instance_count-block.result ≡ min p most = rw (← c.deref.ensures) c.instance_count-block.ensures in
@@ -18,7 +18,7 @@ overflow_step-value t c =
     omega (arith, first.1, count, c.sort_len-count.type_inv)
 
 pub loop-value-init : goal.loop-value-init
-loop-value-init t c =
+loop-value-init g t c =
     let p : ℕ = instance_count c.args.space.now (tree_of c.in-All.inner.value) in
     let n : ℕ = sort_count c.args.space.now c.in-All.sort in
     let cut : c.instance_count-block.result ≡ min p most = rw (← c.deref.ensures) c.instance_count-block.ensures in
@@ -29,7 +29,7 @@ loop-value-init t c =
     λ k low high lower. absurd (omega (arith, first.2))
 
 pub returns-then-start-to : goal.returns-then-start-to
-returns-then-start-to t c =
+returns-then-start-to g t c =
     let p : ℕ = instance_count c.args.space.now (tree_of c.in-All.inner.value) in
     let n : ℕ = sort_count c.args.space.now c.in-All.sort in
     let cut : c.instance_count-block.result ≡ min p most = rw (← c.deref.ensures) c.instance_count-block.ensures in
@@ -40,7 +40,7 @@ returns-then-start-to t c =
     λ k low high. c.loop-value.invariant k low high (past_the_end p c.loop-value.value c.saturating_mul-start.result c.args.to c.instance_count-block.result k cut start c.if-start-to.true high)
 
 pub returns-in-Some : goal.returns-in-Some
-returns-in-Some t c =
+returns-in-Some g t c =
     let p : ℕ = instance_count c.args.space.now (tree_of c.in-All.inner.value) in
     let n : ℕ = sort_count c.args.space.now c.in-All.sort in
     let cut : c.instance_count-block.result ≡ min p most = rw (← c.deref.ensures) c.instance_count-block.ensures in
@@ -54,7 +54,7 @@ returns-in-Some t c =
     (rw (c.deref-in-loop-value.ensures, c.with-values.ensures, c.saturating_sub-low.ensures, c.min-high.ensures) at c.in-Some.ensures))
 
 pub loop-value-preserved : goal.loop-value-preserved
-loop-value-preserved t c =
+loop-value-preserved g t c =
     let p : ℕ = instance_count c.args.space.now (tree_of c.in-All.inner.value) in
     let n : ℕ = sort_count c.args.space.now c.in-All.sort in
     let cut : c.instance_count-block.result ≡ min p most = rw (← c.deref.ensures) c.instance_count-block.ensures in
@@ -68,7 +68,7 @@ loop-value-preserved t c =
     (rw (c.deref-in-loop-value.ensures, c.with-values.ensures, c.saturating_sub-low.ensures, c.min-high.ensures) at c.in_default-first_false.ensures))
 
 pub returns-after-loop-value : goal.returns-after-loop-value
-returns-after-loop-value t c =
+returns-after-loop-value g t c =
     let p : ℕ = instance_count c.args.space.now (tree_of c.in-All.inner.value) in
     let n : ℕ = sort_count c.args.space.now c.in-All.sort in
     let cut : c.instance_count-block.result ≡ min p most = rw (← c.deref.ensures) c.instance_count-block.ensures in
