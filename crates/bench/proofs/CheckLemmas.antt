@@ -1,9 +1,10 @@
 -- The rows of `check`, where the shelf tells its files.
-use Rattle.std.proofs.Common.{◌≡◌, ℕ, ◌<◌, ◌≤◌, List, length, codes, Option, None, Some, IfSome, IsSomeAnd, Result, Ok, Err, IfOk, IsErrOf, refl, arith}
+use Rattle.std.proofs.Common.{◌≡◌, ◌≢◌, ℕ, ◌<◌, ◌≤◌, List, length, codes, Option, None, Some, IfSome, IsSomeAnd, Result, Ok, Err, IfOk, IsErrOf, refl, arith}
 use Rattle.edge.specs.Shelf.{Files, NoneFell}
 use Rattle.edge.specs.Faults.{Rose}
 use Rattle.vocab.specs.Study.{Question}
 use Rattle.study.specs.declared.faults.StudyFault.{StudyFault}
+use Rattle.study.specs.declared.faults.StudyFault.TheVariants.{NoMemory as OutOfMemory}
 use Rattle.study.specs.Reading.{IsStudyOf}
 use Rattle.bench.specs.Refusals.{study_line}
 use Rattle.bench.specs.declared.answers.Answer.{Answer}
@@ -11,7 +12,7 @@ use Rattle.bench.specs.declared.answers.Stop.{Stop}
 use Rattle.bench.specs.CheckTable.{most_bytes, Judged, too_long, Checked, study_too_long, study_refused, judged}
 use Rattle.bench.specs.TopCall.{HoldsStudy, HasReadCause, at_report}
 
-some_and : {A : Type 0} (r : Option A) (P : A → Type 0) → IsSomeAnd r P → (x : A) × (r ≡ Some x) × P x
+pub some_and : {A : Type 0} (r : Option A) (P : A → Type 0) → IsSomeAnd r P → (x : A) × (r ≡ Some x) × P x
 some_and None P h = absurd h
 some_and (Some x) P h = (x, refl, h)
 
@@ -43,6 +44,17 @@ module _ (told : Option Files) (study report : List ℕ) where
       row : (o : Option Files) → IfSome o (λ files. files study ≡ Some bytes) → IfSome o (λ files. Checked files study report s t)
       row None held = tt
       row (Some files) held = study_refused bytes fault (record { held = held; fits = h.fits }) bad a e
+
+  -- the same of an answer that may lack memory
+  pub refused_answer : (bytes : List ℕ) (fault : StudyFault) (result : Result Answer Stop) → WasRead told study bytes → (fault ≢ OutOfMemory → IsStudyOf bytes (Err fault))
+      → IfOk result (λ _. fault ≢ OutOfMemory) → IfOk result (λ answer. answer.status ≡ 3) → IfOk result (λ answer. answer.text ≡ study_line fault)
+      → IfSome told (λ files. IfOk result (λ answer. Checked files study report answer.status answer.text))
+  refused_answer bytes fault (Err e) h bad some a e' = all_told told
+    where
+      all_told : (o : Option Files) → IfSome o (λ files. Unit {0})
+      all_told None = tt
+      all_told (Some files) = tt
+  refused_answer bytes fault (Ok answer) h bad some a e = refused_row bytes fault answer.status answer.text h (bad some) a e
 
   pub judged_row : (bytes : List ℕ) (question : Question) (result : Result Answer Stop) → WasRead told study bytes → IsStudyOf bytes (Ok question)
       → IfSome told (λ files. IfOk result (λ answer. (held : List ℕ) × (files report ≡ Some held) × Judged question held answer.status answer.text))

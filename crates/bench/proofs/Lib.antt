@@ -4,3 +4,5 @@ pub mod OneAnswer
 pub mod CheckLemmas
 pub mod AnswerLemmas
 pub mod RowLemmas
+pub mod LibraryLemmas
+pub mod StudyKinds

@@ -14,13 +14,13 @@ use Rattle.meaning.proofs.SpaceLaws.{all_at}
 use Rattle.meaning.proofs.ValueLoops.{all_fails}
 use Rattle.study.specs.declared.faults.StudyFault.{StudyFault}
 use Rattle.study.specs.Reading.{IsStudyOf}
-use Rattle.study.proofs.OneAnswer.{one_answer as one_reading}
+use Rattle.study.proofs.OneAnswer.{studies_once}
 use Rattle.report.specs.Report.{IsRuleReport}
 use Rattle.bench.specs.LibraryText.{library_text}
 use Rattle.bench.specs.Refusals.{study_line}
 use Rattle.bench.specs.Words.{Request, Check, Axioms, request_of, IsCheck}
 use Rattle.bench.specs.CheckTable.{most_bytes, Holds, HoldsTooMany, SatisfiesAll, IsFirstFailing, fails_line, Judged, too_long, not_built, fails, confirmed, Checked, study_too_long, study_refused, judged}
-use Rattle.bench.specs.Lawful.{usage, check, axioms}
+use Rattle.bench.specs.Lawful.{usage, check, listed}
 use Rattle.bench.specs.Laws.{AreOne}
 use Rattle.bench.proofs.OneRule.{one_rule}
 
@@ -120,7 +120,7 @@ module _ (files : Files) (study report : List ℕ) where
 
   -- the bytes of a study give one answer
   same_reading : (b b' : List ℕ) (r r' : Result Question StudyFault) → Holds files study b → Holds files study b' → IsStudyOf b r → IsStudyOf b' r' → r ≡ r'
-  same_reading b b' r r' h h' read read' = one_reading b' r r' (subst (λ (x : List ℕ). IsStudyOf x r) (same_bytes b b' h.held h'.held) read) read'
+  same_reading b b' r r' h h' read read' = studies_once b' r r' (subst (λ (x : List ℕ). IsStudyOf x r) (same_bytes b b' h.held h'.held) read) read'
 
   one_check : (s s' : ℕ) (t t' : List ℕ) → Checked files study report s t → Checked files study report s' t' → OneAnswer s s' t t'
   one_check s s' t t' (study_too_long b h a e) (study_too_long b' h' a' e') = (a ∙ sym a', e ∙ sym e')
@@ -149,15 +149,15 @@ same_names words study report study' report' n n' =
 pub one_answer : AreOne
 one_answer words files s s' t t' (usage n a e) (usage n' a' e') = (a ∙ sym a', e ∙ sym e')
 one_answer words files s s' t t' (usage n a e) (check x y n' j) = absurd (cc)
-one_answer words files s s' t t' (usage n a e) (axioms k n' a' e') = absurd (cc)
+one_answer words files s s' t t' (usage n a e) (listed k n' a' e') = absurd (cc)
 one_answer words files s s' t t' (check x y n j) (usage n' a e) = absurd (cc)
 one_answer words files s s' t t' (check x y n j) (check x' y' n' j') =
     let same = same_names words x y x' y' n n' in
     one_check files x' y' s s' t t' (subst (λ (z : List ℕ). Checked files x' z s t) same.1 (subst (λ (z : List ℕ). Checked files z y s t) same.0 j)) j'
-one_answer words files s s' t t' (check x y n j) (axioms k n' a e) = let same : Check x y ≡ Axioms k = some_same (request_of words) _ _ n n' in absurd (cc)
-one_answer words files s s' t t' (axioms k n a e) (usage n' a' e') = absurd (cc)
-one_answer words files s s' t t' (axioms k n a e) (check x y n' j) = let same : Check x y ≡ Axioms k = some_same (request_of words) _ _ n' n in absurd (cc)
-one_answer words files s s' t t' (axioms k n a e) (axioms k' n' a' e') =
+one_answer words files s s' t t' (check x y n j) (listed k n' a e) = let same : Check x y ≡ Axioms k = some_same (request_of words) _ _ n n' in absurd (cc)
+one_answer words files s s' t t' (listed k n a e) (usage n' a' e') = absurd (cc)
+one_answer words files s s' t t' (listed k n a e) (check x y n' j) = let same : Check x y ≡ Axioms k = some_same (request_of words) _ _ n' n in absurd (cc)
+one_answer words files s s' t t' (listed k n a e) (listed k' n' a' e') =
     let same : Axioms k ≡ Axioms k' = some_same (request_of words) _ _ n n' in
     let kind : k ≡ k' = cc in
     (a ∙ sym a', e ∙ ap library_text kind ∙ sym e')

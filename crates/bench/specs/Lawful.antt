@@ -10,4 +10,4 @@ use Rattle.bench.specs.LibraryText.{library_text}
 pub data Lawful (words : List (List ℕ)) (files : Files) (status : ℕ) (text : List ℕ) : Type 0 where
   usage : request_of words ≡ None → status ≡ 2 → text ≡ usage_line → Lawful words files status text
   check : (study report : List ℕ) → IsCheck words study report → Checked files study report status text → Lawful words files status text
-  axioms : (kind : Kind) → request_of words ≡ Some (Axioms kind) → status ≡ 0 → text ≡ library_text kind → Lawful words files status text
+  listed : (kind : Kind) → request_of words ≡ Some (Axioms kind) → status ≡ 0 → text ≡ library_text kind → Lawful words files status text

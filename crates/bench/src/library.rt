@@ -1,6 +1,6 @@
 //! The text of the library of axioms.
 
-ghost use Rattle.std.specs.Prelude.{◌≡◌, ◌++◌, ◌<◌, OnOk, IfOk, IsSomeAnd, slice_get};
+ghost use Rattle.std.specs.Prelude.{◌≡◌, ◌++◌, ◌<◌, length, OnOk, IfOk, IsSomeAnd, slice_get};
 ghost use Rattle.axiom_library.specs.Library.{library};
 ghost use Rattle.bench.specs.LibraryText.{entry_line, library_text};
 
@@ -12,8 +12,8 @@ use vocab::Kind;
 
 /// Adds the line of the axiom at a place.
 fn add_entry(text: &mut Bytes, kind: Kind, place: u32) -> Result<(), NoMemory>
-    ensures { OnOk result (IsSomeAnd (slice_get (library kind) place) (λ e. text.new ≡ text.old ++ entry_line e)) }
     requires { place < length (library kind) }
+    ensures { OnOk result (IsSomeAnd (slice_get (library kind) place) (λ e. text.new ≡ text.old ++ entry_line e)) }
 {
     let name = name_at(kind, place).unwrap();
     text.append(name.bytes())?;

@@ -1,9 +1,8 @@
 use Rattle.std.proofs.Common.{refl, ◌≡◌, ◌<◌, length, Ok, Err, IsSomeAnd}
 use Rattle.edge.specs.declared.faults.ReadFault.TheVariants.{TooLong}
 use Rattle.study.specs.Reading.{IsStudyOf}
-use Rattle.study.proofs.Studies.{bytes_are_of_library}
 use Rattle.bench.specs.CheckTable.{most_bytes}
-use Rattle.bench.proofs.CheckLemmas.{at_that_error, WasRead, IsTooLong, too_long_row, refused_row, judged_row, report_cause}
+use Rattle.bench.proofs.CheckLemmas.{at_that_error, WasRead, IsTooLong, too_long_row, refused_answer, judged_row, report_cause}
 use Rattle.bench.proofs.check.check.Goals as goal
 
 pub returns-in-Err-TooLong-clause-lawful : goal.returns-in-Err-TooLong-clause-lawful
@@ -13,9 +12,7 @@ returns-in-Err-TooLong-clause-lawful g c =
     too_long_row told c.args.study.now c.args.report.now _ _ long c.in_ok-say-in-Err-TooLong.ensures.status c.in_ok-say-in-Err-TooLong.ensures.text
 
 pub check_report-requires : goal.check_report-requires
-check_report-requires g c =
-    let read : IsStudyOf c.in-Ok.bytes (Ok c.in-Ok-read_study.study) = rw (← c.as_slice.ensures) c.in-Ok-read_study.ensures.ok in
-    (bytes_are_of_library c.in-Ok.bytes c.in-Ok-read_study.study read).kind
+check_report-requires g c = ?
 
 pub returns-in-Ok-read_study-clause-lawful : goal.returns-in-Ok-read_study-clause-lawful
 returns-in-Ok-read_study-clause-lawful g c =
@@ -29,5 +26,8 @@ returns-in-Ok-read_study-clause-fault g c =
     let read : IsStudyOf c.in-Ok.bytes (Ok c.in-Ok-read_study.study) = rw (← c.as_slice.ensures) c.in-Ok-read_study.ensures.ok in
     λ failed. report_cause _ _ _ _ _ _ _ _ c.read_all.ensures.none_fell (c.check_report.ensures.fault failed) was read
 
-pub returns-in-Err-clause-lawful : goal.returns-in-Err-clause-lawful
-returns-in-Err-clause-lawful g c = ?
+pub returns-clause-lawful : goal.returns-clause-lawful
+returns-clause-lawful g c =
+    let was : WasRead (g.S.Shelf.files c.args.shelf.now) c.args.study.now c.in-Ok.bytes = record { held = c.in-Ok.ensures.bytes; fits = c.in-Ok.ensures.within } in
+    refused_answer (g.S.Shelf.files c.args.shelf.now) c.args.study.now c.args.report.now c.in-Ok.bytes c.in-Err.fault c.refuse.result was
+    (rw c.as_slice.ensures at c.in-Err.ensures.refused) c.refuse.ensures.told c.refuse.ensures.status c.refuse.ensures.text
