@@ -1,6 +1,7 @@
-//! Literals at both ends of their range.
+//! Literals at both ends of their range, truth values, and lists of clauses up to their limits.
 
-use crate::{Lit, laws};
+use crate::{Bits, Clauses, Lit, PushFault, Store, laws};
+use lists::NoMemory;
 
 #[test]
 fn literals_keep_their_variable_and_sign(rt: HostRuntime) {
@@ -13,6 +14,61 @@ fn literals_keep_their_variable_and_sign(rt: HostRuntime) {
             assert_eq!(rt; lit.opposite().opposite(), lit);
         }
     }
+}
+
+#[test]
+fn bits_are_set_one_by_one(rt: HostRuntime) {
+    let mut bits = Bits::new(rt.alloc(), 3).expect(&rt, "memory");
+    assert_eq!(rt; bits.len(), 3);
+    bits.set(2, true);
+    bits.set(3, true);
+    bits.set(3, false);
+    assert!(rt; !bits.get(1));
+    assert!(rt; bits.get(2));
+    assert!(rt; !bits.get(3));
+}
+
+#[test]
+fn stores_keep_clauses_apart(rt: HostRuntime) {
+    let front = [Lit::new(1, true), Lit::new(2, false)];
+    let last = [Lit::new(3, true)];
+    let mut store = Store::new(rt.alloc());
+    assert_eq!(rt; store.push(&front), Ok(()));
+    assert_eq!(rt; store.push(&[]), Ok(()));
+    assert_eq!(rt; store.push(&last), Ok(()));
+    assert_eq!(rt; store.literal_count(), 3);
+    assert_eq!(rt; store.len(), 3);
+    assert_eq!(rt; store.get(0), front.as_slice());
+    assert!(rt; store.get(1).is_empty());
+    assert_eq!(rt; store.get(2), last.as_slice());
+}
+
+#[test]
+fn lists_take_four_million_clauses(rt: HostRuntime) {
+    let lits = [Lit::new(5, true)];
+    let mut clauses = Clauses::new(rt.alloc());
+    for origin in 0..4_000_000 {
+        assert_eq!(rt; clauses.push(&lits, origin), Ok(()));
+    }
+    assert_eq!(rt; clauses.push(&[], 0), Err(PushFault::Full));
+    assert_eq!(rt; clauses.len(), 4_000_000);
+    assert_eq!(rt; clauses.origin(0), 0);
+    assert_eq!(rt; clauses.origin(3_999_999), 3_999_999);
+    assert_eq!(rt; clauses.get(3_999_999), lits.as_slice());
+}
+
+#[test]
+fn lists_take_sixty_million_literals(rt: HostRuntime) -> Result<(), NoMemory> {
+    let lits = vec![in rt.alloc(); Lit::new(5, true); 1_000_000]?;
+    let mut clauses = Clauses::new(rt.alloc());
+    for origin in 0..60 {
+        assert_eq!(rt; clauses.push(&lits, origin), Ok(()));
+    }
+    assert_eq!(rt; clauses.push(&[Lit::new(5, true)], 60), Err(PushFault::Full));
+    assert_eq!(rt; clauses.push(&[], 60), Ok(()));
+    assert_eq!(rt; clauses.len(), 61);
+    assert_eq!(rt; clauses.origin(60), 60);
+    Ok(())
 }
 
 #[test]

@@ -40,7 +40,7 @@ use Rattle.meaning.proofs.TestLaws.{all-agree, any-agree, list_all-flat_map, lis
 
 module _ (size : Extent) (p : ℕ) (in_p : p < sort_count size Profile) (v u : Literal → Bool) where
   -- truth values that agree on the literals at a profile agree on its frame
-  frame-same : (k : Kind) → ((l : Literal) → is_literal_of size k l ≡ true → profile_of l ≡ p → v l ≡ u l) → list_all (list_any v) (frame_of size k p) ≡ list_all (list_any u) (frame_of size k p)
+  pub frame-same : (k : Kind) → ((l : Literal) → is_literal_of size k l ≡ true → profile_of l ≡ p → v l ≡ u l) → list_all (list_any v) (frame_of size k p) ≡ list_all (list_any u) (frame_of size k p)
   frame-same Choice h =
       ap₂ (λ a b. a && b)
       (list_any-map v (λ (x : ℕ). Wins x p) (below size.alternatives) ∙ any-agree (λ x. v (Wins x p)) (λ x. u (Wins x p)) size.alternatives 0 (λ x lt. h (Wins x p) (in_range x (omega arith)) refl) ∙ sym (list_any-map u (λ (x : ℕ). Wins x p) (below size.alternatives)))

@@ -107,7 +107,7 @@ module _ (size : Extent) (v : ℕ → Bool) where
   true-row : (row : List Literal) → is_clause_true v (sorted (map (lit_of size) row)) ≡ list_any (literal_under size v) row
   true-row row = true-sorted v (map (lit_of size) row) ∙ list_any-map (is_lit_true v) (lit_of size) row
 
-  true-clauses_of : (rows : List Disjunction) → is_satisfied v (clauses_of size rows) ≡ list_all (list_any (literal_under size v)) rows
+  pub true-clauses_of : (rows : List Disjunction) → is_satisfied v (clauses_of size rows) ≡ list_all (list_any (literal_under size v)) rows
   true-clauses_of rows =
       true-filter v (map (λ row. sorted (map (lit_of size) row)) rows)
       ∙ list_all-map (is_clause_true v) (λ row. sorted (map (lit_of size) row)) rows

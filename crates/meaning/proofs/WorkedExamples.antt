@@ -35,10 +35,10 @@ use Rattle.meaning.specs.Written.{Written, write_out}
 use Rattle.meaning.proofs.MeasureLaws.{are_counts}
 
 -- rules that choose, and rules that rank, for n voters and m alternatives
-abbrev choice : ℕ → ℕ → Extent
+abbrev pub choice : ℕ → ℕ → Extent
 choice n m = record { kind = Choice; voters = n; alternatives = m }
 
-abbrev ranked : ℕ → ℕ → Extent
+abbrev pub ranked : ℕ → ℕ → Extent
 ranked n m = record { kind = Ranking; voters = n; alternatives = m }
 
 -- an axiom; its name plays no part
@@ -69,7 +69,7 @@ profile_27_is_cab_bca = refl
 -- ---- one voter, two alternatives and unanimity
 
 -- all p: profile. all x: alt. (all i: voter. all y: alt. (x = y | prefers(i, x, y, p)) -> wins(x, p))
-abbrev unanimity : Tree
+abbrev pub unanimity : Tree
 unanimity =
     All Profile (All Alt (Implies (All Voter (All Alt (Either (Leaf (Equal (Var 1) (Var 3))) (Leaf (Prefers (Var 2) (Var 1) (Var 3) (Var 0)))))) (Leaf (WinsAt (Var 1) (Var 0)))))
 
@@ -134,7 +134,7 @@ its_clauses_measure_68719476736_and_2473901162496 =
     ended c = record { clauses = min c.clauses largest; literals = min c.literals largest }
 
 -- all p: profile. all q: profile. all x: alt. all y: alt. (all i: voter. (prefers(i, x, y, p) <-> prefers(i, x, y, q)) -> (ranks(x, y, p) <-> ranks(x, y, q)))
-abbrev independence : Tree
+abbrev pub independence : Tree
 independence =
     All Profile (All Profile (All Alt (All Alt (Implies (All Voter (Same (Leaf (Prefers (Var 4) (Var 2) (Var 3) (Var 0))) (Leaf (Prefers (Var 4) (Var 2) (Var 3) (Var 1))))) (Same (Leaf (Ranks (Var 2) (Var 3) (Var 0))) (Leaf (Ranks (Var 2) (Var 3) (Var 1))))))))
 
@@ -147,11 +147,11 @@ independence_of_two_voters_and_four_alternatives_has_31850496_atoms = refl
 -- ---- two voters, two alternatives, anonymity and neutrality
 
 -- all p: profile. all i: voter. all j: voter. all x: alt. (wins(x, p) <-> wins(x, swap_voters(p, i, j)))
-abbrev anonymity : Tree
+abbrev pub anonymity : Tree
 anonymity = All Profile (All Voter (All Voter (All Alt (Same (Leaf (WinsAt (Var 3) (Var 0))) (Leaf (WinsAt (Var 3) (SwapVoters (Var 0) (Var 1) (Var 2))))))))
 
 -- all p: profile. all x: alt. all y: alt. all z: alt. (wins(z, p) <-> wins(swap(x, y, z), swap_alts(p, x, y)))
-abbrev neutrality : Tree
+abbrev pub neutrality : Tree
 neutrality = All Profile (All Alt (All Alt (All Alt (Same (Leaf (WinsAt (Var 3) (Var 0))) (Leaf (WinsAt (Swap (Var 1) (Var 2) (Var 3)) (SwapAlts (Var 0) (Var 1) (Var 2))))))))
 
 abbrev both_axioms : List Titled
@@ -160,12 +160,12 @@ both_axioms = axiom_of anonymity ∷ axiom_of neutrality ∷ []
 abbrev both : List ℕ
 both = 0 ∷ 1 ∷ []
 
-abbrev step : Literal → Reason → StoryStep
+abbrev pub step : Literal → Reason → StoryStep
 step l r = record { literal = l; reason = r }
 
 -- profiles: 0 is ab|ab, 1 is ab|ba, 2 is ba|ab, 3 is ba|ba
 -- suppose a wins at ab|ba: so a wins at ba|ab by anonymity, and b by neutrality
-abbrev a_does_not_win : Lemma
+abbrev pub a_does_not_win : Lemma
 a_does_not_win = record {
   suppose = Wins 0 1 ∷ [];
   steps = step (Wins 0 2) (ByAxiom 0 (1 ∷ 0 ∷ 1 ∷ 0 ∷ [])) ∷ step (Wins 1 2) (ByAxiom 1 (1 ∷ 0 ∷ 1 ∷ 0 ∷ [])) ∷ [];
@@ -173,7 +173,7 @@ a_does_not_win = record {
 }
 
 -- so b wins at ab|ba, and likewise both win at ba|ab
-abbrev nothing_wins : Lemma
+abbrev pub nothing_wins : Lemma
 nothing_wins = record {
   suppose = [];
   steps = step (Loses 0 1) (ByLemma 0) ∷ step (Wins 1 1) (ByOutcome 1) ∷ step (Wins 1 2) (ByAxiom 0 (1 ∷ 0 ∷ 1 ∷ 1 ∷ [])) ∷ step (Wins 0 2) (ByAxiom 1 (1 ∷ 0 ∷ 1 ∷ 1 ∷ [])) ∷ [];
@@ -238,7 +238,7 @@ uncited_lemma_is_not_tidy = refl
 -- ---- one voter and one alternative
 
 -- all i: voter. some p: profile. some x: alt. some y: alt. (prefers(i, y, x, p) & wins(x, p))
-abbrev non_dictatorship : Tree
+abbrev pub non_dictatorship : Tree
 non_dictatorship = All Voter (Exists Profile (Exists Alt (Exists Alt (Both (Leaf (Prefers (Var 0) (Var 3) (Var 2) (Var 1))) (Leaf (WinsAt (Var 2) (Var 1)))))))
 
 -- the one voter dictates
@@ -248,11 +248,11 @@ non_dictatorship_of_one_alternative_is_refuted_at_once = refl
 -- ---- the Paretian liberal (Sen 1970), for two voters and three alternatives
 
 -- all p: profile. all x: alt. all y: alt. (all i: voter. prefers(i, x, y, p) -> !wins(y, p))
-abbrev pareto : Tree
+abbrev pub pareto : Tree
 pareto = All Profile (All Alt (All Alt (Implies (All Voter (Leaf (Prefers (Var 3) (Var 1) (Var 2) (Var 0)))) (Not (Leaf (WinsAt (Var 2) (Var 0)))))))
 
 -- voter i decides between x and y
-abbrev right_of : ℕ → ℕ → ℕ → Tree
+abbrev pub right_of : ℕ → ℕ → ℕ → Tree
 right_of i x y =
     All Profile (Both (Implies (Leaf (Prefers (Const i) (Const x) (Const y) (Var 0))) (Not (Leaf (WinsAt (Const y) (Var 0))))) (Implies (Leaf (Prefers (Const i) (Const y) (Const x) (Var 0))) (Not (Leaf (WinsAt (Const x) (Var 0))))))
 

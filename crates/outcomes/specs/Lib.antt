@@ -1,1 +1,5 @@
 pub mod Frames
+pub mod Places
+pub mod Rows
+pub mod OutcomeBits
+pub mod Laws

@@ -1,9 +1,10 @@
 //! Choices: an outcome is an alternative, and a profile has a variable for each.
 
-ghost use Rattle.std.specs.Prelude.{◌≡◌, ◌≢◌, ◌<◌, IsTrue};
+ghost use Rattle.std.specs.Prelude.{◌≡◌};
 ghost use Rattle.vocab.specs.declared.kinds.Kind.TheVariants.{Choice};
 ghost use Rattle.vocab.specs.Size.{IsSize};
 
+use crate::frames;
 use crate::kind::OutcomeKind;
 use cnf::{Clauses, Lit, PushFault};
 use profiles::{Space, laws};
@@ -21,7 +22,7 @@ impl ChoiceKind {
     /// The choices at the profiles of a space.
     pub fn new(space: Space) -> ChoiceKind
         requires { space.kind ≡ Choice }
-        ensures { result.space ≡ space }
+        ensures { ⟦<ChoiceKind as OutcomeKind>⟧.size result ≡ space }
     {
         laws::spaces_have_sizes(&space);
         ChoiceKind { space }
@@ -52,10 +53,10 @@ impl OutcomeKind for ChoiceKind {
     }
 
     fn lit(&self, literal: &Literal) -> Lit {
-        let alternatives = u32::from(self.space.size().alternatives());
+        let alternatives = self.space.size().alternatives();
         match *literal {
-            Literal::Wins(x, p) => Lit::new(p * alternatives + u32::from(x) + 1, true),
-            Literal::Loses(x, p) => Lit::new(p * alternatives + u32::from(x) + 1, false),
+            Literal::Wins(x, p) => frames::winner_lit(alternatives, p, true, x),
+            Literal::Loses(x, p) => frames::winner_lit(alternatives, p, false, x),
             Literal::Above(_, _, _) => unreachable!(),
         }
     }
@@ -72,8 +73,8 @@ impl OutcomeKind for ChoiceKind {
         }
     }
 
-    fn frame(&self, _p: u32, _out: &mut Clauses) -> Result<(), PushFault> {
-        Err(PushFault::NoMemory)
+    fn frame(&self, p: u32, out: &mut Clauses) -> Result<(), PushFault> {
+        frames::push_choice(self.space.size().alternatives(), p, out)
     }
 
     fn text(&self, outcome: u32) -> Name {

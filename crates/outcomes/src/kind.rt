@@ -1,16 +1,21 @@
 //! Kinds of outcomes.
 
-ghost use Rattle.std.specs.Prelude.{◌≡◌, ◌≢◌, ℕ, ◌+◌, ◌<◌, ◌≤◌, Err, OnOk, IsTrue, IfSome, IfNone};
+ghost use Rattle.std.specs.Prelude.{◌≡◌, ◌≢◌, ℕ, ◌+◌, ◌*◌, ◌<◌, ◌≤◌, length, Err, OnOk, IsTrue, IfSome, IfNone};
 ghost use Rattle.vocab.specs.declared.kinds.Kind.TheVariants.{Sets};
 ghost use Rattle.vocab.specs.declared.kinds.Sort.TheVariants.{Profile};
 ghost use Rattle.vocab.specs.Size.{Extent, IsSize, sort_count, outcome_count};
+ghost use Rattle.cnf.specs.Assignment.{value_of};
+ghost use Rattle.cnf.specs.Sat.{is_satisfied};
 ghost use Rattle.meaning.specs.Literals.{is_literal};
 ghost use Rattle.meaning.specs.Texts.{outcome_text};
 ghost use Rattle.meaning.specs.Truth.{holds_of};
 ghost use Rattle.meaning.specs.Variables.{bits, variable_count, lit_of, literal_of};
 ghost use Rattle.outcomes.specs.Frames.{frame_clauses, with_clauses, IsFullForAll};
+ghost use Rattle.outcomes.specs.OutcomeBits.{AreBitsAt};
 
-use cnf::{Clauses, Lit, PushFault};
+use crate::decode::decode;
+use crate::laws;
+use cnf::{Bits, Clauses, Lit, PushFault};
 use profiles::Space;
 use vocab::{Literal, Name};
 
@@ -31,7 +36,8 @@ pub trait OutcomeKind: Sync {
 
     /// How many variables a profile has.
     fn bits(&self) -> u32
-        ensures { result ≡ bits (size self.now).kind (size self.now).alternatives };
+        ensures value { result ≡ bits (size self.now).kind (size self.now).alternatives }
+        ensures few { result ≤ 10 };
 
     /// Whether a literal holds of an outcome.
     fn holds(&self, outcome: u32, literal: &Literal) -> bool
@@ -55,7 +61,6 @@ pub trait OutcomeKind: Sync {
     fn frame(&self, p: u32, out: &mut Clauses) -> Result<(), PushFault>
         requires { p < sort_count (size self.now) Profile }
         ensures ok { OnOk result (out.new ≡ with_clauses out.old (frame_clauses (size self.now) p) p) }
-        ensures room { OnOk result (¬ IsFullForAll out.old (frame_clauses (size self.now) p)) }
         ensures full { result ≡ Err PushFault.Full → IsFullForAll out.old (frame_clauses (size self.now) p) };
 
     /// The text of an outcome.
@@ -73,4 +78,27 @@ pub trait OutcomeKind: Sync {
 
     /// The size is one that the bench takes.
     ghost is_size: { (k : Self) → IsSize (size k) };
+
+    /// Whether a variable with a sign is true in the bits of an outcome.
+    final fn encode(&self, outcome: u32, lit: Lit) -> bool
+        requires outcome { outcome < outcome_count (size self.now).kind (size self.now).alternatives }
+        requires low { 1 ≤ lit.variable }
+        requires high { lit.variable ≤ variable_count (size self.now) }
+        ensures { result ≡ holds_of (size self.now) outcome (literal_of (size self.now) lit) }
+    {
+        laws::literals_are_variables(self);
+        self.holds(outcome, &self.literal(lit))
+    }
+
+    /// The one outcome whose bits the variables of profile p have, where they satisfy its frame. It tries each outcome
+    /// in turn.
+    final fn decode(&self, assignment: &Bits, p: u32) -> u32
+        requires profile { p < sort_count (size self.now) Profile }
+        requires variables { (p + 1) * bits (size self.now).kind (size self.now).alternatives ≤ length assignment.now }
+        requires frame { IsTrue (is_satisfied (value_of assignment.now) (frame_clauses (size self.now) p)) }
+        ensures in_range { result < outcome_count (size self.now).kind (size self.now).alternatives }
+        ensures same { AreBitsAt (size self.now) p result (value_of assignment.now) }
+    {
+        decode(self, assignment, p)
+    }
 }

@@ -2,7 +2,16 @@
 #![tactic(auto)]
 
 mod choice;
+mod decode;
+mod frames;
 mod kind;
+pub mod laws;
+mod places;
+mod ranking;
 
 pub use choice::ChoiceKind;
 pub use kind::OutcomeKind;
+pub use ranking::RankingKind;
+
+#[cfg(test)]
+mod tests;

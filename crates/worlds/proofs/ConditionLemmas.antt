@@ -162,7 +162,7 @@ module _ (size : Extent) where
       let one = and_parts _ (is_of_sort size r Profile p) h.sorted in
       let two = and_parts (has_winners size.kind) (is_of_sort size r Alt x) one.0 in
       subst (λ k. is_literal_of size k (Wins (value size env x) (value size env p)) ≡ true) (sym (choice_kind size.kind ne two.0))
-        (and_from _ _ (lt-ltb _ _ (value_in_range Alt x env parts.0)) (lt-ltb _ _ (value_in_range Profile p env parts.1)))
+      (and_from _ _ (lt-ltb _ _ (value_in_range Alt x env parts.0)) (lt-ltb _ _ (value_in_range Profile p env parts.1)))
 
   -- and so is one on ranks of two different alternatives
   pub ranks_literal : (x y p : TermTree) (env : List ℕ) → IsAtomAt size (Ranks x y p) env → (value size env x == value size env y) ≡ false → is_literal size (Above (value size env x) (value size env y) (value size env p)) ≡ true
@@ -173,7 +173,7 @@ module _ (size : Extent) where
       let two = and_parts _ (is_of_sort size r Alt y) one.0 in
       let three = and_parts (not (has_winners size.kind)) (is_of_sort size r Alt x) two.0 in
       subst (λ k. is_literal_of size k (Above (value size env x) (value size env y) (value size env p)) ≡ true) (sym (ranking_kind size.kind three.0))
-        (and_from _ _ (and_from _ _ (and_from _ _ (lt-ltb _ _ (value_in_range Alt x env parts.0)) (lt-ltb _ _ (value_in_range Alt y env parts.1))) (ap not ne)) (lt-ltb _ _ (value_in_range Profile p env parts.2)))
+      (and_from _ _ (and_from _ _ (and_from _ _ (lt-ltb _ _ (value_in_range Alt x env parts.0)) (lt-ltb _ _ (value_in_range Alt y env parts.1))) (ap not ne)) (lt-ltb _ _ (value_in_range Profile p env parts.2)))
 
   -- a literal that is made of the values of the terms
   pub wins_taken : (x p : TermTree) (env : List ℕ) (a q : ℕ) → a ≡ value size env x → q ≡ value size env p → size.kind ≢ Sets → IsAtomAt size (WinsAt x p) env → is_literal size (Wins a q) ≡ true
@@ -185,7 +185,7 @@ module _ (size : Extent) where
   -- ---- formulas
 
   -- a quantifier's body, at a value of its sort
-  quantified : (s : Sort) (f : Tree) (sorts : List Sort) (env : List ℕ) (v : ℕ) → are_of_sorts size sorts env ≡ true → is_sorted size (sorts ++ s ∷ []) f ≡ true → length env + (quantifier_depth f + 1) ≤ 12 → v < sort_count size s
+  pub quantified : (s : Sort) (f : Tree) (sorts : List Sort) (env : List ℕ) (v : ℕ) → are_of_sorts size sorts env ≡ true → is_sorted size (sorts ++ s ∷ []) f ≡ true → length env + (quantifier_depth f + 1) ≤ 12 → v < sort_count size s
       → IsFormulaAt size f (env ++ v ∷ [])
   quantified s f sorts env v h k room lt = record {
     sorts = sorts ++ s ∷ [];

@@ -1,5 +1,8 @@
+pub mod BoardLemmas
+pub mod BodyLemmas
 pub mod ChainLemmas
 pub mod ConditionLemmas
+pub mod ExclusionLemmas
 pub mod RuleLemmas
 pub mod SortLemmas
 pub mod WalkLemmas

@@ -90,5 +90,13 @@ pub fn first_failure<K: OutcomeKind>(
     ensures { MatchOption result (AreInstancesTrue (K.size kind.now) table.now named.now.sentence from to)
         (IsFirstFailure (K.size kind.now) table.now named.now.sentence from to) }
 {
-    first_false(kind, kind.space(), table, named.sentence(), &Env::none(), from, to)
+    first_false(
+        kind,
+        kind.space(),
+        table,
+        named.sentence(),
+        &Env::none(),
+        from,
+        to,
+    )
 }

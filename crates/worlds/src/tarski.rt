@@ -73,12 +73,7 @@ pub fn truth<K: OutcomeKind>(kind: &K, table: &Table, formula: &Formula, env: &E
 }
 
 /// What `truth` says, part by part.
-pub(crate) fn is_true<K: OutcomeKind>(
-    kind: &K,
-    table: &Table,
-    formula: &Formula,
-    env: &Env,
-) -> bool
+pub(crate) fn is_true<K: OutcomeKind>(kind: &K, table: &Table, formula: &Formula, env: &Env) -> bool
     requires rule { IsTrue (is_rule (K.size kind.now) table.now) }
     requires fits { IsEvaluable (K.size kind.now) (tree_of formula.now) env.now }
     ensures { result ≡ is_true_at (K.size kind.now) table.now (tree_of formula.now) env.now }

@@ -9,9 +9,9 @@ pub eval_all-returns-then-is_known-clause-ok : goal.eval_all-returns-then-is_kno
 eval_all-returns-then-is_known-clause-ok g t c =
     let same = c.loop-v.invariant.same in
     rw c.in-All.is (
-      all_decided (g.A.Algebra.stands c.args.algebra.now c.loop-v.value) (λ v. write_out c.args.space.now (tree_of c.in-All.f.value) (c.args.env.now ++ v ∷ []))
-      (λ x y h. same.back c.loop-v.value _ ((c.is_known.ensures.no c.if-is_known.true refl x y (same.onward c.loop-v.value x h)).1))
-      c.loop-v.v c.last_value-last.result (sort_count c.args.space.now c.in-All.sort) c.loop-v.invariant.below c.last_value-last.ensures c.loop-v.invariant.chained)
+    all_decided (g.A.Algebra.stands c.args.algebra.now c.loop-v.value) (λ v. write_out c.args.space.now (tree_of c.in-All.f.value) (c.args.env.now ++ v ∷ []))
+    (λ x y h. same.back c.loop-v.value _ ((c.is_known.ensures.no c.if-is_known.true refl x y (same.onward c.loop-v.value x h)).1))
+    c.loop-v.v c.last_value-last.result (sort_count c.args.space.now c.in-All.sort) c.loop-v.invariant.below c.last_value-last.ensures c.loop-v.invariant.chained)
 
 pub eval_all-loop-v-preserved : goal.eval_all-loop-v-preserved
 eval_all-loop-v-preserved g t c = record {
@@ -23,16 +23,16 @@ eval_all-loop-v-preserved g t c = record {
 pub eval_all-returns-clause-ok : goal.eval_all-returns-clause-ok
 eval_all-returns-clause-ok g t c =
     rw c.in-All.is (
-      all_end (g.A.Algebra.stands c.args.algebra.now c.loop-v.value) (λ v. write_out c.args.space.now (tree_of c.in-All.f.value) (c.args.env.now ++ v ∷ []))
-      c.loop-v.v c.last_value-last.result (sort_count c.args.space.now c.in-All.sort) c.loop-v-test.false c.last_value-last.ensures c.loop-v.invariant.chained)
+    all_end (g.A.Algebra.stands c.args.algebra.now c.loop-v.value) (λ v. write_out c.args.space.now (tree_of c.in-All.f.value) (c.args.env.now ++ v ∷ []))
+    c.loop-v.v c.last_value-last.result (sort_count c.args.space.now c.in-All.sort) c.loop-v-test.false c.last_value-last.ensures c.loop-v.invariant.chained)
 
 pub eval_exists-returns-then-is_known-clause-ok : goal.eval_exists-returns-then-is_known-clause-ok
 eval_exists-returns-then-is_known-clause-ok g t c =
     let same = c.loop-v.invariant.same in
     rw c.in-Exists.is (
-      some_decided (g.A.Algebra.stands c.args.algebra.now c.loop-v.value) (λ v. write_out c.args.space.now (tree_of c.in-Exists.f.value) (c.args.env.now ++ v ∷ []))
-      (λ x y h. same.back c.loop-v.value _ ((c.is_known.ensures.yes c.if-is_known.true refl x y (same.onward c.loop-v.value x h)).1))
-      c.loop-v.v c.last_value-last.result (sort_count c.args.space.now c.in-Exists.sort) c.loop-v.invariant.below c.last_value-last.ensures c.loop-v.invariant.chained)
+    some_decided (g.A.Algebra.stands c.args.algebra.now c.loop-v.value) (λ v. write_out c.args.space.now (tree_of c.in-Exists.f.value) (c.args.env.now ++ v ∷ []))
+    (λ x y h. same.back c.loop-v.value _ ((c.is_known.ensures.yes c.if-is_known.true refl x y (same.onward c.loop-v.value x h)).1))
+    c.loop-v.v c.last_value-last.result (sort_count c.args.space.now c.in-Exists.sort) c.loop-v.invariant.below c.last_value-last.ensures c.loop-v.invariant.chained)
 
 pub eval_exists-loop-v-preserved : goal.eval_exists-loop-v-preserved
 eval_exists-loop-v-preserved g t c = record {
@@ -44,5 +44,5 @@ eval_exists-loop-v-preserved g t c = record {
 pub eval_exists-returns-clause-ok : goal.eval_exists-returns-clause-ok
 eval_exists-returns-clause-ok g t c =
     rw c.in-Exists.is (
-      some_end (g.A.Algebra.stands c.args.algebra.now c.loop-v.value) (λ v. write_out c.args.space.now (tree_of c.in-Exists.f.value) (c.args.env.now ++ v ∷ []))
-      c.loop-v.v c.last_value-last.result (sort_count c.args.space.now c.in-Exists.sort) c.loop-v-test.false c.last_value-last.ensures c.loop-v.invariant.chained)
+    some_end (g.A.Algebra.stands c.args.algebra.now c.loop-v.value) (λ v. write_out c.args.space.now (tree_of c.in-Exists.f.value) (c.args.env.now ++ v ∷ []))
+    c.loop-v.v c.last_value-last.result (sort_count c.args.space.now c.in-Exists.sort) c.loop-v-test.false c.last_value-last.ensures c.loop-v.invariant.chained)

@@ -1,0 +1,14 @@
+pub mod Found
+pub mod Counts
+pub mod Marks
+pub mod Marking
+pub mod Leads
+pub mod Tracing
+pub mod Below
+pub mod Steps
+pub mod Rests
+pub mod Descending
+pub mod HintIds
+pub mod Derivations
+pub mod Solving
+pub mod Enough

@@ -1,0 +1,6 @@
+pub mod PlaceTables
+pub mod Growth
+pub mod FrameRows
+pub mod BitLaws
+pub mod SmallFrames
+pub mod OutcomeTexts

@@ -1,0 +1,10 @@
+use Rattle.std.proofs.Common.{◌≡◌, ℕ, ◌+◌, ◌*◌, ◌≤◌, true}
+use Rattle.cnf.specs.Assignment.{value_of}
+use Rattle.meaning.specs.Truth.{holds_of}
+use Rattle.meaning.specs.Variables.{literal_of}
+use Rattle.outcomes.proofs.decode.has_bits.Given as goal
+
+abbrev pub invariant-loop-place : goal.invariant-loop-place
+invariant-loop-place g l =
+    let size = g.K.OutcomeKind.size l.kind in
+    (i : ℕ) → l.p * l.count + 1 ≤ i → i ≤ l.p * l.count + l.place → value_of l.assignment i ≡ holds_of size l.outcome (literal_of size (record { variable = i; positive = true }))

@@ -1,0 +1,19 @@
+use Rattle.std.proofs.Common.{◌≡◌, ◌∙◌, ap, subst, List, OnOk}
+use Rattle.cnf.specs.Sat.{Clause}
+use Rattle.outcomes.specs.Frames.{with_clauses, IsFullForAll}
+use Rattle.outcomes.proofs.FrameRows.{ranking_clauses}
+use Rattle.outcomes.proofs.ranking.RankingKindOutcomeKind.frame.Goals as goal
+
+pub returns-clause-ok : goal.returns-clause-ok
+returns-clause-ok c =
+    let size = c.args.self.now.space in
+    let rows = ranking_clauses size c.args.self.now.ranks c.args.self.now.whole.few_alternatives c.args.p c.alternatives.result (c.alternatives.ensures ∙ ap (λ s. s.alternatives) c.size.ensures) in
+    let Adds : List Clause → Type 0 = λ cs. OnOk c.push_ranking.result (c.push_ranking.new.out ≡ with_clauses c.args.out.now cs c.args.p) in
+    subst Adds rows c.push_ranking.ensures.ok
+
+pub returns-clause-full : goal.returns-clause-full
+returns-clause-full c = λ e.
+    let size = c.args.self.now.space in
+    let rows = ranking_clauses size c.args.self.now.ranks c.args.self.now.whole.few_alternatives c.args.p c.alternatives.result (c.alternatives.ensures ∙ ap (λ s. s.alternatives) c.size.ensures) in
+    let Full : List Clause → Type 0 = λ cs. IsFullForAll c.args.out.now cs in
+    subst Full rows (c.push_ranking.ensures.full e)

@@ -1,0 +1,96 @@
+//! Rankings: an outcome is a strict ranking, and a profile has a variable for each pair of alternatives.
+
+ghost use Rattle.std.specs.Prelude.{◌≡◌};
+ghost use Rattle.vocab.specs.declared.kinds.Kind.TheVariants.{Ranking};
+ghost use Rattle.vocab.specs.Size.{IsSize};
+
+use crate::kind::OutcomeKind;
+use crate::{frames, places};
+use cnf::{Clauses, Lit, PushFault};
+use profiles::{Space, laws};
+use vocab::{Literal, Name, Sort};
+
+/// Outcomes that are strict rankings: the code of an outcome is the number of its ranking in lexicographic order.
+#[derive(Clone, Copy)]
+pub struct RankingKind {
+    space: Space,
+    ghost ranks: { space.kind ≡ Ranking },
+    ghost whole: { IsSize space },
+}
+
+impl RankingKind {
+    /// The rankings at the profiles of a space.
+    pub fn new(space: Space) -> RankingKind
+        requires { space.kind ≡ Ranking }
+        ensures { ⟦<RankingKind as OutcomeKind>⟧.size result ≡ space }
+    {
+        laws::spaces_have_sizes(&space);
+        RankingKind { space }
+    }
+}
+
+impl OutcomeKind for RankingKind {
+    ghost size = { λ k. k.space };
+
+    fn space(&self) -> &Space {
+        &self.space
+    }
+
+    fn outcomes(&self) -> u32 {
+        self.space.size().sort_len(Sort::Ballot)
+    }
+
+    fn bits(&self) -> u32 {
+        places::pair_count(self.space.size().alternatives())
+    }
+
+    fn holds(&self, outcome: u32, literal: &Literal) -> bool {
+        match *literal {
+            Literal::Above(x, y, _) => self.space.better(outcome, u32::from(x), u32::from(y)),
+            _ => unreachable!(),
+        }
+    }
+
+    fn lit(&self, literal: &Literal) -> Lit {
+        let alternatives = self.space.size().alternatives();
+        match *literal {
+            Literal::Above(x, y, p) => {
+                if x < y {
+                    frames::pair_lit(alternatives, p, true, x, y)
+                } else {
+                    frames::pair_lit(alternatives, p, false, y, x)
+                }
+            }
+            _ => unreachable!(),
+        }
+    }
+
+    fn literal(&self, lit: Lit) -> Literal {
+        let alternatives = self.space.size().alternatives();
+        let count = places::pair_count(alternatives);
+        let variable = lit.variable() - 1;
+        let (x, y) = places::pair_at(alternatives, variable % count);
+        let p = variable / count;
+        if lit.positive() {
+            Literal::Above(x, y, p)
+        } else {
+            Literal::Above(y, x, p)
+        }
+    }
+
+    fn frame(&self, p: u32, out: &mut Clauses) -> Result<(), PushFault> {
+        frames::push_ranking(self.space.size().alternatives(), p, out)
+    }
+
+    fn text(&self, outcome: u32) -> Name {
+        self.space.ballot_text(outcome)
+    }
+
+    fn read(&self, text: &[u8]) -> Option<u32> {
+        self.space.read_ballot(text)
+    }
+
+    ghost not_sets = { λ k e. let same : k.space.kind ≡ Ranking = k.ranks in Prim.cc };
+
+    ghost is_size = { λ k. k.whole };
+}

@@ -1,0 +1,10 @@
+pub mod EntryLemmas
+pub mod KeptLemmas
+pub mod TrailLemmas
+pub mod ScanLemmas
+pub mod Sweeps
+pub mod CutBack
+pub mod Levels
+pub mod Apart
+pub mod Words
+pub mod LevelLaws

@@ -1,0 +1,61 @@
+-- What a confirmed report claims holds.
+use Rattle.std.proofs.Common.{◌≡◌, refl, sym, ap, ◌∙◌, ℕ, ◌+◌, ◌≤◌, ◌↔◌, inl, inr, cond, take, lt-ltb, le-ltb, Bool, true, false, not, ◌&&◌, List, [], ◌∷◌, length, arith, ltb-true}
+use Rattle.std.specs.Prelude.{nat_lt, slice_get}
+use Rattle.std.specs.List.{list_all}
+use Rattle.std.proofs.lemmas.Bool.{and_parts, and_from, cases_lt}
+use Rattle.vocab.specs.Study.{Question}
+use Rattle.meaning.specs.declared.cores.Witness.{Witness}
+use Rattle.meaning.specs.declared.stories.Lemma.{Lemma}
+use Rattle.meaning.specs.Space.{below}
+use Rattle.meaning.specs.Truth.{is_rule, is_axiom_true}
+use Rattle.meaning.specs.Stories.{is_story}
+use Rattle.meaning.specs.Cores.{is_core_from}
+use Rattle.meaning.proofs.SpaceLaws.{all_at}
+use Rattle.meaning.proofs.StoryLaws.{no_rule}
+use Rattle.verdicts.specs.declared.verdicts.Verdict.TheVariants.{Possible, Impossible}
+use Rattle.verdicts.specs.declared.verdicts.Verdict.{Verdict}
+use Rattle.verdicts.specs.Judge.{Told, Good, Refused, judge, pieces, front, Confirmed, answer, beyond, answer_within}
+use Rattle.verdicts.specs.Laws.{IsRuleConfirmed, IsImpossibilityConfirmed}
+use Rattle.verdicts.proofs.JudgeLaws.{judge_sound}
+
+-- what holds of all places of a study holds of those of a core
+core_from_all : (t : ℕ → Bool) (n from : ℕ) (core : List ℕ) → list_all t (below n) ≡ true → is_core_from from n core ≡ true → list_all t core ≡ true
+core_from_all t n from [] h e = refl
+core_from_all t n from (k ∷ core) h e =
+    let p = and_parts (not (nat_lt k from) && nat_lt k n) (is_core_from (k + 1) n core) e in
+    let q = and_parts (not (nat_lt k from)) (nat_lt k n) p.0 in
+    and_from _ _ (all_at t n 0 k h (omega arith) (omega (arith, ltb-true k n q.1))) (core_from_all t n (k + 1) core h p.1)
+
+module _ (study : Question) (text : List ℕ) where
+  rule_holds : (table : List ℕ) → IsRuleConfirmed study text table
+  rule_holds table e = (judge_sound study text (Possible table) e).right
+
+  impossibility_holds : (core : List ℕ) (story : List Lemma) (witnesses : List Witness) → IsImpossibilityConfirmed study text core story witnesses
+  impossibility_holds core story witnesses e table =
+      let p = and_parts (is_story study.size study.axioms core story) _ (judge_sound study text (Impossible core story witnesses) e).right in
+      let q = and_parts (is_core_from 0 (length study.axioms) core) _ p.1 in
+      let none = no_rule study.size study.axioms core story p.0 table in (
+        none,
+        λ all.
+            let r = and_parts (is_rule study.size table) _ all in
+            none (and_from _ _ r.0 (core_from_all (λ k. is_axiom_true study.size table (slice_get study.axioms k)) (length study.axioms) 0 core r.1 q.0)),
+      )
+
+  pub claims_hold : ((table : List ℕ) → IsRuleConfirmed study text table) × ((core : List ℕ) (story : List Lemma) (witnesses : List Witness) → IsImpossibilityConfirmed study text core story witnesses)
+  claims_hold = (rule_holds, impossibility_holds)
+
+pub within_limit : (limit : ℕ) (study : Question) (text : List ℕ) (verdict : Verdict) → (answer_within limit study text ≡ Confirmed verdict) ↔ ((length text ≤ limit) × (answer study text ≡ Confirmed verdict))
+within_limit limit study text verdict = (
+  λ e. elim (cases_lt limit (length text)) [
+    | inl less ↦ absurd (not_beyond (judge study (front (pieces (take limit text)))) (sym (chosen true (lt-ltb limit (length text) less)) ∙ e))
+    | inr le ↦ (le, sym (chosen false (le-ltb limit (length text) le)) ∙ e)
+  ],
+  λ h. chosen false (le-ltb limit (length text) h.0) ∙ h.1,
+)
+  where
+    chosen : (b : Bool) → nat_lt limit (length text) ≡ b → answer_within limit study text ≡ cond b (beyond (judge study (front (pieces (take limit text))))) (answer study text)
+    chosen b e = ap (λ c. cond c (beyond (judge study (front (pieces (take limit text))))) (answer study text)) e
+
+    not_beyond : (told : Told) → beyond told ≡ Confirmed verdict → ⊥
+    not_beyond (Good s) e = cc
+    not_beyond (Refused n word) e = cc

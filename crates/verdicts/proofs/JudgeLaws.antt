@@ -1,0 +1,91 @@
+-- A judge that reaches the end has read the report of a right verdict.
+use Rattle.verdicts.proofs.FaultLaws.{same_good}
+use Rattle.std.proofs.Common.{◌≡◌, refl, sym, ap, ◌∙◌, subst, ℕ, ◌+◌, ◌<◌, Bool, true, false, List, [], ◌∷◌, ◌++◌, map, length, Option, Some, None, arith, cond, append_assoc, append-nil}
+use Rattle.std.specs.Prelude.{◌==◌, nat_lt}
+use Rattle.std.specs.List.{flat_map, join_with_byte}
+use Rattle.std.proofs.lemmas.List.Splits.{join_with_byte-slice_split, length-slice_split}
+use Rattle.vocab.specs.Study.{Question}
+use Rattle.verdicts.specs.Texts.{words_of, joined}
+use Rattle.verdicts.specs.Lines.{Line, line_text}
+use Rattle.verdicts.specs.declared.verdicts.Verdict.{Verdict}
+use Rattle.verdicts.specs.Report.{IsReport}
+use Rattle.verdicts.specs.Places.{Place, AtNothing, Standing, start, wanted}
+use Rattle.verdicts.specs.declared.refusals.Refusal.{Refusal}
+use Rattle.verdicts.specs.Faults.{fault_of}
+use Rattle.verdicts.specs.Judge.{advance, read_line, Told, Good, Refused, settle_at, settle, judge_from, judge, pieces, front, final, Confirmed, at_end, conclude, answer}
+use Rattle.verdicts.proofs.LineLaws.{wanted_read}
+use Rattle.verdicts.proofs.FitLaws.{Fits, wanted_fits}
+use Rattle.verdicts.proofs.SoundLaws.{Holds, printed, IsIdle, HasRead, step_read_so}
+
+not_long : (b : Bool) (o : Option Line) (l : Line) → cond b None o ≡ Some l → o ≡ Some l
+not_long true o l e = absurd (cc)
+not_long false o l e = e
+
+module _ (study : Question) where
+  -- the lines that are read, and what the reader knows then
+  abbrev Ran : Standing → List Line → List (List ℕ) → Type 0
+  Ran t before texts = (ls : List Line) × HasRead study t (before ++ ls) × (texts ≡ map (line_text study) ls)
+
+  read_is : (s : Standing) (text : List ℕ) (l : Line) → read_line study s text ≡ Some l → text ≡ line_text study l
+  read_is s text l e =
+      let w = not_long (nat_lt 4096 (length text)) (wanted study s.place (length s.earlier + 1) (words_of text)) l e in
+      sym (join_with_byte-slice_split 32 text) ∙ ap joined (wanted_read study s.place (length s.earlier + 1) (words_of text) l w)
+
+  ran_more : (t : Standing) (before : List Line) (l : Line) (text : List ℕ) (texts : List (List ℕ)) → text ≡ line_text study l → Ran t (before ++ l ∷ []) texts → Ran t before (text ∷ texts)
+  ran_more t before l text texts e r =
+      (l ∷ r.0, subst (HasRead study t) (append_assoc before (l ∷ []) r.0) r.1, ap (λ x. x ∷ texts) e ∙ ap (λ xs. line_text study l ∷ xs) r.2)
+
+  ran : (n : ℕ) (s t : Standing) (texts : List (List ℕ)) (before : List Line) → HasRead study s before → judge_from study n s texts ≡ Good t → Ran t before texts
+  ran n s t [] before h e = ([], subst (λ ls. HasRead study t ls) (sym (append-nil before)) (subst (λ (u : Standing). HasRead study u before) (same_good s t e) h), refl)
+  ran n s t (text ∷ texts) before h e =
+      by_line (read_line study s text) refl e (λ l g f r. ran (n + 1) (advance study s l) t texts (before ++ l ∷ []) (step_read_so study s l before h g f) r)
+    where
+      by_fault : (l : Line) → read_line study s text ≡ Some l → (o : Option Refusal) → fault_of study s l ≡ o → settle_at study n s l o (λ next. judge_from study (n + 1) next texts) ≡ Good t → (fault_of study s l ≡ None → judge_from study (n + 1) (advance study s l) texts ≡ Good t → Ran t (before ++ l ∷ []) texts) → Ran t before (text ∷ texts)
+      by_fault l d None f g later = ran_more t before l text texts (read_is s text l d) (later f g)
+      by_fault l d (Some w) f g later = absurd (cc)
+
+      by_line : (o : Option Line) → read_line study s text ≡ o → settle study n s o (λ next. judge_from study (n + 1) next texts) ≡ Good t → ((l : Line) → Fits study s.place (length s.earlier + 1) l → fault_of study s l ≡ None → judge_from study (n + 1) (advance study s l) texts ≡ Good t → Ran t (before ++ l ∷ []) texts) → Ran t before (text ∷ texts)
+      by_line None d g later = absurd (cc)
+      by_line (Some l) d g later =
+          let w = not_long (nat_lt 4096 (length text)) (wanted study s.place (length s.earlier + 1) (words_of text)) l d in
+          by_fault l d (fault_of study s l) refl g (later l (wanted_fits study s.place (length s.earlier + 1) (words_of text) l w))
+
+at_end_is : (n : ℕ) (rest : List ℕ) (p : Place) (v : Verdict) → at_end n rest p ≡ Confirmed v → (rest ≡ []) × (p ≡ AtNothing v)
+at_end_is n [] (AtNothing u) v e = let same : u ≡ v = cc in (refl, ap AtNothing same)
+at_end_is n rest p v e = absurd (cc)
+
+pub conclude_is : (n : ℕ) (rest : List ℕ) (told : Told) (v : Verdict) → conclude n rest told ≡ Confirmed v → (s : Standing) × (told ≡ Good s) × (rest ≡ []) × (s.place ≡ AtNothing v)
+conclude_is n rest (Refused line word) v e = absurd (cc)
+conclude_is n rest (Good s) v e = let r = at_end_is n rest s.place v e in (s, refl, r.0, r.1)
+
+-- lines, each with its end
+abbrev pub ended : List (List ℕ) → List ℕ
+ended texts = flat_map (λ text. text ++ 10 ∷ []) texts
+
+pub joined_pieces : (ps : List (List ℕ)) → 0 < length ps → join_with_byte 10 ps ≡ ended (front ps) ++ final ps
+joined_pieces [] h = absurd (omega (arith, h))
+joined_pieces (x ∷ []) h = refl
+joined_pieces (x ∷ y ∷ ps) h =
+    ap (λ l. x ++ 10 ∷ l) (joined_pieces (y ∷ ps) (omega arith))
+    ∙ sym (append_assoc x (10 ∷ []) (ended (front (y ∷ ps)) ++ final (y ∷ ps)))
+    ∙ sym (append_assoc (x ++ 10 ∷ []) (ended (front (y ∷ ps))) (final (y ∷ ps)))
+
+pub text_pieces : (text : List ℕ) → text ≡ ended (front (pieces text)) ++ final (pieces text)
+text_pieces text = sym (join_with_byte-slice_split 10 text) ∙ joined_pieces (pieces text) (omega (arith, length-slice_split (λ b. b == 10) text))
+
+pub ended_map : (study : Question) (ls : List Line) → ended (map (line_text study) ls) ≡ flat_map (λ line. line_text study line ++ 10 ∷ []) ls
+ended_map study [] = refl
+ended_map study (l ∷ ls) = ap (λ t. (line_text study l ++ 10 ∷ []) ++ t) (ended_map study ls)
+
+pub judge_sound : (study : Question) (text : List ℕ) (v : Verdict) → answer study text ≡ Confirmed v → IsReport study v text
+judge_sound study text v e =
+    let c = conclude_is (length (pieces text)) (final (pieces text)) (judge study (front (pieces text))) v e in
+    let idle : IsIdle study start = record { rows = refl; earlier = refl; suppose = refl; steps = refl; witnesses = refl } in
+    let r = ran study 1 start c.0 (front (pieces text)) [] (idle, refl) c.1 in
+    let read = subst (λ p. Holds study p c.0 × (printed study p c.0 ≡ r.0)) c.3 r.1 in
+    let right = read.0 in
+    record {
+      claims_some = right.2;
+      right = right.0;
+      is = text_pieces text ∙ ap (λ rest. ended (front (pieces text)) ++ rest) c.2 ∙ append-nil (ended (front (pieces text))) ∙ ap ended r.2 ∙ ended_map study r.0 ∙ ap (flat_map (λ line. line_text study line ++ 10 ∷ [])) (sym read.1);
+    }

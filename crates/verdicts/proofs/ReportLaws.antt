@@ -1,0 +1,273 @@
+-- The judge confirms the reports of right verdicts and nothing else.
+use Rattle.std.proofs.Common.{◌≡◌, refl, sym, ap, ◌∙◌, subst, ℕ, ◌+◌, ◌^◌, ◌<◌, ◌≢◌, Bool, true, false, not, List, [], ◌∷◌, ◌++◌, map, length, Some, None, arith, true≢false, cond, append-nil}
+use Rattle.std.specs.Prelude.{◌==◌, nat_lt}
+use Rattle.std.specs.List.{list_all, join_with_byte, onto_first}
+use Rattle.std.proofs.lemmas.List.Splits.{join_with_byte-slice_split, length-slice_split, slice_split-cons_no}
+use Rattle.std.proofs.lemmas.Bool.{and_parts, and_from, not-true}
+use Rattle.vocab.specs.Study.{Question}
+use Rattle.verdicts.specs.Texts.{words_of}
+use Rattle.verdicts.specs.Lines.{Line, line_text}
+use Rattle.verdicts.specs.declared.verdicts.Verdict.{Verdict}
+use Rattle.verdicts.specs.declared.refusals.Refusal.TheVariants.{Form}
+use Rattle.verdicts.specs.Report.{lemma_count, report_lines, report_text, has_text, is_right, IsReport, IsConfirmed}
+use Rattle.verdicts.specs.Places.{Place, AtTitle, AtKind, AtVoters, AtAlternatives, AtAxioms, AtVerdict, AtLimit, AtRule, AtRow, AtCore, AtLemmas, AtLemma, AtSuppose, AtStep, AtWitness, AtWitnessRow, AtEnd, AtNothing, Standing, start, wanted}
+use Rattle.verdicts.specs.Judge.{advance, Good, read_line, judge_from, judge, pieces, front, final, Confirmed, Faulty, at_end, conclude, answer}
+use Rattle.verdicts.specs.Laws.{IsReportable, IsShort}
+use Rattle.verdicts.proofs.RightLaws.{right_has_text}
+use Rattle.verdicts.proofs.WordLaws.{lacks, split_ended}
+use Rattle.verdicts.proofs.FitLaws.{Fits}
+use Rattle.verdicts.proofs.ReadLaws.{is_plain, wanted_is, words_are, line_lacks}
+use Rattle.verdicts.proofs.JudgeLaws.{ended, ended_map}
+use Rattle.verdicts.proofs.CompleteLaws.{Runs, report_run}
+use Rattle.verdicts.proofs.FaultLaws.{past}
+use Rattle.verdicts.proofs.ShortLaws.{is_short, report_short}
+use Rattle.meaning.proofs.SpaceLaws.{list_all-map_of}
+use Rattle.meaning.proofs.TestLaws.{list_all-both}
+
+abbrev short : List ℕ → Bool
+short line = not (nat_lt 4096 (length line))
+
+front_snoc : (xs : List (List ℕ)) (y : List ℕ) → front (xs ++ y ∷ []) ≡ xs
+front_snoc [] y = refl
+front_snoc (x ∷ []) y = refl
+front_snoc (x ∷ z ∷ xs) y = ap (λ ws. x ∷ ws) (front_snoc (z ∷ xs) y)
+
+front_more : (xs : List (List ℕ)) (q y : List ℕ) (ys : List (List ℕ)) → front (xs ++ q ∷ y ∷ ys) ≡ xs ++ q ∷ front (y ∷ ys)
+front_more [] q y ys = refl
+front_more (x ∷ []) q y ys = refl
+front_more (x ∷ z ∷ xs) q y ys = ap (λ ws. x ∷ ws) (front_more (z ∷ xs) q y ys)
+
+final_snoc : (xs : List (List ℕ)) (y : List ℕ) → final (xs ++ y ∷ []) ≡ y
+final_snoc [] y = refl
+final_snoc (x ∷ []) y = refl
+final_snoc (x ∷ z ∷ xs) y = final_snoc (z ∷ xs) y
+
+all_left : (t : List ℕ → Bool) (xs ys : List (List ℕ)) → list_all t (xs ++ ys) ≡ true → list_all t xs ≡ true
+all_left t [] ys h = refl
+all_left t (x ∷ xs) ys h = let p = and_parts (t x) (list_all t (xs ++ ys)) h in and_from _ _ p.0 (all_left t xs ys p.1)
+
+module _ (study : Question) (is : IsReportable study) where
+  -- a line that fits is read
+  line_read : (s : Standing) (l : Line) → Fits study s.place (length s.earlier + 1) l → is_plain l ≡ true → short (line_text study l) ≡ true → read_line study s (line_text study l) ≡ Some l
+  line_read s l f p h =
+      ap (λ b. cond b None (wanted study s.place (length s.earlier + 1) (words_of (line_text study l)))) (not-true _ h)
+      ∙ ap (wanted study s.place (length s.earlier + 1)) (words_are study is l p)
+      ∙ wanted_is study is s.place (length s.earlier + 1) l f p
+
+  -- the judge goes along lines without a fault
+  judged : (n : ℕ) (s t : Standing) (ls : List Line) (more : List (List ℕ)) → Runs study is true s ls t → list_all short (map (line_text study) ls) ≡ true → (k : ℕ) × (judge_from study n s (map (line_text study) ls ++ more) ≡ judge_from study k t more)
+  judged n s t [] more r h = (n, ap (λ u. judge_from study n u more) r)
+  judged n s t (l ∷ ls) more r h =
+      let p = and_parts (short (line_text study l)) (list_all short (map (line_text study) ls)) h in
+      let later = judged (n + 1) (advance study s l) t ls more r.3 p.1 in
+      (later.0, past study n s (line_text study l) (map (line_text study) ls ++ more) l (line_read s l r.0 r.1 p.0) (r.2 refl) ∙ later.1)
+
+  lines_lack : (b : Bool) (s t : Standing) (ls : List Line) → Runs study is b s ls t → list_all (lacks 10) (map (line_text study) ls) ≡ true
+  lines_lack b s t [] r = refl
+  lines_lack b s t (l ∷ ls) r = and_from _ _ (line_lacks study is l r.1) (lines_lack b (advance study s l) t ls r.3)
+
+  abbrev texts_of : Verdict → List (List ℕ)
+  texts_of v = map (line_text study) (report_lines study v)
+
+  -- the pieces of a report with something after it
+  report_pieces : (text rest : List ℕ) (v : Verdict) → IsReport study v text → pieces (text ++ rest) ≡ texts_of v ++ pieces rest
+  report_pieces text rest v r =
+      let run = report_run study is true v (λ _. r.claims_some) (λ _. r.right) (right_has_text study is v r.right) in
+      ap (λ t. pieces (t ++ rest)) (r.is ∙ sym (ended_map study (report_lines study v))) ∙ split_ended 10 (texts_of v) rest (lines_lack true start run.0 (report_lines study v) run.1)
+
+  report_judged : (text : List ℕ) (v : Verdict) (more : List (List ℕ)) → list_all short (texts_of v) ≡ true → IsReport study v text → (s : Standing) × (k : ℕ) × (judge study (texts_of v ++ more) ≡ judge_from study k s more) × (s.place ≡ AtNothing v)
+  report_judged text v more h r =
+      let run = report_run study is true v (λ _. r.claims_some) (λ _. r.right) (right_has_text study is v r.right) in
+      let j = judged 1 start run.0 (report_lines study v) more run.1 h in
+      (run.0, j.0, j.1, run.2)
+
+  complete : (text : List ℕ) (v : Verdict) → IsShort text → IsReport study v text → answer study text ≡ Confirmed v
+  complete text v h r =
+      let e : pieces text ≡ texts_of v ++ [] ∷ [] = ap pieces (sym (append-nil text)) ∙ report_pieces text [] v r in
+      let short_ones = all_left short (texts_of v) ([] ∷ []) (ap (list_all short) (sym e) ∙ h) in
+      let j = report_judged text v [] short_ones r in
+      ap (λ ps. conclude (length ps) (final ps) (judge study (front ps))) e
+      ∙ ap (λ xs. conclude (length (texts_of v ++ [] ∷ [])) (final (texts_of v ++ [] ∷ [])) (judge study xs)) (front_snoc (texts_of v) [])
+      ∙ ap (λ y. conclude (length (texts_of v ++ [] ∷ [])) y (judge study (texts_of v))) (final_snoc (texts_of v) [])
+      ∙ ap (λ xs. conclude (length (texts_of v ++ [] ∷ [])) [] (judge study xs)) (sym (append-nil (texts_of v)))
+      ∙ ap (conclude (length (texts_of v ++ [] ∷ [])) []) j.2
+      ∙ ap (at_end (length (texts_of v ++ [] ∷ [])) []) j.3
+
+-- a report whose lines are short
+pub judge_complete : (study : Question) → IsReportable study → (text : List ℕ) (v : Verdict) → IsShort text → IsReport study v text → answer study text ≡ Confirmed v
+judge_complete study is text v h r = complete study is text v h r
+
+module _ (study : Question) (is : IsReportable study) where
+  -- one line at a place, if the text is one
+  same_line : (p : Place) (n : ℕ) (l k : Line) → Fits study p n l → is_plain l ≡ true → Fits study p n k → is_plain k ≡ true → line_text study l ≡ line_text study k → l ≡ k
+  same_line p n l k f a g b e =
+      let words = sym (words_are study is l a) ∙ ap words_of e ∙ words_are study is k b in
+      some_same l k (sym (wanted_is study is p n l f a) ∙ ap (wanted study p n) words ∙ wanted_is study is p n k g b)
+    where
+      some_same : (l k : Line) → Some l ≡ Some k → l ≡ k
+      some_same l k e = cc
+
+  texts_cons : (x y : List ℕ) (xs ys : List (List ℕ)) → x ∷ xs ≡ y ∷ ys → (x ≡ y) × (xs ≡ ys)
+  texts_cons x y xs ys e = let h : x ≡ y = cc in let t : xs ≡ ys = cc in (h, t)
+
+  -- one standing after lines with one text
+  same_runs : (s t u : Standing) (ls ks : List Line) → Runs study is false s ls t → Runs study is false s ks u → map (line_text study) ls ≡ map (line_text study) ks → t ≡ u
+  same_runs s t u [] [] r q e = sym r ∙ q
+  same_runs s t u [] (k ∷ ks) r q e = absurd (cc)
+  same_runs s t u (l ∷ ls) [] r q e = absurd (cc)
+  same_runs s t u (l ∷ ls) (k ∷ ks) r q e =
+      let c = texts_cons (line_text study l) (line_text study k) (map (line_text study) ls) (map (line_text study) ks) e in
+      let same = same_line s.place (length s.earlier + 1) l k r.0 r.1 q.0 q.1 c.0 in
+      same_runs (advance study s k) t u ls ks (subst (λ (x : Line). Runs study is false (advance study s x) ls t) same r.3) q.3 c.1
+
+  same_verdict : (v w : Verdict) → AtNothing v ≡ AtNothing w → v ≡ w
+  same_verdict v w e = cc
+
+  distinct : (v w : Verdict) → has_text study v ≡ true → has_text study w ≡ true → report_text study v ≡ report_text study w → v ≡ w
+  distinct v w a b e =
+      let r = report_run study is false v (λ t. absurd (true≢false (sym t))) (λ t. absurd (true≢false (sym t))) a in
+      let q = report_run study is false w (λ t. absurd (true≢false (sym t))) (λ t. absurd (true≢false (sym t))) b in
+      let texts = sym (lines_of v r.0 r.1) ∙ ap (λ text. front (pieces text)) e ∙ lines_of w q.0 q.1 in
+      let same = same_runs start r.0 q.0 (report_lines study v) (report_lines study w) r.1 q.1 texts in
+      same_verdict v w (sym r.2 ∙ ap (λ (s : Standing). s.place) same ∙ q.2)
+    where
+      lines_of : (v : Verdict) (s : Standing) → Runs study is false start (report_lines study v) s → front (pieces (report_text study v)) ≡ map (line_text study) (report_lines study v)
+      lines_of v s r =
+          ap (λ t. front (pieces t)) (sym (ended_map study (report_lines study v)) ∙ sym (append-nil (ended (map (line_text study) (report_lines study v)))))
+          ∙ ap front (split_ended 10 (map (line_text study) (report_lines study v)) [] (lines_lack study is false start s (report_lines study v) r))
+          ∙ front_snoc (map (line_text study) (report_lines study v)) []
+
+pub texts_distinct : (study : Question) → IsReportable study → (v w : Verdict) → has_text study v ≡ true → has_text study w ≡ true → report_text study v ≡ report_text study w → v ≡ w
+texts_distinct study is v w a b e = distinct study is v w a b e
+
+module _ (study : Question) (is : IsReportable study) where
+  -- nothing fits after the end
+  nothing_fits : (p : Place) (n : ℕ) (l : Line) (v : Verdict) → p ≡ AtNothing v → Fits study p n l → ⊥
+  nothing_fits p n l v e f = subst (λ q. Fits study q n l) e f
+
+  no_more : (s t u : Standing) (ls ks : List Line) (more : List (List ℕ)) (v : Verdict) → Runs study is false s ls t → Runs study is false s ks u → t.place ≡ AtNothing v → map (line_text study) ls ++ more ≡ map (line_text study) ks → more ≡ []
+  no_more s t u [] [] more v r q p e = e
+  no_more s t u [] (k ∷ ks) more v r q p e = absurd (nothing_fits s.place (length s.earlier + 1) k v (ap (λ (x : Standing). x.place) r ∙ p) q.0)
+  no_more s t u (l ∷ ls) [] more v r q p e = absurd (cc)
+  no_more s t u (l ∷ ls) (k ∷ ks) more v r q p e =
+      let c = texts_cons study is (line_text study l) (line_text study k) (map (line_text study) ls ++ more) (map (line_text study) ks) e in
+      let same = same_line study is s.place (length s.earlier + 1) l k r.0 r.1 q.0 q.1 c.0 in
+      no_more (advance study s k) t u ls ks more v (subst (λ (x : Line). Runs study is false (advance study s x) ls t) same r.3) q.3 p c.1
+
+  only_piece : (rest : List ℕ) (xs ys ps : List (List ℕ)) → pieces rest ≡ ps → xs ++ ps ≡ ys ++ [] ∷ [] → (xs ++ front ps ≡ ys → front ps ≡ []) → rest ≡ []
+  only_piece rest xs ys [] e f more = absurd (omega (arith, length-slice_split (λ b. b == 10) rest, ap length e))
+  only_piece rest xs ys (q ∷ []) e f more =
+      let none : q ≡ [] = sym (final_snoc xs q) ∙ ap final f ∙ final_snoc ys [] in
+      sym (join_with_byte-slice_split 10 rest) ∙ ap (join_with_byte 10) e ∙ none
+  only_piece rest xs ys (q ∷ y ∷ ps) e f more = absurd (cons_none q (front (y ∷ ps)) (more (sym (front_more xs q y ps) ∙ ap front f ∙ front_snoc ys [])))
+    where
+      cons_none : (q : List ℕ) (qs : List (List ℕ)) → q ∷ qs ≡ [] → ⊥
+      cons_none q qs e = cc
+
+  no_prefix : (v w : Verdict) (rest : List ℕ) → has_text study v ≡ true → has_text study w ≡ true → report_text study v ++ rest ≡ report_text study w → rest ≡ []
+  no_prefix v w rest a b e =
+      let r = report_run study is false v (λ t. absurd (true≢false (sym t))) (λ t. absurd (true≢false (sym t))) a in
+      let q = report_run study is false w (λ t. absurd (true≢false (sym t))) (λ t. absurd (true≢false (sym t))) b in
+      let left = pieces_of v rest r.0 r.1 in
+      let right = ap pieces (sym (append-nil (report_text study w))) ∙ pieces_of w [] q.0 q.1 in
+      only_piece rest (map (line_text study) (report_lines study v)) (map (line_text study) (report_lines study w)) (pieces rest) refl (sym left ∙ ap pieces e ∙ right)
+      (λ f. no_more start r.0 q.0 (report_lines study v) (report_lines study w) (front (pieces rest)) v r.1 q.1 r.2 f)
+    where
+      pieces_of : (v : Verdict) (rest : List ℕ) (s : Standing) → Runs study is false start (report_lines study v) s → pieces (report_text study v ++ rest) ≡ map (line_text study) (report_lines study v) ++ pieces rest
+      pieces_of v rest s r =
+          ap (λ t. pieces (t ++ rest)) (sym (ended_map study (report_lines study v)))
+          ∙ split_ended 10 (map (line_text study) (report_lines study v)) rest (lines_lack study is false start s (report_lines study v) r)
+
+pub no_confirmed_prefix : (study : Question) → IsReportable study → (text rest : List ℕ) → IsConfirmed study text → IsConfirmed study (text ++ rest) → rest ≡ []
+no_confirmed_prefix study is text rest a b = no_prefix study is a.0 b.0 rest (right_has_text study is a.0 a.1.right) (right_has_text study is b.0 b.1.right) (ap (λ t. t ++ rest) (sym a.1.is) ∙ b.1.is)
+
+-- ---- short lines, and reports that are cut
+
+-- what stands after a text goes on its last piece
+pieces_append : (text rest : List ℕ) → pieces (text ++ rest) ≡ front (pieces text) ++ pieces (final (pieces text) ++ rest)
+pieces_append [] rest = refl
+pieces_append (b ∷ text) rest = by_test (b == 10) refl (pieces text) (omega (arith, length-slice_split (λ b. b == 10) text)) (pieces_append text rest)
+  where
+    by_test : (c : Bool) → (b == 10) ≡ c → (ps : List (List ℕ)) → 0 < length ps → pieces (text ++ rest) ≡ front ps ++ pieces (final ps ++ rest) →
+        cond c ([] ∷ pieces (text ++ rest)) (onto_first b (pieces (text ++ rest))) ≡ front (cond c ([] ∷ ps) (onto_first b ps)) ++ pieces (final (cond c ([] ∷ ps) (onto_first b ps)) ++ rest)
+    by_test c e [] some h = absurd (omega (arith, some))
+    by_test true e (x ∷ ps) some h = ap (λ qs. [] ∷ qs) h
+    by_test false e (x ∷ []) some h = ap (onto_first b) h ∙ sym (slice_split-cons_no (λ b. b == 10) b (x ++ rest) e)
+    by_test false e (x ∷ y ∷ ps) some h = ap (onto_first b) h
+
+-- a place that is not past the end
+at_end_other : (n : ℕ) (rest : List ℕ) (p : Place) → ((v : Verdict) → p ≡ AtNothing v → ⊥) → at_end n rest p ≡ Faulty n Form
+at_end_other n (c ∷ rest) p h = refl
+at_end_other n [] (AtNothing v) h = absurd (h v refl)
+at_end_other n [] AtTitle h = refl
+at_end_other n [] AtKind h = refl
+at_end_other n [] AtVoters h = refl
+at_end_other n [] AtAlternatives h = refl
+at_end_other n [] AtAxioms h = refl
+at_end_other n [] AtVerdict h = refl
+at_end_other n [] AtLimit h = refl
+at_end_other n [] AtRule h = refl
+at_end_other n [] AtRow h = refl
+at_end_other n [] AtCore h = refl
+at_end_other n [] AtLemmas h = refl
+at_end_other n [] AtLemma h = refl
+at_end_other n [] AtSuppose h = refl
+at_end_other n [] AtStep h = refl
+at_end_other n [] AtWitness h = refl
+at_end_other n [] AtWitnessRow h = refl
+at_end_other n [] (AtEnd v) h = refl
+
+module _ (study : Question) (is : IsReportable study) where
+  shorts : (v : Verdict) → is_right study v ≡ true → lemma_count v < 2 ^ 64 → list_all short (map (line_text study) (report_lines study v)) ≡ true
+  shorts v h few = list_all-map_of (is_short study is) short (line_text study) (report_lines study v) (λ l e. e) (report_short study is v h few)
+
+  lines_short : (v : Verdict) → is_right study v ≡ true → lemma_count v < 2 ^ 64 → IsShort (report_text study v)
+  lines_short v h few =
+      let run = report_run study is false v (λ t. absurd (true≢false (sym t))) (λ t. absurd (true≢false (sym t))) (right_has_text study is v h) in
+      ap (λ t. list_all short (pieces t)) (sym (ended_map study (report_lines study v)) ∙ sym (append-nil (ended (map (line_text study) (report_lines study v)))))
+      ∙ ap (list_all short) (split_ended 10 (map (line_text study) (report_lines study v)) [] (lines_lack study is false start run.0 (report_lines study v) run.1))
+      ∙ list_all-both short (map (line_text study) (report_lines study v)) ([] ∷ []) (shorts v h few) refl
+
+  -- the judge goes along some lines of a report, and wants another
+  stops_before : (n : ℕ) (s t : Standing) (ls : List Line) (before : List (List ℕ)) (line : List ℕ) (more : List (List ℕ)) → Runs study is true s ls t → list_all short (map (line_text study) ls) ≡ true → map (line_text study) ls ≡ before ++ line ∷ more →
+      (u : Standing) × (judge_from study n s before ≡ Good u) × ((v : Verdict) → u.place ≡ AtNothing v → ⊥)
+  stops_before n s t [] [] line more r h e = absurd (cc)
+  stops_before n s t [] (b ∷ before) line more r h e = absurd (cc)
+  stops_before n s t (l ∷ ls) [] line more r h e = (s, refl, λ v p. nothing_fits study is s.place (length s.earlier + 1) l v p r.0)
+  stops_before n s t (l ∷ ls) (b ∷ before) line more r h e =
+      let p = and_parts (short (line_text study l)) (list_all short (map (line_text study) ls)) h in
+      let c = texts_cons study is (line_text study l) b (map (line_text study) ls) (before ++ line ∷ more) e in
+      let later = stops_before (n + 1) (advance study s l) t ls before line more r.3 p.1 c.1 in
+      let read = ap (read_line study s) (sym c.0) ∙ line_read study is s l r.0 r.1 p.0 in
+      (later.0, past study n s b before l read (r.2 refl) ∙ later.1, later.2)
+
+  cut_here : (v : Verdict) (text rest : List ℕ) → list_all short (map (line_text study) (report_lines study v)) ≡ true → IsReport study v (text ++ rest) → (qs : List (List ℕ)) → pieces (final (pieces text) ++ rest) ≡ qs → rest ≢ [] → answer study text ≡ Faulty (length (pieces text)) Form
+  cut_here v text rest h r [] e some = absurd (omega (arith, length-slice_split (λ b. b == 10) (final (pieces text) ++ rest), ap length e))
+  cut_here v text rest h r (q ∷ []) e some =
+      let all : front (pieces text) ++ q ∷ [] ≡ map (line_text study) (report_lines study v) ++ [] ∷ [] = sym (pieces_append text rest ∙ ap (λ ps. front (pieces text) ++ ps) e) ∙ whole_pieces in
+      let none : q ≡ [] = sym (final_snoc (front (pieces text)) q) ∙ ap final all ∙ final_snoc (map (line_text study) (report_lines study v)) [] in
+      let empty : final (pieces text) ++ rest ≡ [] = sym (join_with_byte-slice_split 10 (final (pieces text) ++ rest)) ∙ ap (join_with_byte 10) e ∙ none in
+      absurd (some (right_empty (final (pieces text)) rest empty))
+    where
+      right_empty : (xs ys : List ℕ) → xs ++ ys ≡ [] → ys ≡ []
+      right_empty [] ys e = e
+      right_empty (x ∷ xs) ys e = absurd (cc)
+
+      whole_pieces : pieces (text ++ rest) ≡ map (line_text study) (report_lines study v) ++ [] ∷ []
+      whole_pieces = ap pieces (sym (append-nil (text ++ rest))) ∙ report_pieces study is (text ++ rest) [] v r
+  cut_here v text rest h r (q ∷ y ∷ ps) e some =
+      let all : front (pieces text) ++ q ∷ y ∷ ps ≡ map (line_text study) (report_lines study v) ++ [] ∷ [] =
+      sym (pieces_append text rest ∙ ap (λ ps. front (pieces text) ++ ps) e) ∙ ap pieces (sym (append-nil (text ++ rest))) ∙ report_pieces study is (text ++ rest) [] v r in
+      let lines : map (line_text study) (report_lines study v) ≡ front (pieces text) ++ q ∷ front (y ∷ ps) = sym (front_snoc (map (line_text study) (report_lines study v)) []) ∙ ap front (sym all) ∙ front_more (front (pieces text)) q y ps in
+      let run = report_run study is true v (λ _. r.claims_some) (λ _. r.right) (right_has_text study is v r.right) in
+      let stop = stops_before 1 start run.0 (report_lines study v) (front (pieces text)) q (front (y ∷ ps)) run.1 h lines in
+      ap (conclude (length (pieces text)) (final (pieces text))) stop.1 ∙ at_end_other (length (pieces text)) (final (pieces text)) stop.0.place stop.2
+
+pub right_lines_short : (study : Question) → IsReportable study → (v : Verdict) → is_right study v ≡ true → lemma_count v < 2 ^ 64 → IsShort (report_text study v)
+right_lines_short study is v h few = lines_short study is v h few
+
+pub right_is_confirmed : (study : Question) → IsReportable study → (text : List ℕ) (v : Verdict) → IsReport study v text → lemma_count v < 2 ^ 64 → answer study text ≡ Confirmed v
+right_is_confirmed study is text v r few = judge_complete study is text v (subst IsShort (sym r.is) (lines_short study is v r.right few)) r
+
+pub cut_is_form : (study : Question) → IsReportable study → (v : Verdict) (text rest : List ℕ) → IsReport study v (text ++ rest) → lemma_count v < 2 ^ 64 → rest ≢ [] → answer study text ≡ Faulty (length (pieces text)) Form
+cut_is_form study is v text rest r few some = cut_here study is v text rest (shorts study is v r.right few) r (pieces (final (pieces text) ++ rest)) refl some

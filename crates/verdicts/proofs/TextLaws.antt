@@ -1,0 +1,244 @@
+-- Different values have different texts, and no text has a blank or a line end.
+use Rattle.std.proofs.Common.{◌≡◌, refl, sym, ap, ap₂, ◌∙◌, ℕ, zero, suc, ◌+◌, ◌%◌, ◌<◌, ◌≤◌, ◌≢◌, inl, inr, Bool, true, false, not, ◌&&◌, ◌||◌, List, [], ◌∷◌, ◌++◌, map, length, replicate, arith, true≢false, lt-ltb, ltb-true, eqb-true, leb-true}
+use Rattle.std.specs.Prelude.{◌==◌, nat_lt, nat_le, nat_eq}
+use Rattle.std.specs.List.{list_all, list_any, join_with_byte, slice_split}
+use Rattle.std.specs.Cmp.Lexicographic.{pointwise}
+use Rattle.std.proofs.lemmas.Bool.{and_parts, and_from, or_cases, not-true, or_parts}
+use Rattle.std.proofs.lemmas.Slice.Eq.{bytes_eq-Decides}
+use Rattle.vocab.specs.declared.kinds.Kind.{Kind}
+use Rattle.vocab.specs.declared.kinds.Kind.TheVariants.{Choice, Ranking, Sets}
+use Rattle.vocab.specs.declared.kinds.Sort.{Sort}
+use Rattle.vocab.specs.declared.kinds.Sort.TheVariants.{Voter, Alt, Ballot, Profile}
+use Rattle.vocab.specs.declared.literals.Literal.{Literal}
+use Rattle.vocab.specs.declared.literals.Literal.TheVariants.{Wins, Loses, Above}
+use Rattle.vocab.specs.Name.{is_digit, is_lower, is_name_byte, is_name}
+use Rattle.vocab.specs.Literal.{profile_of}
+use Rattle.std.proofs.lemmas.List.{length-replicate, length-map}
+use Rattle.vocab.specs.Size.{Extent, IsSize, factorial, sort_count, outcome_count}
+use Rattle.vocab.specs.Study.{have_own_names}
+use Rattle.vocab.specs.Titled.{Titled}
+use Rattle.vocab.specs.Limits.{product}
+use Rattle.meaning.specs.Space.{number_of, digits_of, ranking, ranking_number, ballot_bases, ballots}
+use Rattle.meaning.specs.Digits.{AreDigits}
+use Rattle.meaning.proofs.RankingLaws.{are_rankings}
+use Rattle.meaning.proofs.DigitLaws.{are_numbered, are_profiles}
+use Rattle.verdicts.specs.Numbers.{number_text, value_after}
+use Rattle.meaning.specs.Texts.{letter, ballot_text, profile_text, outcome_text_of, outcome_text}
+use Rattle.verdicts.specs.Texts.{value_text, literal_text}
+use Rattle.verdicts.specs.Lines.{name_at}
+use Rattle.verdicts.proofs.NumberLaws.{value_of_text, number_digits}
+use Rattle.verdicts.proofs.WordLaws.{lacks, split_joined}
+
+head_same : (x y : ℕ) (xs ys : List ℕ) → x ∷ xs ≡ y ∷ ys → x ≡ y
+head_same x y xs ys e = cc
+
+tail_same : (x y : ℕ) (xs ys : List ℕ) → x ∷ xs ≡ y ∷ ys → xs ≡ ys
+tail_same x y xs ys e = cc
+
+cons_same : (x y : List ℕ) (xs ys : List (List ℕ)) → x ∷ xs ≡ y ∷ ys → (x ≡ y) × (xs ≡ ys)
+cons_same x y xs ys e = let h : x ≡ y = cc in let t : xs ≡ ys = cc in (h, t)
+
+-- lists of words that are joined to one text are one
+joins_same : (ws vs : List (List ℕ)) → list_all (lacks 124) ws ≡ true → list_all (lacks 124) vs ≡ true → 0 < length ws → 0 < length vs → join_with_byte 124 ws ≡ join_with_byte 124 vs → ws ≡ vs
+joins_same [] vs a b h k e = absurd (omega (arith, h))
+joins_same (w ∷ ws) [] a b h k e = absurd (omega (arith, k))
+joins_same (w ∷ ws) (v ∷ vs) a b h k e = sym (split_joined 124 w ws a) ∙ ap (slice_split (λ b. b == 124)) e ∙ split_joined 124 v vs b
+
+letters_same : (xs ys : List ℕ) → map letter xs ≡ map letter ys → xs ≡ ys
+letters_same [] [] e = refl
+letters_same [] (y ∷ ys) e = absurd (cc)
+letters_same (x ∷ xs) [] e = absurd (cc)
+letters_same (x ∷ xs) (y ∷ ys) e =
+    let h : x ≡ y = omega (arith, head_same (letter x) (letter y) (map letter xs) (map letter ys) e) in
+    ap₂ (λ a b. a ∷ b) h (letters_same xs ys (tail_same (letter x) (letter y) (map letter xs) (map letter ys) e))
+
+pub numbers_same : (m n : ℕ) → number_text m ≡ number_text n → m ≡ n
+numbers_same m n e = sym (value_of_text m) ∙ ap (value_after 0) e ∙ value_of_text n
+
+-- every byte is above the blank
+abbrev pub is_word : List ℕ → Bool
+is_word w = list_all (λ b. nat_lt 32 b) w
+
+not_below : (c b : ℕ) → c ≤ 32 → nat_lt 32 b ≡ true → not (b == c) ≡ true
+not_below c b h e = by_test (b == c) refl
+  where
+    by_test : (t : Bool) → (b == c) ≡ t → not t ≡ true
+    by_test true s = absurd (omega (arith, h, eqb-true b c s, ltb-true 32 b e))
+    by_test false s = refl
+
+pub word_lacks : (c : ℕ) (w : List ℕ) → c ≤ 32 → is_word w ≡ true → lacks c w ≡ true
+word_lacks c [] h e = refl
+word_lacks c (b ∷ w) h e = let p = and_parts (nat_lt 32 b) (is_word w) e in and_from _ _ (not_below c b h p.0) (word_lacks c w h p.1)
+
+all_from : (s t : ℕ → Bool) → ((b : ℕ) → s b ≡ true → t b ≡ true) → (w : List ℕ) → list_all s w ≡ true → list_all t w ≡ true
+all_from s t h [] e = refl
+all_from s t h (b ∷ w) e = let p = and_parts (s b) (list_all s w) e in and_from _ _ (h b p.0) (all_from s t h w p.1)
+
+digit_word : (b : ℕ) → is_digit b ≡ true → nat_lt 32 b ≡ true
+digit_word b e = let p = and_parts (nat_le 48 b) (nat_le b 57) e in lt-ltb 32 b (omega (arith, leb-true 48 b p.0))
+
+pub number_word : (n : ℕ) → is_word (number_text n) ≡ true
+number_word n = all_from is_digit (λ b. nat_lt 32 b) digit_word (number_text n) (number_digits n)
+
+lower_word : (b : ℕ) → is_lower b ≡ true → nat_lt 32 b ≡ true
+lower_word b e = let p = and_parts (nat_le 97 b) (nat_le b 122) e in lt-ltb 32 b (omega (arith, leb-true 97 b p.0))
+
+letters_word : (xs : List ℕ) → is_word (map letter xs) ≡ true
+letters_word [] = refl
+letters_word (x ∷ xs) = and_from _ _ (lt-ltb 32 (letter x) (omega arith)) (letters_word xs)
+
+word_append : (v w : List ℕ) → is_word v ≡ true → is_word w ≡ true → is_word (v ++ w) ≡ true
+word_append [] w h k = k
+word_append (b ∷ v) w h k = let p = and_parts (nat_lt 32 b) (is_word v) h in and_from _ _ p.0 (word_append v w p.1 k)
+
+-- there is a digit for each base
+pub length_digits : (bases : List ℕ) (k : ℕ) → length (digits_of bases k) ≡ length bases
+length_digits [] k = refl
+length_digits (b ∷ bases) k = ap suc (length_digits bases (k % product bases))
+
+module _ (size : Extent) (is : IsSize size) where
+  abbrev m : ℕ
+  m = size.alternatives
+
+  ballots_word : (bs : List ℕ) → is_word (join_with_byte 124 (map (ballot_text size) bs)) ≡ true
+  ballots_word [] = refl
+  ballots_word (b ∷ []) = letters_word (ranking m b)
+  ballots_word (b ∷ c ∷ bs) = word_append (ballot_text size b) _ (letters_word (ranking m b)) (and_from _ _ refl (ballots_word (c ∷ bs)))
+
+  pub profile_word : (p : ℕ) → is_word (profile_text size p) ≡ true
+  profile_word p = ballots_word (ballots size p)
+
+  pub ballots_same : (b c : ℕ) → b < factorial m → c < factorial m → ballot_text size b ≡ ballot_text size c → b ≡ c
+  ballots_same b c h k e =
+      sym ((are_rankings m).numbered b h) ∙ ap (ranking_number m) (letters_same (ranking m b) (ranking m c) e) ∙ (are_rankings m).numbered c k
+
+  -- no letter is `|`
+  letters_lack : (xs : List ℕ) → list_all (λ x. nat_lt x m) xs ≡ true → lacks 124 (map letter xs) ≡ true
+  letters_lack [] h = refl
+  letters_lack (x ∷ xs) h =
+      let p = and_parts (nat_lt x m) (list_all (λ x. nat_lt x m) xs) h in
+      and_from _ _ (other x (ltb-true x m p.0)) (letters_lack xs p.1)
+    where
+      other : (x : ℕ) → x < m → not (letter x == 124) ≡ true
+      other x l = by_test (letter x == 124) refl
+        where
+          by_test : (t : Bool) → (letter x == 124) ≡ t → not t ≡ true
+          by_test true s = absurd (omega (arith, l, is.few_alternatives, eqb-true (letter x) 124 s))
+          by_test false s = refl
+
+  texts_lack : (n : ℕ) (bs : List ℕ) → AreDigits (replicate n (factorial m)) bs → list_all (lacks 124) (map (ballot_text size) bs) ≡ true
+  texts_lack n [] h = refl
+  texts_lack zero (b ∷ bs) h = absurd (true≢false (sym h))
+  texts_lack (suc n) (b ∷ bs) h =
+      let p = and_parts (nat_lt b (factorial m)) (pointwise nat_lt bs (replicate n (factorial m))) h in
+      and_from _ _ (letters_lack (ranking m b) ((are_rankings m).each b (ltb-true b (factorial m) p.0)).in_range) (texts_lack n bs p.1)
+
+  texts_same : (n : ℕ) (bs cs : List ℕ) → AreDigits (replicate n (factorial m)) bs → AreDigits (replicate n (factorial m)) cs → map (ballot_text size) bs ≡ map (ballot_text size) cs → bs ≡ cs
+  texts_same n [] [] h k e = refl
+  texts_same n [] (c ∷ cs) h k e = absurd (cc)
+  texts_same n (b ∷ bs) [] h k e = absurd (cc)
+  texts_same zero (b ∷ bs) (c ∷ cs) h k e = absurd (true≢false (sym h))
+  texts_same (suc n) (b ∷ bs) (c ∷ cs) h k e =
+      let p = and_parts (nat_lt b (factorial m)) (pointwise nat_lt bs (replicate n (factorial m))) h in
+      let q = and_parts (nat_lt c (factorial m)) (pointwise nat_lt cs (replicate n (factorial m))) k in
+      let s = cons_same (ballot_text size b) (ballot_text size c) (map (ballot_text size) bs) (map (ballot_text size) cs) e in
+      ap₂ (λ x xs. x ∷ xs) (ballots_same b c (ltb-true b (factorial m) p.0) (ltb-true c (factorial m) q.0) s.0) (texts_same n bs cs p.1 q.1 s.1)
+
+  digits_are : (p : ℕ) → p < sort_count size Profile → AreDigits (ballot_bases size) (ballots size p)
+  digits_are p h = (are_numbered (ballot_bases size)).digits p (omega (arith, h, are_profiles size))
+
+  pub profiles_same : (p q : ℕ) → p < sort_count size Profile → q < sort_count size Profile → profile_text size p ≡ profile_text size q → p ≡ q
+  profiles_same p q h k e =
+      let a = digits_are p h in
+      let b = digits_are q k in
+      let words = joins_same (map (ballot_text size) (ballots size p)) (map (ballot_text size) (ballots size q)) (texts_lack size.voters (ballots size p) a) (texts_lack size.voters (ballots size q) b) (some_ballot p) (some_ballot q) e in
+      let same = texts_same size.voters (ballots size p) (ballots size q) a b words in
+      sym ((are_numbered (ballot_bases size)).of_digits p (omega (arith, h, are_profiles size)))
+      ∙ ap (number_of (ballot_bases size)) same
+      ∙ (are_numbered (ballot_bases size)).of_digits q (omega (arith, k, are_profiles size))
+    where
+      some_ballot : (k : ℕ) → 0 < length (map (ballot_text size) (ballots size k))
+      some_ballot k = omega (arith, length_digits (ballot_bases size) k, length-map (ballots size k) (ballot_text size), length-replicate size.voters (factorial m), is.some_voter)
+
+  outcomes_same_of : (k : Kind) (o u : ℕ) → k ≢ Sets → o < outcome_count k m → u < outcome_count k m → outcome_text_of size k o ≡ outcome_text_of size k u → o ≡ u
+  outcomes_same_of Choice o u n h k e = omega (arith, head_same (letter o) (letter u) [] [] e)
+  outcomes_same_of Ranking o u n h k e = ballots_same o u h k e
+  outcomes_same_of Sets o u n h k e = absurd (n refl)
+
+  pub outcome_word_of : (k : Kind) (o : ℕ) → is_word (outcome_text_of size k o) ≡ true
+  outcome_word_of Choice o = letters_word (o ∷ [])
+  outcome_word_of Ranking o = letters_word (ranking m o)
+  outcome_word_of Sets o = refl
+
+  pub outcomes_same : size.kind ≢ Sets → (o u : ℕ) → o < outcome_count size.kind m → u < outcome_count size.kind m → outcome_text size o ≡ outcome_text size u → o ≡ u
+  outcomes_same n o u h k e = outcomes_same_of size.kind o u n h k e
+
+  pub values_same : (s : Sort) (v w : ℕ) → v < sort_count size s → w < sort_count size s → value_text size s v ≡ value_text size s w → v ≡ w
+  values_same Voter v w h k e = omega (arith, numbers_same (v + 1) (w + 1) e)
+  values_same Alt v w h k e = omega (arith, head_same (letter v) (letter w) [] [] e)
+  values_same Ballot v w h k e = ballots_same v w h k e
+  values_same Profile v w h k e = profiles_same v w h k e
+
+  pub value_word : (s : Sort) (v : ℕ) → is_word (value_text size s v) ≡ true
+  value_word Voter v = number_word (v + 1)
+  value_word Alt v = letters_word (v ∷ [])
+  value_word Ballot v = letters_word (ranking m v)
+  value_word Profile v = profile_word v
+
+  pub literal_word : (l : Literal) → is_word (literal_text size l) ≡ true
+  literal_word (Wins x p) = and_from _ _ (lt-ltb 32 (letter x) (omega arith)) (and_from true _ refl (profile_word p))
+  literal_word (Loses x p) = and_from true _ refl (and_from _ _ (lt-ltb 32 (letter x) (omega arith)) (and_from true _ refl (profile_word p)))
+  literal_word (Above x y p) = and_from _ _ (lt-ltb 32 (letter x) (omega arith)) (and_from true _ refl (and_from _ _ (lt-ltb 32 (letter y) (omega arith)) (and_from true _ refl (profile_word p))))
+
+  abbrev in_size : Literal → Type 0
+  in_size l = profile_of l < sort_count size Profile
+
+  pub literals_same : (k l : Literal) → in_size k → in_size l → literal_text size k ≡ literal_text size l → k ≡ l
+  literals_same (Wins x p) (Wins y q) h i e =
+      let a : x ≡ y = omega (arith, head_same (letter x) (letter y) _ _ e) in
+      ap₂ Wins a (profiles_same p q h i (tail_same 64 64 _ _ (tail_same (letter x) (letter y) _ _ e)))
+  literals_same (Loses x p) (Loses y q) h i e =
+      let t = tail_same 33 33 _ _ e in
+      let a : x ≡ y = omega (arith, head_same (letter x) (letter y) _ _ t) in
+      ap₂ Loses a (profiles_same p q h i (tail_same 64 64 _ _ (tail_same (letter x) (letter y) _ _ t)))
+  literals_same (Above x y p) (Above v w q) h i e =
+      let t = tail_same 62 62 _ _ (tail_same (letter x) (letter v) _ _ e) in
+      let a : x ≡ v = omega (arith, head_same (letter x) (letter v) _ _ e) in
+      let b : y ≡ w = omega (arith, head_same (letter y) (letter w) _ _ t) in
+      let c = profiles_same p q h i (tail_same 64 64 _ _ (tail_same (letter y) (letter w) _ _ t)) in
+      λ j. Above (a j) (b j) (c j)
+  literals_same (Wins x p) (Loses y q) h i e = absurd (omega (arith, head_same (letter x) 33 _ _ e))
+  literals_same (Loses x p) (Wins y q) h i e = absurd (omega (arith, head_same 33 (letter y) _ _ e))
+  literals_same (Wins x p) (Above v w q) h i e = absurd (omega (arith, head_same 64 62 _ _ (tail_same (letter x) (letter v) _ _ e)))
+  literals_same (Above x y p) (Wins v q) h i e = absurd (omega (arith, head_same 62 64 _ _ (tail_same (letter x) (letter v) _ _ e)))
+  literals_same (Loses x p) (Above v w q) h i e = absurd (omega (arith, head_same 33 (letter v) _ _ e))
+  literals_same (Above x y p) (Loses v q) h i e = absurd (omega (arith, head_same (letter x) 33 _ _ e))
+
+name_byte_word : (b : ℕ) → is_name_byte b ≡ true → nat_lt 32 b ≡ true
+name_byte_word b e = elim (or_cases (is_lower b || is_digit b) (b == 95) e) [
+  | inl f ↦ elim (or_cases (is_lower b) (is_digit b) f) [
+    | inl g ↦ lower_word b g
+    | inr g ↦ digit_word b g
+  ]
+  | inr f ↦ lt-ltb 32 b (omega (arith, eqb-true b 95 f))
+]
+
+pub name_word : (w : List ℕ) → is_name w ≡ true → is_word w ≡ true
+name_word [] e = refl
+name_word (c ∷ cs) e =
+    let p = and_parts (is_lower c && list_all is_name_byte cs) (nat_le (length (c ∷ cs)) 32) e in
+    let q = and_parts (is_lower c) (list_all is_name_byte cs) p.0 in
+    and_from _ _ (lower_word c q.0) (all_from is_name_byte (λ b. nat_lt 32 b) name_byte_word cs q.1)
+
+-- axioms with names of their own
+own_head : (a : Titled) (axioms : List Titled) (k : ℕ) → k < length axioms → list_any (λ b. pointwise nat_eq a.name b.name) axioms ≡ false → a.name ≡ name_at axioms k → ⊥
+own_head a [] k h e same = omega (arith, h)
+own_head a (b ∷ axioms) zero h e same = true≢false (sym ((bytes_eq-Decides a.name b.name).1 same) ∙ (or_parts (pointwise nat_eq a.name b.name) _ e).0)
+own_head a (b ∷ axioms) (suc k) h e same = own_head a axioms k (omega (arith, h)) ((or_parts (pointwise nat_eq a.name b.name) _ e).1) same
+
+pub names_own : (axioms : List Titled) → have_own_names axioms ≡ true → (j k : ℕ) → j < length axioms → k < length axioms → name_at axioms j ≡ name_at axioms k → j ≡ k
+names_own [] own j k h i e = absurd (omega (arith, h))
+names_own (a ∷ axioms) own zero zero h i e = refl
+names_own (a ∷ axioms) own zero (suc k) h i e = absurd (own_head a axioms k (omega (arith, i)) (not-true _ (and_parts (not (list_any (λ b. pointwise nat_eq a.name b.name) axioms)) (have_own_names axioms) own).0) e)
+names_own (a ∷ axioms) own (suc j) zero h i e = absurd (own_head a axioms j (omega (arith, h)) (not-true _ (and_parts (not (list_any (λ b. pointwise nat_eq a.name b.name) axioms)) (have_own_names axioms) own).0) (sym e))
+names_own (a ∷ axioms) own (suc j) (suc k) h i e = ap suc (names_own axioms (and_parts (not (list_any (λ b. pointwise nat_eq a.name b.name) axioms)) (have_own_names axioms) own).1 j k (omega (arith, h)) (omega (arith, i)) e)

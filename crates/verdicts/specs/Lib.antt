@@ -1,0 +1,11 @@
+-- In reading order.
+pub mod Numbers
+pub mod Texts
+pub mod Lines
+pub mod Report
+pub mod Reading
+pub mod Places
+pub mod Faults
+pub mod Judge
+pub mod Words
+pub mod Laws

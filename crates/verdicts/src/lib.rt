@@ -1,0 +1,9 @@
+//! What a report says, when it is right, and which of its lines is the first faulty one.
+#![tactic(auto)]
+
+pub mod laws;
+mod refusals;
+mod verdicts;
+
+pub use refusals::Refusal;
+pub use verdicts::Verdict;

@@ -1,0 +1,35 @@
+//! Rules of one voter and one alternative.
+
+use crate::{Board, excludes, first_failure, instance_count, partial, truth};
+use lists::Items;
+use meaning::Three;
+use outcomes::{ChoiceKind, OutcomeKind};
+use profiles::Space;
+use std::test::Fail;
+use vocab::{Atom, Axiom, Env, Formula, Kind, Literal, Name, Size, Sort, Term};
+
+#[test]
+fn the_only_alternative_wins(rt: HostRuntime) -> Result<(), Fail> {
+    let size = Size::check(Kind::Choice, 1, 1)?;
+    let kind = ChoiceKind::new(Space::new(size));
+    let mut table = Items::new(rt.alloc());
+    table.push(0)?;
+    let wins = Formula::Leaf(Atom::Wins(Term::Const(0), Term::Const(0)));
+    assert!(rt; truth(&kind, &table, &wins, &Env::none()));
+    Ok(())
+}
+
+#[test]
+fn what_is_on_the_board_is_known(rt: HostRuntime) -> Result<(), Fail> {
+    let size = Size::check(Kind::Choice, 1, 1)?;
+    let kind = ChoiceKind::new(Space::new(size));
+    let mut board = Board::new(rt.alloc(), &kind)?;
+    let wins = Formula::Leaf(Atom::Wins(Term::Const(0), Term::Const(0)));
+    assert_eq!(rt; partial(&kind, &board, &wins, &Env::none()), Three::Unknown);
+    board.add(&Literal::Loses(0, 0));
+    assert_eq!(rt; partial(&kind, &board, &wins, &Env::none()), Three::False);
+    assert!(rt; excludes(&kind, &board, 0));
+    board.remove(&Literal::Loses(0, 0));
+    assert!(rt; !excludes(&kind, &board, 0));
+    Ok(())
+}
