@@ -22,14 +22,14 @@ pub fn name_at(kind: Kind, place: u32) -> Option<Name>
 }
 
 /// The text that the library of a kind has under a name: `None` where it has no such name.
-pub fn text_under(name: &Name, kind: Kind) -> Option<&'static [u8]>
+pub fn text_under(kind: Kind, name: &[u8]) -> Option<&'static [u8]>
     ensures { option_map (λ text. text.now) result ≡ text_under kind name.now }
 {
     for place in 0..count(kind) {
         let Some(bytes) = name_bytes(kind, place) else {
             return None;
         };
-        if bytes == name.bytes() {
+        if bytes == name {
             return text_at(kind, place);
         }
     }
@@ -42,7 +42,7 @@ pub fn find(alloc: Global, name: &Name, kind: Kind) -> Result<Option<Named>, NoM
     ensures { IfOk result (λ found. MatchOption found (text_under kind name.now ≡ None)
         (λ named. IsSomeAnd (text_under kind name.now) (λ text. IsSentence text (named_tree named)))) }
 {
-    let Some(text) = text_under(name, kind) else {
+    let Some(text) = text_under(kind, name.bytes()) else {
         return Ok(None);
     };
     match syntax::read(alloc, text) {

@@ -23,7 +23,7 @@ fn axioms_are_found_by_kind(rt: HostRuntime) -> Result<(), Fail> {
         let name = Name::new(name).ok_or("a name")?;
         assert_eq!(rt; find(rt.alloc(), &name, Kind::Choice)?.is_some(), choice);
         assert_eq!(rt; find(rt.alloc(), &name, Kind::Ranking)?.is_some(), ranking);
-        assert!(rt; text_under(&name, Kind::Sets).is_none());
+        assert!(rt; text_under(Kind::Sets, name.bytes()).is_none());
     }
     Ok(())
 }

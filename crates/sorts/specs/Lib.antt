@@ -1,8 +1,10 @@
 pub mod Symbols
 pub mod Scope
+pub mod ScopeView
 pub mod Constants
 pub mod Faults
 pub mod Resolved
 pub mod NamedTruth
+pub mod Visits
 pub mod Answers
 pub mod Laws

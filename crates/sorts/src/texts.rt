@@ -1,8 +1,10 @@
 //! Texts that faults name, held in place.
 
-ghost use Rattle.std.specs.Prelude.{◌≡◌};
+ghost use Rattle.std.specs.Prelude.{◌≡◌, ◌+◌, ◌<◌, ◌≤◌, [], ◌∷◌, ◌++◌, length, codes};
+ghost use Rattle.sorts.specs.Constants.{digits, decimal, voter_text, alternative_text, ballot_constant_text};
 
 use std::marker::Model;
+use vocab::Name;
 
 /// The name of a predicate or of a function, or `=`: up to 32 bytes.
 #[derive(Clone, Copy, Debug, PartialEq, Eq)]
@@ -30,6 +32,26 @@ impl Model for Symbol {
 }
 
 impl Symbol {
+    /// The symbol of a name.
+    pub(crate) fn of(name: Name) -> Symbol
+        ensures { result ≡ name }
+    {
+        let text = name.bytes();
+        let mut cells = [0; 32];
+        cells[..text.len()].copy_from_slice(text);
+        let len = text.len() as u8;
+        Symbol { cells, len }
+    }
+
+    /// The symbol of an equality.
+    pub(crate) fn equality() -> Symbol
+        ensures { result ≡ codes "=" }
+    {
+        let mut cells = [0; 32];
+        cells[0] = b'=';
+        Symbol { cells, len: 1 }
+    }
+
     /// The bytes of the symbol.
     pub fn bytes(&self) -> &[u8]
         ensures { result.now ≡ self.now }
@@ -65,6 +87,93 @@ impl Model for ConstantText {
 }
 
 impl ConstantText {
+    /// The text of a voter, numbered from 1.
+    pub(crate) fn voter(number: u16) -> ConstantText
+        ensures { result ≡ voter_text number }
+    {
+        let mut text = ConstantText::empty();
+        text.push(b'#');
+        text.push_number(number);
+        text
+    }
+
+    /// The text of an alternative, numbered from 0.
+    pub(crate) fn alternative(number: u8) -> ConstantText
+        ensures { result ≡ alternative_text number }
+    {
+        let mut text = ConstantText::empty();
+        text.push(b'@');
+        text.push(b'a'.wrapping_add(number));
+        text
+    }
+
+    /// The text of a ballot of these letters.
+    pub(crate) fn ballot(letters: Name) -> ConstantText
+        ensures { result ≡ ballot_constant_text letters }
+    {
+        let mut text = ConstantText::empty();
+        text.push(b'<');
+        text.push_all(letters);
+        text.push(b'>');
+        text
+    }
+
+    fn empty() -> ConstantText
+        ensures { result ≡ [] }
+    {
+        ConstantText {
+            cells: [0; 34],
+            len: 0,
+        }
+    }
+
+    fn push(&mut self, byte: u8)
+        requires { length self.old < 34 }
+        ensures { self.new ≡ self.old ++ byte ∷ [] }
+    {
+        self.cells[self.len as usize] = byte;
+        self.len += 1;
+    }
+
+    fn push_all(&mut self, text: Name)
+        requires { length self.old ≤ 1 }
+        ensures value { self.new ≡ self.old ++ text }
+        ensures short { length self.new ≤ 33 }
+    {
+        for byte in text.bytes() {
+            self.push(*byte);
+        }
+    }
+
+    /// Appends the last digits of a number, so many.
+    fn push_digits(&mut self, places: u8, number: u16)
+        requires { length self.old + places ≤ 34 }
+        ensures { self.new ≡ self.old ++ digits places number }
+    {
+        if places == 0 {
+            return;
+        }
+        self.push_digits(places - 1, number / 10);
+        self.push(b'0' + (number % 10) as u8);
+    }
+
+    fn push_number(&mut self, number: u16)
+        requires { length self.old ≤ 29 }
+        ensures { self.new ≡ self.old ++ decimal number }
+    {
+        if number < 10 {
+            self.push_digits(1, number);
+        } else if number < 100 {
+            self.push_digits(2, number);
+        } else if number < 1000 {
+            self.push_digits(3, number);
+        } else if number < 10000 {
+            self.push_digits(4, number);
+        } else {
+            self.push_digits(5, number);
+        }
+    }
+
     /// The bytes of the constant.
     pub fn bytes(&self) -> &[u8]
         ensures { result.now ≡ self.now }

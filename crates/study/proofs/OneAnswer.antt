@@ -10,7 +10,7 @@ use Rattle.axiom_library.specs.Library.{Entry}
 use Rattle.study.specs.declared.faults.StudyFault.{StudyFault}
 use Rattle.study.specs.declared.faults.StudyFault.TheVariants as fault
 use Rattle.study.specs.Document.{document_of}
-use Rattle.study.specs.Listing.{Listing}
+use Rattle.study.specs.declared.listing.Listing.{Listing}
 use Rattle.study.specs.Sentences.{Worded, AreReadAs, study_of}
 use Rattle.study.specs.Reading.{listing_in, IsUnread, IsAnswer, refused, read, IsAnswered, IsStudyOf}
 

@@ -1,13 +1,15 @@
 -- What the values of a TOML document say of a study, key by key. The members of a table stand in the byte order of their keys.
-use Rattle.std.specs.Prelude.{ℕ, List, [], ◌∷◌, Bool, ◌||◌, if◌then◌else◌, ℤ, pos, Option, None, Some, option_map, Result, Ok, Err, codes}
+use Rattle.std.specs.Prelude.{ℕ, List, [], ◌∷◌, Bool, ◌||◌, if◌then◌else◌, ℤ, pos, Option, None, Some, option_map, option_and_then, Result, Ok, Err, codes}
 use Rattle.std.specs.Option.{ok_or}
 use Rattle.std.specs.Str.{bytes_eq, is_utf8}
-use Rattle.toml.specs.Data.{Data, string, integer, array, table, Items, no_items, item, Members, no_members, member, get_member}
+use Rattle.toml.specs.Data.{Data, string, integer, array, table, Items, no_items, item, Members, no_members, member, get_member, as_str}
 use Rattle.toml.specs.Parse.{parse_document}
 use Rattle.vocab.specs.declared.kinds.Kind.{Kind}
 use Rattle.vocab.specs.declared.kinds.Kind.TheVariants.{Choice, Ranking}
 use Rattle.vocab.specs.Name.{is_name}
 use Rattle.axiom_library.specs.Library.{Entry}
+use Rattle.study.specs.declared.drafts.Draft.{Draft}
+use Rattle.study.specs.declared.drafts.Head.{Head}
 use Rattle.study.specs.Refusing.{◌>>=◌}
 
 -- the document that the bytes are, if they are UTF-8 and TOML
@@ -33,20 +35,22 @@ conflicts_of _ = None
 -- the texts that are the items of an array, if each is a string
 abbrev pub texts_in : Items → Option (List (List ℕ))
 texts_in no_items = Some []
-texts_in (item (string text) rest) = option_map (λ texts. text ∷ texts) (texts_in rest)
-texts_in (item _ rest) = None
+texts_in (item value rest) = option_and_then (λ text. option_map (λ texts. text ∷ texts) (texts_in rest)) (as_str value)
 
 -- `axioms`: an array of strings
 abbrev pub axioms_of : Option Data → Option (List (List ℕ))
 axioms_of (Some (array items)) = texts_in items
 axioms_of _ = None
 
+-- a sentence of the study's own: a name, and the text of a sentence
+abbrev pub own_sentence : List ℕ → Data → Result Entry (List ℕ)
+own_sentence key (string text) = if is_name key then Ok (record { name = key; text = text }) else Err key
+own_sentence key _ = Err key
+
 -- the sentences of a table, or its first key that is no name or has no string
 abbrev pub sentences_in : Members → Result (List Entry) (List ℕ)
 sentences_in no_members = Ok []
-sentences_in (member key (string text) rest) =
-    if is_name key then sentences_in rest >>= (λ own. Ok (record { name = key; text = text } ∷ own)) else Err key
-sentences_in (member key _ rest) = Err key
+sentences_in (member key value rest) = own_sentence key value >>= (λ e. sentences_in rest >>= (λ own. Ok (e ∷ own)))
 
 -- `sentences`: a table of such, or nothing, which stands for none
 abbrev pub sentences_of : Option Data → Result (List Entry) (List ℕ)
@@ -65,23 +69,20 @@ abbrev pub known_keys : Members → Result (Unit {0}) (List ℕ)
 known_keys no_members = Ok tt
 known_keys (member key value rest) = if is_key key then known_keys rest else Err key
 
--- what a document says, if each key has its form
-pub record Draft : Type 0 where
-  pub kind : Kind
-  pub voters : ℤ
-  pub alternatives : ℤ
-  pub conflicts : ℤ
-  pub axioms : List (List ℕ)
-  pub sentences : List Entry
-
--- what the document says, or its first key that has not its form
-unfoldable pub draft_of : Members → Result Draft (List ℕ)
-draft_of document = do
+-- the kind and the numbers that a document says, or its first key that has not its form
+unfoldable pub head_of : Members → Result Head (List ℕ)
+head_of document = do
   kind ← ok_or (kind_of (get_member (codes "kind") document)) (codes "kind")
   voters ← ok_or (integer_of (get_member (codes "voters") document)) (codes "voters")
   alternatives ← ok_or (integer_of (get_member (codes "alternatives") document)) (codes "alternatives")
   conflicts ← ok_or (conflicts_of (get_member (codes "conflicts") document)) (codes "conflicts")
+  Ok (record { kind = kind; voters = voters; alternatives = alternatives; conflicts = conflicts })
+
+-- all that a document says, or its first key that has not its form
+unfoldable pub draft_of : Members → Result Draft (List ℕ)
+draft_of document = do
+  head ← head_of document
   axioms ← ok_or (axioms_of (get_member (codes "axioms") document)) (codes "axioms")
   sentences ← sentences_of (get_member (codes "sentences") document)
   _ ← known_keys document
-  Ok (record { kind = kind; voters = voters; alternatives = alternatives; conflicts = conflicts; axioms = axioms; sentences = sentences })
+  Ok (record { head = head; axioms = axioms; sentences = sentences })

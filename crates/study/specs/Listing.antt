@@ -1,15 +1,15 @@
 -- The size, the limit and the axioms' texts of a study, or what is refused of them.
-use Rattle.std.specs.Prelude.{ℕ, List, [], ◌∷◌, ◌++◌, length, Bool, ◌&&◌, ◌||◌, nat_le, nat_abs, ℤ, if◌then◌else◌, Option, None, Some, is_some, Result, Ok, Err}
+use Rattle.std.specs.Prelude.{ℕ, ◌≤◌, List, [], ◌∷◌, ◌++◌, length, Bool, true, not, ◌&&◌, ◌||◌, nat_le, nat_abs, ℤ, if◌then◌else◌, Option, None, Some, is_some, Result, Ok, Err, IsTrue}
 use Rattle.std.specs.List.{list_any}
 use Rattle.std.specs.Str.{bytes_eq}
 use Rattle.vocab.specs.declared.kinds.Kind.{Kind}
-use Rattle.vocab.specs.Size.{Extent}
 use Rattle.vocab.specs.SizeFault.{is_between, size_of}
 use Rattle.axiom_library.specs.Library.{Entry, text_among, text_under}
+use Rattle.study.specs.declared.drafts.Draft.{Draft}
 use Rattle.study.specs.declared.faults.StudyFault.{StudyFault}
 use Rattle.study.specs.declared.faults.StudyFault.TheVariants as fault
+use Rattle.study.specs.declared.listing.Listing.{Listing}
 use Rattle.study.specs.Refusing.{◌>>=◌, refused_as}
-use Rattle.study.specs.Document.{Draft}
 
 -- the limit of a search is from 1 to 1,000,000
 abbrev pub limit_of : ℤ → Result ℕ StudyFault
@@ -24,15 +24,15 @@ abbrev pub or_own : Option (List ℕ) → Option (List ℕ) → Option (List ℕ
 or_own (Some text) own = Some text
 or_own None own = own
 
+-- a name with its text, if it has one
+abbrev pub entry_of : List ℕ → Option (List ℕ) → Result Entry StudyFault
+entry_of name None = Err (fault.Unknown name)
+entry_of name (Some text) = Ok (record { name = name; text = text })
+
 module _ (kind : Kind) (own : List Entry) where
   -- the text under a name: the library's for the kind, or else one of the study's own sentences
   abbrev pub text_of : List ℕ → Option (List ℕ)
   text_of name = or_own (text_under kind name) (text_among own name)
-
-  -- a name with its text
-  abbrev pub entry_of : List ℕ → Option (List ℕ) → Result Entry StudyFault
-  entry_of name None = Err (fault.Unknown name)
-  entry_of name (Some text) = Ok (record { name = name; text = text })
 
   -- each name with its text, or the first that has none
   abbrev pub listed : List (List ℕ) → Result (List Entry) StudyFault
@@ -44,22 +44,28 @@ module _ (kind : Kind) (own : List Entry) where
   is_in_both name = is_some (text_under kind name) && is_some (text_among own name)
 
   -- no name stands earlier in the list or has two texts; else the first that does
-  abbrev pub once : List (List ℕ) → List (List ℕ) → Result (Unit {0}) StudyFault
+  abbrev pub once : List Entry → List Entry → Result (Unit {0}) StudyFault
   once earlier [] = Ok tt
-  once earlier (name ∷ names) = if list_any (λ other. bytes_eq other name) earlier || is_in_both name then Err (fault.Twice name) else once (earlier ++ name ∷ []) names
-
--- a size, a limit, and axioms with their texts
-pub record Listing : Type 0 where
-  pub size : Extent
-  pub conflicts : ℕ
-  pub axioms : List Entry
+  once earlier (e ∷ entries) = if list_any (λ other. bytes_eq other.name e.name) earlier || is_in_both e.name then Err (fault.Twice e.name) else once (earlier ++ e ∷ []) entries
 
 -- what a draft lists, or the first refusal: of the size, the limit, the number of axioms, an unknown name, a name that stands twice
 unfoldable pub listing_of : Draft → Result Listing StudyFault
 listing_of draft = do
-  size ← refused_as fault.Size (size_of draft.kind draft.voters draft.alternatives)
-  conflicts ← limit_of draft.conflicts
+  size ← refused_as fault.Size (size_of draft.head.kind draft.head.voters draft.head.alternatives)
+  conflicts ← limit_of draft.head.conflicts
   _ ← few_of draft.axioms
-  axioms ← listed draft.kind draft.sentences draft.axioms
-  _ ← once draft.kind draft.sentences [] draft.axioms
+  axioms ← listed draft.head.kind draft.sentences draft.axioms
+  _ ← once draft.head.kind draft.sentences [] axioms
   Ok (record { size = size; conflicts = conflicts; axioms = axioms })
+
+-- no two entries have one name
+abbrev pub have_own_names : List Entry → Bool
+have_own_names [] = true
+have_own_names (e ∷ entries) = not (list_any (λ other. bytes_eq e.name other.name) entries) && have_own_names entries
+
+-- what holds of each listing
+pub record IsListing (listing : Listing) : Type 0 where
+  pub own_names : IsTrue (have_own_names listing.axioms)
+  pub few_axioms : length listing.axioms ≤ 40
+  pub some_conflicts : 1 ≤ listing.conflicts
+  pub few_conflicts : listing.conflicts ≤ 1000000

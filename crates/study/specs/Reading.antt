@@ -8,9 +8,10 @@ use Rattle.syntax.specs.Sentence.{IsFault}
 use Rattle.axiom_library.specs.Library.{Entry}
 use Rattle.study.specs.declared.faults.StudyFault.{StudyFault}
 use Rattle.study.specs.declared.faults.StudyFault.TheVariants as fault
+use Rattle.study.specs.declared.listing.Listing.{Listing}
 use Rattle.study.specs.Refusing.{and_then, refused_as}
 use Rattle.study.specs.Document.{document_of, draft_of}
-use Rattle.study.specs.Listing.{Listing, listing_of}
+use Rattle.study.specs.Listing.{listing_of}
 use Rattle.study.specs.Sentences.{Worded, AreReadAs, study_of}
 
 -- what a document that may be missing lists, or its first refusal

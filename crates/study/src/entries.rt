@@ -1,9 +1,10 @@
 //! Names with texts.
 
-ghost use Rattle.std.specs.Prelude.{◌≡◌};
+ghost use Rattle.std.specs.Prelude.{◌≡◌, IfOk};
 
 use crate::faults::Text;
-use lists::Items;
+use lists::{Items, NoMemory};
+use std::alloc::Global;
 use std::marker::Model;
 use vocab::Name;
 
@@ -24,6 +25,9 @@ impl Model for Entry {
 
     ghost view = { λ e. record { name = e.name; text = e.text } };
 }
+
+/// A list of texts.
+pub type Texts = Items<Text>;
 
 /// A list of names with texts.
 pub type Entries = Items<Entry>;
@@ -49,4 +53,13 @@ impl Entry {
     {
         &self.text
     }
+}
+
+/// A text of its own with these bytes.
+pub(crate) fn copied(alloc: Global, bytes: &[u8]) -> Result<Text, NoMemory>
+    ensures { IfOk result (λ text. text ≡ bytes.now) }
+{
+    let mut text = Text::new(alloc);
+    text.append(bytes)?;
+    Ok(text)
 }

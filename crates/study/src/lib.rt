@@ -1,10 +1,15 @@
 //! Reads a study, the question that the bench is asked, from the bytes of a TOML document.
 #![tactic(auto)]
 
+mod document;
+mod drafts;
 mod entries;
 mod faults;
 pub mod laws;
+mod limits;
+mod listing;
 mod reading;
+mod sentences;
 
 pub use faults::{StudyFault, Text};
 pub use reading::read_study;

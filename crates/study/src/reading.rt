@@ -1,11 +1,71 @@
 //! Studies, read from bytes.
 
-ghost use Rattle.std.specs.Prelude.{◌≢◌, Ok, Err, IfOk, IfErr};
-ghost use Rattle.study.specs.Reading.{IsStudyOf};
+ghost use Rattle.std.specs.Prelude.{◌≡◌, ◌≢◌, Ok, Err, IfOk, IfErr, map};
+ghost use Rattle.study.specs.Document.{document_of};
+ghost use Rattle.study.specs.Listing.{IsListing};
+ghost use Rattle.study.specs.Reading.{listing_in, IsAnswer, IsStudyOf};
+ghost use Rattle.study.specs.Refusing.{Gives};
+ghost use Rattle.study.specs.Sentences.{AreReadAs, study_of};
+ghost use Rattle.study.specs.Written.{worded_of};
 
+use crate::document::draft_of;
 use crate::faults::StudyFault;
+use crate::limits::{Limit, within};
+use crate::listing::{Listing, listing_of};
+use crate::sentences::{Written, read_all, resolve_all};
 use std::alloc::Global;
 use vocab::Study;
+
+/// The study of a listing whose texts are read.
+#[tactic(auto, unfolding(crate::specs::Sentences::study_of))]
+fn study_of(alloc: Global, listing: &Listing, sentences: &[Written]) -> Result<Study, StudyFault>
+    requires whole { IsListing listing.now }
+    requires read { AreReadAs listing.now.axioms (map worded_of sentences.now) }
+    ensures { Gives (study_of listing.now.size listing.now.conflicts (map worded_of sentences.now)) result }
+{
+    let size = listing.size;
+    let axioms = resolve_all(alloc, size, sentences)?;
+    within(Limit::Instances, size, axioms.as_slice())?;
+    within(Limit::Body, size, axioms.as_slice())?;
+    within(Limit::Work, size, axioms.as_slice())?;
+    Ok(Study::new(size, listing.conflicts, axioms))
+}
+
+/// The study of a listing, or the first refusal of a text or a sentence.
+fn answer_of(alloc: Global, listing: &Listing) -> Result<Study, StudyFault>
+    requires { IsListing listing.now }
+    ensures ok { IfOk result (λ study. IsAnswer listing.now (Ok study)) }
+    ensures refused { IfErr result (λ fault. fault ≢ StudyFault.NoMemory → IsAnswer listing.now (Err fault)) }
+{
+    let sentences = match read_all(alloc, listing.axioms.as_slice()) {
+        Ok(sentences) => sentences,
+        Err(fault) => return Err(fault),
+    };
+    match study_of(alloc, listing, sentences.as_slice()) {
+        Ok(study) => Ok(study),
+        Err(fault) => Err(fault),
+    }
+}
+
+/// What the bytes list, or the first refusal of their document.
+#[tactic(auto, using(crate::proofs::Whole::bytes_refused))]
+fn listing_in(alloc: Global, bytes: &[u8]) -> Result<Listing, StudyFault>
+    ensures { Gives (listing_in (document_of bytes.now)) result }
+{
+    let table = match toml::table_from_slice(alloc, bytes) {
+        Ok(table) => table,
+        Err(error) if error.is_memory() => return Err(StudyFault::NoMemory),
+        Err(_) => return Err(StudyFault::Toml),
+    };
+    let draft = match draft_of(alloc, &table) {
+        Ok(draft) => draft,
+        Err(fault) => return Err(fault),
+    };
+    match listing_of(alloc, &draft) {
+        Ok(listing) => Ok(listing),
+        Err(fault) => Err(fault),
+    }
+}
 
 /// The study that the bytes give, as a TOML document, or the first reason why they give none.
 ///
@@ -22,5 +82,12 @@ pub fn read_study(alloc: Global, bytes: &[u8]) -> Result<Study, StudyFault>
     ensures ok { IfOk result (λ study. IsStudyOf bytes.now (Ok study)) }
     ensures refused { IfErr result (λ fault. fault ≢ StudyFault.NoMemory → IsStudyOf bytes.now (Err fault)) }
 {
-    Err(StudyFault::NoMemory)
+    let listing = match listing_in(alloc, bytes) {
+        Ok(listing) => listing,
+        Err(fault) => return Err(fault),
+    };
+    match answer_of(alloc, &listing) {
+        Ok(study) => Ok(study),
+        Err(fault) => Err(fault),
+    }
 }

@@ -6,7 +6,7 @@ use Rattle.axiom_library.proofs.finding.find.Goals as goal
 
 pub prove-unreachable-requires : goal.prove-unreachable-requires
 prove-unreachable-requires c =
-    let reads = text_readable c.args.kind c.args.name.now c.in-Some.text.now (sym (c.in-Some.ensures)) in
+    let reads = text_readable c.args.kind c.bytes.result.now c.in-Some.text.now (sym (c.in-Some.ensures)) in
     elim c.match-matches.branch [
       | in-NoMemory w ↦ false≢true (sym c.if-prove.true ∙ w.matches-is)
       | in_default-matches w ↦ only_memory c.in-Some.text.now reads.tree c.in-Err.fault reads.reads (c.in-Err.ensures) w.in_default-matches.not-NoMemory

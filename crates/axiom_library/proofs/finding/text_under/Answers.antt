@@ -5,7 +5,7 @@ use Rattle.axiom_library.proofs.finding.text_under.Goals as goal
 
 pub returns-then-eq : goal.returns-then-eq
 returns-then-eq c =
-    c.text_at.ensures ∙ text_here (library c.args.kind) c.loop-place.place c.args.name.now c.in-Some.bytes.now c.in-Some.ensures (rw (← c.bytes.ensures, ← c.eq.ensures) c.if-eq.true) ∙ c.loop-place.invariant
+    c.text_at.ensures ∙ text_here (library c.args.kind) c.loop-place.place c.args.name.now c.in-Some.bytes.now c.in-Some.ensures (rw (← c.eq.ensures) c.if-eq.true) ∙ c.loop-place.invariant
 
 pub loop-place-preserved : goal.loop-place-preserved
-loop-place-preserved c = text_later (library c.args.kind) c.loop-place.place c.args.name.now c.in-Some.bytes.now c.in-Some.ensures (rw (← c.bytes.ensures, ← c.eq.ensures) c.if-eq.false) ∙ c.loop-place.invariant
+loop-place-preserved c = text_later (library c.args.kind) c.loop-place.place c.args.name.now c.in-Some.bytes.now c.in-Some.ensures (rw (← c.eq.ensures) c.if-eq.false) ∙ c.loop-place.invariant

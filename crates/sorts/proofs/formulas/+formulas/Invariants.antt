@@ -1,0 +1,10 @@
+use Rattle.std.proofs.Common.{◌+◌, ◌*◌, max}
+use Rattle.vocab.specs.NamedDepth.{depth}
+use Rattle.vocab.specs.NamedView.{named_tree}
+use Rattle.sorts.proofs.formulas.+formulas.Given as goal
+
+abbrev pub decreases-formula : goal.decreases-formula
+decreases-formula l = 2 * depth (named_tree l.named.now)
+
+abbrev pub decreases-two_formulas : goal.decreases-two_formulas
+decreases-two_formulas l = 2 * max (depth (named_tree l.left.now)) (depth (named_tree l.right.now)) + 1

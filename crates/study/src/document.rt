@@ -1,0 +1,190 @@
+//! What the values of a TOML document say of a study. All that touches a value of `toml` stands here.
+
+ghost use Rattle.std.specs.Prelude.{◌≡◌, ◌≢◌, IfOk, option_map, string_bytes};
+ghost use Rattle.toml.specs.Data.{get_member};
+ghost use Rattle.toml.specs.View.{view, items_view, table_view};
+ghost use Rattle.study.specs.Document.{kind_of, integer_of, conflicts_of, texts_in, axioms_of, own_sentence, sentences_in, sentences_of, is_key, known_keys, head_of, draft_of};
+ghost use Rattle.study.specs.Refusing.{refused_as, Gives};
+
+use crate::drafts::{Draft, Head};
+use crate::entries::{Entries, Entry, Texts, copied};
+use crate::faults::StudyFault;
+use lists::NoMemory;
+use std::alloc::Global;
+use toml::{Table, Value};
+use vocab::{Kind, Name};
+
+/// The fault of a key.
+fn key_fault(alloc: Global, key: &str) -> StudyFault
+    ensures { result ≢ StudyFault.NoMemory → result ≡ StudyFault.Key key.now }
+{
+    match copied(alloc, key.as_bytes()) {
+        Ok(text) => StudyFault::Key(text),
+        Err(NoMemory) => StudyFault::NoMemory,
+    }
+}
+
+/// The value at a key.
+fn value_at<'a>(table: &'a Table, key: &str) -> Option<&'a Value>
+    ensures { option_map (λ value. view value.now) result ≡ get_member key.now (table_view table.now) }
+{
+    table.get(key)
+}
+
+/// The kind of a rule.
+fn kind_of(value: Option<&Value>) -> Option<Kind>
+    ensures { result ≡ kind_of (option_map (λ value. view value.now) value.entry) }
+{
+    match value {
+        Some(Value::String(text)) if text.as_str() == "choice" => Some(Kind::Choice),
+        Some(Value::String(text)) if text.as_str() == "ranking" => Some(Kind::Ranking),
+        _ => None,
+    }
+}
+
+/// A number of voters or of alternatives.
+fn integer_of(value: Option<&Value>) -> Option<i64>
+    ensures { result ≡ integer_of (option_map (λ value. view value.now) value.entry) }
+{
+    match value {
+        Some(Value::Integer(number)) => Some(*number),
+        _ => None,
+    }
+}
+
+/// The most clauses that a search may learn.
+fn conflicts_of(value: Option<&Value>) -> Option<i64>
+    ensures { result ≡ conflicts_of (option_map (λ value. view value.now) value.entry) }
+{
+    match value {
+        None => Some(100_000),
+        Some(Value::Integer(number)) => Some(*number),
+        _ => None,
+    }
+}
+
+/// The kind and the numbers of a study.
+#[tactic(auto, unfolding(crate::specs::Document::head_of))]
+fn head_of(alloc: Global, table: &Table) -> Result<Head, StudyFault>
+    ensures { Gives (refused_as StudyFault.Key (head_of (table_view table.now))) result }
+{
+    let Some(kind) = kind_of(value_at(table, "kind")) else {
+        return Err(key_fault(alloc, "kind"));
+    };
+    let Some(voters) = integer_of(value_at(table, "voters")) else {
+        return Err(key_fault(alloc, "voters"));
+    };
+    let Some(alternatives) = integer_of(value_at(table, "alternatives")) else {
+        return Err(key_fault(alloc, "alternatives"));
+    };
+    let Some(conflicts) = conflicts_of(value_at(table, "conflicts")) else {
+        return Err(key_fault(alloc, "conflicts"));
+    };
+    Ok(Head {
+        kind,
+        voters,
+        alternatives,
+        conflicts,
+    })
+}
+
+/// The texts that the values are, if each is a string.
+#[tactic(auto, using(crate::proofs::Collected::texts_all))]
+fn texts_in(alloc: Global, values: &[Value]) -> Result<Option<Texts>, NoMemory>
+    ensures { IfOk result (λ found. found ≡ texts_in (items_view values.now)) }
+{
+    let mut texts = Texts::new(alloc);
+    for value in values {
+        let Value::String(text) = value else {
+            return Ok(None);
+        };
+        texts.push(copied(alloc, text.as_bytes())?)?;
+    }
+    Ok(Some(texts))
+}
+
+/// The names of the axioms.
+fn axioms_of(alloc: Global, value: Option<&Value>) -> Result<Option<Texts>, NoMemory>
+    ensures { IfOk result (λ found. found ≡ axioms_of (option_map (λ value. view value.now) value.entry)) }
+{
+    match value {
+        Some(Value::Array(values)) => texts_in(alloc, values),
+        _ => Ok(None),
+    }
+}
+
+/// A sentence of the study's own.
+fn own_sentence(alloc: Global, key: &str, value: &Value) -> Result<Entry, StudyFault>
+    ensures { Gives (refused_as StudyFault.Key (own_sentence key.now (view value.now))) result }
+{
+    let Value::String(text) = value else {
+        return Err(key_fault(alloc, key));
+    };
+    let Some(name) = Name::new(key.as_bytes()) else {
+        return Err(key_fault(alloc, key));
+    };
+    Ok(Entry::new(name, copied(alloc, text.as_bytes())?))
+}
+
+/// The study's own sentences.
+#[tactic(auto, using(crate::proofs::Collected::sentences_all))]
+fn sentences_in(alloc: Global, table: &Table) -> Result<Entries, StudyFault>
+    ensures { Gives (refused_as StudyFault.Key (sentences_in (table_view table.now))) result }
+{
+    let mut sentences = Entries::new(alloc);
+    'members: for (key, value) in table.iter() {
+        let sentence = own_sentence(alloc, key.as_str(), value)?;
+        sentences.push(sentence)?;
+    }
+    Ok(sentences)
+}
+
+/// The study's own sentences, which may be missing.
+fn sentences_of(alloc: Global, value: Option<&Value>) -> Result<Entries, StudyFault>
+    ensures { Gives (refused_as StudyFault.Key (sentences_of (option_map (λ value. view value.now) value.entry))) result }
+{
+    match value {
+        None => Ok(Entries::new(alloc)),
+        Some(Value::Table(table)) => sentences_in(alloc, table),
+        Some(_) => Err(key_fault(alloc, "sentences")),
+    }
+}
+
+fn is_key(key: &str) -> bool
+    ensures { result ≡ is_key key.now }
+{
+    matches!(
+        key,
+        "kind" | "voters" | "alternatives" | "conflicts" | "axioms" | "sentences"
+    )
+}
+
+/// Refuses a key that no study has.
+fn known_keys(alloc: Global, table: &Table) -> Result<(), StudyFault>
+    ensures { Gives (refused_as StudyFault.Key (known_keys (table_view table.now))) result }
+{
+    'members: for (key, _value) in table.iter() {
+        if !is_key(key.as_str()) {
+            return Err(key_fault(alloc, key.as_str()));
+        }
+    }
+    Ok(())
+}
+
+/// All that a document says of a study.
+#[tactic(auto, unfolding(crate::specs::Document::draft_of))]
+pub(crate) fn draft_of(alloc: Global, table: &Table) -> Result<Draft, StudyFault>
+    ensures { Gives (refused_as StudyFault.Key (draft_of (table_view table.now))) result }
+{
+    let head = head_of(alloc, table)?;
+    let Some(axioms) = axioms_of(alloc, value_at(table, "axioms"))? else {
+        return Err(key_fault(alloc, "axioms"));
+    };
+    let sentences = sentences_of(alloc, value_at(table, "sentences"))?;
+    known_keys(alloc, table)?;
+    Ok(Draft {
+        head,
+        axioms,
+        sentences,
+    })
+}
