@@ -5,4 +5,3 @@ pub mod CheckLemmas
 pub mod AnswerLemmas
 pub mod RowLemmas
 pub mod LibraryLemmas
-pub mod StudyKinds

@@ -13,7 +13,7 @@ use crate::judge::judge;
 use crate::refusals::study_line;
 use edge::{ReadFault, Shelf, read_all};
 use lists::NoMemory;
-use outcomes::ChoiceKind;
+use outcomes::{ChoiceKind, RankingKind};
 use profiles::Space;
 use std::alloc::Global;
 use study::{StudyFault, read_study};
@@ -32,7 +32,7 @@ fn judge_study(alloc: Global, study: &Study, report: &[u8]) -> Result<Answer, No
     let space = Space::new(study.size());
     match study.size().kind() {
         Kind::Choice => judge(alloc, &ChoiceKind::new(space), study, report),
-        Kind::Ranking => Err(NoMemory),
+        Kind::Ranking => judge(alloc, &RankingKind::new(space), study, report),
         Kind::Sets => unreachable!(),
     }
 }

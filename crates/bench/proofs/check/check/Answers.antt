@@ -1,6 +1,7 @@
 use Rattle.std.proofs.Common.{refl, ◌≡◌, ◌<◌, length, Ok, Err, IsSomeAnd}
 use Rattle.edge.specs.declared.faults.ReadFault.TheVariants.{TooLong}
 use Rattle.study.specs.Reading.{IsStudyOf}
+use Rattle.study.proofs.Kinds.{kinds_known}
 use Rattle.bench.specs.CheckTable.{most_bytes}
 use Rattle.bench.proofs.CheckLemmas.{at_that_error, WasRead, IsTooLong, too_long_row, refused_answer, judged_row, report_cause}
 use Rattle.bench.proofs.check.check.Goals as goal
@@ -12,7 +13,7 @@ returns-in-Err-TooLong-clause-lawful g c =
     too_long_row told c.args.study.now c.args.report.now _ _ long c.in_ok-say-in-Err-TooLong.ensures.status c.in_ok-say-in-Err-TooLong.ensures.text
 
 pub check_report-requires : goal.check_report-requires
-check_report-requires g c = ?
+check_report-requires g c = kinds_known c.as_slice.result.now c.in-Ok-read_study.study c.in-Ok-read_study.ensures.ok
 
 pub returns-in-Ok-read_study-clause-lawful : goal.returns-in-Ok-read_study-clause-lawful
 returns-in-Ok-read_study-clause-lawful g c =
