@@ -8,4 +8,4 @@ mod table;
 mod tests;
 
 pub use finding::{find, name_at, text_under};
-pub use table::text_at;
+pub use table::{count, text_at};

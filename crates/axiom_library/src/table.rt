@@ -101,7 +101,7 @@ fn ranking_text(place: u32) -> Option<&'static [u8]>
 
 /// How many axioms the library of a kind has.
 #[tactic(auto, unfolding(crate::specs::Library::choice, crate::specs::Library::ranking))]
-pub(crate) fn count(kind: Kind) -> u32
+pub fn count(kind: Kind) -> u32
     ensures { result ≡ length (library kind) }
 {
     match kind {

@@ -1,21 +1,36 @@
 -- From `check` to the answer, and what was written.
-use Rattle.std.proofs.Common.{◌≡◌, ℕ, ◌≤◌, List, length, take, take_all, Option, None, Some, IfSome, Result, Ok, Err, IfOk, OnErr, le_refl, ◌∙◌}
+use Rattle.std.proofs.Common.{◌≡◌, ℕ, ◌≤◌, List, length, take, take_all, Option, None, Some, IfSome, Result, Ok, Err, IfOk, OnErr, le_refl, subst, ◌∙◌}
 use Rattle.std.specs.Io.KnownBytes.{Appends, Keeps}
 use Rattle.edge.specs.Shelf.{Files}
 use Rattle.edge.specs.Told.{AppendsPrefix}
 use Rattle.bench.specs.declared.answers.Answer.{Answer}
 use Rattle.bench.specs.declared.answers.Stop.{Stop}
-use Rattle.bench.specs.Words.{Command, command_of}
+use Rattle.vocab.specs.declared.kinds.Kind.{Kind}
+use Rattle.bench.specs.LibraryText.{library_text}
+use Rattle.bench.specs.Words.{Axioms, request_of, IsCheck}
 use Rattle.bench.specs.CheckTable.{Checked}
-use Rattle.bench.specs.Lawful.{Lawful, check}
-use Rattle.bench.specs.TopCall.{Answered, AnsweredInPart}
+use Rattle.bench.specs.Lawful.{Lawful, check, listed}
+use Rattle.bench.specs.TopCall.{Answered, AnsweredInPart, Says}
 
-pub check_row : (told : Option Files) (words : List (List ℕ)) (c : Command) (result : Result Answer Stop) → command_of words ≡ Some c
-    → IfSome told (λ files. IfOk result (λ answer. Checked files c.study c.report answer.status answer.text))
+pub check_row : (told : Option Files) (words : List (List ℕ)) (study report : List ℕ) (result : Result Answer Stop) → IsCheck words study report
+    → IfSome told (λ files. IfOk result (λ answer. Checked files study report answer.status answer.text))
     → IfSome told (λ files. IfOk result (λ answer. Lawful words files answer.status answer.text))
-check_row None words c result asked given = tt
-check_row (Some files) words c (Err e) asked given = tt
-check_row (Some files) words c (Ok answer) asked given = check c asked given
+check_row None words study report result asked given = tt
+check_row (Some files) words study report (Err e) asked given = tt
+check_row (Some files) words study report (Ok answer) asked given = check study report asked given
+
+-- the library, whatever the files
+pub listed_row : (told : Option Files) (words : List (List ℕ)) (kind : Kind) (status : ℕ) (text : List ℕ) → request_of words ≡ Some (Axioms kind) → status ≡ 0 → text ≡ library_text kind
+    → IfSome told (λ files. Lawful words files status text)
+listed_row None words kind status text asked a e = tt
+listed_row (Some files) words kind status text asked a e = listed kind asked a e
+
+-- what is written of the library
+pub listed_clause : (words : List (List ℕ)) (kind : Kind) (status : ℕ) (text : List ℕ) (a b : Option (List ℕ)) → (status ≡ 0) × (text ≡ library_text kind) → Appends a b text → Says status a b 0 (library_text kind)
+listed_clause words kind status text a b is written = (is.0, subst (λ (t : List ℕ). Appends a b t) is.1 written)
+
+pub listed_in_part : (text wanted : List ℕ) (a b : Option (List ℕ)) → text ≡ wanted → AppendsPrefix a b text → AppendsPrefix a b wanted
+listed_in_part text wanted a b is written = subst (λ (t : List ℕ). AppendsPrefix a b t) is written
 
 kept_all : (a b c : Option (List ℕ)) (p : List ℕ) → Appends a b p → Keeps b c → Appends a c (take (length p) p)
 kept_all None b c p h k = tt

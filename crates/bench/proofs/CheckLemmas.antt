@@ -1,16 +1,18 @@
 -- The rows of `check`, where the shelf tells its files.
-use Rattle.std.proofs.Common.{◌≡◌, ℕ, ◌<◌, ◌≤◌, List, length, codes, Option, None, Some, IfSome, IsSomeAnd, Result, Ok, Err, IfOk, IsErrOf, refl, arith}
+use Rattle.std.proofs.Common.{◌≡◌, ◌≢◌, ℕ, ◌<◌, ◌≤◌, List, length, codes, Option, None, Some, IfSome, IsSomeAnd, Result, Ok, Err, IfOk, IsErrOf, refl, arith}
 use Rattle.edge.specs.Shelf.{Files, NoneFell}
 use Rattle.edge.specs.Faults.{Rose}
 use Rattle.vocab.specs.Study.{Question}
-use Rattle.study.specs.declared.faults.StudyFault.TheVariants.{NotToml, NotBuilt}
-use Rattle.study.specs.Reading.{study_of_bytes}
+use Rattle.study.specs.declared.faults.StudyFault.{StudyFault}
+use Rattle.study.specs.declared.faults.StudyFault.TheVariants.{NoMemory as OutOfMemory}
+use Rattle.study.specs.Reading.{IsStudyOf}
+use Rattle.bench.specs.Refusals.{study_line}
 use Rattle.bench.specs.declared.answers.Answer.{Answer}
 use Rattle.bench.specs.declared.answers.Stop.{Stop}
-use Rattle.bench.specs.CheckTable.{most_bytes, Judged, too_long, Checked, study_too_long, study_not_toml, study_not_built, judged}
+use Rattle.bench.specs.CheckTable.{most_bytes, Judged, too_long, Checked, study_too_long, study_refused, judged}
 use Rattle.bench.specs.TopCall.{HoldsStudy, HasReadCause, at_report}
 
-some_and : {A : Type 0} (r : Option A) (P : A → Type 0) → IsSomeAnd r P → (x : A) × (r ≡ Some x) × P x
+pub some_and : {A : Type 0} (r : Option A) (P : A → Type 0) → IsSomeAnd r P → (x : A) × (r ≡ Some x) × P x
 some_and None P h = absurd h
 some_and (Some x) P h = (x, refl, h)
 
@@ -36,21 +38,25 @@ module _ (told : Option Files) (study report : List ℕ) where
       row None h = tt
       row (Some files) h = let (bytes, held, long) = some_and (files study) _ h in study_too_long bytes (record { held = held; long = long }) a e
 
-  pub not_toml_row : (bytes : List ℕ) (s : ℕ) (t : List ℕ) → WasRead told study bytes → study_of_bytes bytes ≡ Err NotToml → s ≡ 3 → t ≡ codes "study: not toml\n" → IfSome told (λ files. Checked files study report s t)
-  not_toml_row bytes s t h bad a e = row told h.held
+  pub refused_row : (bytes : List ℕ) (fault : StudyFault) (s : ℕ) (t : List ℕ) → WasRead told study bytes → IsStudyOf bytes (Err fault) → s ≡ 3 → t ≡ study_line fault → IfSome told (λ files. Checked files study report s t)
+  refused_row bytes fault s t h bad a e = row told h.held
     where
       row : (o : Option Files) → IfSome o (λ files. files study ≡ Some bytes) → IfSome o (λ files. Checked files study report s t)
       row None held = tt
-      row (Some files) held = study_not_toml bytes (record { held = held; fits = h.fits }) bad a e
+      row (Some files) held = study_refused bytes fault (record { held = held; fits = h.fits }) bad a e
 
-  pub not_built_row : (bytes : List ℕ) (s : ℕ) (t : List ℕ) → WasRead told study bytes → study_of_bytes bytes ≡ Err NotBuilt → s ≡ 3 → t ≡ codes "study: not built\n" → IfSome told (λ files. Checked files study report s t)
-  not_built_row bytes s t h bad a e = row told h.held
+  -- the same of an answer that may lack memory
+  pub refused_answer : (bytes : List ℕ) (fault : StudyFault) (result : Result Answer Stop) → WasRead told study bytes → (fault ≢ OutOfMemory → IsStudyOf bytes (Err fault))
+      → IfOk result (λ _. fault ≢ OutOfMemory) → IfOk result (λ answer. answer.status ≡ 3) → IfOk result (λ answer. answer.text ≡ study_line fault)
+      → IfSome told (λ files. IfOk result (λ answer. Checked files study report answer.status answer.text))
+  refused_answer bytes fault (Err e) h bad some a e' = all_told told
     where
-      row : (o : Option Files) → IfSome o (λ files. files study ≡ Some bytes) → IfSome o (λ files. Checked files study report s t)
-      row None held = tt
-      row (Some files) held = study_not_built bytes (record { held = held; fits = h.fits }) bad a e
+      all_told : (o : Option Files) → IfSome o (λ files. Unit {0})
+      all_told None = tt
+      all_told (Some files) = tt
+  refused_answer bytes fault (Ok answer) h bad some a e = refused_row bytes fault answer.status answer.text h (bad some) a e
 
-  pub judged_row : (bytes : List ℕ) (question : Question) (result : Result Answer Stop) → WasRead told study bytes → study_of_bytes bytes ≡ Ok question
+  pub judged_row : (bytes : List ℕ) (question : Question) (result : Result Answer Stop) → WasRead told study bytes → IsStudyOf bytes (Ok question)
       → IfSome told (λ files. IfOk result (λ answer. (held : List ℕ) × (files report ≡ Some held) × Judged question held answer.status answer.text))
       → IfSome told (λ files. IfOk result (λ answer. Checked files study report answer.status answer.text))
   judged_row bytes question result h read given = row told result h.held given
@@ -63,7 +69,7 @@ module _ (told : Option Files) (study report : List ℕ) where
       row (Some files) (Ok answer) held given = judged bytes question given.0 (record { held = held; fits = h.fits }) read given.1 given.2
 
   -- the study was read
-  study_read : (bytes : List ℕ) (question : Question) → WasRead told study bytes → study_of_bytes bytes ≡ Ok question → IfSome told (λ files. HoldsStudy files study)
+  study_read : (bytes : List ℕ) (question : Question) → WasRead told study bytes → IsStudyOf bytes (Ok question) → IfSome told (λ files. HoldsStudy files study)
   study_read bytes question h read = row told h.held
     where
       row : (o : Option Files) → IfSome o (λ files. files study ≡ Some bytes) → IfSome o (λ files. HoldsStudy files study)
@@ -75,7 +81,7 @@ module _ (told : Option Files) (study report : List ℕ) where
 
   -- a fault at the report, after the study was read
   pub report_cause : (before middle now : List ℕ → ℕ) (bytes : List ℕ) (question : Question) → NoneFell before middle → Rose (middle report) (now report)
-      → WasRead told study bytes → study_of_bytes bytes ≡ Ok question → HasReadCause told before now study report
+      → WasRead told study bytes → IsStudyOf bytes (Ok question) → HasReadCause told before now study report
   report_cause before middle now bytes question fell rose h read = at_report (rose_since (before report) (middle report) (now report) (fell report) rose) (study_read bytes question h read)
 
 -- a report that is too long

@@ -4,3 +4,4 @@ pub mod OneAnswer
 pub mod CheckLemmas
 pub mod AnswerLemmas
 pub mod RowLemmas
+pub mod LibraryLemmas

@@ -1,5 +1,5 @@
 -- The rows of the table exclude one another.
-use Rattle.std.proofs.Common.{◌≡◌, sym, ◌∙◌, ap, ap₂, subst, ℕ, zero, suc, ◌<◌, ◌≤◌, true, false, inl, inr, List, [], ◌∷◌, length, slice_get, Option, Some, arith}
+use Rattle.std.proofs.Common.{◌≡◌, sym, ◌∙◌, ap, ap₂, subst, ℕ, zero, suc, ◌<◌, ◌≤◌, true, false, inl, inr, List, [], ◌∷◌, length, slice_get, Option, Some, Result, Ok, Err, arith}
 use Rattle.std.proofs.lemmas.Bool.{and_parts, both_ways, cases_lt}
 use Rattle.edge.specs.Shelf.{Files}
 use Rattle.vocab.specs.Limits.{instance_count}
@@ -12,11 +12,15 @@ use Rattle.meaning.specs.Truth.{is_rule, is_axiom_true, satisfies}
 use Rattle.meaning.proofs.InstanceLaws.{have_instances}
 use Rattle.meaning.proofs.SpaceLaws.{all_at}
 use Rattle.meaning.proofs.ValueLoops.{all_fails}
-use Rattle.study.specs.Reading.{study_of_bytes}
+use Rattle.study.specs.declared.faults.StudyFault.{StudyFault}
+use Rattle.study.specs.Reading.{IsStudyOf}
+use Rattle.study.proofs.OneAnswer.{studies_once}
 use Rattle.report.specs.Report.{IsRuleReport}
-use Rattle.bench.specs.Words.{Command, command_of}
-use Rattle.bench.specs.CheckTable.{most_bytes, Holds, HoldsTooMany, SatisfiesAll, IsFirstFailing, fails_line, Judged, too_long, not_built, fails, confirmed, Checked, study_too_long, study_not_toml, study_not_built, judged}
-use Rattle.bench.specs.Lawful.{usage, check}
+use Rattle.bench.specs.LibraryText.{library_text}
+use Rattle.bench.specs.Refusals.{study_line}
+use Rattle.bench.specs.Words.{Request, Check, Axioms, request_of, IsCheck}
+use Rattle.bench.specs.CheckTable.{most_bytes, Holds, HoldsTooMany, SatisfiesAll, IsFirstFailing, fails_line, Judged, too_long, not_built, fails, confirmed, Checked, study_too_long, study_refused, judged}
+use Rattle.bench.specs.Lawful.{usage, check, listed}
 use Rattle.bench.specs.Laws.{AreOne}
 use Rattle.bench.proofs.OneRule.{one_rule}
 
@@ -114,36 +118,46 @@ module _ (files : Files) (study report : List ℕ) where
   long_fits : (b b' : List ℕ) → HoldsTooMany files study b → Holds files study b' → ⊥
   long_fits b b' h h' = not_long b b' (same_bytes b b' h.held h'.held) h.long h'.fits
 
-  -- the bytes of a study are read in one way
-  same_reading : (b b' : List ℕ) → Holds files study b → Holds files study b' → study_of_bytes b ≡ study_of_bytes b'
-  same_reading b b' h h' = ap study_of_bytes (same_bytes b b' h.held h'.held)
+  -- the bytes of a study give one answer
+  same_reading : (b b' : List ℕ) (r r' : Result Question StudyFault) → Holds files study b → Holds files study b' → IsStudyOf b r → IsStudyOf b' r' → r ≡ r'
+  same_reading b b' r r' h h' read read' = studies_once b' r r' (subst (λ (x : List ℕ). IsStudyOf x r) (same_bytes b b' h.held h'.held) read) read'
 
   one_check : (s s' : ℕ) (t t' : List ℕ) → Checked files study report s t → Checked files study report s' t' → OneAnswer s s' t t'
   one_check s s' t t' (study_too_long b h a e) (study_too_long b' h' a' e') = (a ∙ sym a', e ∙ sym e')
-  one_check s s' t t' (study_too_long b h a e) (study_not_toml b' h' r a' e') = absurd (long_fits b b' h h')
-  one_check s s' t t' (study_too_long b h a e) (study_not_built b' h' r a' e') = absurd (long_fits b b' h h')
+  one_check s s' t t' (study_too_long b h a e) (study_refused b' f' h' r' a' e') = absurd (long_fits b b' h h')
   one_check s s' t t' (study_too_long b h a e) (judged b' q held h' r p j) = absurd (long_fits b b' h h')
-  one_check s s' t t' (study_not_toml b h r a e) (study_too_long b' h' a' e') = absurd (long_fits b' b h' h)
-  one_check s s' t t' (study_not_toml b h r a e) (study_not_toml b' h' r' a' e') = (a ∙ sym a', e ∙ sym e')
-  one_check s s' t t' (study_not_toml b h r a e) (study_not_built b' h' r' a' e') = let same = same_reading b b' h h' in absurd (cc)
-  one_check s s' t t' (study_not_toml b h r a e) (judged b' q held h' r' p j) = let same = same_reading b b' h h' in absurd (cc)
-  one_check s s' t t' (study_not_built b h r a e) (study_too_long b' h' a' e') = absurd (long_fits b' b h' h)
-  one_check s s' t t' (study_not_built b h r a e) (study_not_toml b' h' r' a' e') = let same = same_reading b b' h h' in absurd (cc)
-  one_check s s' t t' (study_not_built b h r a e) (study_not_built b' h' r' a' e') = (a ∙ sym a', e ∙ sym e')
-  one_check s s' t t' (study_not_built b h r a e) (judged b' q held h' r' p j) = let same = same_reading b b' h h' in absurd (cc)
+  one_check s s' t t' (study_refused b f h r a e) (study_too_long b' h' a' e') = absurd (long_fits b' b h' h)
+  one_check s s' t t' (study_refused b f h r a e) (study_refused b' f' h' r' a' e') =
+      let same = same_reading b b' (Err f) (Err f') h h' r r' in
+      let fault : f ≡ f' = cc in
+      (a ∙ sym a', e ∙ ap study_line fault ∙ sym e')
+  one_check s s' t t' (study_refused b f h r a e) (judged b' q held h' r' p j) = let same = same_reading b b' (Err f) (Ok q) h h' r r' in absurd (cc)
   one_check s s' t t' (judged b q held h r p j) (study_too_long b' h' a' e') = absurd (long_fits b' b h' h)
-  one_check s s' t t' (judged b q held h r p j) (study_not_toml b' h' r' a' e') = let same = same_reading b b' h h' in absurd (cc)
-  one_check s s' t t' (judged b q held h r p j) (study_not_built b' h' r' a' e') = let same = same_reading b b' h h' in absurd (cc)
+  one_check s s' t t' (judged b q held h r p j) (study_refused b' f' h' r' a' e') = let same = same_reading b b' (Ok q) (Err f') h h' r r' in absurd (cc)
   one_check s s' t t' (judged b q held h r p j) (judged b' q' held' h' r' p' j') =
-      let same = same_reading b b' h h' in
+      let same = same_reading b b' (Ok q) (Ok q') h h' r r' in
       let question : q ≡ q' = cc in
       let bytes : held ≡ held' = some_same (files report) held held' p p' in
       one_judgement q' held' s s' t t' (subst (λ (x : Question). Judged x held' s t) question (subst (λ (x : List ℕ). Judged q x s t) bytes j)) j'
 
+-- the names of the files of `check`
+same_names : (words : List (List ℕ)) (study report study' report' : List ℕ) → IsCheck words study report → IsCheck words study' report' → (study ≡ study') × (report ≡ report')
+same_names words study report study' report' n n' =
+    let same : Check study report ≡ Check study' report' = some_same (request_of words) _ _ n n' in
+    (cc, cc)
+
 pub one_answer : AreOne
 one_answer words files s s' t t' (usage n a e) (usage n' a' e') = (a ∙ sym a', e ∙ sym e')
-one_answer words files s s' t t' (usage n a e) (check c n' j) = absurd (cc)
-one_answer words files s s' t t' (check c n j) (usage n' a e) = absurd (cc)
-one_answer words files s s' t t' (check c n j) (check c' n' j') =
-    let same : c ≡ c' = some_same (command_of words) c c' n n' in
-    one_check files c'.study c'.report s s' t t' (subst (λ (x : Command). Checked files x.study x.report s t) same j) j'
+one_answer words files s s' t t' (usage n a e) (check x y n' j) = absurd (cc)
+one_answer words files s s' t t' (usage n a e) (listed k n' a' e') = absurd (cc)
+one_answer words files s s' t t' (check x y n j) (usage n' a e) = absurd (cc)
+one_answer words files s s' t t' (check x y n j) (check x' y' n' j') =
+    let same = same_names words x y x' y' n n' in
+    one_check files x' y' s s' t t' (subst (λ (z : List ℕ). Checked files x' z s t) same.1 (subst (λ (z : List ℕ). Checked files z y s t) same.0 j)) j'
+one_answer words files s s' t t' (check x y n j) (listed k n' a e) = let same : Check x y ≡ Axioms k = some_same (request_of words) _ _ n n' in absurd (cc)
+one_answer words files s s' t t' (listed k n a e) (usage n' a' e') = absurd (cc)
+one_answer words files s s' t t' (listed k n a e) (check x y n' j) = let same : Check x y ≡ Axioms k = some_same (request_of words) _ _ n' n in absurd (cc)
+one_answer words files s s' t t' (listed k n a e) (listed k' n' a' e') =
+    let same : Axioms k ≡ Axioms k' = some_same (request_of words) _ _ n n' in
+    let kind : k ≡ k' = cc in
+    (a ∙ sym a', e ∙ ap library_text kind ∙ sym e')

@@ -4,10 +4,12 @@ use Rattle.std.specs.Io.KnownBytes.{Appends}
 use Rattle.std.proofs.lemmas.Bool.{cases_lt}
 use Rattle.edge.specs.Shelf.{Files}
 use Rattle.vocab.specs.Study.{Question}
+use Rattle.study.specs.declared.faults.StudyFault.{StudyFault}
+use Rattle.bench.specs.Refusals.{study_line}
 use Rattle.report.specs.Report.{IsRuleReport}
-use Rattle.bench.specs.CheckTable.{most_bytes, IsFirstFailing, SatisfiesAll, fails_line, Judged, too_long, not_built, fails, confirmed, study_too_long, study_not_toml, study_not_built, judged}
+use Rattle.bench.specs.CheckTable.{most_bytes, IsFirstFailing, SatisfiesAll, fails_line, Judged, too_long, not_built, fails, confirmed, study_too_long, study_refused, judged}
 use Rattle.bench.specs.Lawful.{Lawful, check}
-use Rattle.bench.specs.TopCall.{Says, IsCheckOfLongStudy, IsCheckOfNoToml, IsCheckOfOtherStudy, IsCheckOver}
+use Rattle.bench.specs.TopCall.{Says, IsCheckOfLongStudy, IsCheckOfRefused, IsCheckOver}
 use Rattle.bench.proofs.OneAnswer.{one_answer}
 
 -- what a lawful answer says, where another lawful answer is known
@@ -29,16 +31,13 @@ map_told (Some files) P Q f h = f files h
 
 module _ (words : List (List ℕ)) (files : Files) where
   pub long_study : IsCheckOfLongStudy words files → Lawful words files 3 (codes "study: too long\n")
-  long_study (c, bytes, asked, held) = check c asked (study_too_long bytes held refl refl)
+  long_study (study, report, bytes, asked, held) = check study report asked (study_too_long bytes held refl refl)
 
-  pub no_toml : IsCheckOfNoToml words files → Lawful words files 3 (codes "study: not toml\n")
-  no_toml (c, bytes, asked, held, read) = check c asked (study_not_toml bytes held read refl refl)
-
-  pub other_study : IsCheckOfOtherStudy words files → Lawful words files 3 (codes "study: not built\n")
-  other_study (c, bytes, asked, held, read) = check c asked (study_not_built bytes held read refl refl)
+  pub refused_study : (fault : StudyFault) → IsCheckOfRefused words files fault → Lawful words files 3 (study_line fault)
+  refused_study fault (study, report, bytes, asked, held, read) = check study report asked (study_refused bytes fault held read refl refl)
 
   over : (study : Question) (report : List ℕ) (s : ℕ) (t : List ℕ) → IsCheckOver words files study report → Judged study report s t → Lawful words files s t
-  over study report s t h is = check h.command h.asked (judged h.bytes study report h.held h.read h.report_held is)
+  over study report s t h is = check h.study_name h.report_name h.asked (judged h.bytes study report h.held h.read h.report_held is)
 
   pub no_rule : (study : Question) (report : List ℕ) → IsCheckOver words files study report → ((table : List ℕ) → ¬ IsRuleReport study report table) → Lawful words files 1 (codes "refused: not built\n")
   no_rule study report h none = over study report _ _ h (elim (cases_lt most_bytes (length report)) [ inl long ↦ too_long long refl refl | inr fits ↦ not_built fits none refl refl ])
@@ -51,6 +50,10 @@ module _ (words : List (List ℕ)) (files : Files) where
 
 -- each row as a clause of the top call, where the shelf may tell its files
 module _ (told : Option Files) (words : List (List ℕ)) (s : ℕ) (t : List ℕ) (a b : Option (List ℕ)) where
+  pub refused_clause : IfSome told (λ files. Lawful words files s t) → Appends a b t
+      → IfSome told (λ files. (fault : StudyFault) → IsCheckOfRefused words files fault → s ≤ 4 → Says s a b 3 (study_line fault))
+  refused_clause is written = map_told told _ _ (λ files h fault refused low. says words files s 3 t _ a b h written (refused_study words files fault refused)) is
+
   pub no_rule_clause : IfSome told (λ files. Lawful words files s t) → Appends a b t
       → IfSome told (λ files. (study : Question) (report : List ℕ) → IsCheckOver words files study report → ((table : List ℕ) → ¬ IsRuleReport study report table) → s ≤ 4 → Says s a b 1 (codes "refused: not built\n"))
   no_rule_clause is written = map_told told _ _ (λ files h study report over none low. says words files s 1 t _ a b h written (no_rule words files study report over none)) is

@@ -10,9 +10,10 @@ use Rattle.vocab.specs.Titled.{Titled}
 use Rattle.meaning.specs.Instances.{IsFirstFailure}
 use Rattle.meaning.specs.Space.{below}
 use Rattle.meaning.specs.Truth.{satisfies}
-use Rattle.study.specs.declared.faults.StudyFault.TheVariants.{NotToml, NotBuilt}
-use Rattle.study.specs.Reading.{study_of_bytes}
+use Rattle.study.specs.declared.faults.StudyFault.{StudyFault}
+use Rattle.study.specs.Reading.{IsStudyOf}
 use Rattle.report.specs.Report.{IsRuleReport}
+use Rattle.bench.specs.Refusals.{study_line}
 
 -- the most bytes of a study and of a report
 abbrev pub most_bytes : ℕ
@@ -61,9 +62,7 @@ pub data Judged (study : Question) (report : List ℕ) (status : ℕ) (text : Li
 pub data Checked (files : Files) (study report : List ℕ) (status : ℕ) (text : List ℕ) : Type 0 where
   study_too_long : (bytes : List ℕ) → HoldsTooMany files study bytes
       → status ≡ 3 → text ≡ codes "study: too long\n" → Checked files study report status text
-  study_not_toml : (bytes : List ℕ) → Holds files study bytes → study_of_bytes bytes ≡ Err NotToml
-      → status ≡ 3 → text ≡ codes "study: not toml\n" → Checked files study report status text
-  study_not_built : (bytes : List ℕ) → Holds files study bytes → study_of_bytes bytes ≡ Err NotBuilt
-      → status ≡ 3 → text ≡ codes "study: not built\n" → Checked files study report status text
-  judged : (bytes : List ℕ) (question : Question) (held : List ℕ) → Holds files study bytes → study_of_bytes bytes ≡ Ok question → files report ≡ Some held
+  study_refused : (bytes : List ℕ) (fault : StudyFault) → Holds files study bytes → IsStudyOf bytes (Err fault)
+      → status ≡ 3 → text ≡ study_line fault → Checked files study report status text
+  judged : (bytes : List ℕ) (question : Question) (held : List ℕ) → Holds files study bytes → IsStudyOf bytes (Ok question) → files report ≡ Some held
       → Judged question held status text → Checked files study report status text

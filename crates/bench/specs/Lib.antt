@@ -1,4 +1,8 @@
+-- In reading order.
 pub mod Words
+pub mod Asked
+pub mod Refusals
+pub mod LibraryText
 pub mod CheckTable
 pub mod Lawful
 pub mod TopCall

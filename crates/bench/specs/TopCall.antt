@@ -5,9 +5,9 @@ use Rattle.edge.specs.Shelf.{Files, OthersStay}
 use Rattle.edge.specs.Faults.{Rose}
 use Rattle.edge.specs.Told.{AppendsPrefix}
 use Rattle.vocab.specs.Study.{Question}
-use Rattle.study.specs.declared.faults.StudyFault.TheVariants.{NotToml, NotBuilt}
-use Rattle.study.specs.Reading.{study_of_bytes}
-use Rattle.bench.specs.Words.{Command, command_of}
+use Rattle.study.specs.declared.faults.StudyFault.{StudyFault}
+use Rattle.study.specs.Reading.{IsStudyOf}
+use Rattle.bench.specs.Words.{IsCheck}
 use Rattle.bench.specs.CheckTable.{Holds, HoldsTooMany}
 use Rattle.bench.specs.Lawful.{Lawful}
 
@@ -19,9 +19,9 @@ IsStatus status = (status ≤ 3) ⊎ ((5 ≤ status) × (status ≤ 7))
 abbrev pub IsCheckStatus : ℕ → Type 0
 IsCheckStatus status = (status ≤ 1) ⊎ (status ≡ 3)
 
--- the words are a command, and of all files only its study's was touched
+-- the words are `check`, and of all files only its study's was touched
 abbrev pub IsStudyAloneTouched : List (List ℕ) → (List ℕ → Option (List ℕ)) → (List ℕ → Option (List ℕ)) → Type 0
-IsStudyAloneTouched words before now = (command : Command) × (command_of words ≡ Some command) × OthersStay before now command.study
+IsStudyAloneTouched words before now = (study : List ℕ) × (report : List ℕ) × IsCheck words study report × OthersStay before now study
 
 -- the text of an answer that the table gives was written
 abbrev pub Answered : List (List ℕ) → Files → ℕ → Option (List ℕ) → Option (List ℕ) → Type 0
@@ -33,16 +33,16 @@ AnsweredInPart words files before now = (status : ℕ) × (text : List ℕ) × L
 
 -- the file of this name holds a study
 abbrev pub HoldsStudy : Files → List ℕ → Type 0
-HoldsStudy files name = (bytes : List ℕ) × (question : Question) × Holds files name bytes × (study_of_bytes bytes ≡ Ok question)
+HoldsStudy files name = (bytes : List ℕ) × (question : Question) × Holds files name bytes × IsStudyOf bytes (Ok question)
 
 -- a fault of the shelf has its cause at the study, or at the report once the study was read
 pub data HasReadCause (told : Option Files) (before now : List ℕ → ℕ) (study report : List ℕ) : Type 0 where
   at_study : Rose (before study) (now study) → HasReadCause told before now study report
   at_report : Rose (before report) (now report) → IfSome told (λ files. HoldsStudy files study) → HasReadCause told before now study report
 
--- the words are a command, and a fault of the shelf has its cause at one of its files
+-- the words are `check`, and a fault of the shelf has its cause at one of its files
 abbrev pub HasFileCause : List (List ℕ) → Option Files → (List ℕ → ℕ) → (List ℕ → ℕ) → Type 0
-HasFileCause words told before now = (command : Command) × (command_of words ≡ Some command) × HasReadCause told before now command.study command.report
+HasFileCause words told before now = (study : List ℕ) × (report : List ℕ) × IsCheck words study report × HasReadCause told before now study report
 
 -- this status, and this text was written
 abbrev pub Says : ℕ → Option (List ℕ) → Option (List ℕ) → ℕ → List ℕ → Type 0
@@ -50,21 +50,19 @@ Says status before now wanted text = (status ≡ wanted) × Appends before now t
 
 -- the words are `check`, and its first file is longer than a study may be
 abbrev pub IsCheckOfLongStudy : List (List ℕ) → Files → Type 0
-IsCheckOfLongStudy words files = (command : Command) × (bytes : List ℕ) × (command_of words ≡ Some command) × HoldsTooMany files command.study bytes
+IsCheckOfLongStudy words files = (study : List ℕ) × (report : List ℕ) × (bytes : List ℕ) × IsCheck words study report × HoldsTooMany files study bytes
 
--- the words are `check`, and its first file is no TOML document
-abbrev pub IsCheckOfNoToml : List (List ℕ) → Files → Type 0
-IsCheckOfNoToml words files = (command : Command) × (bytes : List ℕ) × (command_of words ≡ Some command) × Holds files command.study bytes × (study_of_bytes bytes ≡ Err NotToml)
-
--- the words are `check`, and its first file is a document that gives no study of the form that is built
-abbrev pub IsCheckOfOtherStudy : List (List ℕ) → Files → Type 0
-IsCheckOfOtherStudy words files = (command : Command) × (bytes : List ℕ) × (command_of words ≡ Some command) × Holds files command.study bytes × (study_of_bytes bytes ≡ Err NotBuilt)
+-- the words are `check`, and its first file is refused for this reason
+abbrev pub IsCheckOfRefused : List (List ℕ) → Files → StudyFault → Type 0
+IsCheckOfRefused words files fault =
+    (study : List ℕ) × (report : List ℕ) × (bytes : List ℕ) × IsCheck words study report × Holds files study bytes × IsStudyOf bytes (Err fault)
 
 -- the words are `check`, its first file gives this study, and its second holds these bytes
 pub record IsCheckOver (words : List (List ℕ)) (files : Files) (study : Question) (report : List ℕ) : Type 0 where
-  pub command : Command
+  pub study_name : List ℕ
+  pub report_name : List ℕ
   pub bytes : List ℕ
-  pub asked : command_of words ≡ Some command
-  pub held : Holds files command.study bytes
-  pub read : study_of_bytes bytes ≡ Ok study
-  pub report_held : files command.report ≡ Some report
+  pub asked : IsCheck words study_name report_name
+  pub held : Holds files study_name bytes
+  pub read : IsStudyOf bytes (Ok study)
+  pub report_held : files report_name ≡ Some report

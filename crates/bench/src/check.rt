@@ -1,21 +1,57 @@
 //! The command `check`: reads a study, and then a report over it.
 
-ghost use Rattle.std.specs.Prelude.{◌≡◌, ◌≤◌, List, ℕ, Some, IfSome, IfOk, IsErrOf};
+ghost use Rattle.std.specs.Prelude.{◌≡◌, ◌≢◌, ◌≤◌, List, ℕ, length, Some, Err, IfSome, IfOk, IsErrOf};
 ghost use Rattle.edge.specs.Faults.{Rose};
 ghost use Rattle.edge.specs.Shelf.{NoneFell, OthersStay};
-ghost use Rattle.vocab.specs.declared.kinds.Kind.TheVariants.{Choice};
-ghost use Rattle.bench.specs.CheckTable.{Judged, Checked};
+ghost use Rattle.vocab.specs.declared.kinds.Kind.TheVariants.{Sets};
+ghost use Rattle.bench.specs.CheckTable.{Judged, Checked, most_bytes};
+ghost use Rattle.bench.specs.Refusals.{study_line};
 ghost use Rattle.bench.specs.TopCall.{HasReadCause, IsCheckStatus};
 
 use crate::answers::{Answer, Stop, say};
 use crate::judge::judge;
+use crate::refusals::study_line;
 use edge::{ReadFault, Shelf, read_all};
+use lists::NoMemory;
+use outcomes::{ChoiceKind, RankingKind};
+use profiles::Space;
 use std::alloc::Global;
 use study::{StudyFault, read_study};
-use vocab::Study;
+use vocab::{Kind, Study};
 
 /// The most bytes of a study and of a report that holds a rule.
 const MOST_BYTES: u32 = 1_048_576;
+
+/// The answer to a report over a study, by the study's kind.
+fn judge_study(alloc: Global, study: &Study, report: &[u8]) -> Result<Answer, NoMemory>
+    requires known { study.now.size.kind ≢ Sets }
+    requires fits { length report.now ≤ most_bytes }
+    ensures status { IfOk result (λ answer. answer.status ≤ 1) }
+    ensures judged { IfOk result (λ answer. Judged study.now report.now answer.status answer.text) }
+{
+    let space = Space::new(study.size());
+    match study.size().kind() {
+        Kind::Choice => judge(alloc, &ChoiceKind::new(space), study, report),
+        Kind::Ranking => judge(alloc, &RankingKind::new(space), study, report),
+        Kind::Sets => unreachable!(),
+    }
+}
+
+/// What is said of a study that is refused, where it is not for want of memory.
+fn refuse(alloc: Global, fault: &StudyFault) -> Result<Answer, Stop>
+    ensures told { IfOk result (λ _. fault.now ≢ StudyFault.NoMemory) }
+    ensures status { IfOk result (λ answer. answer.status ≡ 3) }
+    ensures text { IfOk result (λ answer. answer.text ≡ study_line fault.now) }
+    ensures no_read_fault { result ≢ Err Stop.ReadFault }
+{
+    match fault {
+        StudyFault::NoMemory => Err(Stop::NoMemory),
+        _ => {
+            let text = study_line(alloc, fault)?;
+            Ok(Answer { status: 3, text })
+        }
+    }
+}
 
 /// Reads the report and judges it.
 fn check_report<S: Shelf>(
@@ -24,7 +60,7 @@ fn check_report<S: Shelf>(
     study: &Study,
     report: &str,
 ) -> Result<Answer, Stop>
-    requires { study.now.size.kind ≡ Choice }
+    requires { study.now.size.kind ≢ Sets }
     ensures lawful { IfSome (S.files shelf.old) (λ files. IfOk result (λ answer.
         (held : List ℕ) × (files report.now ≡ Some held) × Judged study.now held answer.status answer.text)) }
     ensures fault { IsErrOf result Stop.ReadFault → Rose (S.faults shelf.old report.now) (S.faults shelf.new report.now) }
@@ -32,7 +68,7 @@ fn check_report<S: Shelf>(
     ensures status { IfOk result (λ answer. answer.status ≤ 1) }
 {
     match read_all(alloc, shelf, report, MOST_BYTES) {
-        Ok(bytes) => Ok(judge(alloc, study, bytes.as_slice())?),
+        Ok(bytes) => Ok(judge_study(alloc, study, bytes.as_slice())?),
         Err(ReadFault::TooLong) => Ok(say(alloc, 1, b"refused: not built\n")?),
         Err(ReadFault::Failed) => Err(Stop::ReadFault),
         Err(ReadFault::NoMemory) => Err(Stop::NoMemory),
@@ -60,8 +96,6 @@ pub fn check<S: Shelf>(
     };
     match read_study(alloc, bytes.as_slice()) {
         Ok(study) => check_report(alloc, shelf, &study, report),
-        Err(StudyFault::NotToml) => Ok(say(alloc, 3, b"study: not toml\n")?),
-        Err(StudyFault::NotBuilt) => Ok(say(alloc, 3, b"study: not built\n")?),
-        Err(StudyFault::NoMemory) => Err(Stop::NoMemory),
+        Err(fault) => refuse(alloc, &fault),
     }
 }

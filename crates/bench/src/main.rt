@@ -5,6 +5,8 @@ mod answers;
 mod check;
 mod judge;
 pub mod laws;
+mod library;
+mod refusals;
 mod top;
 mod words;
 

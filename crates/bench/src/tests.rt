@@ -106,14 +106,38 @@ fn axioms_are_tested_in_the_order_of_the_study(rt: HostRuntime) -> Result<(), Fa
     Ok(())
 }
 
+/// A study of rules that choose, of two voters and two alternatives.
+const SMALL: &str = "kind = \"choice\"\nvoters = 2\nalternatives = 2\naxioms = [\"odd\"]\n";
+
 #[test]
 fn studies_are_refused_before_the_report_is_opened(rt: HostRuntime) -> Result<(), Fail> {
     let cases = [
-        ("kind =\n", "study: not toml\n"),
-        ("kind = 1\n", "study: not built\n"),
+        ("kind =", "study: not toml\n"),
+        ("kind = 1", "study: key kind\n"),
+        ("kind = \"choice\"\nalternatives = 2", "study: key voters\n"),
         (
-            "kind = \"ranking\"\nvoters = 1\nalternatives = 2\naxioms = []\n",
-            "study: not built\n",
+            "kind = \"choice\"\nvoters = 9\nalternatives = 2\naxioms = []",
+            "study: voters 9\n",
+        ),
+        (
+            "kind = \"choice\"\nvoters = -1\nalternatives = 2\naxioms = []",
+            "study: voters -1\n",
+        ),
+        (
+            "kind = \"choice\"\nvoters = 3\nalternatives = 5\naxioms = []",
+            "study: profiles 1728000\n",
+        ),
+        (
+            "kind = \"choice\"\nvoters = 2\nalternatives = 2\nconflicts = 0\naxioms = []",
+            "study: conflicts 0\n",
+        ),
+        (
+            "kind = \"choice\"\nvoters = 2\nalternatives = 2\naxioms = [\"fair\"]",
+            "study: unknown axiom fair\n",
+        ),
+        (
+            "kind = \"choice\"\nvoters = 2\nalternatives = 2\naxioms = [\"onto\", \"onto\"]",
+            "study: twice onto\n",
         ),
     ];
     for (study, text) in cases {
@@ -121,6 +145,106 @@ fn studies_are_refused_before_the_report_is_opened(rt: HostRuntime) -> Result<()
         let (status, bytes) = check(&rt, rt.alloc(), study, REPORT, &[3])?;
         assert_eq!(rt; status, 3, "at {study:?}");
         assert_eq!(rt; bytes.as_slice(), text.as_bytes());
+    }
+    Ok(())
+}
+
+#[test]
+fn own_sentences_are_refused_at_their_first_fault(rt: HostRuntime) -> Result<(), Fail> {
+    let cases = [
+        ("all p: profile. ranks(@a, @b, p)", "kind ranks"),
+        ("all p: profile. wins(x, p)", "unbound x"),
+        ("all p: profile. wins(@c, p)", "constant @c"),
+        ("all p: profile. wins(@a)", "arity wins"),
+        ("all p: profile. wins(p, p)", "sort wins 1"),
+        ("all p: profile. won(@a, p)", "symbol won"),
+        ("all p: profile wins(@a, p)", "no reading"),
+        ("all p: profile. wins(@a, p) ?", "lexeme 28"),
+        (
+            "all p: profile. all q: profile. all r: profile. all s: profile. all t: profile. all u: profile. all v: profile. all w: profile. all x: profile. all y: profile. all z: profile. wins(@a, p)",
+            "instances 4194304",
+        ),
+    ];
+    let alloc = rt.alloc();
+    for (sentence, text) in cases {
+        let study = format!(in alloc; "{SMALL}[sentences]\nodd = \"{sentence}\"\n")?;
+        let (status, bytes) = check(&rt, alloc, study.as_str(), REPORT, &[3])?;
+        let line = format!(in alloc; "study: odd: {text}\n")?;
+        assert_eq!(rt; status, 3, "at {sentence:?}");
+        assert_eq!(rt; bytes.as_slice(), line.as_bytes());
+    }
+    Ok(())
+}
+
+#[test]
+fn rules_that_rank_are_judged(rt: HostRuntime) -> Result<(), Fail> {
+    let all = "pareto independence non_dictatorship";
+    let listed = "\"pareto\", \"independence\", \"non_dictatorship\"";
+    let cases = [
+        (
+            listed,
+            all,
+            "ab ab\nba ba\n",
+            1,
+            "refused line 9: fails non_dictatorship 0\n",
+        ),
+        (
+            listed,
+            all,
+            "ab ab\nba ab\n",
+            1,
+            "refused line 9: fails pareto 6\n",
+        ),
+        (
+            "\"pareto\", \"independence\"",
+            "pareto independence",
+            "ab ab\nba ba\n",
+            0,
+            "confirmed possible\n",
+        ),
+        (
+            "\"pareto\"",
+            "pareto",
+            "ab a\nba b\n",
+            1,
+            "refused: not built\n",
+        ),
+    ];
+    let alloc = rt.alloc();
+    for (listed, named, rows, status, text) in cases {
+        let study = format!(in alloc;
+            "kind = \"ranking\"\nvoters = 1\nalternatives = 2\naxioms = [{listed}]\n"
+        )?;
+        let report = format!(in alloc;
+            "bench report 1\nkind ranking\nvoters 1\nalternatives 2\naxioms {named}\nverdict possible\nrule 2\n{rows}end\n"
+        )?;
+        let (found, bytes) = check(&rt, alloc, study.as_str(), report.as_str(), &[])?;
+        assert_eq!(rt; found, status, "at {rows:?}");
+        assert_eq!(rt; bytes.as_slice(), text.as_bytes());
+    }
+    Ok(())
+}
+
+#[test]
+fn the_library_is_printed(rt: HostRuntime) -> Result<(), Fail> {
+    let alloc = rt.alloc();
+    let first =
+        "pareto: all p: profile. all x: alt. all y: alt. (all i: voter. prefers(i, x, y, p) -> ranks(x, y, p))\n";
+    for (kind, lines) in [("choice", 9), ("ranking", 5)] {
+        let mut shelf = MemoryShelf::new(alloc, &[])?;
+        let mut out = MemorySink::new(alloc, 10_000, &[])?;
+        let words = words_of(alloc, &["axioms", kind])?;
+        let run = bench(&rt, alloc, &words, &mut shelf, &mut out, &Open);
+        assert_eq!(rt; run.status, 0);
+        assert_eq!(rt;
+            out.bytes().iter().filter(|byte| **byte == b'\n').count(),
+            lines,
+            "of {kind}"
+        );
+        assert_eq!(rt;
+            out.bytes().starts_with(first.as_bytes()),
+            kind == "ranking"
+        );
     }
     Ok(())
 }
@@ -151,8 +275,11 @@ fn a_report_that_is_not_held_writes_nothing(rt: HostRuntime) -> Result<(), Fail>
 #[test]
 fn words_that_are_no_command_get_the_usage_line(rt: HostRuntime) -> Result<(), Fail> {
     let alloc = rt.alloc();
-    let cases: [&[&str]; 5] = [
+    let cases: [&[&str]; 8] = [
         &[],
+        &["axioms"],
+        &["axioms", "sets"],
+        &["axioms", "choice", "ranking"],
         &["check"],
         &["check", "a"],
         &["check", "a", "b", "c"],

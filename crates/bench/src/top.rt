@@ -6,33 +6,51 @@ ghost use Rattle.edge.specs.Faults.{Rose, HasCause};
 ghost use Rattle.edge.specs.Told.{AppendsPrefix};
 ghost use Rattle.vocab.specs.Study.{Question};
 ghost use Rattle.report.specs.Report.{IsRuleReport};
-ghost use Rattle.bench.specs.Words.{Command, texts, command_of, usage_line};
+ghost use Rattle.vocab.specs.declared.kinds.Kind.{Kind};
+ghost use Rattle.study.specs.declared.faults.StudyFault.{StudyFault};
+ghost use Rattle.bench.specs.LibraryText.{library_text};
+ghost use Rattle.bench.specs.Refusals.{study_line};
+ghost use Rattle.bench.specs.Words.{Axioms, texts, request_of, usage_line};
 ghost use Rattle.bench.specs.CheckTable.{IsFirstFailing, SatisfiesAll, fails_line, most_bytes};
 ghost use Rattle.bench.specs.Lawful.{Lawful};
-ghost use Rattle.bench.specs.TopCall.{IsStatus, Answered, AnsweredInPart, HasFileCause, IsStudyAloneTouched, Says, IsCheckOfLongStudy, IsCheckOfNoToml, IsCheckOfOtherStudy, IsCheckOver};
+ghost use Rattle.bench.specs.TopCall.{IsStatus, Answered, AnsweredInPart, HasFileCause, IsStudyAloneTouched, Says, IsCheckOfLongStudy, IsCheckOfRefused, IsCheckOver};
 
 use crate::answers::{Answer, Stop, say};
 use crate::check::check;
-use crate::words::command_of;
+use crate::library::library_text;
+use crate::words::{Command, command_of};
 use edge::{Failed, Gate, Shelf, Sink, put_all};
+use lists::NoMemory;
 use std::alloc::Global;
 use std::thread::Threads;
+use vocab::Kind;
 
 /// What is said to words that are no command.
 const USAGE: &[u8] =
     b"usage: bench decide STUDY | check STUDY REPORT | export STUDY | proof STUDY | lrat CNF PROOF | axioms KIND | sample N [--workers K]\n";
 
+/// The library of a kind.
+fn list(alloc: Global, kind: Kind) -> Result<Answer, NoMemory>
+    ensures status { IfOk result (λ answer. answer.status ≡ 0) }
+    ensures text { IfOk result (λ answer. answer.text ≡ library_text kind) }
+{
+    let text = library_text(alloc, kind)?;
+    Ok(Answer { status: 0, text })
+}
+
 /// The answer to the words, over the files of the shelf.
 fn answer<S: Shelf>(alloc: Global, words: &[String], shelf: &mut S) -> Result<Answer, Stop>
     ensures lawful { IfSome (S.files shelf.old) (λ files. IfOk result (λ answer. Lawful (texts words.now) files answer.status answer.text)) }
-    ensures usage { command_of (texts words.now) ≡ None → IfOk result (λ answer. (answer.status ≡ 2) × (answer.text ≡ usage_line)) }
+    ensures usage { request_of (texts words.now) ≡ None → IfOk result (λ answer. (answer.status ≡ 2) × (answer.text ≡ usage_line)) }
+    ensures axioms { (kind : Kind) → request_of (texts words.now) ≡ Some (Axioms kind) → IfOk result (λ answer. (answer.status ≡ 0) × (answer.text ≡ library_text kind)) }
     ensures fault { IsErrOf result Stop.ReadFault → HasFileCause (texts words.now) (S.files shelf.old) (S.faults shelf.old) (S.faults shelf.new) }
-    ensures no_command { IfOk result (λ answer. answer.status ≡ 2 → command_of (texts words.now) ≡ None) }
+    ensures no_command { IfOk result (λ answer. answer.status ≡ 2 → request_of (texts words.now) ≡ None) }
     ensures unopened { IfOk result (λ answer. answer.status ≡ 3 → IsStudyAloneTouched (texts words.now) (S.left shelf.old) (S.left shelf.new)) }
     ensures status { IfOk result (λ answer. answer.status ≤ 3) }
 {
     match command_of(words) {
-        Some((study, report)) => check(alloc, shelf, study, report),
+        Some(Command::Check(study, report)) => check(alloc, shelf, study, report),
+        Some(Command::Axioms(kind)) => Ok(list(alloc, kind)?),
         None => Ok(say(alloc, 2, USAGE)?),
     }
 }
@@ -72,9 +90,13 @@ pub fn bench<R: Threads + Sync, S: Shelf, K: Sink, G: Gate>(
         Answered (texts words.now) files result.status (K.taken out.old) (K.taken out.new)) }
 
     // Words that are no command need no file.
-    ensures usage { command_of (texts words.now) ≡ None → result.status ≤ 4 →
+    ensures usage { request_of (texts words.now) ≡ None → result.status ≤ 4 →
         Says result.status (K.taken out.old) (K.taken out.new) 2 usage_line }
-    ensures no_command { result.status ≡ 2 → command_of (texts words.now) ≡ None }
+    ensures no_command { result.status ≡ 2 → request_of (texts words.now) ≡ None }
+
+    // `axioms KIND` needs no file, and writes the library.
+    ensures axioms { (kind : Kind) → request_of (texts words.now) ≡ Some (Axioms kind) → result.status ≤ 4 →
+        Says result.status (K.taken out.old) (K.taken out.new) 0 (library_text kind) }
 
     // Where the study is refused, the report was not opened.
     ensures unopened { result.status ≡ 3 → IsStudyAloneTouched (texts words.now) (S.left shelf.old) (S.left shelf.new) }
@@ -82,10 +104,8 @@ pub fn bench<R: Threads + Sync, S: Shelf, K: Sink, G: Gate>(
     // The rows of the table for `check`, one by one.
     ensures study_too_long { IfSome (S.files shelf.old) (λ files. IsCheckOfLongStudy (texts words.now) files → result.status ≤ 4 →
         Says result.status (K.taken out.old) (K.taken out.new) 3 (codes "study: too long\n")) }
-    ensures study_not_toml { IfSome (S.files shelf.old) (λ files. IsCheckOfNoToml (texts words.now) files → result.status ≤ 4 →
-        Says result.status (K.taken out.old) (K.taken out.new) 3 (codes "study: not toml\n")) }
-    ensures study_not_built { IfSome (S.files shelf.old) (λ files. IsCheckOfOtherStudy (texts words.now) files → result.status ≤ 4 →
-        Says result.status (K.taken out.old) (K.taken out.new) 3 (codes "study: not built\n")) }
+    ensures study_refused { IfSome (S.files shelf.old) (λ files. (fault : StudyFault) → IsCheckOfRefused (texts words.now) files fault → result.status ≤ 4 →
+        Says result.status (K.taken out.old) (K.taken out.new) 3 (study_line fault)) }
     ensures report_not_built { IfSome (S.files shelf.old) (λ files. (study : Question) (report : List ℕ) → IsCheckOver (texts words.now) files study report →
         ((table : List ℕ) → ¬ IsRuleReport study report table) → result.status ≤ 4 →
         Says result.status (K.taken out.old) (K.taken out.new) 1 (codes "refused: not built\n")) }
@@ -104,7 +124,9 @@ pub fn bench<R: Threads + Sync, S: Shelf, K: Sink, G: Gate>(
     ensures write_fault { result.status ≡ 6 → Rose (K.faults out.old) (K.faults out.new) }
     ensures cut_short { result.status ≡ 6 → IfSome (S.files shelf.old) (λ files.
         AnsweredInPart (texts words.now) files (K.taken out.old) (K.taken out.new)) }
-    ensures usage_cut_short { command_of (texts words.now) ≡ None → result.status ≡ 6 → AppendsPrefix (K.taken out.old) (K.taken out.new) usage_line }
+    ensures usage_cut_short { request_of (texts words.now) ≡ None → result.status ≡ 6 → AppendsPrefix (K.taken out.old) (K.taken out.new) usage_line }
+    ensures axioms_cut_short { (kind : Kind) → request_of (texts words.now) ≡ Some (Axioms kind) → result.status ≡ 6 →
+        AppendsPrefix (K.taken out.old) (K.taken out.new) (library_text kind) }
 
     // Want of memory is free, and nothing is written.
     ensures no_memory { result.status ≡ 7 → Keeps (K.taken out.old) (K.taken out.new) }

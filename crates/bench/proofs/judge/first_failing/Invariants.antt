@@ -5,4 +5,4 @@ use Rattle.bench.proofs.judge.first_failing.Given as goal
 
 -- the axioms so far are satisfied
 abbrev pub invariant-loop-place : goal.invariant-loop-place
-invariant-loop-place l = IsTrue (satisfies l.study.size l.study.axioms (below l.place) l.table)
+invariant-loop-place g l = IsTrue (satisfies l.study.size l.study.axioms (below l.place) l.table)

@@ -1,0 +1,106 @@
+-- The kind of a study that bytes give.
+use Rattle.std.proofs.Common.{◌≡◌, ◌≢◌, refl, sym, ◌∙◌, ap, subst, ℕ, List, Bool, true, false, Option, None, Some, Result, Ok, Err, codes}
+use Rattle.std.specs.Prelude.{if◌then◌else◌, ℤ, nat_abs, nat_le, ◌^◌}
+use Rattle.std.specs.Option.{ok_or}
+use Rattle.std.specs.Str.{bytes_eq}
+use Rattle.toml.specs.Data.{Data, string, integer, array, table, Members, get_member}
+use Rattle.vocab.specs.declared.kinds.Kind.{Kind}
+use Rattle.vocab.specs.declared.kinds.Kind.TheVariants.{Choice, Ranking, Sets}
+use Rattle.vocab.specs.Size.{Extent, factorial}
+use Rattle.vocab.specs.SizeFault.{is_between, size_of}
+use Rattle.vocab.specs.Study.{Question}
+use Rattle.study.specs.declared.faults.StudyFault.{StudyFault}
+use Rattle.study.specs.declared.faults.StudyFault.TheVariants as fault
+use Rattle.study.specs.declared.limits.Limit.TheVariants.{Instances, Body, Work}
+use Rattle.study.specs.declared.listing.Listing.{Listing}
+use Rattle.study.specs.Document.{Head, Draft, kind_of, integer_of, conflicts_of, axioms_of, sentences_of, known_keys, head_of, draft_of, document_of}
+use Rattle.study.specs.Listing.{limit_of, few_of, listed, once, listing_of}
+use Rattle.study.specs.Laws.{HaveKinds}
+use Rattle.study.specs.Reading.{IsStudyOf, IsAnswered, IsAnswer, refused, read, listing_in}
+use Rattle.study.specs.Refusing.{and_then, refused_as}
+use Rattle.study.specs.Sentences.{Worded, resolved_all, within, study_of}
+use Rattle.study.proofs.Listings.{CameFrom, came_from}
+
+some_value : {A E : Type 0} (o : Option A) (e : E) (x : A) → ok_or o e ≡ Ok x → o ≡ Some x
+some_value None e x h = absurd (cc)
+some_value (Some y) e x h = let same : y ≡ x = cc in ap Some same
+
+-- a word for a kind is one of two
+two_kinds : (choice ranking : Bool) (k : Kind) → (if choice then Some Choice else if ranking then Some Ranking else None) ≡ Some k → k ≢ Sets
+two_kinds true r k h = λ sets. cc
+two_kinds false true k h = λ sets. cc
+two_kinds false false k h = absurd (cc)
+
+kind_named : (o : Option Data) (k : Kind) → kind_of o ≡ Some k → k ≢ Sets
+kind_named (Some (string text)) k h = two_kinds (bytes_eq text (codes "choice")) (bytes_eq text (codes "ranking")) k h
+kind_named None k h = absurd (cc)
+kind_named _ k h = absurd (cc)
+
+head_kind : (document : Members) (h : Head) → head_of document ≡ Ok h → h.kind ≢ Sets
+unfolding head_of
+head_kind document h e =
+    let kind = came_from _ (ok_or (kind_of (get_member (codes "kind") document)) (codes "kind")) h e in
+    let voters = came_from _ (ok_or (integer_of (get_member (codes "voters") document)) (codes "voters")) h kind.after in
+    let alternatives = came_from _ (ok_or (integer_of (get_member (codes "alternatives") document)) (codes "alternatives")) h voters.after in
+    let conflicts = came_from _ (ok_or (conflicts_of (get_member (codes "conflicts") document)) (codes "conflicts")) h alternatives.after in
+    subst (λ (x : Head). x.kind ≢ Sets) (ok_once conflicts.after) (kind_named (get_member (codes "kind") document) kind.value (some_value _ _ kind.value kind.first))
+
+draft_kind : (document : Members) (d : Draft) → draft_of document ≡ Ok d → d.head.kind ≢ Sets
+unfolding draft_of
+draft_kind document d e =
+    let head = came_from _ (head_of document) d e in
+    let axioms = came_from _ (ok_or (axioms_of (get_member (codes "axioms") document)) (codes "axioms")) d head.after in
+    let sentences = came_from _ (sentences_of (get_member (codes "sentences") document)) d axioms.after in
+    let others = came_from _ (known_keys document) d sentences.after in
+    subst (λ (x : Draft). x.head.kind ≢ Sets) (ok_once others.after) (head_kind document head.value head.first)
+
+known : {A E F : Type 0} (f : E → F) (r : Result A E) (x : A) → refused_as f r ≡ Ok x → r ≡ Ok x
+known f (Ok y) x h = ap Ok (ok_once h)
+known f (Err e) x h = absurd (cc)
+
+size_kind : (kind : Kind) (n m : ℤ) (voters alternatives few : Bool) (s : Extent) → is_between 1 n 8 ≡ voters → is_between 1 m 5 ≡ alternatives → nat_le (factorial (nat_abs m) ^ nat_abs n) 20000 ≡ few
+    → size_of kind n m ≡ Ok s → s.kind ≡ kind
+size_kind kind n m false a f s e e' e'' h = absurd (let h' = rw e at h in cc)
+size_kind kind n m true false f s e e' e'' h = absurd (let h' = rw (e, e') at h in cc)
+size_kind kind n m true true false s e e' e'' h = absurd (let h' = rw (e, e', e'') at h in cc)
+size_kind kind n m true true true s e e' e'' h = let h' = rw (e, e', e'') at h in ap (λ (x : Extent). x.kind) (sym (ok_once h'))
+
+listing_kind : (draft : Draft) (listing : Listing) → listing_of draft ≡ Ok listing → listing.size.kind ≡ draft.head.kind
+unfolding listing_of
+listing_kind draft listing e =
+    let size = came_from _ (refused_as fault.Size (size_of draft.head.kind draft.head.voters draft.head.alternatives)) listing e in
+    let limit = came_from _ (limit_of draft.head.conflicts) listing size.after in
+    let few = came_from _ (few_of draft.axioms) listing limit.after in
+    let entries = came_from _ (listed draft.head.kind draft.sentences draft.axioms) listing few.after in
+    let alone = came_from _ (once draft.head.kind draft.sentences [] entries.value) listing entries.after in
+    subst (λ (x : Listing). x.size.kind ≡ draft.head.kind) (ok_once alone.after)
+    (size_kind draft.head.kind draft.head.voters draft.head.alternatives _ _ _ size.value refl refl refl (known fault.Size _ size.value size.first))
+
+study_size : (size : Extent) (conflicts : ℕ) (sentences : List Worded) (q : Question) → study_of size conflicts sentences ≡ Ok q → q.size ≡ size
+unfolding study_of
+study_size size conflicts sentences q e =
+    let axioms = came_from _ (resolved_all size sentences) q e in
+    let instances = came_from _ (within size Instances axioms.value) q axioms.after in
+    let body = came_from _ (within size Body axioms.value) q instances.after in
+    let work = came_from _ (within size Work axioms.value) q body.after in
+    ap (λ (x : Question). x.size) (sym (ok_once work.after))
+
+-- what a listing gives is over its size
+answer_size : (listing : Listing) (q : Question) → IsAnswer listing (Ok q) → q.size ≡ listing.size
+answer_size listing q (refused name reason unread e) = absurd (cc)
+answer_size listing q (read sentences all e) = study_size listing.size listing.conflicts sentences q (sym e)
+
+document_kind : (document : Option Members) (q : Question) → IsAnswered (listing_in document) (Ok q) → q.size.kind ≢ Sets
+document_kind None q h = absurd (let e : Ok q ≡ Err fault.Toml = h in cc)
+document_kind (Some document) q h = cases (listing_in (Some document)) refl h
+  where
+    cases : (r : Result Listing StudyFault) → listing_in (Some document) ≡ r → IsAnswered r (Ok q) → q.size.kind ≢ Sets
+    cases (Err e) is given = absurd (cc)
+    cases (Ok listing) is given =
+        let draft = came_from listing_of (refused_as fault.Key (draft_of document)) listing is in
+        let kind : q.size.kind ≡ draft.value.head.kind = ap (λ (s : Extent). s.kind) (answer_size listing q given) ∙ listing_kind draft.value listing draft.after in
+        λ sets. draft_kind document draft.value (known fault.Key (draft_of document) draft.value draft.first) (sym kind ∙ sets)
+
+-- a study is of rules that choose, or of rules that rank
+pub kinds_known : HaveKinds
+kinds_known bytes q h = document_kind (document_of bytes) q h

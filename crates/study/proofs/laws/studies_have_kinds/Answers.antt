@@ -1,0 +1,5 @@
+use Rattle.study.proofs.Kinds.{kinds_known}
+use Rattle.study.proofs.laws.studies_have_kinds.Goals as goal
+
+pub returns : goal.returns
+returns c = kinds_known
