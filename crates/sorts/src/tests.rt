@@ -16,12 +16,7 @@ fn word(text: &[u8]) -> Result<Name, Fail> {
 }
 
 /// A symbol at two terms.
-fn said(
-    alloc: Global,
-    symbol: &[u8],
-    first: NamedTerm,
-    second: NamedTerm,
-) -> Result<Named, Fail>
+fn said(alloc: Global, symbol: &[u8], first: NamedTerm, second: NamedTerm) -> Result<Named, Fail>
     requires first { term_depth (named_term_tree first) ≤ 1 }
     requires second { term_depth (named_term_tree second) ≤ 1 }
     ensures { IfOk result (λ f. (depth (named_tree f) ≤ 2) × (quantifiers (named_tree f) ≡ 0)) }
@@ -62,12 +57,22 @@ fn fault_of(
 {
     let size = Size::check(kind, 2, 2)?;
     let part = said(alloc, symbol, first, second)?;
-    let sentence = for_all(alloc, (word(b"x")?, Sort::Alt), (word(name)?, Sort::Profile), part)?;
+    let sentence = for_all(
+        alloc,
+        (word(b"x")?, Sort::Alt),
+        (word(name)?, Sort::Profile),
+        part,
+    )?;
     Ok(resolve(alloc, &sentence, &Space::new(size)).err())
 }
 
 /// The fault in a Choice study with a profile `p`, at a variable and another.
-fn fault_at(alloc: Global, symbol: &[u8], first: &[u8], second: &[u8]) -> Result<Option<SortFault>, Fail> {
+fn fault_at(
+    alloc: Global,
+    symbol: &[u8],
+    first: &[u8],
+    second: &[u8],
+) -> Result<Option<SortFault>, Fail> {
     let (first, second) = (NamedTerm::Var(word(first)?), NamedTerm::Var(word(second)?));
     fault_of(alloc, Kind::Choice, b"p", symbol, first, second)
 }
@@ -88,12 +93,27 @@ fn faults_come_in_the_order_of_visiting(rt: HostRuntime) -> Result<(), Fail> {
     let alloc = rt.alloc();
     let wins = Symbol::of(word(b"wins")?);
     assert_eq!(rt; fault_at(alloc, b"wins", b"x", b"p")?, None);
-    assert_eq!(rt; fault_at(alloc, b"with", b"y", b"p")?, Some(SortFault::Symbol(word(b"with")?)));
+    assert_eq!(rt;
+        fault_at(alloc, b"with", b"y", b"p")?,
+        Some(SortFault::Symbol(word(b"with")?))
+    );
     let prefers = Symbol::of(word(b"prefers")?);
-    assert_eq!(rt; fault_at(alloc, b"prefers", b"y", b"p")?, Some(SortFault::Arity(prefers)));
-    assert_eq!(rt; fault_at(alloc, b"wins", b"y", b"q")?, Some(SortFault::Unbound(word(b"y")?)));
-    assert_eq!(rt; fault_at(alloc, b"wins", b"p", b"q")?, Some(SortFault::Sort(wins, 1)));
-    assert_eq!(rt; fault_at(alloc, b"wins", b"x", b"x")?, Some(SortFault::Sort(wins, 2)));
+    assert_eq!(rt;
+        fault_at(alloc, b"prefers", b"y", b"p")?,
+        Some(SortFault::Arity(prefers))
+    );
+    assert_eq!(rt;
+        fault_at(alloc, b"wins", b"y", b"q")?,
+        Some(SortFault::Unbound(word(b"y")?))
+    );
+    assert_eq!(rt;
+        fault_at(alloc, b"wins", b"p", b"q")?,
+        Some(SortFault::Sort(wins, 1))
+    );
+    assert_eq!(rt;
+        fault_at(alloc, b"wins", b"x", b"x")?,
+        Some(SortFault::Sort(wins, 2))
+    );
     let (x, q) = (NamedTerm::Var(word(b"x")?), NamedTerm::Var(word(b"q")?));
     let of_rankings = fault_of(alloc, Kind::Ranking, b"p", b"wins", x, q)?;
     assert_eq!(rt; of_rankings, Some(SortFault::Kind(wins)));
@@ -123,9 +143,19 @@ fn variables_become_levels(rt: HostRuntime) -> Result<(), Fail> {
     let size = Size::check(Kind::Choice, 2, 2)?;
     let (x, p) = (NamedTerm::Var(word(b"x")?), NamedTerm::Var(word(b"p")?));
     let part = said(alloc, b"wins", x, p)?;
-    let sentence = for_all(alloc, (word(b"x")?, Sort::Alt), (word(b"p")?, Sort::Profile), part)?;
+    let sentence = for_all(
+        alloc,
+        (word(b"x")?, Sort::Alt),
+        (word(b"p")?, Sort::Profile),
+        part,
+    )?;
     let formula = resolve(alloc, &sentence, &Space::new(size))?;
     assert_eq!(rt; formula.prefix(), 2);
-    assert!(rt; matches!(formula.body(), Formula::Leaf(Atom::Wins(Term::Var(0), Term::Var(1)))));
+    assert!(rt;
+        matches!(
+            formula.body(),
+            Formula::Leaf(Atom::Wins(Term::Var(0), Term::Var(1)))
+        )
+    );
     Ok(())
 }
