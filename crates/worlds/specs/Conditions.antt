@@ -17,12 +17,13 @@ module _ (size : Extent) where
   abbrev pub HasSort : TermTree → List ℕ → Type 0
   HasSort t env = (sort : Sort) × IsTermAt sort t env
 
+  -- the atom is well sorted, and its variables have values of their sorts
   pub record IsAtomAt (a : AtomTree) (env : List ℕ) : Type 0 where
     pub sorts : List Sort
     pub in_range : IsTrue (are_of_sorts size sorts env)
     pub sorted : IsTrue (is_atom_sorted size sorts a)
 
-  -- at most 12 values are ever there, those of the formula's own quantifiers among them
+  -- the formula is well sorted, its free variables have values of their sorts, and at most 12 values are ever there, those of its own quantifiers among them
   pub record IsFormulaAt (f : Tree) (env : List ℕ) : Type 0 where
     pub sorts : List Sort
     pub in_range : IsTrue (are_of_sorts size sorts env)
