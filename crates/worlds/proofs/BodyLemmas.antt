@@ -1,5 +1,5 @@
 -- The body of a sentence can be evaluated at values of its leading universals.
-use Rattle.std.proofs.Common.{◌≡◌, sym, subst, ℕ, ◌+◌, ◌<◌, ◌≤◌, true, List, [], ◌∷◌, ◌++◌, length, arith, append_assoc, append-nil, true≢false, ltb-true, leb-true}
+use Rattle.std.proofs.Common.{◌≡◌, sym, subst, ℕ, ◌≤◌, true, List, [], ◌∷◌, ◌++◌, arith, append_assoc, append-nil, true≢false, ltb-true, leb-true}
 use Rattle.std.specs.Prelude.{nat_lt, nat_le}
 use Rattle.std.specs.Cmp.Lexicographic.{pointwise}
 use Rattle.std.proofs.lemmas.Bool.{and_parts}
@@ -7,8 +7,6 @@ use Rattle.vocab.specs.Formula.{body_of, quantifier_depth}
 use Rattle.vocab.specs.Limits.{bases_of}
 use Rattle.vocab.specs.Size.{Extent, sort_count}
 use Rattle.vocab.specs.Sorted.{is_sorted}
-use Rattle.vocab.specs.Study.{is_sentence}
-use Rattle.vocab.specs.Titled.{Titled}
 use Rattle.vocab.specs.Tree.{Tree, Leaf, Not, Both, Either, Implies, Same, All, Exists}
 use Rattle.worlds.specs.Conditions.{IsFormulaAt}
 use Rattle.worlds.specs.Laws.{BodiesHaveValues}

@@ -1,5 +1,5 @@
 -- Chains over the values of a sort, from the last value back to the first.
-use Rattle.std.proofs.Common.{◌≡◌, refl, sym, subst, ap, ◌∙◌, ℕ, zero, suc, ◌+◌, ◌-◌, ◌<◌, ◌≤◌, arith, map}
+use Rattle.std.proofs.Common.{◌≡◌, sym, subst, ℕ, zero, suc, ◌+◌, ◌-◌, ◌<◌, ◌≤◌, arith, map}
 use Rattle.meaning.specs.Space.{up_from, below}
 use Rattle.meaning.specs.Written.{Written, And, Or, and_chain, or_chain}
 

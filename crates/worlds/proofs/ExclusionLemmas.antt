@@ -1,7 +1,7 @@
 -- Known literals at a profile, by the variables of the profile.
-use Rattle.std.proofs.Common.{◌≡◌, ◌≢◌, refl, sym, ◌∙◌, ap, subst, ℕ, zero, suc, ◌+◌, ◌*◌, ◌<◌, ◌≤◌, Bool, true, false, not, cond, ◌&&◌, ◌⊎◌, inl, inr, List, [], ◌∷◌, filter, length, arith, true≢false, eqb-true, eq-eqb, eq-or-lt_of_le, mul-le-mul, mul-le-mul_right}
+use Rattle.std.proofs.Common.{◌≡◌, ◌≢◌, refl, sym, ap, subst, ℕ, ◌+◌, ◌*◌, ◌<◌, ◌≤◌, Bool, true, false, not, cond, ◌&&◌, ◌⊎◌, inl, inr, List, [], ◌∷◌, filter, arith, true≢false, eqb-true, eq-eqb, eq-or-lt_of_le, mul-le-mul, mul-le-mul_right}
 use Rattle.std.specs.Prelude.{◌==◌}
-use Rattle.std.specs.List.{list_all, list_any}
+use Rattle.std.specs.List.{list_all}
 use Rattle.std.proofs.lemmas.Bool.{and_parts, and_from, or_cases, or_left, or_right, both_ways, false_from_ne_true, not-true}
 use Rattle.vocab.specs.declared.kinds.Kind.{Kind}
 use Rattle.vocab.specs.declared.kinds.Kind.TheVariants.{Choice, Ranking, Sets}
@@ -10,12 +10,10 @@ use Rattle.vocab.specs.declared.literals.Literal.{Literal}
 use Rattle.vocab.specs.Literal.{same_literal, has, profile_of}
 use Rattle.vocab.specs.Size.{Extent, IsSize, sort_count, outcome_count}
 use Rattle.cnf.specs.Signed.{Signed}
-use Rattle.meaning.specs.Laws.{AreVariables}
 use Rattle.meaning.specs.Literals.{is_literal}
-use Rattle.meaning.specs.Space.{below}
 use Rattle.meaning.specs.Stories.{is_outcome_excluded}
 use Rattle.meaning.specs.Truth.{holds_of}
-use Rattle.meaning.specs.Variables.{pairs, bits, variable_count, lit_of, literal_of}
+use Rattle.meaning.specs.Variables.{bits, lit_of, literal_of}
 use Rattle.meaning.proofs.LiteralLaws.{same_literal-equal, same_literal-refl, profile_in}
 use Rattle.meaning.proofs.SpaceLaws.{factorial_pos}
 use Rattle.meaning.proofs.ValueLoops.{any_holds}

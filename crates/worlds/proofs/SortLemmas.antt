@@ -1,5 +1,5 @@
 -- Each sort has values.
-use Rattle.std.proofs.Common.{ℕ, ◌<◌, ◌≤◌}
+use Rattle.std.proofs.Common.{◌≤◌}
 use Rattle.vocab.specs.declared.kinds.Sort.{Sort}
 use Rattle.vocab.specs.declared.kinds.Sort.TheVariants.{Voter, Alt, Ballot, Profile}
 use Rattle.vocab.specs.Size.{Extent, IsSize, factorial, sort_count}

@@ -1,11 +1,11 @@
-use Rattle.std.proofs.Common.{◌≡◌, sym, ◌∙◌, ap, subst, ℕ, ◌+◌, ◌*◌, ◌<◌, ◌≤◌, ◌^◌, arith, true, false}
+use Rattle.std.proofs.Common.{◌≡◌, sym, ◌∙◌, ap, subst, ℕ, ◌+◌, ◌*◌, ◌<◌, ◌≤◌, arith, true, false}
 use Rattle.vocab.specs.declared.kinds.Sort.TheVariants.{Profile}
 use Rattle.vocab.specs.Size.{Extent, sort_count}
 use Rattle.cnf.specs.Signed.{Signed}
 use Rattle.meaning.specs.Literals.{is_literal}
-use Rattle.meaning.specs.Variables.{bits, variable_count}
+use Rattle.meaning.specs.Variables.{bits}
 use Rattle.std.specs.List.{list_all}
-use Rattle.worlds.proofs.ExclusionLemmas.{numbers_fit, variable_within, is_failing, checked_more, checked_all, fails_there}
+use Rattle.worlds.proofs.ExclusionLemmas.{numbers_fit, is_failing, checked_more, checked_all, fails_there}
 use Rattle.worlds.proofs.exclusion.allows.Goals as goal
 
 pub variable_at-variable-requires : goal.variable_at-variable-requires
