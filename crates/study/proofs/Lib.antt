@@ -4,4 +4,4 @@ pub mod Listings
 pub mod Resolved
 pub mod Counting
 pub mod Whole
-pub mod Kinds
+pub mod StudyKinds

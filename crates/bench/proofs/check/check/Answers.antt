@@ -1,7 +1,7 @@
 use Rattle.std.proofs.Common.{refl, ◌≡◌, ◌<◌, length, Ok, Err, IsSomeAnd}
 use Rattle.edge.specs.declared.faults.ReadFault.TheVariants.{TooLong}
 use Rattle.study.specs.Reading.{IsStudyOf}
-use Rattle.study.proofs.Kinds.{kinds_known}
+use Rattle.study.proofs.StudyKinds.{kinds_known}
 use Rattle.bench.specs.CheckTable.{most_bytes}
 use Rattle.bench.proofs.CheckLemmas.{at_that_error, WasRead, IsTooLong, too_long_row, refused_answer, judged_row, report_cause}
 use Rattle.bench.proofs.check.check.Goals as goal
