@@ -1,5 +1,5 @@
 -- The kind of a study that bytes give.
-use Rattle.std.proofs.Common.{◌≡◌, ◌≢◌, refl, sym, ◌∙◌, ap, subst, ℕ, List, Bool, true, false, Option, None, Some, Result, Ok, Err, codes}
+use Rattle.std.proofs.Common.{◌≡◌, ◌≢◌, refl, sym, ◌∙◌, ap, subst, ℕ, List, [], Bool, true, false, Option, None, Some, Result, Ok, Err, codes}
 use Rattle.std.specs.Prelude.{if◌then◌else◌, ℤ, nat_abs, nat_le, ◌^◌}
 use Rattle.std.specs.Option.{ok_or}
 use Rattle.std.specs.Str.{bytes_eq}
@@ -13,13 +13,15 @@ use Rattle.study.specs.declared.faults.StudyFault.{StudyFault}
 use Rattle.study.specs.declared.faults.StudyFault.TheVariants as fault
 use Rattle.study.specs.declared.limits.Limit.TheVariants.{Instances, Body, Work}
 use Rattle.study.specs.declared.listing.Listing.{Listing}
-use Rattle.study.specs.Document.{Head, Draft, kind_of, integer_of, conflicts_of, axioms_of, sentences_of, known_keys, head_of, draft_of, document_of}
+use Rattle.study.specs.declared.drafts.Draft.{Draft}
+use Rattle.study.specs.declared.drafts.Head.{Head}
+use Rattle.study.specs.Document.{kind_of, integer_of, conflicts_of, axioms_of, sentences_of, known_keys, head_of, draft_of, document_of}
 use Rattle.study.specs.Listing.{limit_of, few_of, listed, once, listing_of}
 use Rattle.study.specs.Laws.{HaveKinds}
 use Rattle.study.specs.Reading.{IsStudyOf, IsAnswered, IsAnswer, refused, read, listing_in}
 use Rattle.study.specs.Refusing.{and_then, refused_as}
 use Rattle.study.specs.Sentences.{Worded, resolved_all, within, study_of}
-use Rattle.study.proofs.Listings.{CameFrom, came_from}
+use Rattle.study.proofs.Listings.{CameFrom, came_from, ok_once}
 
 some_value : {A E : Type 0} (o : Option A) (e : E) (x : A) → ok_or o e ≡ Ok x → o ≡ Some x
 some_value None e x h = absurd (cc)
