@@ -1,0 +1,11 @@
+use Rattle.std.proofs.Common.{◌≡◌, ◌∙◌, sym, slice_get, Some}
+use Rattle.story.proofs.PlaceLemmas.{core_place, sentence_at}
+use Rattle.story.proofs.reasons.by_axiom.Goals as goal
+
+pub get-cited-requires : goal.get-cited-requires
+get-cited-requires g c = rw c.axioms.ensures.axioms (core_place c.args.study.now.axioms c.args.core.now c.args.place (sym c.is_in.ensures ∙ c.if-not-is_in.false) c.requires.core)
+
+pub is_instance_false-requires-clause-sentence : goal.is_instance_false-requires-clause-sentence
+is_instance_false-requires-clause-sentence g c κs within =
+    let at : slice_get c.args.study.now.axioms c.args.place ≡ Some c.get-cited.result.now = rw c.axioms.ensures.axioms at c.get-cited.ensures in
+    rw (← c.requires.study) (sentence_at c.args.study.now c.args.place c.get-cited.result.now c.axioms.ensures.study at)
