@@ -157,13 +157,25 @@ fn own_sentences_are_refused_at_their_first_fault(rt: HostRuntime) -> Result<(),
         ("all p: profile. wins(@c, p)", "constant @c"),
         ("all p: profile. wins(@a)", "arity wins"),
         ("all p: profile. wins(p, p)", "sort wins 1"),
+        ("all p: profile. p = @a", "sort = 2"),
+        ("all p: profile. casts(#1, @a, q)", "sort casts 2"),
+        ("all x: profile. all x: alt. wins(x, x)", "sort wins 2"),
+        ("all p: profile. wins(@a, with(p, #1, @a))", "sort with 3"),
+        ("all p: profile. wins(@a, with(p))", "arity with"),
+        ("all p: profile. wins(wins(p), p)", "symbol wins"),
+        ("all p: profile. with(p, #1, <ab>)", "symbol with"),
+        ("all p: profile. wins(@a, with(p, #0, <ab>))", "constant #0"),
+        (
+            "all p: profile. wins(@a, with(p, #003, <ab>))",
+            "constant #3",
+        ),
+        (
+            "all p: profile. wins(@a, with(p, #2, <abc>))",
+            "constant <abc>",
+        ),
         ("all p: profile. won(@a, p)", "symbol won"),
         ("all p: profile wins(@a, p)", "no reading"),
         ("all p: profile. wins(@a, p) ?", "lexeme 28"),
-        (
-            "all p: profile. all q: profile. all r: profile. all s: profile. all t: profile. all u: profile. all v: profile. all w: profile. all x: profile. all y: profile. all z: profile. wins(@a, p)",
-            "instances 4194304",
-        ),
     ];
     let alloc = rt.alloc();
     for (sentence, text) in cases {
