@@ -13,7 +13,7 @@ use Rattle.axiom_library.proofs.Writing.{is_writable, writable_by_test}
 -- a text that is the canonical one of a tree within the limits
 readable : (name text : List ℕ) (f : NamedTree) → is_name name ≡ true → text_of f ≡ text → is_writable f ≡ true → length (tree_lexemes f []) ≤ 600 → depth f ≤ 64 → quantifiers f ≤ 12 → IsReadable name text
 readable name text f named same writable few shallow few_variables =
-    record { is_name = named; tree = f; reads = subst (λ t. IsSentence t f) same (writable_read f (writable_by_test f writable) few shallow few_variables) }
+    record { is_name = named; tree = f; reads = subst (λ t. IsSentence t f) same (writable_read f (writable_by_test f writable) few shallow few_variables); canonical = same }
 
 pub unanimity : IsReadable (codes "unanimity") (codes "all p: profile. all x: alt. (all i: voter. all y: alt. (x = y | prefers(i, x, y, p)) -> wins(x, p))")
 unanimity = readable _ _ trees.unanimity refl refl refl (lit≤ tt) (lit≤ tt) (lit≤ tt)

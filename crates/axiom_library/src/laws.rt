@@ -2,7 +2,7 @@
 
 ghost use Rattle.axiom_library.specs.Laws.{TextsAreSentences, EntriesAreFound};
 
-/// Each text that the library has under a name reads as a sentence.
+/// Each text that the library has under a name is the canonical text of a sentence, which it reads as.
 pub fn texts_are_sentences()
     ensures { TextsAreSentences }
 {}

@@ -31,6 +31,11 @@ Answered words files status before now = (text : List ℕ) × Lawful words files
 abbrev pub AnsweredInPart : List (List ℕ) → Files → Option (List ℕ) → Option (List ℕ) → Type 0
 AnsweredInPart words files before now = (status : ℕ) × (text : List ℕ) × Lawful words files status text × AppendsPrefix before now text
 
+-- the words are not `check`, so no file is touched, nor any count of faults
+abbrev pub AreFilesUntouched : List (List ℕ) → (List ℕ → Option (List ℕ)) → (List ℕ → Option (List ℕ)) → (List ℕ → ℕ) → (List ℕ → ℕ) → Type 0
+AreFilesUntouched words left_before left_now faults_before faults_now = ((study report : List ℕ) → ¬ IsCheck words study report) →
+    (name : List ℕ) → (left_now name ≡ left_before name) × (faults_now name ≡ faults_before name)
+
 -- the file of this name holds a study
 abbrev pub HoldsStudy : Files → List ℕ → Type 0
 HoldsStudy files name = (bytes : List ℕ) × (question : Question) × Holds files name bytes × IsStudyOf bytes (Ok question)

@@ -238,6 +238,152 @@ fn rules_that_rank_are_judged(rt: HostRuntime) -> Result<(), Fail> {
 }
 
 #[test]
+fn larger_rules_are_judged(rt: HostRuntime) -> Result<(), Fail> {
+    let majority =
+        "ab|ab|ab a\nab|ab|ba a\nab|ba|ab a\nab|ba|ba b\nba|ab|ab a\nba|ab|ba b\nba|ba|ab b\nba|ba|ba b\n";
+    let cases = [
+        (
+            "choice",
+            3,
+            2,
+            "\"anonymity\", \"neutrality\"",
+            " anonymity neutrality",
+            8,
+            majority,
+        ),
+        ("ranking", 1, 1, "", "", 1, "a a\n"),
+        (
+            "choice",
+            2,
+            2,
+            "",
+            "",
+            4,
+            "ab|ab b\nab|ba a\nba|ab a\nba|ba b\n",
+        ),
+    ];
+    let alloc = rt.alloc();
+    for (kind, voters, alternatives, listed, named, profiles, rows) in cases {
+        let study = format!(in alloc;
+            "kind = \"{kind}\"\nvoters = {voters}\nalternatives = {alternatives}\naxioms = [{listed}]\n"
+        )?;
+        let report = format!(in alloc;
+            "bench report 1\nkind {kind}\nvoters {voters}\nalternatives {alternatives}\naxioms{named}\nverdict possible\nrule {profiles}\n{rows}end\n"
+        )?;
+        let (status, bytes) = check(&rt, alloc, study.as_str(), report.as_str(), &[])?;
+        assert_eq!(rt; status, 0, "at {rows:?}");
+        assert_eq!(rt; bytes.as_slice(), b"confirmed possible\n".as_slice());
+    }
+    Ok(())
+}
+
+#[test]
+fn sentences_have_limits(rt: HostRuntime) -> Result<(), Fail> {
+    let alloc = rt.alloc();
+    // So many signs of negation, and what is said of the sentence; 61 are not too many.
+    let cases = [
+        (61, ""),
+        (62, "odd: deep"),
+        (589, "odd: deep"),
+        (590, "odd: long 601"),
+    ];
+    for (count, text) in cases {
+        let mut nots = String::new(alloc);
+        for _ in 0..count {
+            nots.push_str("!")?;
+        }
+        let signs = nots.as_str();
+        let study = format!(in alloc;
+            "{SMALL}[sentences]\nodd = \"all p: profile. {signs}wins(@a, p)\"\n"
+        )?;
+        is_refused(&rt, alloc, study.as_str(), text)?;
+    }
+    // Of rules for two voters and five alternatives.
+    let large = [
+        (
+            "\"strategyproof\"",
+            "x = x",
+            "strategyproof: instances 86400000",
+        ),
+        (
+            "\"odd\"",
+            "some p: profile. some q: profile. wins(@a, p)",
+            "odd: body 207360000",
+        ),
+        (
+            "\"odd\"",
+            "all p: profile. some q: profile. (wins(@a, p) & wins(@a, q))",
+            "odd: work 414720000",
+        ),
+    ];
+    for (axioms, sentence, text) in large {
+        let study = format!(in alloc;
+            "kind = \"choice\"\nvoters = 2\nalternatives = 5\naxioms = [{axioms}]\n[sentences]\nodd = \"{sentence}\"\n"
+        )?;
+        is_refused(&rt, alloc, study.as_str(), text)?;
+    }
+    Ok(())
+}
+
+/// That the study is refused by this text, or is not where the text is empty: then the report would be opened.
+fn is_refused<R: Threads + Sync>(
+    rt: &R,
+    alloc: Global,
+    study: &str,
+    text: &str,
+) -> Result<(), Fail> {
+    let (status, bytes) = check(rt, alloc, study, REPORT, &[3])?;
+    let line = format!(in alloc; "study: {text}\n")?;
+    if text.is_empty() {
+        return if status == 5 {
+            Ok(())
+        } else {
+            Err(Fail::from(NoMemory))
+        };
+    }
+    if status != 3 || bytes.as_slice() != line.as_bytes() {
+        return Err(Fail::from(NoMemory));
+    }
+    Ok(())
+}
+
+#[test]
+fn studies_have_few_axioms(rt: HostRuntime) -> Result<(), Fail> {
+    let alloc = rt.alloc();
+    for (count, text) in [(40, ""), (41, "axioms 41")] {
+        let mut names = String::new(alloc);
+        let mut sentences = String::new(alloc);
+        for number in 0..count {
+            names.push_str(format!(in alloc; "\"x{number}\", ")?.as_str())?;
+            sentences.push_str(format!(in alloc; "x{number} = \"@a = @b\"\n")?.as_str())?;
+        }
+        let (listed, own) = (names.as_str(), sentences.as_str());
+        let study = format!(in alloc;
+            "kind = \"choice\"\nvoters = 2\nalternatives = 2\naxioms = [{listed}]\n[sentences]\n{own}"
+        )?;
+        is_refused(&rt, alloc, study.as_str(), text)?;
+    }
+    Ok(())
+}
+
+#[test]
+fn a_study_may_have_a_mebibyte(rt: HostRuntime) -> Result<(), Fail> {
+    let alloc = rt.alloc();
+    let mut study = String::from_str(alloc, STUDY)?;
+    study.push_str("#")?;
+    while study.len() < 1_048_576 {
+        study.push_str(" ")?;
+    }
+    let (status, _) = check(&rt, alloc, study.as_str(), REPORT, &[])?;
+    assert_eq!(rt; status, 0);
+    study.push_str(" ")?;
+    let (status, bytes) = check(&rt, alloc, study.as_str(), REPORT, &[])?;
+    assert_eq!(rt; status, 3);
+    assert_eq!(rt; bytes.as_slice(), b"study: too long\n".as_slice());
+    Ok(())
+}
+
+#[test]
 fn the_library_is_printed(rt: HostRuntime) -> Result<(), Fail> {
     let alloc = rt.alloc();
     let first =

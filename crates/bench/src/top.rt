@@ -13,7 +13,7 @@ ghost use Rattle.bench.specs.Refusals.{study_line};
 ghost use Rattle.bench.specs.Words.{Axioms, texts, request_of, usage_line};
 ghost use Rattle.bench.specs.CheckTable.{IsFirstFailing, SatisfiesAll, fails_line, most_bytes};
 ghost use Rattle.bench.specs.Lawful.{Lawful};
-ghost use Rattle.bench.specs.TopCall.{IsStatus, Answered, AnsweredInPart, HasFileCause, IsStudyAloneTouched, Says, IsCheckOfLongStudy, IsCheckOfRefused, IsCheckOver};
+ghost use Rattle.bench.specs.TopCall.{IsStatus, Answered, AnsweredInPart, HasFileCause, IsStudyAloneTouched, AreFilesUntouched, Says, IsCheckOfLongStudy, IsCheckOfRefused, IsCheckOver};
 
 use crate::answers::{Answer, Stop, say};
 use crate::check::check;
@@ -46,6 +46,7 @@ fn answer<S: Shelf>(alloc: Global, words: &[String], shelf: &mut S) -> Result<An
     ensures fault { IsErrOf result Stop.ReadFault → HasFileCause (texts words.now) (S.files shelf.old) (S.faults shelf.old) (S.faults shelf.new) }
     ensures no_command { IfOk result (λ answer. answer.status ≡ 2 → request_of (texts words.now) ≡ None) }
     ensures unopened { IfOk result (λ answer. answer.status ≡ 3 → IsStudyAloneTouched (texts words.now) (S.left shelf.old) (S.left shelf.new)) }
+    ensures untouched { AreFilesUntouched (texts words.now) (S.left shelf.old) (S.left shelf.new) (S.faults shelf.old) (S.faults shelf.new) }
     ensures status { IfOk result (λ answer. answer.status ≤ 3) }
 {
     match command_of(words) {
@@ -97,6 +98,9 @@ pub fn bench<R: Threads + Sync, S: Shelf, K: Sink, G: Gate>(
     // `axioms KIND` needs no file, and writes the library.
     ensures axioms { (kind : Kind) → request_of (texts words.now) ≡ Some (Axioms kind) → result.status ≤ 4 →
         Says result.status (K.taken out.old) (K.taken out.new) 0 (library_text kind) }
+
+    // Words other than `check` touch no file.
+    ensures untouched { AreFilesUntouched (texts words.now) (S.left shelf.old) (S.left shelf.new) (S.faults shelf.old) (S.faults shelf.new) }
 
     // Where the study is refused, the report was not opened.
     ensures unopened { result.status ≡ 3 → IsStudyAloneTouched (texts words.now) (S.left shelf.old) (S.left shelf.new) }

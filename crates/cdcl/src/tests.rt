@@ -59,12 +59,42 @@ fn small_lists_have_their_answers(rt: HostRuntime) -> Result<(), Fail> {
         [1, 2, 0, -1, 2, 0, 1, -2, 0, -1, -2, 0].as_slice(),
     )?;
     assert_eq!(rt; answer(rt.alloc(), &four, 2, 9)?, "refuted");
-    assert_ne!(rt; answer(rt.alloc(), &four, 2, 1)?, "found");
+    assert_eq!(rt; answer(rt.alloc(), &four, 2, 1)?, "spent");
     assert_eq!(rt;
         answer(rt.alloc(), &pigeons(rt.alloc())?, 12, 1000)?,
         "refuted"
     );
     laws::enough_is_conclusive();
+    Ok(())
+}
+
+/// Whether a step adds the clause of these literals under this id, by these hints.
+fn adds(step: &Step, number: u64, literals: &[Lit], by: &[u64]) -> bool {
+    match step {
+        Step::Add { id, clause, hints } => {
+            *id == number && clause.as_slice() == literals && hints.as_slice() == by
+        }
+        Step::Drop { .. } => false,
+    }
+}
+
+// With 1 false the first clause makes 2 true, and the third is then false: so the clause `1` is learned from both.
+#[test]
+fn a_spent_list_has_what_was_learned(rt: HostRuntime) -> Result<(), Fail> {
+    let four = list(
+        rt.alloc(),
+        [1, 2, 0, -1, 2, 0, 1, -2, 0, -1, -2, 0].as_slice(),
+    )?;
+    let answer = search(rt.alloc(), &four, 2, 1)?;
+    let one = [Lit::new(1, true)];
+    let hints = [1u64, 3u64];
+    let mut learned = false;
+    if let Search::Spent(lines) = &answer {
+        for line in lines.as_slice() {
+            learned = line.at == 1 && adds(&line.step, 5, one.as_slice(), hints.as_slice());
+        }
+    }
+    assert!(rt; learned);
     Ok(())
 }
 

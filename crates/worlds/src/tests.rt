@@ -1,12 +1,12 @@
 //! Rules of one voter and one alternative.
 
-use crate::{Board, excludes, first_failure, instance_count, partial, truth};
+use crate::{Board, excludes, partial, truth};
 use lists::Items;
 use meaning::Three;
-use outcomes::{ChoiceKind, OutcomeKind};
+use outcomes::ChoiceKind;
 use profiles::Space;
 use std::test::Fail;
-use vocab::{Atom, Axiom, Env, Formula, Kind, Literal, Name, Size, Sort, Term};
+use vocab::{Atom, Env, Formula, Kind, Literal, Size, Term};
 
 #[test]
 fn the_only_alternative_wins(rt: HostRuntime) -> Result<(), Fail> {
