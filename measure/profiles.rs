@@ -64,6 +64,16 @@ impl Space {
         let (v, w) = (self.weights[i as usize], self.weights[j as usize]);
         p - a * v + b * v - b * w + a * w
     }
+    fn with(&self, p: u32, i: u32, b: u32) -> u32 {
+        let w = self.weights[i as usize];
+        p - self.ballot_of(p, i) * w + b * w
+    }
+    fn swap(&self, x: u32, y: u32, z: u32) -> u32 { if z == x { y } else if z == y { x } else { z } }
+    fn ballot_text(&self, b: u32) -> ([u8; 32], usize) {
+        let mut text = [0; 32];
+        for (k, x) in self.rankings[b as usize][..self.alternatives as usize].iter().enumerate() { text[k] = b'a' + x; }
+        (text, self.alternatives as usize)
+    }
     fn profile_text(&self, p: u32) -> ([u8; 48], usize) {
         let mut text = [0; 48];
         let mut len = 0;
@@ -104,6 +114,11 @@ fn calls(call: &str, s: &Space) -> u32 {
         "majority" => for x in 0..s.alternatives { for y in 0..s.alternatives { for p in 0..s.profiles { fold(&mut sum, s.majority(x, y, p) as u32); } } },
         "swap_alts" => for x in 0..s.alternatives { for y in 0..s.alternatives { for p in 0..s.profiles { fold(&mut sum, s.swap_alts(p, x, y)); } } },
         "swap_voters" => for i in 0..s.voters { for j in 0..s.voters { for p in 0..s.profiles { fold(&mut sum, s.swap_voters(p, i, j)); } } },
+        "ballots" => for i in 0..s.voters { for j in 0..s.voters { for p in 0..s.profiles { let b = s.ballot_of(p, i); fold(&mut sum, b + (s.ballot_of(p, j) == b) as u32); } } },
+        "better" => for x in 0..s.alternatives { for y in 0..s.alternatives { for p in 0..s.profiles { fold(&mut sum, s.better(s.ballot_of(p, 0), x, y) as u32); } } },
+        "with" => for i in 0..s.voters { for j in 0..s.voters { for p in 0..s.profiles { fold(&mut sum, s.with(p, j, s.ballot_of(p, i))); } } },
+        "swap" => for x in 0..s.alternatives { for y in 0..s.alternatives { for z in 0..s.alternatives { for _ in 0..1000 { fold(&mut sum, std::hint::black_box(s).swap(x, y, z)); } } } },
+        "ballot_texts" => for p in 0..s.profiles { let (text, len) = s.ballot_text(s.ballot_of(p, 0)); fold(&mut sum, s.read_ballot(&text[..len]).unwrap()); },
         _ => for p in 0..s.profiles { let (text, len) = s.profile_text(p); fold(&mut sum, s.read_profile(&text[..len]).unwrap()); },
     }
     sum
@@ -112,7 +127,7 @@ fn calls(call: &str, s: &Space) -> u32 {
 fn main() {
     for (voters, alternatives) in [(8, 2), (5, 3), (3, 4), (2, 5)] {
         let space = Space::new(voters, alternatives);
-        for call in ["prefers", "majority", "swap_alts", "swap_voters", "texts"] {
+        for call in ["prefers", "majority", "swap_alts", "swap_voters", "ballots", "better", "with", "swap", "ballot_texts", "texts"] {
             let mut sum: u32 = 0;
             let start = Instant::now();
             for _ in 0..20 { sum = sum.wrapping_add(calls(call, std::hint::black_box(&space))); }

@@ -1,7 +1,8 @@
 #!/usr/bin/env bash
 # Nanoseconds for calls of a space, against the same calls in plain Rust built by `rustc -O` (measure/profiles.rs).
 # Each call goes over all profiles of four sizes and all other arguments, 20 times; each program runs 5 times, and the
-# shortest run counts. `texts` writes the text of a profile and reads it back. The answers are compared too.
+# shortest run counts. `ballots` is `ballot_of` and `casts`, `texts` writes the text of a profile and reads it back, and so does
+# `ballot_texts` that of a ballot. The answers are compared too. The last size has about a million calls of most.
 # The calls of the crate are made by a program that is proved and built in a copy of the repository.
 # The last line is `ratio R`: the time of all calls by that of plain Rust.
 set -eu
@@ -80,6 +81,76 @@ fn swap_voters(space: &Space) -> u32 {
     sum
 }
 
+fn ballots(space: &Space) -> u32 {
+    let voters = space.size().voters() as u32;
+    let mut sum: u32 = 0;
+    for i in 0..voters {
+        for j in 0..voters {
+            for p in 0..space.count() {
+                let ballot = space.ballot_of(p, i);
+                sum = sum.wrapping_mul(31).wrapping_add(ballot + space.casts(j, ballot, p) as u32);
+            }
+        }
+    }
+    sum
+}
+
+fn better(space: &Space) -> u32 {
+    let alternatives = space.size().alternatives() as u32;
+    let mut sum: u32 = 0;
+    for x in 0..alternatives {
+        for y in 0..alternatives {
+            for p in 0..space.count() {
+                let ballot = space.ballot_of(p, 0);
+                sum = sum.wrapping_mul(31).wrapping_add(space.better(ballot, x, y) as u32);
+            }
+        }
+    }
+    sum
+}
+
+fn with(space: &Space) -> u32 {
+    let voters = space.size().voters() as u32;
+    let mut sum: u32 = 0;
+    for i in 0..voters {
+        for j in 0..voters {
+            for p in 0..space.count() {
+                let ballot = space.ballot_of(p, i);
+                sum = sum.wrapping_mul(31).wrapping_add(space.with(p, j, ballot));
+            }
+        }
+    }
+    sum
+}
+
+fn swap(space: &Space) -> u32 {
+    let alternatives = space.size().alternatives() as u32;
+    let mut sum: u32 = 0;
+    for x in 0..alternatives {
+        for y in 0..alternatives {
+            for z in 0..alternatives {
+                for _i in 0..1000 {
+                    sum = sum.wrapping_mul(31).wrapping_add(space.swap(x, y, z));
+                }
+            }
+        }
+    }
+    sum
+}
+
+fn ballot_texts(space: &Space) -> u32 {
+    let mut sum: u32 = 0;
+    for p in 0..space.count() {
+        let text = space.ballot_text(space.ballot_of(p, 0));
+        let read = match space.read_ballot(text.bytes()) {
+            Some(ballot) => ballot,
+            None => 1,
+        };
+        sum = sum.wrapping_mul(31).wrapping_add(read);
+    }
+    sum
+}
+
 fn texts(space: &Space) -> u32 {
     let mut sum: u32 = 0;
     for p in 0..space.count() {
@@ -102,6 +173,11 @@ fn line(rt: &HostRuntime, call: &str, space: &Space) -> io::Result<()> {
             "majority" => majority(space),
             "swap_alts" => swap_alts(space),
             "swap_voters" => swap_voters(space),
+            "ballots" => ballots(space),
+            "better" => better(space),
+            "with" => with(space),
+            "swap" => swap(space),
+            "ballot_texts" => ballot_texts(space),
             _ => texts(space),
         });
     }
@@ -116,7 +192,7 @@ fn main(rt: HostRuntime) -> io::Result<()> {
             return Ok(());
         };
         let space = Space::new(size);
-        for call in ["prefers", "majority", "swap_alts", "swap_voters", "texts"] {
+        for call in ["prefers", "majority", "swap_alts", "swap_voters", "ballots", "better", "with", "swap", "ballot_texts", "texts"] {
             line(&rt, call, &space)?;
         }
     }
@@ -135,7 +211,7 @@ def shortest(program):
         best = now if best is None else [min(a, b, key=lambda row: row[2]) for a, b in zip(best, now)]
     return best
 bench, plain = shortest(sys.argv[1]), shortest(sys.argv[2])
-sizes = [size for size in ("8 voters 2", "5 voters 3", "3 voters 4", "2 voters 5") for _ in range(5)]
+sizes = [size for size in ("8 voters 2", "5 voters 3", "3 voters 4", "2 voters 5") for _ in range(10)]
 for size, ours, theirs in zip(sizes, bench, plain):
     assert ours[:2] == theirs[:2], (size, ours, theirs)
     print("%s: %s %d ns, plain %d ns, ratio %.2f" % (size, ours[0], ours[2], theirs[2], ours[2] / theirs[2]))
