@@ -1,0 +1,31 @@
+//! What a line of a report says.
+
+use meaning::Reason;
+use vocab::{Kind, Literal, Name};
+
+/// What a line says. A number stands still at the end of `u64`, and the number of a cited lemma, which is counted from
+/// 0, at the end of `u32`. `AxiomsAre` tells whether the names are those of the study's axioms in order, and `CoreIs`
+/// whether they are those of distinct axioms of the study in order.
+#[derive(Clone, Copy, Debug, PartialEq, Eq)]
+pub enum Line {
+    Title,
+    KindIs(Kind),
+    VotersAre(u64),
+    AlternativesAre(u64),
+    AxiomsAre(bool),
+    SaysPossible,
+    SaysImpossible,
+    SaysUndecided,
+    LimitIs(u64),
+    RuleOf(u64),
+    Row(u32, u8),
+    CoreIs(bool),
+    LemmasAre(u64),
+    Heading(u64),
+    Suppose(Literal),
+    So(Literal, Reason),
+    Clash(Reason),
+    WithRule(Name, u64),
+    WithOpen(Name, u64),
+    End,
+}

@@ -1,0 +1,6 @@
+//! Whether a rule satisfies axioms, and which it fails first, with the instances among workers.
+#![tactic(auto)]
+
+mod check;
+
+pub use check::check_rule;
