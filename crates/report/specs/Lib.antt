@@ -3,3 +3,6 @@ pub mod Lines
 pub mod Report
 pub mod Laws
 pub mod Cutting
+pub mod Held
+pub mod Taken
+pub mod Answers

@@ -5,10 +5,21 @@ ghost use Rattle.std.specs.Prelude.{◌≡◌, ℕ, List, IfOk, MatchOption};
 ghost use Rattle.report.specs.Cutting.{IsCut, front_text};
 ghost use Rattle.report.specs.Report.{IsRuleReport};
 
+mod checker;
 mod cutting;
+mod faults;
 mod head;
 pub mod laws;
+mod readings;
+mod story_lines;
+mod subject;
 mod table;
+mod taking;
+mod witness_lines;
+
+pub use checker::Checker;
+pub use faults::ReportFault;
+pub use report_lines::Confirmed;
 
 use head::cut_head;
 use lists::NoMemory;

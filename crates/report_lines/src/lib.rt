@@ -1,12 +1,8 @@
 //! Reads a line of a report: what it says at its place in the grammar.
 #![tactic(auto)]
 
-mod core_line;
 mod lines;
 mod places;
-mod reading;
 
-pub use core_line::read_core;
 pub use lines::Line;
 pub use places::{Confirmed, Place};
-pub use reading::read_line;

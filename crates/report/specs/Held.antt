@@ -1,0 +1,48 @@
+-- What a checker of reports holds, and what it stands for.
+use Rattle.std.specs.Prelude.{◌≡◌, ℕ, ◌≤◌, ◌⊎◌, List, map, length, Option, Some, None}
+use Rattle.vocab.specs.declared.literals.Literal.{Literal}
+use Rattle.vocab.specs.Study.{Question}
+use Rattle.meaning.specs.declared.stories.Lemma.{Lemma}
+use Rattle.verdicts.specs.Places.{Standing}
+use Rattle.verdicts.specs.Faults.{known_of}
+use Rattle.verdicts.specs.Judge.{Told, Good, Refused, judge}
+use Rattle.report_lines.specs.Held.{held_number, held_place}
+use Rattle.report.specs.declared.faults.ReportFault.{ReportFault}
+use Rattle.report.specs.declared.faults.ReportFault.TheVariants.{Line as AtLine, NoMemory}
+use Rattle.report.specs.declared.readings.Reading.{Reading}
+
+-- what lemmas suppose
+abbrev pub supposed : List Lemma → List (List Literal)
+supposed lemmas = map (λ lemma. lemma.suppose) lemmas
+
+-- what is held is what the lines so far have given; of the lemmas that are read it is what they suppose alone
+pub record Stands (study : Question) (r : Reading) (s : Standing) : Type 0 where
+  pub place : r.place ≡ held_place s.place
+  pub rows : r.rows ≡ s.rows
+  pub core : r.core ≡ s.core
+  pub count : r.count ≡ held_number s.count
+  pub earlier : supposed r.earlier ≡ supposed s.earlier
+  pub suppose : r.suppose ≡ s.suppose
+  pub size : r.board.size ≡ study.size
+  pub known : r.board.literals ≡ known_of s
+  pub witnesses : r.witnesses ≡ length s.witnesses
+
+-- the lines of some report that is right so far have given what is held
+pub record IsRead (study : Question) (r : Reading) : Type 0 where
+  pub lines : List (List ℕ)
+  pub standing : Standing
+  pub good : judge study lines ≡ Good standing
+  pub stands : Stands study r standing
+
+-- what is held after lines of which none is faulty, and after the first faulty one
+abbrev pub StandsAs : Question → Option ReportFault → Reading → Told → Type 0
+StandsAs study fault r (Good s) = (fault ≡ None) × Stands study r s
+StandsAs study fault r (Refused line word) = fault ≡ Some (AtLine line word)
+
+-- a checker with this count, fault and reading stands for these lines
+abbrev pub StandsFor : Question → ℕ → Option ReportFault → Reading → List (List ℕ) → Type 0
+StandsFor study count fault r lines = (count ≡ length lines) × StandsAs study fault r (judge study lines)
+
+-- it stands for some lines, unless memory was wanting
+abbrev pub IsReady : Question → ℕ → Option ReportFault → Reading → Type 0
+IsReady study count fault r = (fault ≡ Some NoMemory) ⊎ ((lines : List (List ℕ)) × StandsFor study count fault r lines)

@@ -1,6 +1,0 @@
-//! Whether a rule satisfies axioms, and which it fails first, with the instances among workers.
-#![tactic(auto)]
-
-mod check;
-
-pub use check::check_rule;
