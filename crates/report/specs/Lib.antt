@@ -6,3 +6,4 @@ pub mod Cutting
 pub mod Held
 pub mod Taken
 pub mod Answers
+pub mod Pieces

@@ -79,7 +79,9 @@ impl<'a, K: OutcomeKind> Checker<'a, K> {
             self.new.fault ≢ Some ReportFault.NoMemory →
             StandsFor self.old.subject.study.now self.new.lines self.new.fault self.new.reading (lines ++ text.now ∷ []) }
     {
-        let _ = (rt, gate, text);
+        let _ = rt;
+        let _ = gate;
+        let _ = text;
         self.lines += 1;
         self.fault = Some(ReportFault::NoMemory);
         Err(ReportFault::NoMemory)

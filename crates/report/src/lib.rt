@@ -10,6 +10,7 @@ mod cutting;
 mod faults;
 mod head;
 pub mod laws;
+mod reader;
 mod readings;
 mod story_lines;
 mod subject;
@@ -19,6 +20,7 @@ mod witness_lines;
 
 pub use checker::Checker;
 pub use faults::ReportFault;
+pub use reader::{Reader, check_report};
 pub use report_lines::Confirmed;
 
 use head::cut_head;

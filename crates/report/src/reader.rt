@@ -1,0 +1,196 @@
+//! Reads a report in pieces of its bytes.
+
+ghost use Rattle.std.specs.Prelude.{◌≡◌, ◌≢◌, ◌+◌, ◌≤◌, ◌<◌, List, ℕ, [], ◌∷◌, ◌++◌, length, is_some, Err, IfOk, OnOk, ◌⊎◌};
+ghost use Rattle.verdicts.specs.Judge.{answer};
+ghost use Rattle.report.specs.Answers.{Concludes};
+ghost use Rattle.report.specs.Held.{StandsFor, IsReady};
+ghost use Rattle.report.specs.Pieces.{head_of, StandsForText};
+
+use crate::checker::Checker;
+use crate::cutting::cut_word;
+use crate::faults::ReportFault;
+use edge::Gate;
+use lists::NoMemory;
+use outcomes::OutcomeKind;
+use report_lines::Confirmed;
+use std::alloc::Global;
+use std::thread::Threads;
+use vocab::Study;
+
+/// As many bytes of a line as tell that it is too long.
+const HELD: usize = 4097;
+
+/// Checks a report that comes in pieces of its bytes, which may end anywhere. Of a line that has not ended it holds at most
+/// 4,097 bytes.
+#[derive(Drop)]
+pub struct Reader<'a, K> {
+    pub(crate) checker: Checker<'a, K>,
+    pub(crate) held: Vec<u8>,
+}
+
+/// Gives a line to the checker.
+fn give<R: Threads + Sync, G: Gate, K: OutcomeKind>(
+    rt: &R,
+    gate: &G,
+    checker: &mut Checker<K>,
+    line: &[u8],
+) -> Result<(), NoMemory>
+    requires some { 1 ≤ checker.old.subject.workers }
+    requires few { checker.old.subject.workers ≤ 16 }
+    requires size { checker.old.subject.study.now.size ≡ K.size checker.old.subject.kind.now }
+    requires room { checker.old.lines < 4294967294 }
+    requires ready { IsReady checker.old.subject.study.now checker.old.lines checker.old.fault checker.old.reading }
+    ensures subject { checker.new.subject ≡ checker.old.subject }
+    ensures lines { checker.new.lines ≡ checker.old.lines + 1 }
+    ensures ready { IsReady checker.old.subject.study.now checker.new.lines checker.new.fault checker.new.reading }
+    ensures taken { OnOk result ((lines : List (List ℕ)) → StandsFor checker.old.subject.study.now checker.old.lines checker.old.fault checker.old.reading lines →
+        StandsFor checker.old.subject.study.now checker.new.lines checker.new.fault checker.new.reading (lines ++ line.now ∷ [])) }
+{
+    match checker.line(rt, gate, line) {
+        Ok(()) => Ok(()),
+        Err(ReportFault::Line { .. }) => Ok(()),
+        Err(ReportFault::NoMemory) => Err(NoMemory),
+    }
+}
+
+impl<'a, K: OutcomeKind> Reader<'a, K> {
+    /// A reader that has read nothing.
+    pub fn new(
+        alloc: Global,
+        kind: &'a K,
+        study: &'a Study,
+        workers: u8,
+    ) -> Result<Reader<'a, K>, NoMemory>
+        requires some { 1 ≤ workers }
+        requires few { workers ≤ 16 }
+        requires size { study.now.size ≡ K.size kind.now }
+        ensures study { IfOk result (λ reader. reader.checker.subject.study.now ≡ study.now) }
+        ensures kind { IfOk result (λ reader. reader.checker.subject.kind.now ≡ kind.now) }
+        ensures workers { IfOk result (λ reader. reader.checker.subject.workers ≡ workers) }
+        ensures lines { IfOk result (λ reader. reader.checker.lines ≡ 0) }
+        ensures held { IfOk result (λ reader. length reader.held.items ≤ 4097) }
+        ensures stands { IfOk result (λ reader. StandsForText study.now reader.checker.lines reader.checker.fault reader.checker.reading reader.held.items []) }
+    {
+        let checker = Checker::new(alloc, kind, study, workers)?;
+        Ok(Reader {
+            checker,
+            held: Vec::new(alloc),
+        })
+    }
+
+    /// Holds the next bytes of a line that has not ended, as far as there is room.
+    fn hold(&mut self, piece: &[u8]) -> Result<(), NoMemory>
+        requires { length self.old.held.items ≤ 4097 }
+        ensures checker { self.new.checker ≡ self.old.checker }
+        ensures held { OnOk result (self.new.held.items ≡ head_of (self.old.held.items ++ piece.now)) }
+    {
+        let room = HELD - self.held.len();
+        let count = piece.len().min(room);
+        self.held.extend_from_slice(&piece[..count])?;
+        Ok(())
+    }
+
+    /// Ends the line that is held with this piece.
+    fn end_line<R: Threads + Sync, G: Gate>(
+        &mut self,
+        rt: &R,
+        gate: &G,
+        piece: &[u8],
+    ) -> Result<(), NoMemory>
+        requires some { 1 ≤ self.old.checker.subject.workers }
+        requires few { self.old.checker.subject.workers ≤ 16 }
+        requires size { self.old.checker.subject.study.now.size ≡ K.size self.old.checker.subject.kind.now }
+        requires held { length self.old.held.items ≤ 4097 }
+        requires room { self.old.checker.lines < 4294967294 }
+        requires ready { IsReady self.old.checker.subject.study.now self.old.checker.lines self.old.checker.fault self.old.checker.reading }
+        ensures subject { self.new.checker.subject ≡ self.old.checker.subject }
+        ensures lines { OnOk result (self.new.checker.lines ≡ self.old.checker.lines + 1) }
+        ensures ready { OnOk result (IsReady self.old.checker.subject.study.now self.new.checker.lines self.new.checker.fault self.new.checker.reading) }
+        ensures ended { OnOk result (self.new.held.items ≡ []) }
+        ensures taken { OnOk result ((lines : List (List ℕ)) (rest : List ℕ) →
+            StandsFor self.old.checker.subject.study.now self.old.checker.lines self.old.checker.fault self.old.checker.reading lines →
+            self.old.held.items ≡ head_of rest →
+            StandsFor self.old.checker.subject.study.now self.new.checker.lines self.new.checker.fault self.new.checker.reading (lines ++ (rest ++ piece.now) ∷ [])) }
+    {
+        if self.held.is_empty() {
+            return give(rt, gate, &mut self.checker, piece);
+        }
+        self.hold(piece)?;
+        give(rt, gate, &mut self.checker, self.held.as_slice())?;
+        self.held.clear();
+        Ok(())
+    }
+
+    /// Takes the next bytes of the text.
+    pub fn piece<R: Threads + Sync, G: Gate>(
+        &mut self,
+        rt: &R,
+        gate: &G,
+        bytes: &[u8],
+    ) -> Result<(), NoMemory>
+        requires some { 1 ≤ self.old.checker.subject.workers }
+        requires few { self.old.checker.subject.workers ≤ 16 }
+        requires size { self.old.checker.subject.study.now.size ≡ K.size self.old.checker.subject.kind.now }
+        requires held { length self.old.held.items ≤ 4097 }
+        requires room { self.old.checker.lines + length bytes.now < 4294967294 }
+        requires ready { IsReady self.old.checker.subject.study.now self.old.checker.lines self.old.checker.fault self.old.checker.reading }
+        ensures subject { self.new.checker.subject ≡ self.old.checker.subject }
+        ensures lines { OnOk result (self.new.checker.lines ≤ self.old.checker.lines + length bytes.now) }
+        ensures ready { OnOk result (IsReady self.old.checker.subject.study.now self.new.checker.lines self.new.checker.fault self.new.checker.reading) }
+        ensures held { OnOk result (length self.new.held.items ≤ 4097) }
+        ensures taken { OnOk result ((text : List ℕ) →
+            StandsForText self.old.checker.subject.study.now self.old.checker.lines self.old.checker.fault self.old.checker.reading self.old.held.items text →
+            StandsForText self.old.checker.subject.study.now self.new.checker.lines self.new.checker.fault self.new.checker.reading self.new.held.items (text ++ bytes.now)) }
+    {
+        let mut rest = bytes;
+        while let Some((line, after)) = cut_word(rest) {
+            self.end_line(rt, gate, line)?;
+            rest = after;
+        }
+        self.hold(rest)
+    }
+
+    /// Whether a line was faulty, so that no byte after it plays a part.
+    pub fn is_faulty(&self) -> bool
+        ensures { result ≡ is_some self.now.checker.fault }
+    {
+        self.checker.fault.is_some()
+    }
+
+    /// What is answered of the text: Ok exactly where it is confirmed.
+    pub fn end(&self) -> Result<Confirmed, ReportFault>
+        requires room { self.now.checker.lines ≤ 4294967294 }
+        ensures { (text : List ℕ) →
+            StandsForText self.now.checker.subject.study.now self.now.checker.lines self.now.checker.fault self.now.checker.reading self.now.held.items text →
+            Concludes (answer self.now.checker.subject.study.now text) result }
+    {
+        self.checker.conclude(self.held.as_slice())
+    }
+}
+
+/// What is answered of the text of a report over the study: Ok exactly where it is confirmed, and else its first faulty line
+/// with its refusal. Want of memory may come in place of both. The answer is the same for every number of workers, from 1 to
+/// 16.
+pub fn check_report<R: Threads + Sync, K: OutcomeKind, G: Gate>(
+    rt: &R,
+    alloc: Global,
+    gate: &G,
+    workers: u8,
+    kind: &K,
+    study: &Study,
+    text: &[u8],
+) -> Result<Confirmed, ReportFault>
+    requires some { 1 ≤ workers }
+    requires few { workers ≤ 16 }
+    requires size { study.now.size ≡ K.size kind.now }
+    requires room { length text.now < 4294967294 }
+    ensures { (result ≡ Err ReportFault.NoMemory) ⊎ Concludes (answer study.now text.now) result }
+{
+    match Reader::new(alloc, kind, study, workers) {
+        Ok(mut reader) => match reader.piece(rt, gate, text) {
+            Ok(()) => reader.end(),
+            Err(_) => Err(ReportFault::NoMemory),
+        },
+        Err(_) => Err(ReportFault::NoMemory),
+    }
+}
