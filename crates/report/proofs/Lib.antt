@@ -4,3 +4,5 @@ pub mod RowLaws
 pub mod TableLaws
 pub mod PieceLemmas
 pub mod ReaderLemmas
+pub mod FileLemmas
+pub mod WorthLemmas

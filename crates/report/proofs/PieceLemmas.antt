@@ -84,6 +84,15 @@ pieces_append (b ∷ text) more = by_test (b == 10) (pieces_append text more)
     by_test true h = ap (λ ps. [] ∷ ps) h ∙ seam_new (pieces text) (pieces more) (some_pieces text)
     by_test false h = ap (onto_first b) h ∙ seam_first b (pieces text) (pieces more) (some_pieces text) (some_pieces more)
 
+some_seam : (r : List ℕ) (ps qs : List (List ℕ)) → IsSome (seam (r ∷ ps) qs)
+some_seam r [] [] = tt
+some_seam r [] (q ∷ qs) = tt
+some_seam r (p ∷ ps) qs = tt
+
+front_cons : (p : List ℕ) (qs : List (List ℕ)) → IsSome qs → front (p ∷ qs) ≡ p ∷ front qs
+front_cons p [] h = absurd h
+front_cons p (q ∷ qs) h = refl
+
 -- a text without a line end is one piece
 pieces_one : (w : List ℕ) → has_no_end w ≡ true → pieces w ≡ w ∷ []
 pieces_one [] h = refl
@@ -100,15 +109,7 @@ pieces_line (b ∷ w) h =
 front_line : (ps : List (List ℕ)) (w : List ℕ) → IsSome ps → front (seam ps (w ∷ [] ∷ [])) ≡ front ps ++ (final ps ++ w) ∷ []
 front_line [] w h = absurd h
 front_line (p ∷ []) w h = refl
-front_line (p ∷ r ∷ ps) w h = by_some (seam (r ∷ ps) (w ∷ [] ∷ [])) (some_seam r ps) ∙ ap (λ qs. p ∷ qs) (front_line (r ∷ ps) w tt)
-  where
-    some_seam : (r : List ℕ) (ps : List (List ℕ)) → IsSome (seam (r ∷ ps) (w ∷ [] ∷ []))
-    some_seam r [] = tt
-    some_seam r (q ∷ ps) = tt
-
-    by_some : (qs : List (List ℕ)) → IsSome qs → front (p ∷ qs) ≡ p ∷ front qs
-    by_some [] h = absurd h
-    by_some (q ∷ qs) h = refl
+front_line (p ∷ r ∷ ps) w h = front_cons p (seam (r ∷ ps) (w ∷ [] ∷ [])) (some_seam r ps (w ∷ [] ∷ [])) ∙ ap (λ qs. p ∷ qs) (front_line (r ∷ ps) w tt)
 
 final_line : (ps : List (List ℕ)) (w : List ℕ) → IsSome ps → final (seam ps (w ∷ [] ∷ [])) ≡ []
 final_line [] w h = absurd h
@@ -150,3 +151,13 @@ pieces_count text = count (pieces text) (some_pieces text)
     count [] h = absurd h
     count (p ∷ []) h = refl
     count (p ∷ r ∷ ps) h = let later : length (r ∷ ps) ≡ length (front (r ∷ ps)) + 1 = count (r ∷ ps) tt in omega (arith, later)
+
+-- more bytes leave the lines that have ended
+pub front_more : (text more : List ℕ) → (lines : List (List ℕ)) × (front (pieces (text ++ more)) ≡ front (pieces text) ++ lines)
+front_more text more =
+    (front (onto (final (pieces text)) (pieces more)), ap front (pieces_append text more) ∙ front_seam (pieces text) (pieces more) (some_pieces text))
+  where
+    front_seam : (ps qs : List (List ℕ)) → IsSome ps → front (seam ps qs) ≡ front ps ++ front (onto (final ps) qs)
+    front_seam [] qs h = absurd h
+    front_seam (p ∷ []) qs h = refl
+    front_seam (p ∷ r ∷ ps) qs h = front_cons p (seam (r ∷ ps) qs) (some_seam r ps qs) ∙ ap (λ ls. p ∷ ls) (front_seam (r ∷ ps) qs tt)

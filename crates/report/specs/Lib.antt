@@ -7,3 +7,4 @@ pub mod Held
 pub mod Taken
 pub mod Answers
 pub mod Pieces
+pub mod Files

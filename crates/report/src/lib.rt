@@ -8,6 +8,7 @@ ghost use Rattle.report.specs.Report.{IsRuleReport};
 mod checker;
 mod cutting;
 mod faults;
+mod files;
 mod head;
 pub mod laws;
 mod reader;
@@ -20,6 +21,7 @@ mod witness_lines;
 
 pub use checker::Checker;
 pub use faults::ReportFault;
+pub use files::{FileFault, Worth, check_file};
 pub use reader::{Reader, check_report};
 pub use report_lines::Confirmed;
 

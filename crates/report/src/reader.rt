@@ -150,6 +150,13 @@ impl<'a, K: OutcomeKind> Reader<'a, K> {
         self.hold(rest)
     }
 
+    /// The first fault, if there was one.
+    pub fn fault(&self) -> Option<ReportFault>
+        ensures { result ≡ self.now.checker.fault }
+    {
+        self.checker.fault
+    }
+
     /// Whether a line was faulty, so that no byte after it plays a part.
     pub fn is_faulty(&self) -> bool
         ensures { result ≡ is_some self.now.checker.fault }
