@@ -1,6 +1,7 @@
 -- What a report in a file is worth.
 use Rattle.std.proofs.Common.{◌≡◌, ◌≢◌, refl, sym, ap, ◌∙◌, subst, ℕ, zero, suc, ◌+◌, ◌<◌, ◌≤◌, ◌⊎◌, inl, inr, Bool, true, false, List, [], ◌∷◌, ◌++◌, length, take, arith, cond, append-nil, append_assoc, Option, Some, None, is_some, lt-ltb, true≢false, Result, Ok, Err, length-append}
-use Rattle.std.specs.Prelude.{nat_lt, IsTrue}
+use Rattle.std.specs.Prelude.{nat_lt, IsTrue, IfSome, IsSome}
+use Rattle.edge.specs.Shelf.{Files}
 use Rattle.std.proofs.lemmas.Bool.{cases_lt, le-ltb}
 use Rattle.std.proofs.lemmas.List.{take-append-le}
 use Rattle.std.specs.Io.KnownBytes.{Consumes, IsAtEnd}
@@ -19,7 +20,7 @@ use Rattle.report.specs.declared.files.Worth.{Worth}
 use Rattle.report.specs.declared.files.Worth.TheVariants as worth
 use Rattle.report.specs.declared.readings.Reading.{Reading}
 use Rattle.report.specs.Answers.{Concludes}
-use Rattle.report.specs.Files.{IsEndedAt, IsWorth, most_report_bytes}
+use Rattle.report.specs.Files.{IsEndedAt, IsWorth, IsWorthOf, most_report_bytes}
 use Rattle.report.specs.Held.{StandsAs}
 use Rattle.report.specs.Pieces.{StandsForText}
 use Rattle.report.proofs.PieceLemmas.{front_more}
@@ -143,3 +144,15 @@ module _ (study : Question) (n : ℕ) (fault : Option ReportFault) (r : Reading)
       let long : most_report_bytes < length held = omega (arith, sum, more, ended.2, ended.3) in
       let front_is : take most_report_bytes held ≡ bytes = ap (take most_report_bytes) split ∙ take_whole bytes (ended.0 ++ front_of.0) most_report_bytes ended.3 in
       subst (λ a. IsWorth a worth.TooLong) (sym (long_answer study held long ∙ ap (λ t. beyond (judge study (front (pieces t)))) front_is ∙ faultless_is (judge study (front (pieces bytes))) f stands.0.1)) refl
+
+-- the file that is told to be held is worth this
+pub file_worth : (told : Option Files) (study : Question) (name : List ℕ) (first : Option (List ℕ)) (w : Worth)
+    → IfSome told (λ files. IsSome (files name)) → IfSome told (λ files. first ≡ files name)
+    → ((held : List ℕ) → first ≡ Some held → IsWorth (answer_within most_report_bytes study held) w)
+    → IfSome told (λ files. IsWorthOf study files name w)
+file_worth None study name first w h s worth_of = tt
+file_worth (Some files) study name first w h s worth_of = by_held (files name) refl h
+  where
+    by_held : (o : Option (List ℕ)) → files name ≡ o → IsSome o → IsWorthOf study files name w
+    by_held None same some = absurd (true≢false (sym some))
+    by_held (Some held) same some = (held, same, worth_of held (s ∙ same))

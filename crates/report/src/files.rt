@@ -1,6 +1,6 @@
 //! Checks the report in a file.
 
-ghost use Rattle.std.specs.Prelude.{◌≡◌, ◌≤◌, List, ℕ, length, Option, Some, IfSome, IfOk, IsErrOf};
+ghost use Rattle.std.specs.Prelude.{◌≡◌, ◌≤◌, List, ℕ, [], length, Option, Some, IfSome, IfOk, IsErrOf};
 ghost use Rattle.edge.specs.Faults.{Rose};
 ghost use Rattle.edge.specs.Shelf.{OthersStay, NoneFell};
 ghost use Rattle.verdicts.specs.Judge.{answer_within};
@@ -136,6 +136,39 @@ fn worth_at<K: OutcomeKind>(reader: &Reader<K>, ending: Ending) -> Result<Worth,
     }
 }
 
+/// What the report under the name is worth to a reader that has read nothing.
+fn worth_of<R: Threads + Sync, S: Shelf, K: OutcomeKind, G: Gate>(
+    rt: &R,
+    gate: &G,
+    reader: &mut Reader<K>,
+    shelf: &mut S,
+    name: &str,
+) -> Result<Worth, FileFault>
+    requires some { 1 ≤ reader.old.checker.subject.workers }
+    requires few { reader.old.checker.subject.workers ≤ 16 }
+    requires size { reader.old.checker.subject.study.now.size ≡ K.size reader.old.checker.subject.kind.now }
+    requires held { length reader.old.held.items ≤ 4097 }
+    requires lines { reader.old.checker.lines ≡ 0 }
+    requires ready { IsReady reader.old.checker.subject.study.now reader.old.checker.lines reader.old.checker.fault reader.old.checker.reading }
+    requires unread { StandsForText reader.old.checker.subject.study.now reader.old.checker.lines reader.old.checker.fault reader.old.checker.reading reader.old.held.items [] }
+    ensures worth { IfSome (S.files shelf.old) (λ files. IfOk result (IsWorthOf reader.old.checker.subject.study.now files name.now)) }
+    ensures failed { IsErrOf result FileFault.Failed → Rose (S.faults shelf.old name.now) (S.faults shelf.new name.now) }
+    ensures same { S.files shelf.new ≡ S.files shelf.old }
+    ensures others { OthersStay (S.left shelf.old) (S.left shelf.new) name.now }
+    ensures none_fell { NoneFell (S.faults shelf.old) (S.faults shelf.new) }
+{
+    match shelf.rewind(name) {
+        Ok(()) => {}
+        Err(RewindFault::Failed) => return Err(FileFault::Failed),
+        Err(RewindFault::NoMemory) => return Err(FileFault::NoMemory),
+    }
+    let ending = read_pieces(rt, gate, reader, shelf, name)?;
+    match worth_at(reader, ending) {
+        Ok(worth) => Ok(worth),
+        Err(NoMemory) => Err(FileFault::NoMemory),
+    }
+}
+
 /// What the report under the name is worth over the study. It is read in pieces of 65,536 bytes, and no further than to its
 /// first faulty line or to 268,435,456 bytes; of the report no more is held than a checker holds, and the front of a line
 /// that has not ended. The answer is the same for every number of workers, from 1 to 16.
@@ -158,12 +191,8 @@ pub fn check_file<R: Threads + Sync, S: Shelf, K: OutcomeKind, G: Gate>(
     ensures others { OthersStay (S.left shelf.old) (S.left shelf.new) name.now }
     ensures none_fell { NoneFell (S.faults shelf.old) (S.faults shelf.new) }
 {
-    let mut reader = Reader::new(alloc, kind, study, workers)?;
-    match shelf.rewind(name) {
-        Ok(()) => {}
-        Err(RewindFault::Failed) => return Err(FileFault::Failed),
-        Err(RewindFault::NoMemory) => return Err(FileFault::NoMemory),
+    match Reader::new(alloc, kind, study, workers) {
+        Ok(mut reader) => worth_of(rt, gate, &mut reader, shelf, name),
+        Err(NoMemory) => Err(FileFault::NoMemory),
     }
-    let ending = read_pieces(rt, gate, &mut reader, shelf, name)?;
-    Ok(worth_at(&reader, ending)?)
 }
