@@ -9,7 +9,12 @@ use Rattle.study.specs.Reading.{IsStudyOf}
 use Rattle.bench.specs.Refusals.{study_line}
 use Rattle.bench.specs.declared.answers.Answer.{Answer}
 use Rattle.bench.specs.declared.answers.Stop.{Stop}
-use Rattle.bench.specs.CheckTable.{most_bytes, Judged, too_long, Checked, study_too_long, study_refused, judged}
+use Rattle.bench.specs.CheckTable.{most_study_bytes, Judged, Checked, study_too_long, study_refused, judged}
+use Rattle.lists.specs.declared.memory.NoMemory.{NoMemory}
+use Rattle.report.specs.declared.files.Worth.{Worth}
+use Rattle.report.specs.Files.{IsWorthOf}
+use Rattle.bench.specs.Said.{IsSaid}
+use Rattle.bench.proofs.Verdicts.{said_is}
 use Rattle.bench.specs.TopCall.{HoldsStudy, HasReadCause, at_report}
 
 pub some_and : {A : Type 0} (r : Option A) (P : A → Type 0) → IsSomeAnd r P → (x : A) × (r ≡ Some x) × P x
@@ -24,11 +29,11 @@ at_that_error T (Some files) e P h = h refl
 -- a file was read, and its bytes fit
 pub record WasRead (told : Option Files) (name bytes : List ℕ) : Type 0 where
   pub held : IfSome told (λ files. files name ≡ Some bytes)
-  pub fits : length bytes ≤ most_bytes
+  pub fits : length bytes ≤ most_study_bytes
 
 -- a file holds more bytes than fit
 abbrev pub IsTooLong : Option Files → List ℕ → Type 0
-IsTooLong told name = IfSome told (λ files. IsSomeAnd (files name) (λ bytes. most_bytes < length bytes))
+IsTooLong told name = IfSome told (λ files. IsSomeAnd (files name) (λ bytes. most_study_bytes < length bytes))
 
 module _ (told : Option Files) (study report : List ℕ) where
   pub too_long_row : (s : ℕ) (t : List ℕ) → IsTooLong told study → s ≡ 3 → t ≡ codes "study: too long\n" → IfSome told (λ files. Checked files study report s t)
@@ -84,8 +89,10 @@ module _ (told : Option Files) (study report : List ℕ) where
       → WasRead told study bytes → IsStudyOf bytes (Ok question) → HasReadCause told before now study report
   report_cause before middle now bytes question fell rose h read = at_report (rose_since (before report) (middle report) (now report) (fell report) rose) (study_read bytes question h read)
 
--- a report that is too long
-pub long_report_row : (told : Option Files) (question : Question) (report : List ℕ) (s : ℕ) (t : List ℕ) → IsTooLong told report → s ≡ 1 → t ≡ codes "refused: not built\n"
-    → IfSome told (λ files. (held : List ℕ) × (files report ≡ Some held) × Judged question held s t)
-long_report_row None question report s t h a e = tt
-long_report_row (Some files) question report s t h a e = let (bytes, held, long) = some_and (files report) _ h in (bytes, held, too_long long a e)
+-- what is said of a report in a file that may be told
+pub said_row : (told : Option Files) (question : Question) (report : List ℕ) (worth : Worth) (result : Result Answer NoMemory)
+    → IfSome told (λ files. IsWorthOf question files report worth) → IfOk result (λ answer. IsSaid worth answer.status answer.text)
+    → IfSome told (λ files. IfOk result (λ answer. (held : List ℕ) × (files report ≡ Some held) × Judged question held answer.status answer.text))
+said_row None question report worth result is said = tt
+said_row (Some files) question report worth (Err e) is said = tt
+said_row (Some files) question report worth (Ok answer) is said = (is.0, is.1, said_is question is.0 worth answer.status answer.text is.2 said)

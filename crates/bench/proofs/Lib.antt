@@ -1,5 +1,4 @@
-pub mod FailingLemmas
-pub mod OneRule
+pub mod Verdicts
 pub mod OneAnswer
 pub mod CheckLemmas
 pub mod AnswerLemmas

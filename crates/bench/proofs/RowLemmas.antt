@@ -1,16 +1,31 @@
 -- Row by row: where a row of the table applies, the answer is the one that it gives.
-use Rattle.std.proofs.Common.{refl, subst, ℕ, ◌≤◌, List, length, codes, Option, None, Some, IfSome, inl, inr}
+use Rattle.std.proofs.Common.{◌≡◌, refl, subst, ℕ, ◌≤◌, List, length, codes, Option, None, Some, IfSome, Ok}
 use Rattle.std.specs.Io.KnownBytes.{Appends}
-use Rattle.std.proofs.lemmas.Bool.{cases_lt}
 use Rattle.edge.specs.Shelf.{Files}
 use Rattle.vocab.specs.Study.{Question}
 use Rattle.study.specs.declared.faults.StudyFault.{StudyFault}
+use Rattle.study.specs.Reading.{IsStudyOf}
+use Rattle.study.proofs.StudyKinds.{kinds_known}
+use Rattle.study.proofs.WholeStudies.{studies_whole}
+use Rattle.verdicts.specs.declared.verdicts.Verdict.{Verdict}
+use Rattle.verdicts.specs.Judge.{Answer, Confirmed}
+use Rattle.verdicts.specs.Laws.{IsReportable}
+use Rattle.verdicts.specs.Report.{IsReport}
+use Rattle.verdicts.specs.Words.{answer_text}
+use Rattle.report.specs.Files.{most_report_bytes}
 use Rattle.bench.specs.Refusals.{study_line}
-use Rattle.report.specs.Report.{IsRuleReport}
-use Rattle.bench.specs.CheckTable.{most_bytes, IsFirstFailing, SatisfiesAll, fails_line, Judged, too_long, not_built, fails, confirmed, study_too_long, study_refused, judged}
-use Rattle.bench.specs.Lawful.{Lawful, check}
-use Rattle.bench.specs.TopCall.{Says, IsCheckOfLongStudy, IsCheckOfRefused, IsCheckOver}
-use Rattle.bench.proofs.OneAnswer.{one_answer}
+use Rattle.bench.specs.Words.{Check, Axioms, request_of, IsCheck}
+use Rattle.bench.specs.CheckTable.{answer_status, judgement, Judged, study_too_long, study_refused, judged}
+use Rattle.bench.specs.Lawful.{Lawful, usage, check, listed}
+use Rattle.bench.specs.TopCall.{Says, IsCheckOfLongStudy, IsCheckOfRefused, IsCheckOver, IsCheckOfRight}
+use Rattle.bench.proofs.OneAnswer.{some_same, one_answer}
+use Rattle.bench.proofs.Verdicts.{confirmed_report, confirmed_claims, zero_is_confirmed, right_judged}
+
+-- a study that was read is one whose reports the laws speak of
+read_is_reportable : (bytes : List ℕ) (study : Question) → IsStudyOf bytes (Ok study) → IsReportable study
+read_is_reportable bytes study read =
+    let whole = studies_whole bytes study read in
+    record { taken = whole.0; size = whole.1; kind = kinds_known bytes study read; names = whole.2 }
 
 -- what a lawful answer says, where another lawful answer is known
 pub says : (words : List (List ℕ)) (files : Files) (s wanted : ℕ) (t text : List ℕ) (a b : Option (List ℕ)) → Lawful words files s t → Appends a b t → Lawful words files wanted text → Says s a b wanted text
@@ -39,14 +54,25 @@ module _ (words : List (List ℕ)) (files : Files) where
   over : (study : Question) (report : List ℕ) (s : ℕ) (t : List ℕ) → IsCheckOver words files study report → Judged study report s t → Lawful words files s t
   over study report s t h is = check h.study_name h.report_name h.asked (judged h.bytes study report h.held h.read h.report_held is)
 
-  pub no_rule : (study : Question) (report : List ℕ) → IsCheckOver words files study report → ((table : List ℕ) → ¬ IsRuleReport study report table) → Lawful words files 1 (codes "refused: not built\n")
-  no_rule study report h none = over study report _ _ h (elim (cases_lt most_bytes (length report)) [ inl long ↦ too_long long refl refl | inr fits ↦ not_built fits none refl refl ])
+  pub answered_report : (study : Question) (report : List ℕ) → IsCheckOver words files study report → Lawful words files (answer_status (judgement study report)) (answer_text (judgement study report))
+  answered_report study report h = over study report _ _ h (record { status_is = refl; text_is = refl })
 
-  pub failing : (study : Question) (report table name : List ℕ) (k : ℕ) → IsCheckOver words files study report → length report ≤ most_bytes → IsRuleReport study report table → IsFirstFailing study table name k → Lawful words files 1 (fails_line study name k)
-  failing study report table name k h fits is first = over study report _ _ h (fails fits table name k is first refl refl)
-
-  pub satisfied : (study : Question) (report table : List ℕ) → IsCheckOver words files study report → length report ≤ most_bytes → IsRuleReport study report table → SatisfiesAll study table → Lawful words files 0 (codes "confirmed possible\n")
-  satisfied study report table h fits is all = over study report _ _ h (confirmed fits table is all refl refl)
+  -- an answer of status 0 to `check` is that to a right report
+  pub zero_is_right : (study report : List ℕ) (t : List ℕ) → IsCheck words study report → Lawful words files 0 t → IsCheckOfRight words files
+  zero_is_right study report t asked (usage n a e) = absurd (cc)
+  zero_is_right study report t asked (listed k n a e) = absurd (let same : Check study report ≡ Axioms k = some_same (request_of words) _ _ asked n in cc)
+  zero_is_right study report t asked (check x y n (study_too_long b h a e)) = absurd (cc)
+  zero_is_right study report t asked (check x y n (study_refused b f h r a e)) = absurd (cc)
+  zero_is_right study report t asked (check x y n (judged b q held h r p j)) =
+      let confirmed = zero_is_confirmed q held (judgement q held) j.status_is in
+      record {
+        study = q;
+        report = held;
+        verdict = confirmed.0;
+        over = record { study_name = x; report_name = y; bytes = b; asked = n; held = h; read = r; report_held = p };
+        right = confirmed_report q held confirmed.0 confirmed.1;
+        holds = confirmed_claims q held confirmed.0 confirmed.1;
+      }
 
 -- each row as a clause of the top call, where the shelf may tell its files
 module _ (told : Option Files) (words : List (List ℕ)) (s : ℕ) (t : List ℕ) (a b : Option (List ℕ)) where
@@ -54,14 +80,17 @@ module _ (told : Option Files) (words : List (List ℕ)) (s : ℕ) (t : List ℕ
       → IfSome told (λ files. (fault : StudyFault) → IsCheckOfRefused words files fault → s ≤ 4 → Says s a b 3 (study_line fault))
   refused_clause is written = map_told told _ _ (λ files h fault refused low. says words files s 3 t _ a b h written (refused_study words files fault refused)) is
 
-  pub no_rule_clause : IfSome told (λ files. Lawful words files s t) → Appends a b t
-      → IfSome told (λ files. (study : Question) (report : List ℕ) → IsCheckOver words files study report → ((table : List ℕ) → ¬ IsRuleReport study report table) → s ≤ 4 → Says s a b 1 (codes "refused: not built\n"))
-  no_rule_clause is written = map_told told _ _ (λ files h study report over none low. says words files s 1 t _ a b h written (no_rule words files study report over none)) is
+  pub judged_clause : IfSome told (λ files. Lawful words files s t) → Appends a b t
+      → IfSome told (λ files. (study : Question) (report : List ℕ) → IsCheckOver words files study report → s ≤ 4 → Says s a b (answer_status (judgement study report)) (answer_text (judgement study report)))
+  judged_clause is written = map_told told _ _ (λ files h study report over low. says words files s _ t _ a b h written (answered_report words files study report over)) is
 
-  pub fails_clause : IfSome told (λ files. Lawful words files s t) → Appends a b t
-      → IfSome told (λ files. (study : Question) (report table name : List ℕ) (k : ℕ) → IsCheckOver words files study report → length report ≤ most_bytes → IsRuleReport study report table → IsFirstFailing study table name k → s ≤ 4 → Says s a b 1 (fails_line study name k))
-  fails_clause is written = map_told told _ _ (λ files h study report table name k over fits text first low. says words files s 1 t _ a b h written (failing words files study report table name k over fits text first)) is
+  pub right_clause : IfSome told (λ files. Lawful words files s t) → Appends a b t
+      → IfSome told (λ files. (study : Question) (report : List ℕ) (verdict : Verdict) → IsCheckOver words files study report → IsReport study verdict report → length report ≤ most_report_bytes → s ≤ 4 → Says s a b 0 (answer_text (Confirmed verdict)))
+  right_clause is written = map_told told _ _ (λ files h study report verdict over right fits low.
+    let confirmed = right_judged study report verdict (read_is_reportable over.bytes study over.read) right fits in
+    let said = says words files s _ t _ a b h written (answered_report words files study report over) in
+    subst (λ (x : Answer). Says s a b (answer_status x) (answer_text x)) confirmed said) is
 
-  pub confirmed_clause : IfSome told (λ files. Lawful words files s t) → Appends a b t
-      → IfSome told (λ files. (study : Question) (report table : List ℕ) → IsCheckOver words files study report → length report ≤ most_bytes → IsRuleReport study report table → SatisfiesAll study table → s ≤ 4 → Says s a b 0 (codes "confirmed possible\n"))
-  confirmed_clause is written = map_told told _ _ (λ files h study report table over fits text all low. says words files s 0 t _ a b h written (satisfied words files study report table over fits text all)) is
+  pub zero_clause : IfSome told (λ files. Lawful words files s t)
+      → IfSome told (λ files. (study report : List ℕ) → IsCheck words study report → s ≡ 0 → IsCheckOfRight words files)
+  zero_clause is = map_told told _ _ (λ files h study report asked zero. zero_is_right words files study report t asked (subst (λ n. Lawful words files n t) zero h)) is

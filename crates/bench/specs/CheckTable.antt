@@ -1,62 +1,42 @@
 -- What `check STUDY REPORT` answers, row by row.
-use Rattle.std.specs.Prelude.{◌≡◌, ℕ, ◌+◌, ◌<◌, ◌≤◌, List, ◌++◌, length, slice_get, codes, Some, Ok, Err, IsTrue}
-use Rattle.std.specs.Fmt.{decimal}
+use Rattle.std.specs.Prelude.{◌≡◌, ℕ, ◌<◌, ◌≤◌, List, length, codes, Some, Ok, Err}
 use Rattle.edge.specs.Shelf.{Files}
-use Rattle.vocab.specs.declared.kinds.Sort.TheVariants.{Profile}
-use Rattle.vocab.specs.Limits.{instance_count}
-use Rattle.vocab.specs.Size.{sort_count}
 use Rattle.vocab.specs.Study.{Question}
-use Rattle.vocab.specs.Titled.{Titled}
-use Rattle.meaning.specs.Instances.{IsFirstFailure}
-use Rattle.meaning.specs.Space.{below}
-use Rattle.meaning.specs.Truth.{satisfies}
 use Rattle.study.specs.declared.faults.StudyFault.{StudyFault}
 use Rattle.study.specs.Reading.{IsStudyOf}
-use Rattle.report.specs.Report.{IsRuleReport}
+use Rattle.verdicts.specs.Judge.{Answer, Confirmed, Faulty, TooLong, answer_within}
+use Rattle.verdicts.specs.Words.{answer_text}
+use Rattle.report.specs.Files.{most_report_bytes}
 use Rattle.bench.specs.Refusals.{study_line}
 
--- the most bytes of a study and of a report
-abbrev pub most_bytes : ℕ
-most_bytes = 1048576
+-- the most bytes of a study
+abbrev pub most_study_bytes : ℕ
+most_study_bytes = 1048576
 
--- the file of this name holds these bytes, and they are not too many
+-- the file of this name holds these bytes, and they are not too many for a study
 pub record Holds (files : Files) (name bytes : List ℕ) : Type 0 where
   pub held : files name ≡ Some bytes
-  pub fits : length bytes ≤ most_bytes
+  pub fits : length bytes ≤ most_study_bytes
 
--- the file of this name holds these bytes, and they are too many
+-- the file of this name holds these bytes, and they are too many for a study
 pub record HoldsTooMany (files : Files) (name bytes : List ℕ) : Type 0 where
   pub held : files name ≡ Some bytes
-  pub long : most_bytes < length bytes
+  pub long : most_study_bytes < length bytes
 
--- the rule satisfies each axiom of the study
-abbrev pub SatisfiesAll : Question → List ℕ → Type 0
-SatisfiesAll study table = IsTrue (satisfies study.size study.axioms (below (length study.axioms)) table)
+-- what the judge answers to a report of which so many bytes are read
+abbrev pub judgement : Question → List ℕ → Answer
+judgement study report = answer_within most_report_bytes study report
 
--- the first axiom of the study, by its name, that the rule does not satisfy, and its least instance that is false of the rule
-pub record IsFirstFailing (study : Question) (table name : List ℕ) (instance : ℕ) : Type 0 where
-  pub place : ℕ
-  pub failing : Titled
-  pub at : slice_get study.axioms place ≡ Some failing
-  pub named : name ≡ failing.name
-  pub satisfied : IsTrue (satisfies study.size study.axioms (below place) table)
-  pub first : IsFirstFailure study.size table failing.sentence 0 (instance_count study.size failing.sentence) instance
+-- 0 where a report is confirmed, and 1 where it is refused
+abbrev pub answer_status : Answer → ℕ
+answer_status (Confirmed verdict) = 0
+answer_status (Faulty line word) = 1
+answer_status TooLong = 1
 
--- `refused line L: fails A I`, where L is the line of the table's last row
-abbrev pub fails_line : Question → List ℕ → ℕ → List ℕ
-fails_line study name instance =
-    codes "refused line " ++ decimal (7 + sort_count study.size Profile) ++ codes ": fails " ++ name ++ codes " " ++ decimal instance ++ codes "\n"
-
--- The answer to a report of some bytes over a study.
-pub data Judged (study : Question) (report : List ℕ) (status : ℕ) (text : List ℕ) : Type 0 where
-  too_long : most_bytes < length report
-      → status ≡ 1 → text ≡ codes "refused: not built\n" → Judged study report status text
-  not_built : length report ≤ most_bytes → ((table : List ℕ) → ¬ IsRuleReport study report table)
-      → status ≡ 1 → text ≡ codes "refused: not built\n" → Judged study report status text
-  fails : length report ≤ most_bytes → (table name : List ℕ) (instance : ℕ) → IsRuleReport study report table → IsFirstFailing study table name instance
-      → status ≡ 1 → text ≡ fails_line study name instance → Judged study report status text
-  confirmed : length report ≤ most_bytes → (table : List ℕ) → IsRuleReport study report table → SatisfiesAll study table
-      → status ≡ 0 → text ≡ codes "confirmed possible\n" → Judged study report status text
+-- the answer to a report of some bytes over a study
+pub record Judged (study : Question) (report : List ℕ) (status : ℕ) (text : List ℕ) : Type 0 where
+  pub status_is : status ≡ answer_status (judgement study report)
+  pub text_is : text ≡ answer_text (judgement study report)
 
 -- The answer over the files of these names. Where a file that is needed is not held, there is none.
 pub data Checked (files : Files) (study report : List ℕ) (status : ℕ) (text : List ℕ) : Type 0 where

@@ -1,5 +1,5 @@
 -- What the top call promises beside the answer: its statuses, what was written, and the causes of faults.
-use Rattle.std.specs.Prelude.{◌≡◌, ℕ, ◌≤◌, ◌⊎◌, List, Option, Some, IfSome, Ok, Err}
+use Rattle.std.specs.Prelude.{◌≡◌, ℕ, ◌≤◌, ◌⊎◌, List, length, Option, Some, IfSome, IsTrue, Ok, Err}
 use Rattle.std.specs.Io.KnownBytes.{Appends}
 use Rattle.edge.specs.Shelf.{Files, OthersStay}
 use Rattle.edge.specs.Faults.{Rose}
@@ -7,6 +7,11 @@ use Rattle.edge.specs.Told.{AppendsPrefix}
 use Rattle.vocab.specs.Study.{Question}
 use Rattle.study.specs.declared.faults.StudyFault.{StudyFault}
 use Rattle.study.specs.Reading.{IsStudyOf}
+use Rattle.meaning.specs.Space.{below}
+use Rattle.meaning.specs.Truth.{satisfies}
+use Rattle.verdicts.specs.declared.verdicts.Verdict.{Verdict}
+use Rattle.verdicts.specs.declared.verdicts.Verdict.TheVariants.{Possible, Impossible, Undecided}
+use Rattle.verdicts.specs.Report.{IsReport}
 use Rattle.bench.specs.Words.{IsCheck}
 use Rattle.bench.specs.CheckTable.{Holds, HoldsTooMany}
 use Rattle.bench.specs.Lawful.{Lawful}
@@ -71,3 +76,18 @@ pub record IsCheckOver (words : List (List ℕ)) (files : Files) (study : Questi
   pub held : Holds files study_name bytes
   pub read : IsStudyOf bytes (Ok study)
   pub report_held : files report_name ≡ Some report
+
+-- what a verdict claims of the rules of the study's size: this one satisfies all axioms, or none satisfies those of the core
+abbrev pub Claims : Question → Verdict → Type 0
+Claims study (Possible table) = IsTrue (satisfies study.size study.axioms (below (length study.axioms)) table)
+Claims study (Impossible core story witnesses) = (table : List ℕ) → ¬ IsTrue (satisfies study.size study.axioms core table)
+Claims study Undecided = ⊥
+
+-- the words are `check`, its first file gives a study, and its second is the report of a verdict that is right over it; what the verdict claims holds
+pub record IsCheckOfRight (words : List (List ℕ)) (files : Files) : Type 0 where
+  pub study : Question
+  pub report : List ℕ
+  pub verdict : Verdict
+  pub over : IsCheckOver words files study report
+  pub right : IsReport study verdict report
+  pub holds : Claims study verdict

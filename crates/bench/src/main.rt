@@ -1,14 +1,14 @@
-//! A theorem bench for social choice: checks the report that a rule satisfies axioms.
+//! A theorem bench for social choice: checks reports that a rule satisfies axioms, or that none does.
 #![tactic(auto)]
 
 mod answers;
 mod check;
-mod judge;
 pub mod laws;
 mod library;
 mod refusals;
 mod top;
 mod words;
+mod worth;
 
 use edge::{FileShelf, Open, StdSink};
 use std::env;

@@ -14,7 +14,7 @@ use syntax::SyntaxFault;
 use vocab::{Name, SizeFault};
 
 /// Adds words, and then a number.
-fn add_count(text: &mut Bytes, words: &[u8], count: u64) -> Result<(), NoMemory>
+pub fn add_count(text: &mut Bytes, words: &[u8], count: u64) -> Result<(), NoMemory>
     ensures { OnOk result (text.new ≡ text.old ++ (words.now ++ decimal count)) }
 {
     text.append(words)?;
@@ -32,7 +32,7 @@ fn add_integer(text: &mut Bytes, words: &[u8], number: i64) -> Result<(), NoMemo
 }
 
 /// Adds words, and then further ones.
-fn add_words(text: &mut Bytes, words: &[u8], further: &[u8]) -> Result<(), NoMemory>
+pub fn add_words(text: &mut Bytes, words: &[u8], further: &[u8]) -> Result<(), NoMemory>
     ensures { OnOk result (text.new ≡ text.old ++ (words.now ++ further.now)) }
 {
     text.append(words)?;

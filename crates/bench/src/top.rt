@@ -5,15 +5,19 @@ ghost use Rattle.std.specs.Io.KnownBytes.{Appends, Keeps};
 ghost use Rattle.edge.specs.Faults.{Rose, HasCause};
 ghost use Rattle.edge.specs.Told.{AppendsPrefix};
 ghost use Rattle.vocab.specs.Study.{Question};
-ghost use Rattle.report.specs.Report.{IsRuleReport};
+ghost use Rattle.verdicts.specs.declared.verdicts.Verdict.{Verdict};
+ghost use Rattle.verdicts.specs.Judge.{Confirmed};
+ghost use Rattle.verdicts.specs.Report.{IsReport};
+ghost use Rattle.verdicts.specs.Words.{answer_text};
+ghost use Rattle.report.specs.Files.{most_report_bytes};
 ghost use Rattle.vocab.specs.declared.kinds.Kind.{Kind};
 ghost use Rattle.study.specs.declared.faults.StudyFault.{StudyFault};
 ghost use Rattle.bench.specs.LibraryText.{library_text};
 ghost use Rattle.bench.specs.Refusals.{study_line};
-ghost use Rattle.bench.specs.Words.{Axioms, texts, request_of, usage_line};
-ghost use Rattle.bench.specs.CheckTable.{IsFirstFailing, SatisfiesAll, fails_line, most_bytes};
+ghost use Rattle.bench.specs.Words.{Axioms, IsCheck, texts, request_of, usage_line};
+ghost use Rattle.bench.specs.CheckTable.{answer_status, judgement};
 ghost use Rattle.bench.specs.Lawful.{Lawful};
-ghost use Rattle.bench.specs.TopCall.{IsStatus, Answered, AnsweredInPart, HasFileCause, IsStudyAloneTouched, AreFilesUntouched, Says, IsCheckOfLongStudy, IsCheckOfRefused, IsCheckOver};
+ghost use Rattle.bench.specs.TopCall.{IsStatus, Answered, AnsweredInPart, HasFileCause, IsStudyAloneTouched, AreFilesUntouched, Says, IsCheckOfLongStudy, IsCheckOfRefused, IsCheckOver, IsCheckOfRight};
 
 use crate::answers::{Answer, Stop, say};
 use crate::check::check;
@@ -39,7 +43,16 @@ fn list(alloc: Global, kind: Kind) -> Result<Answer, NoMemory>
 }
 
 /// The answer to the words, over the files of the shelf.
-fn answer<S: Shelf>(alloc: Global, words: &[String], shelf: &mut S) -> Result<Answer, Stop>
+fn answer<R: Threads + Sync, S: Shelf, G: Gate>(
+    rt: &R,
+    alloc: Global,
+    gate: &G,
+    workers: u8,
+    words: &[String],
+    shelf: &mut S,
+) -> Result<Answer, Stop>
+    requires some { 1 ≤ workers }
+    requires few { workers ≤ 16 }
     ensures lawful { IfSome (S.files shelf.old) (λ files. IfOk result (λ answer. Lawful (texts words.now) files answer.status answer.text)) }
     ensures usage { request_of (texts words.now) ≡ None → IfOk result (λ answer. (answer.status ≡ 2) × (answer.text ≡ usage_line)) }
     ensures axioms { (kind : Kind) → request_of (texts words.now) ≡ Some (Axioms kind) → IfOk result (λ answer. (answer.status ≡ 0) × (answer.text ≡ library_text kind)) }
@@ -50,7 +63,9 @@ fn answer<S: Shelf>(alloc: Global, words: &[String], shelf: &mut S) -> Result<An
     ensures status { IfOk result (λ answer. answer.status ≤ 3) }
 {
     match command_of(words) {
-        Some(Command::Check(study, report)) => check(alloc, shelf, study, report),
+        Some(Command::Check(study, report)) => {
+            check(rt, alloc, gate, workers, shelf, study, report)
+        }
         Some(Command::Axioms(kind)) => Ok(list(alloc, kind)?),
         None => Ok(say(alloc, 2, USAGE)?),
     }
@@ -74,15 +89,15 @@ pub struct Run {
     pub status: u8,
 }
 
-/// All that the program does: answers the words, over the files of the shelf, into the sink. No work is started on
-/// threads yet, so the runtime and the gate are not called.
+/// All that the program does: answers the words, over the files of the shelf, into the sink. One worker checks the axioms of
+/// a rule, and tells the gate of each piece.
 pub fn bench<R: Threads + Sync, S: Shelf, K: Sink, G: Gate>(
-    _rt: &R,
+    rt: &R,
     alloc: Global,
     words: &[String],
     shelf: &mut S,
     out: &mut K,
-    _gate: &G,
+    gate: &G,
 ) -> Run
     ensures status { IsStatus result.status }
 
@@ -110,15 +125,16 @@ pub fn bench<R: Threads + Sync, S: Shelf, K: Sink, G: Gate>(
         Says result.status (K.taken out.old) (K.taken out.new) 3 (codes "study: too long\n")) }
     ensures study_refused { IfSome (S.files shelf.old) (λ files. (fault : StudyFault) → IsCheckOfRefused (texts words.now) files fault → result.status ≤ 4 →
         Says result.status (K.taken out.old) (K.taken out.new) 3 (study_line fault)) }
-    ensures report_not_built { IfSome (S.files shelf.old) (λ files. (study : Question) (report : List ℕ) → IsCheckOver (texts words.now) files study report →
-        ((table : List ℕ) → ¬ IsRuleReport study report table) → result.status ≤ 4 →
-        Says result.status (K.taken out.old) (K.taken out.new) 1 (codes "refused: not built\n")) }
-    ensures fails { IfSome (S.files shelf.old) (λ files. (study : Question) (report table name : List ℕ) (instance : ℕ) → IsCheckOver (texts words.now) files study report →
-        length report ≤ most_bytes → IsRuleReport study report table → IsFirstFailing study table name instance → result.status ≤ 4 →
-        Says result.status (K.taken out.old) (K.taken out.new) 1 (fails_line study name instance)) }
-    ensures confirmed { IfSome (S.files shelf.old) (λ files. (study : Question) (report table : List ℕ) → IsCheckOver (texts words.now) files study report →
-        length report ≤ most_bytes → IsRuleReport study report table → SatisfiesAll study table → result.status ≤ 4 →
-        Says result.status (K.taken out.old) (K.taken out.new) 0 (codes "confirmed possible\n")) }
+    ensures judged { IfSome (S.files shelf.old) (λ files. (study : Question) (report : List ℕ) → IsCheckOver (texts words.now) files study report → result.status ≤ 4 →
+        Says result.status (K.taken out.old) (K.taken out.new) (answer_status (judgement study report)) (answer_text (judgement study report))) }
+
+    // A report is confirmed exactly where it is that of a right verdict which claims something, and within its limit; and
+    // what is confirmed holds.
+    ensures right_confirmed { IfSome (S.files shelf.old) (λ files. (study : Question) (report : List ℕ) (verdict : Verdict) → IsCheckOver (texts words.now) files study report →
+        IsReport study verdict report → length report ≤ most_report_bytes → result.status ≤ 4 →
+        Says result.status (K.taken out.old) (K.taken out.new) 0 (answer_text (Confirmed verdict))) }
+    ensures confirmed_right { IfSome (S.files shelf.old) (λ files. (study report : List ℕ) → IsCheck (texts words.now) study report → result.status ≡ 0 →
+        IsCheckOfRight (texts words.now) files) }
 
     // A fault of the shelf comes only where it counted one at a file of the command, and nothing is written.
     ensures read_fault { result.status ≡ 5 → HasFileCause (texts words.now) (S.files shelf.old) (S.faults shelf.old) (S.faults shelf.new) }
@@ -135,7 +151,7 @@ pub fn bench<R: Threads + Sync, S: Shelf, K: Sink, G: Gate>(
     // Want of memory is free, and nothing is written.
     ensures no_memory { result.status ≡ 7 → Keeps (K.taken out.old) (K.taken out.new) }
 {
-    let answer = match answer(alloc, words, shelf) {
+    let answer = match answer(rt, alloc, gate, 1, words, shelf) {
         Ok(answer) => answer,
         Err(Stop::ReadFault) => return Run { status: 5 },
         Err(Stop::NoMemory) => return Run { status: 7 },

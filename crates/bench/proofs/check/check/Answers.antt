@@ -2,18 +2,18 @@ use Rattle.std.proofs.Common.{refl, ◌≡◌, ◌<◌, length, Ok, Err, IsSomeA
 use Rattle.edge.specs.declared.faults.ReadFault.TheVariants.{TooLong}
 use Rattle.study.specs.Reading.{IsStudyOf}
 use Rattle.study.proofs.StudyKinds.{kinds_known}
-use Rattle.bench.specs.CheckTable.{most_bytes}
+use Rattle.bench.specs.CheckTable.{most_study_bytes}
 use Rattle.bench.proofs.CheckLemmas.{at_that_error, WasRead, IsTooLong, too_long_row, refused_answer, judged_row, report_cause}
 use Rattle.bench.proofs.check.check.Goals as goal
 
 pub returns-in-Err-TooLong-clause-lawful : goal.returns-in-Err-TooLong-clause-lawful
 returns-in-Err-TooLong-clause-lawful g c =
     let told = g.S.Shelf.files c.args.shelf.now in
-    let long : IsTooLong told c.args.study.now = at_that_error _ told TooLong (λ held. IsSomeAnd (held c.args.study.now) (λ bytes. most_bytes < length bytes)) (rw c.in-Err-TooLong.field-0-is at c.in-Err-TooLong.ensures.too_long) in
+    let long : IsTooLong told c.args.study.now = at_that_error _ told TooLong (λ held. IsSomeAnd (held c.args.study.now) (λ bytes. most_study_bytes < length bytes)) (rw c.in-Err-TooLong.field-0-is at c.in-Err-TooLong.ensures.too_long) in
     too_long_row told c.args.study.now c.args.report.now _ _ long c.in_ok-say-in-Err-TooLong.ensures.status c.in_ok-say-in-Err-TooLong.ensures.text
 
-pub check_report-requires : goal.check_report-requires
-check_report-requires g c = kinds_known c.as_slice.result.now c.in-Ok-read_study.study c.in-Ok-read_study.ensures.ok
+pub check_report-requires-clause-known : goal.check_report-requires-clause-known
+check_report-requires-clause-known g c = kinds_known c.as_slice.result.now c.in-Ok-read_study.study c.in-Ok-read_study.ensures.ok
 
 pub returns-in-Ok-read_study-clause-lawful : goal.returns-in-Ok-read_study-clause-lawful
 returns-in-Ok-read_study-clause-lawful g c =

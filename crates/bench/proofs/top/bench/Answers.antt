@@ -1,6 +1,6 @@
 use Rattle.bench.specs.Words.{texts}
 use Rattle.bench.proofs.AnswerLemmas.{answered, in_part, listed_clause, listed_in_part}
-use Rattle.bench.proofs.RowLemmas.{refused_clause, no_rule_clause, fails_clause, confirmed_clause}
+use Rattle.bench.proofs.RowLemmas.{refused_clause, judged_clause, right_clause, zero_clause}
 use Rattle.bench.proofs.top.bench.Goals as goal
 
 pub returns-in-Ok-write_text-clause-lawful : goal.returns-in-Ok-write_text-clause-lawful
@@ -11,17 +11,17 @@ pub returns-in-Ok-write_text-clause-study_refused : goal.returns-in-Ok-write_tex
 returns-in-Ok-write_text-clause-study_refused g c =
     refused_clause (g.S.Shelf.files c.args.shelf.now) (texts c.args.words.now) c.in-Ok.answer.status c.in-Ok.answer.text _ _ c.in-Ok.ensures.lawful (rw c.as_slice.ensures at c.in-Ok-write_text.ensures.ok)
 
-pub returns-in-Ok-write_text-clause-report_not_built : goal.returns-in-Ok-write_text-clause-report_not_built
-returns-in-Ok-write_text-clause-report_not_built g c =
-    no_rule_clause (g.S.Shelf.files c.args.shelf.now) (texts c.args.words.now) c.in-Ok.answer.status c.in-Ok.answer.text _ _ c.in-Ok.ensures.lawful (rw c.as_slice.ensures at c.in-Ok-write_text.ensures.ok)
+pub returns-in-Ok-write_text-clause-judged : goal.returns-in-Ok-write_text-clause-judged
+returns-in-Ok-write_text-clause-judged g c =
+    judged_clause (g.S.Shelf.files c.args.shelf.now) (texts c.args.words.now) c.in-Ok.answer.status c.in-Ok.answer.text _ _ c.in-Ok.ensures.lawful (rw c.as_slice.ensures at c.in-Ok-write_text.ensures.ok)
 
-pub returns-in-Ok-write_text-clause-fails : goal.returns-in-Ok-write_text-clause-fails
-returns-in-Ok-write_text-clause-fails g c =
-    fails_clause (g.S.Shelf.files c.args.shelf.now) (texts c.args.words.now) c.in-Ok.answer.status c.in-Ok.answer.text _ _ c.in-Ok.ensures.lawful (rw c.as_slice.ensures at c.in-Ok-write_text.ensures.ok)
+pub returns-in-Ok-write_text-clause-right_confirmed : goal.returns-in-Ok-write_text-clause-right_confirmed
+returns-in-Ok-write_text-clause-right_confirmed g c =
+    right_clause (g.S.Shelf.files c.args.shelf.now) (texts c.args.words.now) c.in-Ok.answer.status c.in-Ok.answer.text _ _ c.in-Ok.ensures.lawful (rw c.as_slice.ensures at c.in-Ok-write_text.ensures.ok)
 
-pub returns-in-Ok-write_text-clause-confirmed : goal.returns-in-Ok-write_text-clause-confirmed
-returns-in-Ok-write_text-clause-confirmed g c =
-    confirmed_clause (g.S.Shelf.files c.args.shelf.now) (texts c.args.words.now) c.in-Ok.answer.status c.in-Ok.answer.text _ _ c.in-Ok.ensures.lawful (rw c.as_slice.ensures at c.in-Ok-write_text.ensures.ok)
+pub returns-in-Ok-write_text-clause-confirmed_right : goal.returns-in-Ok-write_text-clause-confirmed_right
+returns-in-Ok-write_text-clause-confirmed_right g c =
+    zero_clause (g.S.Shelf.files c.args.shelf.now) (texts c.args.words.now) c.in-Ok.answer.status c.in-Ok.answer.text c.in-Ok.ensures.lawful
 
 pub returns-clause-cut_short : goal.returns-clause-cut_short
 returns-clause-cut_short g c =
