@@ -157,7 +157,7 @@ module _ (study : Question) where
     pub steps : s.steps ≡ []
     pub witnesses : s.witnesses ≡ []
 
-  abbrev HasCore : Standing → Type 0
+  abbrev pub HasCore : Standing → Type 0
   HasCore s = is_core_from 0 (length study.axioms) s.core ≡ true
 
   -- lemmas are still to come
@@ -187,10 +187,10 @@ module _ (study : Question) where
     pub texts : list_all (is_lemma_text study) s.earlier ≡ true
     pub witnesses : are_witnesses study s.core s.core s.witnesses ≡ true
 
-  abbrev AreRows : Standing → Type 0
+  abbrev pub AreRows : Standing → Type 0
   AreRows s = (list_all (λ o. nat_lt o K) s.rows ≡ true) × (length s.rows < P)
 
-  abbrev IsSound : Verdict → Type 0
+  abbrev pub IsSound : Verdict → Type 0
   IsSound v = (is_right study v ≡ true) × (has_text study v ≡ true) × (claims study v ≡ true)
 
   -- what holds of the parts at a place
