@@ -2,3 +2,5 @@ pub mod CuttingLaws
 pub mod HeadLaws
 pub mod RowLaws
 pub mod TableLaws
+pub mod WitnessLineLemmas
+pub mod StoryLineLemmas
