@@ -1,5 +1,5 @@
 -- What a reading stands for at witnesses.
-use Rattle.std.proofs.Common.{◌≡◌, refl, sym, ap, ap₂, ◌∙◌, subst, ℕ, zero, suc, ◌+◌, ◌<◌, Bool, true, false, List, [], ◌∷◌, ◌++◌, length, length-append, Option, Some, None, arith}
+use Rattle.std.proofs.Common.{◌≡◌, refl, sym, ap, ap₂, ◌∙◌, subst, ℕ, zero, suc, ◌+◌, ◌<◌, ◌≤◌, Bool, true, false, List, [], ◌∷◌, ◌++◌, length, length-append, Option, Some, None, arith}
 use Rattle.std.specs.Prelude.{slice_get, nat_lt, ◌==◌}
 use Rattle.std.specs.Option.{option_or}
 use Rattle.std.specs.List.{list_all}
@@ -67,6 +67,9 @@ name_same study k a name xs ys b e f g h =
 module _ (study : Question) (r : Reading) where
   pub in_range : IsRead study r → list_all (λ k. nat_lt k (length study.axioms)) r.core ≡ true
   in_range i = subst (λ core. list_all (λ k. nat_lt k (length study.axioms)) core ≡ true) (sym i.stands.core) (good_in_range study i.standing i.lines i.good).core
+
+  pub few_places : IsRead study r → length r.core ≤ length study.axioms
+  few_places i = subst (λ (core : List ℕ). length core ≤ length study.axioms) (sym i.stands.core) (good_in_range study i.standing i.lines i.good).few
 
   pub place_in_range : IsRead study r → (k : ℕ) → slice_get r.core r.witnesses ≡ Some k → nat_lt k (length study.axioms) ≡ true
   place_in_range i k e = all_there (λ k. nat_lt k (length study.axioms)) r.core r.witnesses k (in_range i) e

@@ -1,6 +1,6 @@
 //! Takes the lines with which witnesses begin, and finds what the next witness is of.
 
-ghost use Rattle.std.specs.Prelude.{◌≡◌, ◌<◌, ℕ, IsTrue, length};
+ghost use Rattle.std.specs.Prelude.{◌≡◌, ◌<◌, ℕ, IsTrue};
 ghost use Rattle.vocab.specs.Study.{Question};
 ghost use Rattle.verdicts.specs.declared.refusals.Refusal.{Refusal as Fault};
 ghost use Rattle.verdicts.specs.Lines.{WithRule, WithOpen};
@@ -90,7 +90,7 @@ impl Reading {
         requires { IsRead subject.now.study.now self.now }
         ensures fault { (s : Standing) → Stands subject.now.study.now self.now s →
             name_fault subject.now.study.now (next_core s) name.now ≡ unless_so result Fault.Core }
-        ensures more { IsTrue result → self.now.witnesses < length self.now.core }
+        ensures few { IsTrue result → self.now.witnesses < 40 }
     {
         match self.next_core() {
             None => false,

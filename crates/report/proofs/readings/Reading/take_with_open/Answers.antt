@@ -7,7 +7,7 @@ use Rattle.report.proofs.WitnessLineLemmas.{number_same, no_fault, with_witness}
 use Rattle.report.proofs.readings.Reading.take_with_open.Goals as goal
 
 pub overflow_add-self : goal.overflow_add-self
-overflow_add-self g c = omega (arith, c.is_next.ensures.more c.if-not-is_next.false)
+overflow_add-self g c = omega (arith, c.is_next.ensures.few c.if-not-is_next.false)
 
 pub returns : goal.returns
 returns g c = λ s n h at held.
