@@ -1,17 +1,15 @@
-use Rattle.std.proofs.Common.{◌≡◌, sym, subst, List, true}
-use Rattle.std.specs.List.{list_all}
+use Rattle.std.proofs.Common.{sym}
 use Rattle.std.proofs.lemmas.Option.{none-some}
 use Rattle.vocab.specs.Size.{Extent}
-use Rattle.meaning.specs.declared.stories.Lemma.{Lemma}
-use Rattle.meaning.specs.Stories.{has_literals}
 use Rattle.verdicts.specs.Faults.{fault_of}
 use Rattle.verdicts.specs.Lines.{So}
 use Rattle.story.specs.Lines.{step_fault}
-use Rattle.report.proofs.StoryLineLemmas.{refused, accepted, core_there, earlier_there, step_fault_is, with_step}
+use Rattle.report.proofs.StoryLineLemmas.{refused, accepted, earlier_there, step_fault_is, with_step}
+use Rattle.report.proofs.WitnessLineLemmas.{in_range}
 use Rattle.report.proofs.readings.Reading.take_so.Goals as goal
 
 pub take_step-requires-clause-core : goal.take_step-requires-clause-core
-take_step-requires-clause-core g c κs within = core_there c.args.subject.now.study.now c.args.self.now c.requires.read
+take_step-requires-clause-core g c κs within = in_range c.args.subject.now.study.now c.args.self.now c.requires.read
 
 pub take_step-requires-clause-earlier : goal.take_step-requires-clause-earlier
 take_step-requires-clause-earlier g c κs within =
