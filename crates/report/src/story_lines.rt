@@ -76,12 +76,11 @@ impl Reading {
             literal: *literal,
             reason: *reason,
         };
-        let earlier = self.earlier.as_slice();
         match take_step(
             subject.kind,
             subject.study,
             &self.core,
-            earlier,
+            self.earlier.as_slice(),
             &mut self.board,
             &step,
         ) {
@@ -103,12 +102,11 @@ impl Reading {
         ensures { (s : Standing) (wanted : StoryReason) → Stands subject.now.study.now self.old s → IsInStory s.place →
             reason.now ≡ held_reason wanted → Takes subject.now.study.now s (Clash wanted) self.new result }
     {
-        let earlier = self.earlier.as_slice();
         match refutes(
             subject.kind,
             subject.study,
             &self.core,
-            earlier,
+            self.earlier.as_slice(),
             &self.board,
             reason,
         ) {
