@@ -1,10 +1,7 @@
 -- In reading order.
-pub mod Lines
-pub mod Report
-pub mod Laws
-pub mod Cutting
 pub mod Held
 pub mod Taken
 pub mod Answers
+pub mod Cutting
 pub mod Pieces
 pub mod Files

@@ -17,7 +17,7 @@ use Rattle.verdicts.proofs.LineLaws.{wanted_read}
 use Rattle.verdicts.proofs.FitLaws.{Fits, wanted_fits}
 use Rattle.verdicts.proofs.SoundLaws.{Holds, printed, IsIdle, HasRead, step_read_so}
 
-not_long : (b : Bool) (o : Option Line) (l : Line) → cond b None o ≡ Some l → o ≡ Some l
+pub not_long : (b : Bool) (o : Option Line) (l : Line) → cond b None o ≡ Some l → o ≡ Some l
 not_long true o l e = absurd (cc)
 not_long false o l e = e
 
@@ -89,3 +89,9 @@ judge_sound study text v e =
       right = right.0;
       is = text_pieces text ∙ ap (λ rest. ended (front (pieces text)) ++ rest) c.2 ∙ append-nil (ended (front (pieces text))) ∙ ap ended r.2 ∙ ended_map study r.0 ∙ ap (flat_map (λ line. line_text study line ++ 10 ∷ [])) (sym read.1);
     }
+
+-- what holds of the parts after lines without a fault
+pub good_holds : (study : Question) (s : Standing) (texts : List (List ℕ)) → judge study texts ≡ Good s → Holds study s.place s
+good_holds study s texts e =
+    let idle : IsIdle study start = record { rows = refl; earlier = refl; suppose = refl; steps = refl; witnesses = refl } in
+    (ran study 1 start s texts [] (idle, refl) e).1.0
