@@ -2,5 +2,8 @@
 #![tactic(auto)]
 
 mod check;
+mod pieces;
+#[cfg(test)]
+mod tests;
 
 pub use check::check_rule;

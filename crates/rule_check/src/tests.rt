@@ -1,0 +1,71 @@
+//! A rule of two voters and three alternatives, and two axioms of which it fails the second.
+
+ghost use Rattle.std.specs.Prelude.{◌≡◌, [], ◌∷◌, codes, IfOk, IsTrue};
+ghost use Rattle.vocab.specs.Titled.{Titled};
+ghost use Rattle.vocab.specs.Tree.{tree_of, All, Leaf, Equal, WinsAt, Const, Var};
+ghost use Rattle.meaning.specs.Truth.{is_rule};
+
+use crate::check_rule;
+use edge::{Gate, Open};
+use lists::Items;
+use outcomes::ChoiceKind;
+use profiles::Space;
+use std::alloc::Global;
+use std::sync::atomic::{AtomicU64, Ordering};
+use std::test::Fail;
+use std::thread::Threads;
+use verdicts::Refusal;
+use vocab::{Atom, Axiom, Axioms, Formula, Kind, Name, Size, Sort, Study, Table, Term};
+
+fn small_size() -> Result<Size, Fail>
+    ensures { IfOk result (λ size. size ≡ record { kind = Kind.Choice; voters = 2; alternatives = 3 }) }
+{
+    Ok(Size::check(Kind::Choice, 2, 3).ok().ok_or("size")?)
+}
+
+/// The axiom `same`, that each voter is itself.
+fn same(alloc: Global) -> Result<Axiom, Fail>
+    ensures { IfOk result (λ named. named ≡ record { name = codes "same"; sentence = All Sort.Voter (Leaf (Equal (Var 0) (Var 0))) }) }
+{
+    let name = Name::new(b"same").ok_or("name")?;
+    let same = Formula::Leaf(Atom::Equal(Term::Var(0), Term::Var(0)));
+    Ok(Axiom::new(name, Formula::All(Sort::Voter, Box::new(alloc, same)?)))
+}
+
+/// The axiom `first`, that the first alternative wins at every profile, said for each profile and each ballot: 7,776
+/// instances, of which 216 have one value of the first variable.
+fn first(alloc: Global) -> Result<Axiom, Fail>
+    ensures { IfOk result (λ named. named ≡ record { name = codes "first"; sentence = All Sort.Profile (All Sort.Profile (All Sort.Ballot (Leaf (WinsAt (Const 0) (Var 0))))) }) }
+{
+    let name = Name::new(b"first").ok_or("name")?;
+    let wins = Formula::Leaf(Atom::Wins(Term::Const(0), Term::Var(0)));
+    let ballots = Formula::All(Sort::Ballot, Box::new(alloc, wins)?);
+    let profiles = Formula::All(Sort::Profile, Box::new(alloc, ballots)?);
+    Ok(Axiom::new(name, Formula::All(Sort::Profile, Box::new(alloc, profiles)?)))
+}
+
+fn two_axioms(alloc: Global) -> Result<Study, Fail>
+    ensures { IfOk result (λ study. study.size ≡ record { kind = Kind.Choice; voters = 2; alternatives = 3 }) }
+{
+    let mut axioms: Axioms = Items::new(alloc);
+    axioms.push(same(alloc)?)?;
+    axioms.push(first(alloc)?)?;
+    Ok(Study::new(small_size()?, 100, axioms))
+}
+
+/// The rule by which the first alternative wins at each of the 36 profiles but those numbered 30 and 34.
+fn rule(alloc: Global) -> Result<Table, Fail>
+    ensures { IfOk result (λ table. IsTrue (is_rule (record { kind = Kind.Choice; voters = 2; alternatives = 3 }) table)) }
+{
+    let mut table = Items::new(alloc);
+    table.append(&[0, 0, 0, 0, 0, 0, 0, 0, 0, 0, 0, 0, 0, 0, 0, 0, 0, 0, 0, 0, 0, 0, 0, 0, 0, 0, 0, 0, 0, 0, 2, 0, 0, 0, 1, 0])?;
+    Ok(table)
+}
+
+/// The fault of that rule, by the axioms at some places.
+fn fault<R: Threads + Sync, G: Gate>(rt: &R, alloc: Global, gate: &G, workers: u8, places: &[u32]) -> Result<Option<Refusal>, Fail>
+{
+    let study = two_axioms(alloc)?;
+    let kind = ChoiceKind::new(Space::new(study.size()));
+    Ok(check_rule(rt, alloc, gate, workers, &kind, &study, &rule(alloc)?, places)?)
+}
