@@ -2,12 +2,12 @@
 use Rattle.std.proofs.Common.{◌≡◌, ap, sym, ◌∙◌, subst, ℕ, zero, suc, ◌+◌, ◌<◌, ◌≤◌, cond, Bool, true, List, [], ◌∷◌, length, drop, slice_get, slice_index_or, Some, None, refl, add-one, drop-cons, arith, leb-true}
 use Rattle.std.specs.Prelude.{nat_lt, nat_le}
 use Rattle.std.specs.List.{list_all}
-use Rattle.std.proofs.lemmas.Bool.{and_parts, and_from}
+use Rattle.std.proofs.lemmas.Bool.{and_parts}
 use Rattle.vocab.specs.Formula.{body_of}
 use Rattle.vocab.specs.Limits.{depth, instance_count, atom_count, is_within_limits}
 use Rattle.vocab.specs.Study.{Question, IsStudy, is_sentence}
 use Rattle.vocab.specs.Titled.{Titled}
-use Rattle.meaning.specs.Instances.{is_instance_true, AreInstancesTrue, IsFirstFailure}
+use Rattle.meaning.specs.Instances.{is_instance_true}
 use Rattle.meaning.specs.Truth.{is_axiom_true}
 use Rattle.meaning.proofs.InstanceLaws.{have_instances}
 use Rattle.meaning.proofs.SpaceLaws.{all_from}

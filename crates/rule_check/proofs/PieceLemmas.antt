@@ -1,10 +1,10 @@
 -- Piece after piece, up to the first in which an instance is false.
-use Rattle.std.proofs.Common.{◌≡◌, ℕ, ◌+◌, ◌*◌, ◌^◌, ◌-◌, ◌<◌, ◌≤◌, min, IsTrue, List, Some, None, inl, inr, arith}
+use Rattle.std.proofs.Common.{◌≡◌, ℕ, ◌+◌, ◌^◌, ◌-◌, ◌<◌, ◌≤◌, min, IsTrue, List, Some, None, inl, inr, arith}
 use Rattle.std.proofs.lemmas.Bool.{cases_lt}
 use Rattle.vocab.specs.Size.{Extent}
 use Rattle.vocab.specs.Titled.{Titled}
 use Rattle.meaning.specs.Instances.{is_instance_true, AreInstancesTrue, IsFirstFailure}
-use Rattle.rule_check.specs.Pieces.{start_of, end_of, IsLeastFalse, IsLeastOfPiece}
+use Rattle.rule_check.specs.Pieces.{start_of, IsLeastFalse, IsLeastOfPiece}
 
 pub zero_more : (n : ℕ) → 0 + n ≡ n
 zero_more n = omega arith

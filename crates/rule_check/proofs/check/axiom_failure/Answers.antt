@@ -1,6 +1,5 @@
 use Rattle.std.proofs.Common.{◌≡◌, ◌≤◌, ◌-◌, ◌^◌, min, arith}
 use Rattle.vocab.specs.Limits.{instance_count}
-use Rattle.vocab.specs.Tree.{tree_of}
 use Rattle.rule_check.proofs.PieceLemmas.{counted_whole, true_beyond, first_beyond}
 use Rattle.rule_check.proofs.check.axiom_failure.Goals as goal
 

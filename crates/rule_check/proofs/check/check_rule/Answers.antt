@@ -1,4 +1,4 @@
-use Rattle.std.proofs.Common.{◌≡◌, slice_get, slice_index_or, Some, ◌∙◌}
+use Rattle.std.proofs.Common.{◌≡◌, slice_get, slice_index_or, Some}
 use Rattle.rule_check.proofs.CheckLemmas.{sentence_at, few_at, further, found}
 use Rattle.rule_check.proofs.check.check_rule.Goals as goal
 
