@@ -37,9 +37,11 @@ fn main(rt: HostRuntime) -> ExitCode {
     };
     let mut shelf = FileShelf::new(&rt);
     let mut out = StdSink::new(&rt);
-    let run = bench(&rt, rt.alloc(), &words, &mut shelf, &mut out, &Open);
+    let run = bench(&rt, rt.alloc(), 1, &words, &mut shelf, &mut out, &Open);
     ExitCode::from(run.status)
 }
 
+#[cfg(test)]
+mod report_tests;
 #[cfg(test)]
 mod tests;

@@ -12,7 +12,8 @@ const STUDY: &str = "kind = \"choice\"\nvoters = 1\nalternatives = 2\naxioms = [
 const REPORT: &str =
     "bench report 1\nkind choice\nvoters 1\nalternatives 2\naxioms unanimity\nverdict possible\nrule 2\nab a\nba b\nend\n";
 
-fn words_of(alloc: Global, words: &[&str]) -> Result<Vec<String>, AllocError> {
+/// The words of a command.
+pub fn words_of(alloc: Global, words: &[&str]) -> Result<Vec<String>, AllocError> {
     let mut list = Vec::new(alloc);
     for word in words {
         list.push(String::from_str(alloc, word)?)?;
@@ -33,7 +34,7 @@ fn check<R: Threads + Sync>(
     shelf.hold("report", report.as_bytes())?;
     let words = words_of(alloc, &["check", "study", "report"])?;
     let mut out = MemorySink::new(alloc, 1000, &[])?;
-    let run = bench(rt, alloc, &words, &mut shelf, &mut out, &Open);
+    let run = bench(rt, alloc, 1, &words, &mut shelf, &mut out, &Open);
     Ok((run.status, out.bytes().to_vec(alloc)?))
 }
 
@@ -53,11 +54,11 @@ fn reports_are_judged(rt: HostRuntime) -> Result<(), Fail> {
             1,
             "refused line 9: fails unanimity 0\n",
         ),
-        ("ab a\nab a\nend\n", 1, "refused: not built\n"),
-        ("ab a\nend\n", 1, "refused: not built\n"),
-        ("ab a\nba b\nba b\nend\n", 1, "refused: not built\n"),
-        ("ab a\nba b\nend\n\n", 1, "refused: not built\n"),
-        ("", 1, "refused: not built\n"),
+        ("ab a\nab a\nend\n", 1, "refused line 9: row\n"),
+        ("ab a\nend\n", 1, "refused line 9: form\n"),
+        ("ab a\nba b\nba b\nend\n", 1, "refused line 10: form\n"),
+        ("ab a\nba b\nend\n\n", 1, "refused line 11: form\n"),
+        ("", 1, "refused line 8: form\n"),
     ];
     for (table, status, text) in cases {
         let mut report = String::from_str(rt.alloc(), head)?;
@@ -219,7 +220,7 @@ fn rules_that_rank_are_judged(rt: HostRuntime) -> Result<(), Fail> {
             "pareto",
             "ab a\nba b\n",
             1,
-            "refused: not built\n",
+            "refused line 8: form\n",
         ),
     ];
     let alloc = rt.alloc();
@@ -388,7 +389,7 @@ fn library_of<R: Threads + Sync>(rt: &R, alloc: Global, kind: &str) -> Result<Ve
     let mut shelf = MemoryShelf::new(alloc, &[])?;
     let mut out = MemorySink::new(alloc, 10_000, &[])?;
     let words = words_of(alloc, &["axioms", kind])?;
-    let run = bench(rt, alloc, &words, &mut shelf, &mut out, &Open);
+    let run = bench(rt, alloc, 1, &words, &mut shelf, &mut out, &Open);
     if run.status != 0 {
         return Err(Fail::from(NoMemory));
     }
@@ -429,7 +430,7 @@ fn a_report_that_is_not_held_writes_nothing(rt: HostRuntime) -> Result<(), Fail>
     shelf.hold("study", STUDY.as_bytes())?;
     let words = words_of(alloc, &["check", "study", "report"])?;
     let mut out = MemorySink::new(alloc, 1000, &[])?;
-    let run = bench(&rt, alloc, &words, &mut shelf, &mut out, &Open);
+    let run = bench(&rt, alloc, 1, &words, &mut shelf, &mut out, &Open);
     assert_eq!(rt; run.status, 5);
     assert!(rt; out.bytes().is_empty());
     Ok(())
@@ -454,6 +455,7 @@ fn words_that_are_no_command_get_the_usage_line(rt: HostRuntime) -> Result<(), F
         let run = bench(
             &rt,
             alloc,
+            1,
             &words_of(alloc, words)?,
             &mut shelf,
             &mut out,
@@ -464,6 +466,7 @@ fn words_that_are_no_command_get_the_usage_line(rt: HostRuntime) -> Result<(), F
         let run = bench(
             &rt,
             alloc,
+            1,
             &words_of(alloc, words)?,
             &mut shelf,
             &mut CalmSink::new(),
@@ -479,11 +482,11 @@ fn calm_devices_never_fail(rt: HostRuntime) -> Result<(), Fail> {
     let alloc = rt.alloc();
     let mut shelf = CalmShelf::new(alloc);
     let words = words_of(alloc, &["check", "study", "report"])?;
-    let run = bench(&rt, alloc, &words, &mut shelf, &mut CalmSink::new(), &Open);
+    let run = bench(&rt, alloc, 1, &words, &mut shelf, &mut CalmSink::new(), &Open);
     assert_eq!(rt; run.status, 3);
     shelf.hold("study", STUDY.as_bytes())?;
     shelf.hold("report", REPORT.as_bytes())?;
-    let run = bench(&rt, alloc, &words, &mut shelf, &mut CalmSink::new(), &Open);
+    let run = bench(&rt, alloc, 1, &words, &mut shelf, &mut CalmSink::new(), &Open);
     assert_eq!(rt; run.status, 0);
     Ok(())
 }
@@ -497,7 +500,7 @@ fn a_failed_flush_comes_after_the_whole_text(rt: HostRuntime) -> Result<(), Fail
     let words = words_of(alloc, &["check", "study", "report"])?;
     // The sink's calls are: 0 writes the line, 1 flushes it.
     let mut out = MemorySink::new(alloc, 1000, &[1])?;
-    let run = bench(&rt, alloc, &words, &mut shelf, &mut out, &Open);
+    let run = bench(&rt, alloc, 1, &words, &mut shelf, &mut out, &Open);
     assert_eq!(rt; run.status, 6);
     assert_eq!(rt; out.bytes(), b"confirmed possible\n".as_slice());
     Ok(())

@@ -89,16 +89,19 @@ pub struct Run {
     pub status: u8,
 }
 
-/// All that the program does: answers the words, over the files of the shelf, into the sink. One worker checks the axioms of
-/// a rule, and tells the gate of each piece.
+/// All that the program does: answers the words, over the files of the shelf, into the sink. The axioms of a rule are checked
+/// among so many workers, from 1 to 16, which changes no answer; the gate is told of each piece of that work.
 pub fn bench<R: Threads + Sync, S: Shelf, K: Sink, G: Gate>(
     rt: &R,
     alloc: Global,
+    workers: u8,
     words: &[String],
     shelf: &mut S,
     out: &mut K,
     gate: &G,
 ) -> Run
+    requires some { 1 ≤ workers }
+    requires few { workers ≤ 16 }
     ensures status { IsStatus result.status }
 
     // Where the shelf tells its files, an answer is the one that the table gives, and its text is written.
@@ -151,7 +154,7 @@ pub fn bench<R: Threads + Sync, S: Shelf, K: Sink, G: Gate>(
     // Want of memory is free, and nothing is written.
     ensures no_memory { result.status ≡ 7 → Keeps (K.taken out.old) (K.taken out.new) }
 {
-    let answer = match answer(rt, alloc, gate, 1, words, shelf) {
+    let answer = match answer(rt, alloc, gate, workers, words, shelf) {
         Ok(answer) => answer,
         Err(Stop::ReadFault) => return Run { status: 5 },
         Err(Stop::NoMemory) => return Run { status: 7 },
