@@ -119,7 +119,7 @@ fn changed_stories_are_refused(rt: HostRuntime) -> Result<(), Fail> {
         (20, "without neutrality rule 4\n", "refused line 20: core"),
         (20, "without anonymity rule 3\n", "refused line 20: row"),
         (20, "without anonymity open 9\n", "refused line 20: open"),
-        (29, "ba|ba b\n", "refused line 29: fails anonymity 9"),
+        (28, "ba|ab b\n", "refused line 29: fails anonymity 10"),
         (29, "ba|ab a\n", "refused line 29: row"),
         (30, "end\nend\n", "refused line 31: form"),
         (30, "end", "refused line 30: form"),

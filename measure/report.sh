@@ -1,0 +1,66 @@
+#!/usr/bin/env bash
+# Seconds and peak memory of `check` for a report of a rule with 14,400 rows (2 voters, 5 alternatives, unanimity and
+# pareto), and for a report of an impossibility with ten thousand steps and more (2 voters, 2 alternatives, the two lemmas of
+# studies/anonymity_neutrality.report, the first of them many times over), each against `wc -l` of the same file. A third
+# report has ten times as many lemmas as the second.
+# The last lines are `ratio NAME R`: the seconds of `check` by those of `wc -l`. Each runs 5 times, and the shortest counts.
+set -eu
+root=$(cd -- "$(dirname -- "$(readlink -f -- "${BASH_SOURCE[0]}")")/.." && pwd)
+work=$(mktemp -d)
+trap 'rm -rf "$work"' EXIT
+cat >"$work/rule.toml" <<'TOML'
+kind = "choice"
+voters = 2
+alternatives = 5
+axioms = ["unanimity", "pareto"]
+TOML
+cp "$root/studies/anonymity_neutrality.toml" "$work/story.toml"
+cp "$work/story.toml" "$work/longer.toml"
+python3 - "$root/studies/anonymity_neutrality.report" "$work" <<'PY'
+import sys
+from itertools import permutations, product
+source, work = sys.argv[1:]
+ballots = ["".join(p) for p in permutations("abcde")]
+with open(work + "/rule.report", "w") as out:
+    print("bench report 1\nkind choice\nvoters 2\nalternatives 5\naxioms unanimity pareto\nverdict possible\nrule %d" % len(ballots) ** 2, file=out)
+    for one, two in product(ballots, ballots):
+        print("%s|%s %s" % (one, two, one[0]), file=out)
+    print("end", file=out)
+lines = open(source).read().split("\n")[:-1]
+head, first, last, rest = lines[:7], lines[9:13], lines[14:19], lines[19:]
+for name, count in (("story", 5000), ("longer", 50000)):
+    with open("%s/%s.report" % (work, name), "w") as out:
+        print("\n".join(head) + "\nlemmas %d" % (count + 1), file=out)
+        for number in range(1, count + 1):
+            print("lemma %d\n%s" % (number, "\n".join(first)), file=out)
+        print("lemma %d\n%s\n%s" % (count + 1, "\n".join(last), "\n".join(rest)), file=out)
+PY
+program=$root/crates/bench/out/bench
+env -u BENCH_QUICK "$root/bench" check "$root/studies/unanimity.toml" "$root/studies/unanimity.report" >/dev/null # builds where a source is newer
+python3 - "$program" "$work" <<'PY'
+import os, subprocess, sys, time
+program, work = sys.argv[1:]
+def run(words):
+    best, peak, text = None, 0, ""
+    for _ in range(5):
+        read, write = os.pipe()
+        start = time.perf_counter()
+        child = os.posix_spawn(words[0], words, os.environ, file_actions=[(os.POSIX_SPAWN_DUP2, write, 1), (os.POSIX_SPAWN_CLOSE, read)])
+        os.close(write)
+        with os.fdopen(read) as out:
+            text = out.read()
+        _, _, usage = os.wait4(child, 0)
+        spent = time.perf_counter() - start
+        best = spent if best is None else min(best, spent)
+        peak = max(peak, usage.ru_maxrss)
+    return best, peak, text
+ratios = []
+for name, wanted in (("rule", "confirmed possible\n"), ("story", "confirmed impossible\n"), ("longer", "confirmed impossible\n")):
+    report = "%s/%s.report" % (work, name)
+    seconds, memory, text = run([program, "check", "%s/%s.toml" % (work, name), report])
+    assert text == wanted, text
+    counted, _, text = run(["/usr/bin/wc", "-l", report])
+    print("%s: %d lines, %d bytes; check %.4f s, %d KB; wc -l %.4f s" % (name, int(text.split()[0]), os.path.getsize(report), seconds, memory, counted))
+    ratios.append("ratio %s %.1f" % (name, seconds / counted))
+print("\n".join(ratios))
+PY
