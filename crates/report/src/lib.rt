@@ -9,6 +9,7 @@ mod checker;
 mod cutting;
 mod faults;
 mod head;
+mod head_lines;
 pub mod laws;
 mod readings;
 mod story_lines;
