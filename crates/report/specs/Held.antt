@@ -1,5 +1,6 @@
 -- What a checker of reports holds, and what it stands for.
-use Rattle.std.specs.Prelude.{◌≡◌, ℕ, ◌≤◌, ◌⊎◌, List, map, length, Option, Some, None}
+use Rattle.std.specs.Prelude.{◌≡◌, ℕ, ◌≤◌, ◌==◌, ◌⊎◌, IsTrue, List, map, length, Option, Some, None}
+use Rattle.std.specs.List.{list_all}
 use Rattle.vocab.specs.declared.literals.Literal.{Literal}
 use Rattle.vocab.specs.Study.{Question}
 use Rattle.meaning.specs.declared.stories.Lemma.{Lemma}
@@ -15,13 +16,15 @@ use Rattle.report.specs.declared.readings.Reading.{Reading}
 abbrev pub supposed : List Lemma → List (List Literal)
 supposed lemmas = map (λ lemma. lemma.suppose) lemmas
 
--- what is held is what the lines so far have given; of the lemmas that are read it is what they suppose alone
+-- what is held is what the lines so far have given; of the lemmas that are read it is what they suppose alone, and a reason has a number for each of them
 pub record Stands (study : Question) (r : Reading) (s : Standing) : Type 0 where
   pub place : r.place ≡ held_place s.place
   pub rows : r.rows ≡ s.rows
   pub core : r.core ≡ s.core
   pub count : r.count ≡ held_number s.count
   pub earlier : supposed r.earlier ≡ supposed s.earlier
+  pub alone : IsTrue (list_all (λ lemma. length lemma.steps == 0) r.earlier)
+  pub few : length r.earlier ≤ 4294967295
   pub suppose : r.suppose ≡ s.suppose
   pub size : r.board.size ≡ study.size
   pub known : r.board.literals ≡ known_of s

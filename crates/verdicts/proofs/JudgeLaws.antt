@@ -17,7 +17,7 @@ use Rattle.verdicts.proofs.LineLaws.{wanted_read}
 use Rattle.verdicts.proofs.FitLaws.{Fits, wanted_fits}
 use Rattle.verdicts.proofs.SoundLaws.{Holds, printed, IsIdle, HasRead, step_read_so}
 
-not_long : (b : Bool) (o : Option Line) (l : Line) → cond b None o ≡ Some l → o ≡ Some l
+pub not_long : (b : Bool) (o : Option Line) (l : Line) → cond b None o ≡ Some l → o ≡ Some l
 not_long true o l e = absurd (cc)
 not_long false o l e = e
 

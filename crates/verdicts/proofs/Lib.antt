@@ -17,3 +17,4 @@ pub mod ShortLaws
 pub mod ReportLaws
 pub mod ClaimLaws
 pub mod StepLaws
+pub mod RangeLaws

@@ -48,7 +48,7 @@ use Rattle.verdicts.proofs.PrefixLaws.{all_snoc, rows_snoc, story_snoc, witness_
 use Rattle.verdicts.specs.declared.refusals.Refusal.TheVariants as refusal
 
 -- where there is no fault
-none_unless : (b : Bool) (w : Refusal) → unless_so b w ≡ None → b ≡ true
+pub none_unless : (b : Bool) (w : Refusal) → unless_so b w ≡ None → b ≡ true
 none_unless true w e = refl
 none_unless false w e = absurd (cc)
 
@@ -102,7 +102,7 @@ places_names axioms (name ∷ names) core e =
     ∙ ap (λ ns. name_at axioms t.0 ∷ ns) (places_names axioms names m.0 m.1)
     ∙ ap (map (name_at axioms)) m.2
 
-core_places : (end from : ℕ) (core : List ℕ) → is_core_from from end core ≡ true → list_all (λ k. nat_lt k end) core ≡ true
+pub core_places : (end from : ℕ) (core : List ℕ) → is_core_from from end core ≡ true → list_all (λ k. nat_lt k end) core ≡ true
 core_places end from [] h = refl
 core_places end from (k ∷ core) h =
     let p = and_parts (not (nat_lt k from) && nat_lt k end) (is_core_from (k + 1) end core) h in

@@ -1,0 +1,92 @@
+-- What the lines so far have given is in range, at each place.
+use Rattle.std.proofs.Common.{◌≡◌, refl, subst, ℕ, ◌+◌, Bool, true, false, List, [], ◌∷◌, ◌++◌, length, Option, Some, None, cond, true≢false, sym}
+use Rattle.std.specs.Prelude.{◌==◌, nat_lt}
+use Rattle.std.specs.List.{list_all}
+use Rattle.std.specs.Option.{unwrap_or}
+use Rattle.vocab.specs.declared.kinds.Sort.TheVariants.{Profile}
+use Rattle.vocab.specs.declared.literals.Literal.{Literal}
+use Rattle.vocab.specs.Size.{sort_count}
+use Rattle.vocab.specs.Study.{Question}
+use Rattle.meaning.specs.declared.stories.Lemma.{Lemma}
+use Rattle.meaning.specs.declared.cores.Witness.TheVariants.{Open}
+use Rattle.meaning.specs.Literals.{is_literal}
+use Rattle.verdicts.specs.declared.refusals.Refusal.{Refusal}
+use Rattle.verdicts.specs.declared.refusals.Refusal.TheVariants.{Core}
+use Rattle.verdicts.specs.Lines.{Line, Row, CoreIs, Suppose, Clash, WithOpen}
+use Rattle.verdicts.specs.Places.{Place, AtSuppose, AtLemmas, AtWitnessRow, Standing, start, wanted}
+use Rattle.verdicts.specs.Texts.{words_of}
+use Rattle.verdicts.specs.Faults.{places_of, is_core, fault_of}
+use Rattle.verdicts.specs.Judge.{after_witness, after_lemma, after_row, advance, read_line, Good, settle_at, settle, judge_from, judge}
+use Rattle.verdicts.proofs.FaultLaws.{same_good}
+use Rattle.verdicts.proofs.FitLaws.{Fits, wanted_fits}
+use Rattle.verdicts.proofs.JudgeLaws.{not_long}
+use Rattle.verdicts.proofs.PrefixLaws.{all_snoc}
+use Rattle.verdicts.proofs.SoundLaws.{none_unless, core_places}
+
+module _ (study : Question) where
+  -- what a lemma supposes is in range
+  abbrev pub are_supposed : Lemma → Bool
+  are_supposed lemma = list_all (is_literal study.size) lemma.suppose
+
+  -- the core, and what lemmas suppose, are in range
+  pub record IsInRange (s : Standing) : Type 0 where
+    pub core : list_all (λ k. nat_lt k (length study.axioms)) s.core ≡ true
+    pub earlier : list_all are_supposed s.earlier ≡ true
+    pub suppose : list_all (is_literal study.size) s.suppose ≡ true
+
+  -- ---- one line
+
+  witness_in : (s : Standing) → IsInRange s → IsInRange (after_witness s)
+  witness_in s h = record { core = h.core; earlier = h.earlier; suppose = h.suppose }
+
+  one_of : (b : Bool) (s t : Standing) → IsInRange s → IsInRange t → IsInRange (cond b s t)
+  one_of true s t h g = h
+  one_of false s t h g = g
+
+  row_in : (p : Place) (s : Standing) → IsInRange s → IsInRange (after_row study p s)
+  row_in AtWitnessRow s h = one_of (length s.rows == sort_count study.size Profile) _ s (record { core = h.core; earlier = h.earlier; suppose = h.suppose }) h
+  row_in p s h = one_of (length s.rows == sort_count study.size Profile) _ s (record { core = h.core; earlier = h.earlier; suppose = h.suppose }) h
+
+  lemma_in : (s : Standing) → IsInRange s → IsInRange (after_lemma s)
+  lemma_in s h = one_of (length s.earlier == s.count) _ _ (witness_in s h) (record { core = h.core; earlier = h.earlier; suppose = h.suppose })
+
+  core_in : (s : Standing) (names : List (List ℕ)) → IsInRange s → fault_of study s (CoreIs names) ≡ None → IsInRange (advance study s (CoreIs names))
+  core_in s names h e = by_places (places_of study.axioms names) (none_unless _ Core e)
+    where
+      by_places : (o : Option (List ℕ)) → is_core (length study.axioms) o ≡ true → IsInRange (record s { place = AtLemmas; core = unwrap_or o [] })
+      by_places None t = absurd (true≢false (sym t))
+      by_places (Some core) t = record { core = core_places (length study.axioms) 0 core t; earlier = h.earlier; suppose = h.suppose }
+
+  supposed_fits : (p : Place) (n : ℕ) (l : Literal) → Fits study p n (Suppose l) → is_literal study.size l ≡ true
+  supposed_fits AtSuppose n l f = f
+  supposed_fits p n l f = absurd f
+
+  step_in : (p : Place) (n : ℕ) (s : Standing) (l : Line) → IsInRange s → Fits study p n l → fault_of study s l ≡ None → IsInRange (advance study s l)
+  step_in p n s (Row q o) h f e = row_in s.place (record s { rows = s.rows ++ o ∷ [] }) (record { core = h.core; earlier = h.earlier; suppose = h.suppose })
+  step_in p n s (CoreIs names) h f e = core_in s names h e
+  step_in p n s (Suppose l) h f e = record { core = h.core; earlier = h.earlier; suppose = all_snoc (is_literal study.size) s.suppose l h.suppose (supposed_fits p n l f) }
+  step_in p n s (Clash r) h f e =
+      let lemma : Lemma = record { suppose = s.suppose; steps = s.steps; last = r } in
+      lemma_in (record s { earlier = s.earlier ++ lemma ∷ []; suppose = []; steps = [] }) (record { core = h.core; earlier = all_snoc are_supposed s.earlier lemma h.earlier h.suppose; suppose = refl })
+  step_in p n s (WithOpen name m) h f e = witness_in (record s { witnesses = s.witnesses ++ Open m ∷ [] }) (record { core = h.core; earlier = h.earlier; suppose = h.suppose })
+  step_in p n s l h f e = record { core = h.core; earlier = h.earlier; suppose = h.suppose }
+
+  -- ---- line by line
+
+  range_from : (n : ℕ) (s t : Standing) (texts : List (List ℕ)) → IsInRange s → judge_from study n s texts ≡ Good t → IsInRange t
+  range_from n s t [] h e = subst IsInRange (same_good s t e) h
+  range_from n s t (text ∷ texts) h e = by_line (read_line study s text) refl e (λ l g f r. range_from (n + 1) (advance study s l) t texts (step_in s.place (length s.earlier + 1) s l h g f) r)
+    where
+      by_fault : (l : Line) → (o : Option Refusal) → fault_of study s l ≡ o → settle_at study n s l o (λ next. judge_from study (n + 1) next texts) ≡ Good t → (fault_of study s l ≡ None → judge_from study (n + 1) (advance study s l) texts ≡ Good t → IsInRange t) → IsInRange t
+      by_fault l None f g later = later f g
+      by_fault l (Some w) f g later = absurd (cc)
+
+      by_line : (o : Option Line) → read_line study s text ≡ o → settle study n s o (λ next. judge_from study (n + 1) next texts) ≡ Good t → ((l : Line) → Fits study s.place (length s.earlier + 1) l → fault_of study s l ≡ None → judge_from study (n + 1) (advance study s l) texts ≡ Good t → IsInRange t) → IsInRange t
+      by_line None d g later = absurd (cc)
+      by_line (Some l) d g later =
+          let w = not_long (nat_lt 4096 (length text)) (wanted study s.place (length s.earlier + 1) (words_of text)) l d in
+          by_fault l (fault_of study s l) refl g (later l (wanted_fits study s.place (length s.earlier + 1) (words_of text) l w))
+
+  -- after lines without a fault
+  pub good_in_range : (s : Standing) (texts : List (List ℕ)) → judge study texts ≡ Good s → IsInRange s
+  good_in_range s texts e = range_from 1 start s texts (record { core = refl; earlier = refl; suppose = refl }) e
