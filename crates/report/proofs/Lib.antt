@@ -2,3 +2,4 @@ pub mod CuttingLaws
 pub mod HeadLaws
 pub mod RowLaws
 pub mod TableLaws
+pub mod TableLineLemmas

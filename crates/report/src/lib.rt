@@ -6,6 +6,7 @@ ghost use Rattle.report.specs.Cutting.{IsCut, front_text};
 ghost use Rattle.report.specs.Report.{IsRuleReport};
 
 mod checker;
+mod core_lines;
 mod cutting;
 mod faults;
 mod head;
@@ -15,6 +16,7 @@ mod readings;
 mod story_lines;
 mod subject;
 mod table;
+mod table_lines;
 mod taking;
 mod witness_lines;
 

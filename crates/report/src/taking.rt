@@ -6,7 +6,7 @@ ghost use Rattle.verdicts.specs.Places.{Standing};
 ghost use Rattle.verdicts.specs.Judge.{read_line};
 ghost use Rattle.report_lines.specs.Held.{held_line};
 ghost use Rattle.report.specs.Held.{Stands, IsRead};
-ghost use Rattle.report.specs.Taken.{Takes};
+ghost use Rattle.report.specs.Taken.{Takes, IsLine};
 
 use crate::readings::Reading;
 use crate::subject::Subject;
@@ -32,11 +32,32 @@ impl Reading {
         requires few { subject.now.workers ≤ 16 }
         requires size { subject.now.study.now.size ≡ K.size subject.now.kind.now }
         requires read { IsRead subject.now.study.now self.old }
+        requires line { (s : Standing) → Stands subject.now.study.now self.old s → IsLine subject.now.study.now s text.now line.now }
         ensures { (s : Standing) (wanted : WantedLine) → Stands subject.now.study.now self.old s →
             read_line subject.now.study.now s text.now ≡ Some wanted → line.now ≡ held_line subject.now.study.now wanted →
             Takes subject.now.study.now s wanted self.new result }
     {
-        let _ = (rt, gate, subject, line, text);
-        Err(NoMemory)
+        match line {
+            Line::Title => Ok(self.take_title()),
+            Line::KindIs(kind) => Ok(self.take_kind(subject.study, *kind)),
+            Line::VotersAre(count) => Ok(self.take_voters(subject.study, *count)),
+            Line::AlternativesAre(count) => Ok(self.take_alternatives(subject.study, *count)),
+            Line::AxiomsAre(same) => Ok(self.take_axioms(*same)),
+            Line::SaysPossible => Ok(self.take_possible()),
+            Line::SaysImpossible => Ok(self.take_impossible()),
+            Line::SaysUndecided => Ok(self.take_undecided()),
+            Line::LimitIs(_) => Ok(self.take_limit()),
+            Line::RuleOf(count) => Ok(self.take_rule_of(subject, *count)),
+            Line::Row(profile, outcome) => self.take_row(rt, gate, subject, *profile, *outcome),
+            Line::CoreIs(right) => self.take_core(subject, *right, text),
+            Line::LemmasAre(count) => Ok(self.take_lemmas(*count)),
+            Line::Heading(_) => Ok(self.take_heading()),
+            Line::Suppose(literal) => self.take_suppose(subject, literal),
+            Line::So(literal, reason) => self.take_so(subject, literal, reason),
+            Line::Clash(reason) => self.take_clash(subject, reason),
+            Line::WithRule(name, count) => Ok(self.take_with_rule(subject, name, *count)),
+            Line::WithOpen(name, limit) => Ok(self.take_with_open(subject, name, *limit)),
+            Line::End => Ok(self.take_end()),
+        }
     }
 }
