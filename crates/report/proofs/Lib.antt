@@ -3,3 +3,4 @@ pub mod HeadLaws
 pub mod RowLaws
 pub mod TableLaws
 pub mod TableLineLemmas
+pub mod TakingLemmas
