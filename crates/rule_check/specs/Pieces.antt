@@ -1,0 +1,31 @@
+-- The instances of an axiom in pieces of 4,096.
+use Rattle.std.specs.Prelude.{ℕ, ◌+◌, ◌*◌, ◌≤◌, min, IsTrue, List, Option, MatchOption}
+use Rattle.vocab.specs.Limits.{instance_count}
+use Rattle.vocab.specs.Size.{Extent}
+use Rattle.vocab.specs.Study.{is_sentence}
+use Rattle.vocab.specs.Titled.{Titled}
+use Rattle.meaning.specs.Instances.{AreInstancesTrue, IsFirstFailure}
+use Rattle.meaning.specs.Truth.{is_rule}
+
+-- where a piece of the instances from `from` on begins
+abbrev pub start_of : ℕ → ℕ → ℕ
+start_of from piece = from + 4096 * piece
+
+-- where a piece of the instances from `from` up to `to` ends
+abbrev pub end_of : ℕ → ℕ → ℕ → ℕ
+end_of from to piece = min (start_of from (piece + 1)) to
+
+module _ (size : Extent) (table : List ℕ) (a : Titled) where
+  -- the instances up to this one can be tried
+  pub record CanBeTried (to : ℕ) : Type 0 where
+    pub rule : IsTrue (is_rule size table)
+    pub sentence : IsTrue (is_sentence size a)
+    pub within : to ≤ instance_count size a.sentence
+
+  -- what was found is the least instance of these that is false of the rule, or none where all are true
+  abbrev pub IsLeastFalse : ℕ → ℕ → Option ℕ → Type 0
+  IsLeastFalse from to found = MatchOption found (AreInstancesTrue size table a.sentence from to) (IsFirstFailure size table a.sentence from to)
+
+  -- what was found is the least instance of a piece that is false of the rule
+  abbrev pub IsLeastOfPiece : ℕ → ℕ → ℕ → Option ℕ → Type 0
+  IsLeastOfPiece from to piece found = IsLeastFalse (start_of from piece) (end_of from to piece) found

@@ -1,0 +1,9 @@
+//! Whether a rule satisfies axioms, and which it fails first, with the instances among workers.
+#![tactic(auto)]
+
+mod check;
+mod pieces;
+#[cfg(test)]
+mod tests;
+
+pub use check::check_rule;
