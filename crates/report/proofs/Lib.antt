@@ -4,3 +4,4 @@ pub mod RowLaws
 pub mod TableLaws
 pub mod TableLineLemmas
 pub mod TakingLemmas
+pub mod CheckerLemmas

@@ -96,10 +96,26 @@ impl<'a, K: OutcomeKind> Checker<'a, K> {
             self.new.fault ≢ Some ReportFault.NoMemory →
             StandsFor self.old.subject.study.now self.new.lines self.new.fault self.new.reading (lines ++ text.now ∷ []) }
     {
-        let _ = (rt, gate, text);
         self.lines += 1;
-        self.fault = Some(ReportFault::NoMemory);
-        Err(ReportFault::NoMemory)
+        match self.fault {
+            Some(fault) => Err(fault),
+            None => {
+                self.fault = self
+                    .reading
+                    .judge(rt, gate, &self.subject, self.lines, text);
+                self.told()
+            }
+        }
+    }
+
+    /// What is answered of the lines so far.
+    fn told(&self) -> Result<(), ReportFault>
+        ensures { result ≡ told_of self.now.fault }
+    {
+        match self.fault {
+            Some(fault) => Err(fault),
+            None => Ok(()),
+        }
     }
 
     /// What is answered of the report that has these lines, each with its line end, and then the rest.
