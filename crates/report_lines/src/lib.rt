@@ -3,8 +3,13 @@
 
 mod core_line;
 mod lines;
+mod literals;
+mod names;
+mod numbers;
 mod places;
 mod reading;
+mod values;
+mod words;
 
 pub use core_line::read_core;
 pub use lines::Line;
