@@ -48,20 +48,24 @@ pub(crate) fn read_outcome<K: OutcomeKind>(kind: &K, word: &[u8]) -> Option<u8>
 fn read_voter(space: &Space, word: &[u8]) -> Option<u32>
     ensures { result ≡ read_value space.now Voter word.now }
 {
+    profiles::laws::spaces_have_sizes(space);
     let voters = u64::from(space.size().voters());
     let Some(number) = read_number(word) else {
         return None;
     };
-    if number == 0 || voters < number {
-        None
-    } else {
-        Some((number - 1) as u32)
+    if number == 0 {
+        return None;
     }
+    if voters < number {
+        return None;
+    }
+    Some((number - 1) as u32)
 }
 
 fn read_alternative(space: &Space, word: &[u8]) -> Option<u32>
     ensures { result ≡ read_value space.now Alt word.now }
 {
+    profiles::laws::spaces_have_sizes(space);
     let [byte] = word else {
         return None;
     };
