@@ -1,3 +1,4 @@
+pub mod LiteralLemmas
 pub mod NumberLemmas
 pub mod ValueLemmas
 pub mod WordLemmas
