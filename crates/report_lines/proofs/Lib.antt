@@ -1,4 +1,5 @@
 pub mod LiteralLemmas
+pub mod NameLemmas
 pub mod NumberLemmas
 pub mod ValueLemmas
 pub mod WordLemmas

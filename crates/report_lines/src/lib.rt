@@ -8,6 +8,7 @@ mod names;
 mod numbers;
 mod places;
 mod reading;
+mod reasons;
 mod values;
 mod words;
 
