@@ -1,5 +1,6 @@
 pub mod LiteralLemmas
 pub mod NameLemmas
 pub mod NumberLemmas
+pub mod ReasonLemmas
 pub mod ValueLemmas
 pub mod WordLemmas
