@@ -2,6 +2,7 @@
 #![tactic(auto)]
 
 mod core_line;
+mod head;
 mod lines;
 mod literals;
 mod names;
@@ -9,6 +10,8 @@ mod numbers;
 mod places;
 mod reading;
 mod reasons;
+mod rules;
+mod story;
 mod values;
 mod words;
 
