@@ -1,18 +1,20 @@
 -- What is held of a line, by the parts that are read of it.
-use Rattle.std.proofs.Common.{◌≡◌, ◌≢◌, refl, sym, ap, ap₂, ◌∙◌, ℕ, ◌-◌, ◌^◌, ◌<◌, min, Bool, true, false, cond, Option, Some, None, option_map, option_and_then, List, [], ◌∷◌, arith, inl, inr, true≢false, decimal}
+use Rattle.std.proofs.Common.{◌≡◌, ◌≢◌, refl, sym, ap, ap₂, ◌∙◌, ℕ, ◌^◌, ◌<◌, Bool, true, false, cond, Option, Some, None, option_map, option_and_then, List, [], ◌∷◌, arith, inl, inr, true≢false, decimal}
 use Rattle.std.specs.Prelude.{codes}
 use Rattle.std.specs.Option.{option_or}
 use Rattle.std.specs.Str.{bytes_eq}
 use Rattle.std.proofs.lemmas.List.Splits.{join_with_byte-slice_split}
 use Rattle.std.proofs.lemmas.Slice.Eq.{bytes_eq-Decides}
+use Rattle.vocab.specs.declared.kinds.Kind.{Kind}
+use Rattle.vocab.specs.declared.kinds.Kind.TheVariants.{Choice, Ranking}
 use Rattle.vocab.specs.declared.literals.Literal.{Literal}
+use Rattle.meaning.specs.Texts.{kind_text}
 use Rattle.vocab.specs.Name.{is_name}
-use Rattle.vocab.specs.Size.{Extent}
 use Rattle.vocab.specs.Study.{Question}
 use Rattle.meaning.specs.declared.stories.Reason.{Reason}
-use Rattle.verdicts.specs.Numbers.{number_text, read_number}
-use Rattle.verdicts.specs.Texts.{joined, words_of, named_by, read_literal}
-use Rattle.verdicts.specs.Lines.{Line, Title, SaysPossible, SaysImpossible, SaysUndecided, Heading, So, Clash, WithRule, WithOpen, End}
+use Rattle.verdicts.specs.Numbers.{read_number}
+use Rattle.verdicts.specs.Texts.{joined, words_of, named_by, read_kind, read_literal}
+use Rattle.verdicts.specs.Lines.{Line, Title, KindIs, SaysPossible, SaysImpossible, SaysUndecided, Heading, So, Clash, WithRule, WithOpen, End}
 use Rattle.verdicts.specs.Reading.{keyed, one_word, no_word, verdict_word, read_heading, read_named, read_witness, read_reason, read_so}
 use Rattle.verdicts.proofs.WordLaws.{IsIn}
 use Rattle.verdicts.proofs.PrintLaws.{named_nothing, decimal_is}
@@ -64,6 +66,26 @@ module _ {B : Type 0} (h : Line → B) (text : List ℕ) where
       let first = keyed_is (codes "end") (no_word End) (words_of text) l e in
       let last = none_is End first.0 l first.2 in
       differs text (codes "end") other (sym (whole text) ∙ ap joined (first.1 ∙ ap (λ ws. codes "end" ∷ ws) last.0)))
+
+-- ---- the kind
+
+abbrev pub kind_of : List ℕ → Option Line
+kind_of word = option_map KindIs (read_kind word)
+
+module _ {B : Type 0} (h : Line → B) (word : List ℕ) where
+  pub is_choice : bytes_eq word (codes "choice") ≡ true → Some (h (KindIs Choice)) ≡ option_map h (kind_of word)
+  is_choice e = ap (λ w. option_map h (kind_of w)) (sym ((bytes_eq-Decides word (codes "choice")).0 e))
+
+  pub is_ranking : bytes_eq word (codes "ranking") ≡ true → Some (h (KindIs Ranking)) ≡ option_map h (kind_of word)
+  is_ranking e = ap (λ w. option_map h (kind_of w)) (sym ((bytes_eq-Decides word (codes "ranking")).0 e))
+
+  pub is_no_kind : bytes_eq word (codes "choice") ≡ false → bytes_eq word (codes "ranking") ≡ false → None ≡ option_map h (kind_of word)
+  is_no_kind a b = ap (λ o. option_map h (option_map KindIs o)) (sym (named_nothing kind_text (Choice ∷ Ranking ∷ []) word each))
+    where
+      each : (k : Kind) → IsIn (Choice ∷ Ranking ∷ []) k → word ≢ kind_text k
+      each k (inl e) same = differs word (codes "choice") a (same ∙ ap kind_text (sym e))
+      each k (inr (inl e)) same = differs word (codes "ranking") b (same ∙ ap kind_text (sym e))
+      each k (inr (inr i)) same = i
 
 -- ---- the verdict
 

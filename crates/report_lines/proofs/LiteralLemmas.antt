@@ -1,19 +1,19 @@
 -- What a literal is named by.
-use Rattle.std.proofs.Common.{◌≡◌, ◌≢◌, refl, sym, ap, ap₂, ◌∙◌, subst, ℕ, ◌+◌, ◌<◌, ◌≤◌, Bool, true, false, not, ◌&&◌, Option, Some, None, List, [], ◌∷◌, arith, MatchOption, IsTrue, lt-ltb, ltb-true, true≢false, ◌⊎◌, inl, inr}
+use Rattle.std.proofs.Common.{◌≡◌, ◌≢◌, sym, ap, ap₂, ◌∙◌, subst, ℕ, ◌<◌, not, ◌&&◌, Option, Some, None, List, ◌∷◌, MatchOption, IsTrue, ltb-true, true≢false}
 use Rattle.std.specs.Prelude.{nat_lt, ◌==◌}
-use Rattle.std.proofs.lemmas.Bool.{and_parts, and_from}
+use Rattle.std.proofs.lemmas.Bool.{and_parts}
 use Rattle.std.proofs.lemmas.Bool.Decides.{Decides-eqb}
 use Rattle.vocab.specs.declared.kinds.Kind.{Kind}
-use Rattle.vocab.specs.declared.kinds.Kind.TheVariants.{Choice, Ranking, Sets}
+use Rattle.vocab.specs.declared.kinds.Kind.TheVariants.{Ranking, Sets}
 use Rattle.vocab.specs.declared.kinds.Sort.TheVariants.{Profile}
 use Rattle.vocab.specs.declared.literals.Literal.{Literal}
 use Rattle.vocab.specs.declared.literals.Literal.TheVariants.{Wins, Loses, Above}
 use Rattle.vocab.specs.Size.{Extent, IsSize, sort_count}
-use Rattle.meaning.specs.Literals.{is_literal, is_literal_of}
+use Rattle.meaning.specs.Literals.{is_literal_of}
 use Rattle.meaning.specs.Space.{below}
 use Rattle.meaning.specs.Texts.{letter, profile_text}
-use Rattle.verdicts.specs.Texts.{named_by, literals, literal_text, read_profile, read_literal}
-use Rattle.verdicts.proofs.WordLaws.{IsIn, in_below, from_below, text_named, named_in}
+use Rattle.verdicts.specs.Texts.{literals, literal_text, read_profile, read_literal}
+use Rattle.verdicts.proofs.WordLaws.{in_below, from_below, text_named, named_in}
 use Rattle.verdicts.proofs.PrintLaws.{named_none, named_nothing}
 use Rattle.verdicts.proofs.FitLaws.{literal_in}
 use Rattle.verdicts.proofs.ReadLaws.{literal_read}

@@ -1,17 +1,16 @@
 -- The first axiom of a name, and the names of all axioms.
-use Rattle.std.proofs.Common.{◌≡◌, refl, sym, ap, ap₂, ◌∙◌, ℕ, zero, suc, ◌+◌, ◌<◌, ◌≤◌, Bool, true, false, cond, not, ◌&&◌, ◌⊎◌, inl, inr, Option, Some, None, option_map, option_and_then, List, [], ◌∷◌, ◌++◌, map, length, drop, arith, lt-ltb, le-ltb, ltb-false, append_assoc}
+use Rattle.std.proofs.Common.{◌≡◌, refl, sym, ap, ap₂, ◌∙◌, ℕ, zero, suc, ◌+◌, ◌<◌, ◌≤◌, Bool, true, false, cond, not, ◌&&◌, inl, inr, Option, Some, None, option_map, option_and_then, List, [], ◌∷◌, ◌++◌, map, length, drop, arith, lt-ltb, append_assoc}
 use Rattle.std.specs.Prelude.{nat_lt, slice_get}
 use Rattle.std.specs.Cmp.Lexicographic.{pointwise}
 use Rattle.std.specs.Str.{bytes_eq}
 use Rattle.std.proofs.lemmas.Bool.{cases_lt}
 use Rattle.vocab.specs.Titled.{Titled}
 use Rattle.meaning.specs.Cores.{is_core_from}
-use Rattle.meaning.specs.Space.{up_from, below}
+use Rattle.meaning.specs.Space.{up_from}
 use Rattle.verdicts.specs.Texts.{named_by}
 use Rattle.verdicts.specs.Lines.{title_of, name_at}
 use Rattle.verdicts.specs.Reading.{read_axiom}
 use Rattle.verdicts.specs.Faults.{places_of, is_core}
-use Rattle.verdicts.proofs.WordLaws.{named_in, from_below}
 
 -- no number below k has the text
 abbrev pub IsPassed : (ℕ → List ℕ) → List ℕ → ℕ → ℕ → Type 0

@@ -1,5 +1,5 @@
 -- Values of leading universals, and reasons.
-use Rattle.std.proofs.Common.{◌≡◌, ◌≤◌, zero, suc, subst, refl, sym, ap, ap₂, ◌∙◌, ℕ, ◌+◌, ◌-◌, ◌^◌, min, Bool, true, false, ◌&&◌, Option, Some, None, option_map, option_and_then, List, [], ◌∷◌, ◌++◌, length, arith, append_assoc, true≢false, IsTrue, leb-true}
+use Rattle.std.proofs.Common.{◌≡◌, ◌≤◌, zero, suc, subst, refl, sym, ap, ap₂, ◌∙◌, ℕ, false, Option, Some, None, option_map, option_and_then, List, [], ◌∷◌, ◌++◌, length, append_assoc, true≢false, IsTrue, leb-true}
 use Rattle.std.specs.Prelude.{◌==◌, nat_le, slice_get}
 use Rattle.std.specs.List.{list_all}
 use Rattle.std.proofs.lemmas.Bool.{and_parts}

@@ -1,5 +1,5 @@
 -- What a value, a profile or an outcome is named by.
-use Rattle.std.proofs.Common.{length, get_or, ◌⊎◌, inl, inr, ◌≡◌, ◌≢◌, refl, sym, ap, ◌∙◌, ℕ, ◌+◌, ◌-◌, ◌^◌, ◌<◌, ◌≤◌, Option, Some, None, List, [], ◌∷◌, min, arith, option_map, IfSome, IfNone}
+use Rattle.std.proofs.Common.{length, get_or, ◌⊎◌, inl, inr, ◌≡◌, ◌≢◌, refl, sym, ap, ◌∙◌, ℕ, ◌+◌, ◌-◌, ◌<◌, ◌≤◌, Option, Some, None, List, [], ◌∷◌, arith, option_map, IfSome, IfNone}
 use Rattle.vocab.specs.declared.kinds.Kind.{Kind}
 use Rattle.vocab.specs.declared.kinds.Kind.TheVariants.{Choice, Ranking, Sets}
 use Rattle.vocab.specs.declared.kinds.Sort.TheVariants.{Voter, Alt, Ballot, Profile}
@@ -10,9 +10,9 @@ use Rattle.profiles.proofs.TableLemmas.{factorial_small}
 use Rattle.verdicts.specs.Numbers.{number_text, read_number}
 use Rattle.verdicts.specs.Texts.{named_by, value_text, read_profile, read_outcome, read_value}
 use Rattle.verdicts.proofs.NumberLaws.{text_read, read_text}
-use Rattle.verdicts.proofs.WordLaws.{IsIn, named_below, from_below, text_named, named_in}
+use Rattle.verdicts.proofs.WordLaws.{named_below, from_below}
 use Rattle.verdicts.proofs.PrintLaws.{named_nothing}
-use Rattle.verdicts.proofs.TextLaws.{profiles_same, ballots_same, outcomes_same, numbers_same, values_same}
+use Rattle.verdicts.proofs.TextLaws.{profiles_same, ballots_same, outcomes_same, values_same}
 use Rattle.report_lines.specs.Held.{held_number}
 
 abbrev Own : (ℕ → List ℕ) → ℕ → Type 0

@@ -2,9 +2,9 @@
 use Rattle.std.proofs.Math.Path.{fun_ext}
 use Rattle.std.specs.Str.{bytes_eq}
 use Rattle.verdicts.specs.Reading.{keyed, one_word}
-use Rattle.std.proofs.Common.{◌≡◌, option_and_then, true≢false, refl, sym, ap, ◌∙◌, ℕ, suc, ◌+◌, ◌<◌, ◌≤◌, Bool, true, false, not, cond, List, [], ◌∷◌, length, take, drop, Option, Some, None, arith, ltb-true, ltb-false}
+use Rattle.std.proofs.Common.{◌≡◌, option_and_then, true≢false, refl, sym, ap, ◌∙◌, ℕ, suc, ◌+◌, ◌≤◌, Bool, true, false, not, cond, List, [], ◌∷◌, length, take, drop, Option, Some, None, arith, ltb-false}
 use Rattle.std.specs.Prelude.{◌==◌, nat_lt, position}
-use Rattle.std.specs.List.{position_or_len, slice_split, onto_first}
+use Rattle.std.specs.List.{position_or_len, onto_first}
 use Rattle.std.proofs.lemmas.List.Splits.{slice_split-cons_yes, slice_split-cons_no}
 use Rattle.std.proofs.lemmas.List.Sums.{prefix_len-le-length}
 use Rattle.verdicts.specs.Texts.{words_of}

@@ -22,7 +22,11 @@ fn cut_mark(word: &[u8], mark: u8) -> Option<(u8, &[u8])>
     let [byte, second, rest @ ..] = word else {
         return None;
     };
-    if *second == mark { Some((*byte, rest)) } else { None }
+    if *second == mark {
+        Some((*byte, rest))
+    } else {
+        None
+    }
 }
 
 /// What follows the mark `!`.

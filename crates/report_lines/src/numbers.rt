@@ -24,7 +24,8 @@ fn is_number(word: &[u8]) -> bool
 {
     match word.split_first() {
         None => false,
-        Some((first, rest)) => is_digit(*first) && (rest.is_empty() || *first != b'0' && are_digits(rest)),
+        Some((first, rest)) => is_digit(*first)
+            && (rest.is_empty() || *first != b'0' && are_digits(rest)),
     }
 }
 
@@ -34,7 +35,9 @@ fn value(word: &[u8]) -> u64
 {
     let mut value: u64 = 0;
     for digit in word {
-        value = value.saturating_mul(10).saturating_add(u64::from(digit.saturating_sub(b'0')));
+        value = value
+            .saturating_mul(10)
+            .saturating_add(u64::from(digit.saturating_sub(b'0')));
     }
     value
 }
@@ -43,7 +46,11 @@ fn value(word: &[u8]) -> u64
 pub(crate) fn read_number(word: &[u8]) -> Option<u64>
     ensures { result ≡ option_map held_number (read_number word.now) }
 {
-    if is_number(word) { Some(value(word)) } else { None }
+    if is_number(word) {
+        Some(value(word))
+    } else {
+        None
+    }
 }
 
 /// The number of a word, where it is not 0.
@@ -51,13 +58,7 @@ pub(crate) fn read_positive(word: &[u8]) -> Option<u64>
     ensures { result ≡ option_map held_number (read_positive word.now) }
 {
     match read_number(word) {
-        Some(number) => {
-            if number == 0 {
-                None
-            } else {
-                Some(number)
-            }
-        }
+        Some(number) => { if number == 0 { None } else { Some(number) } }
         None => None,
     }
 }

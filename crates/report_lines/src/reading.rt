@@ -7,16 +7,20 @@ ghost use Rattle.verdicts.specs.Texts.{words_of};
 ghost use Rattle.report_lines.specs.Held.{held_place, held_line};
 ghost use Rattle.report_lines.specs.Wanted.{held_wanted};
 
-use crate::head;
 use crate::lines::Line;
 use crate::places::Place;
-use crate::rules;
-use crate::story;
+use crate::{head, rules, story};
 use outcomes::OutcomeKind;
 use vocab::Study;
 
 /// The line that is wanted at the place.
-fn read_at<K: OutcomeKind>(kind: &K, study: &Study, place: Place, number: u64, text: &[u8]) -> Option<Line>
+fn read_at<K: OutcomeKind>(
+    kind: &K,
+    study: &Study,
+    place: Place,
+    number: u64,
+    text: &[u8],
+) -> Option<Line>
     requires { study.now.size ≡ K.size kind.now }
     ensures { result ≡ held_wanted study.now place number (words_of text.now) }
 {

@@ -23,7 +23,7 @@ fn leading(sentence: &Formula) -> Option<(Sort, &Formula)>
     ensures { MatchOption result
         (prefix_of (tree_of sentence.now) ≡ [])
         (λ first. (prefix_of (tree_of sentence.now) ≡ first.0 ∷ prefix_of (tree_of first.1.now))
-            × (quantifier_depth (tree_of sentence.now) ≡ quantifier_depth (tree_of first.1.now) + 1)) }
+        × (quantifier_depth (tree_of sentence.now) ≡ quantifier_depth (tree_of first.1.now) + 1)) }
 {
     match sentence {
         Formula::All(sort, inner) => Some((*sort, inner)),

@@ -1,4 +1,4 @@
-use Rattle.std.proofs.Common.{◌∙◌, sym, ap}
+use Rattle.std.proofs.Common.{◌∙◌, ap}
 use Rattle.vocab.specs.Size.{Extent}
 use Rattle.vocab.specs.declared.kinds.Kind.TheVariants.{Choice, Ranking}
 use Rattle.report_lines.proofs.LiteralLemmas.{literal_is, no_literal}

@@ -1,7 +1,6 @@
-use Rattle.std.proofs.Common.{◌≡◌, ◌∙◌, ◌+◌, ◌&&◌, Bool, false, true, not, sym, ap, drop}
+use Rattle.std.proofs.Common.{◌≡◌, ◌∙◌, ◌+◌, ◌&&◌, Bool, sym, ap, drop}
 use Rattle.std.specs.Cmp.Lexicographic.{pointwise}
 use Rattle.std.specs.Str.{bytes_eq}
-use Rattle.std.proofs.lemmas.Bool.{not-true}
 use Rattle.report_lines.specs.Rest.{words_after}
 use Rattle.report_lines.proofs.NameLemmas.{names_of, item_is, names_more}
 use Rattle.report_lines.proofs.names.are_all_axioms.Goals as goal

@@ -1,5 +1,5 @@
-use Rattle.std.proofs.Common.{Some, ◌≡◌, ◌≤◌, ◌+◌, ◌++◌, ◌∷◌, [], ◌∙◌, List, ℕ, sym, ap, length, option_map, arith, length-append}
-use Rattle.vocab.specs.Formula.{prefix_of, quantifier_depth}
+use Rattle.std.proofs.Common.{Some, ◌≡◌, ◌++◌, ◌∷◌, [], ◌∙◌, List, ℕ, sym, ap, length, option_map, arith, length-append}
+use Rattle.vocab.specs.Formula.{prefix_of}
 use Rattle.vocab.specs.Size.{Extent}
 use Rattle.verdicts.specs.Texts.{read_value}
 use Rattle.vocab.specs.Tree.{tree_of}

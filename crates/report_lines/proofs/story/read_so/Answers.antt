@@ -1,4 +1,4 @@
-use Rattle.std.proofs.Common.{◌≡◌, ◌∙◌, ap, Some, None, sym}
+use Rattle.std.proofs.Common.{◌≡◌, ◌∙◌, ap, Some, sym}
 use Rattle.vocab.specs.Size.{Extent}
 use Rattle.verdicts.specs.Texts.{words_of, read_literal}
 use Rattle.report_lines.specs.Rest.{words_after}

@@ -1,5 +1,4 @@
-use Rattle.std.proofs.Common.{Some, ◌≢◌, ◌∙◌, length, arith, sym, ap, ◌∷◌, []}
-use Rattle.meaning.specs.Texts.{letter}
+use Rattle.std.proofs.Common.{Some, ◌∙◌, arith, ap, ◌∷◌, []}
 use Rattle.report_lines.proofs.ValueLemmas.{one_byte, alternative_none_of, alternative_long, alternative_found}
 use Rattle.report_lines.proofs.values.read_alternative.Goals as goal
 

@@ -1,5 +1,5 @@
 use Rattle.vocab.specs.Size.{Extent}
-use Rattle.std.proofs.Common.{◌≤◌, ◌≢◌, ◌∙◌, inl, inr, arith, sym, ap, Some}
+use Rattle.std.proofs.Common.{◌∙◌, inl, inr, arith, sym, ap}
 use Rattle.report_lines.proofs.ValueLemmas.{voter_none, voter_out, voter_found}
 use Rattle.report_lines.proofs.values.read_voter.Goals as goal
 
