@@ -62,12 +62,19 @@ in_below places n m e same = ap (list_all (λ k. nat_lt k m)) (e ∙ ap below sa
 pub in_rest : (s : ℕ → Bool) (core places : List ℕ) (k : ℕ) → places ≡ filter (λ c. not (c == k)) core → list_all s core ≡ true → list_all s places ≡ true
 in_rest s core places k e h = ap (list_all s) e ∙ all_filter s (λ c. not (c == k)) core h
 
+pub rest_is : (places rest from core : List ℕ) (k : ℕ) → places ≡ rest → rest ≡ filter (λ c. not (c == k)) from → from ≡ core → places ≡ filter (λ c. not (c == k)) core
+rest_is places rest from core k e f g = e ∙ f ∙ ap (filter (λ c. not (c == k))) g
+
 -- ---- places of the grammar
 
 -- a place that is held as that of a witness's row is one
 pub is_witness_row : (p : Place) → place.AtWitnessRow ≡ held_place p → p ≡ AtWitnessRow
 is_witness_row AtWitnessRow e = refl
 is_witness_row p e = absurd (cc)
+
+-- a table that is refused is not taken
+pub refused : (A : Type 0) (word : Refusal) → Some word ≡ None → A
+refused A word e = absurd (cc)
 
 module _ (study : Question) where
   -- a row more changes nothing of what is asked of the table
@@ -109,8 +116,7 @@ module _ (study : Question) where
   part_taken r s p o rows h same e more =
       let next : length (s.rows ++ o ∷ []) ≡ length s.rows + 1 = length-append s.rows (o ∷ []) in
       let not_last : (length s.rows + 1 == sort_count study.size Profile) ≡ false = ne_eqb _ _ (λ l. more (longer r s o rows h e ∙ l)) in
-      let not_whole : (length (s.rows ++ o ∷ []) == sort_count study.size Profile) ≡ false = ap (λ n. n == sort_count study.size Profile) next ∙ not_last in
-      (
+      let not_whole : (length (s.rows ++ o ∷ []) == sort_count study.size Profile) ≡ false = ap (λ n. n == sort_count study.size Profile) next ∙ not_last in (
         sym (row_faults s p o false (same ∙ ap length h.rows) not_last),
         λ _. subst (Stands study (record r { rows = rows })) (sym (waits s.place (record s { rows = s.rows ++ o ∷ [] }) not_whole)) (with_row r s o rows h e),
       )
@@ -121,8 +127,7 @@ module _ (study : Question) where
   whole_taken r after s p o rows (Err w) h same e whole table = tt
   whole_taken r after s p o rows (Ok fault) h same e whole table =
       let last : (length s.rows + 1 == sort_count study.size Profile) ≡ true = eq-eqb _ _ (sym (longer r s o rows h e) ∙ whole) in
-      let told = table (record s { rows = s.rows ++ o ∷ [] }) (with_row r s o rows h e) in
-      (
+      let told = table (record s { rows = s.rows ++ o ∷ [] }) (with_row r s o rows h e) in (
         told.0 ∙ ap (table_fault study (s.rows ++ o ∷ [])) (asked_same s.place s (s.rows ++ o ∷ [])) ∙ sym (row_faults s p o true (same ∙ ap length h.rows) last),
         told.1,
       )

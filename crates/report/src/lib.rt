@@ -22,12 +22,11 @@ mod witness_lines;
 
 pub use checker::Checker;
 pub use faults::ReportFault;
-pub use report_lines::Confirmed;
-
 use head::cut_head;
 use lists::NoMemory;
 use outcomes::OutcomeKind;
 use profiles::Space;
+pub use report_lines::Confirmed;
 use std::alloc::Global;
 use table::{cut_verdict, read_table};
 use vocab::{Study, Table};

@@ -42,7 +42,11 @@ fn all_places(alloc: Global, count: usize) -> Result<Vec<u32>, NoMemory>
 fn without(alloc: Global, core: &[u32], left_out: u32) -> Result<Vec<u32>, NoMemory>
     ensures { IfOk result (λ rest. rest.items ≡ filter (λ c. not (c == left_out)) core.now) }
 {
-    let rest = core.iter().copied().filter(|c| *c != left_out).collect(alloc)?;
+    let rest = core
+        .iter()
+        .copied()
+        .filter(|c| *c != left_out)
+        .collect(alloc)?;
     Ok(rest)
 }
 
