@@ -5,3 +5,5 @@ pub mod TableLaws
 pub mod TableLineLemmas
 pub mod TakingLemmas
 pub mod CheckerLemmas
+pub mod WitnessLineLemmas
+pub mod StoryLineLemmas

@@ -1,22 +1,41 @@
 //! Takes the lines of lemmas.
 
-ghost use Rattle.std.specs.Prelude.{◌≡◌, ◌+◌, IsTrue, Some};
+ghost use Rattle.std.specs.Prelude.{◌≡◌, ◌+◌, ◌∷◌, ◌++◌, [], IsTrue, OnOk};
 ghost use Rattle.meaning.specs.Literals.{is_literal};
 ghost use Rattle.meaning.specs.declared.stories.Reason.{Reason as StoryReason};
+ghost use Rattle.vocab.specs.Study.{Question};
+ghost use Rattle.verdicts.specs.Faults.{refusal_of, is_last_lemma};
+ghost use Rattle.verdicts.specs.Judge.{after_lemma};
 ghost use Rattle.verdicts.specs.Lines.{Suppose, So, Clash};
 ghost use Rattle.verdicts.specs.Places.{Standing, AtStep, AtSuppose};
-ghost use Rattle.verdicts.specs.Report.{is_reason};
 ghost use Rattle.report_lines.specs.Held.{held_reason};
 ghost use Rattle.report.specs.Held.{Stands, IsRead};
 ghost use Rattle.report.specs.Taken.{Takes, IsInStory};
 
 use crate::readings::Reading;
 use crate::subject::Subject;
-use lists::NoMemory;
-use meaning::Reason;
+use lists::{Items, NoMemory};
+use meaning::{Lemma, Reason, StoryFault, StoryStep};
 use outcomes::OutcomeKind;
+use report_lines::Place;
+use std::alloc::Global;
+use std::mem::replace;
+use story::{refutes, suppose, take_step};
 use verdicts::Refusal;
 use vocab::Literal;
+
+/// The refusal of a line of a story.
+fn refusal_of(fault: StoryFault) -> Refusal
+    ensures { result ≡ refusal_of fault }
+{
+    match fault {
+        StoryFault::NotInCore => Refusal::NotInCore,
+        StoryFault::Later => Refusal::Later,
+        StoryFault::NotForced => Refusal::NotForced,
+        StoryFault::Known => Refusal::Known,
+        StoryFault::Supposes => Refusal::Supposes,
+    }
+}
 
 impl Reading {
     /// Takes a line that supposes a literal.
@@ -31,8 +50,13 @@ impl Reading {
         ensures { (s : Standing) → Stands subject.now.study.now self.old s → s.place ≡ AtSuppose →
             Takes subject.now.study.now s (Suppose literal.now) self.new result }
     {
-        let _ = (subject, literal);
-        Err(NoMemory)
+        let final_one = self.is_last_lemma();
+        match suppose(final_one, &mut self.board, literal) {
+            Ok(()) => {}
+            Err(fault) => return Ok(Some(refusal_of(fault))),
+        }
+        self.suppose.push(*literal)?;
+        Ok(None)
     }
 
     /// Takes a line with a literal that is forced, and why.
@@ -48,8 +72,24 @@ impl Reading {
         ensures { (s : Standing) (wanted : StoryReason) → Stands subject.now.study.now self.old s → IsInStory s.place →
             reason.now ≡ held_reason wanted → Takes subject.now.study.now s (So literal.now wanted) self.new result }
     {
-        let _ = (subject, literal, reason);
-        Err(NoMemory)
+        let step = StoryStep {
+            literal: *literal,
+            reason: *reason,
+        };
+        let earlier = self.earlier.as_slice();
+        match take_step(
+            subject.kind,
+            subject.study,
+            &self.core,
+            earlier,
+            &mut self.board,
+            &step,
+        ) {
+            Ok(()) => {}
+            Err(fault) => return Ok(Some(refusal_of(fault))),
+        }
+        self.place = Place::AtStep;
+        Ok(None)
     }
 
     /// Takes the last line of a lemma, with the reason why what is known cannot be.
@@ -63,7 +103,59 @@ impl Reading {
         ensures { (s : Standing) (wanted : StoryReason) → Stands subject.now.study.now self.old s → IsInStory s.place →
             reason.now ≡ held_reason wanted → Takes subject.now.study.now s (Clash wanted) self.new result }
     {
-        let _ = (subject, reason);
-        Err(NoMemory)
+        let earlier = self.earlier.as_slice();
+        match refutes(
+            subject.kind,
+            subject.study,
+            &self.core,
+            earlier,
+            &self.board,
+            reason,
+        ) {
+            Ok(()) => {}
+            Err(fault) => return Ok(Some(refusal_of(fault))),
+        }
+        self.end_lemma(subject.alloc, *reason)?;
+        self.after_lemma();
+        Ok(None)
+    }
+
+    /// Whether the present lemma is the last.
+    fn is_last_lemma(&self) -> bool
+        ensures { (s : Standing) (study : Question) → Stands study self.now s → result ≡ is_last_lemma s }
+    {
+        self.earlier.as_slice().len() as u64 + 1 == self.count
+    }
+
+    /// Puts the present lemma to the earlier ones, and forgets what it knew. Where no reason could have its number, none is
+    /// put there, as where memory is wanting.
+    fn end_lemma(&mut self, alloc: Global, last: Reason) -> Result<(), NoMemory>
+        ensures { (s : Standing) (study : Question) (wanted : StoryReason) → Stands study self.old s →
+            OnOk result (Stands study self.new (record s {
+                earlier = s.earlier ++ record { suppose = s.suppose; steps = s.steps; last = wanted } ∷ []; suppose = []; steps = [] })) }
+    {
+        if self.earlier.len() >= u32::MAX as usize {
+            return Err(NoMemory);
+        }
+        let suppose = replace(&mut self.suppose, Items::new(alloc));
+        let steps = Items::new(alloc);
+        self.earlier.push(Lemma {
+            suppose,
+            steps,
+            last,
+        })?;
+        self.board.clear();
+        Ok(())
+    }
+
+    /// Goes to the place after a lemma: another one, or what comes after the story.
+    fn after_lemma(&mut self)
+        ensures { (s : Standing) (study : Question) → Stands study self.old s → Stands study self.new (after_lemma s) }
+    {
+        if self.earlier.len() as u64 == self.count {
+            self.after_witness();
+        } else {
+            self.place = Place::AtLemma;
+        }
     }
 }

@@ -44,7 +44,7 @@ module _ (study : Question) where
   abbrev pub supposed : List Lemma → List (List Literal)
   supposed ls = map (λ l. l.suppose) ls
 
-  lengths_same : (es bs : List Lemma) → supposed es ≡ supposed bs → length es ≡ length bs
+  pub lengths_same : (es bs : List Lemma) → supposed es ≡ supposed bs → length es ≡ length bs
   lengths_same [] [] e = refl
   lengths_same [] (b ∷ bs) e = absurd (cc)
   lengths_same (a ∷ es) [] e = absurd (cc)
