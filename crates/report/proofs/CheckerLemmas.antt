@@ -1,5 +1,5 @@
 -- One more line.
-use Rattle.std.proofs.Common.{◌≡◌, ◌≢◌, refl, sym, ap, ◌∙◌, subst, ℕ, ◌+◌, ◌⊎◌, inl, inr, List, [], ◌∷◌, ◌++◌, map, length, Option, Some, None, option_map, arith, length-append}
+use Rattle.std.proofs.Common.{◌≡◌, ◌≢◌, refl, sym, subst, ℕ, ◌+◌, ◌⊎◌, inl, inr, List, [], ◌∷◌, ◌++◌, length, Option, Some, None, option_map, arith, length-append}
 use Rattle.vocab.specs.Study.{Question}
 use Rattle.meaning.specs.declared.stories.Lemma.{Lemma}
 use Rattle.verdicts.specs.declared.refusals.Refusal.{Refusal}
@@ -14,8 +14,8 @@ use Rattle.report_lines.specs.Held.{held_line}
 use Rattle.report.specs.declared.faults.ReportFault.{ReportFault}
 use Rattle.report.specs.declared.faults.ReportFault.TheVariants.{Line as AtLine, NoMemory}
 use Rattle.report.specs.declared.readings.Reading.{Reading}
-use Rattle.report.specs.Held.{supposed, Stands, IsRead, StandsAs, StandsFor, IsReady}
-use Rattle.report.specs.Taken.{Took, IsLine}
+use Rattle.report.specs.Held.{supposed, Stands, StandsAs, StandsFor, IsReady}
+use Rattle.report.specs.Taken.{Took}
 
 -- ---- one line
 
@@ -85,15 +85,6 @@ module _ (study : Question) where
       by_told (Good s) k = go s k.1
       by_told (Refused line word) k = let wrong : None ≡ Some (AtLine line word) = k in absurd (cc)
 
-  -- a checker without a fault has read its lines
-  pub read_of : (n : ℕ) (r : Reading) → IsReady study n None r → IsRead study r
-  read_of n r (inl e) = absurd (cc)
-  read_of n r (inr (lines, h)) = by_told (judge study lines) refl h.1
-    where
-      by_told : (told : Told) → judge study lines ≡ told → StandsAs study None r told → IsRead study r
-      by_told (Good s) e k = record { lines = lines; standing = s; good = e; stands = k.1 }
-      by_told (Refused line word) e k = let wrong : None ≡ Some (AtLine line word) = k in absurd (cc)
-
   -- a checker with a fault stays ready
   pub still_ready : (n : ℕ) (fault : ReportFault) (r : Reading) (text : List ℕ) → IsReady study n (Some fault) r → IsReady study (n + 1) (Some fault) r
   still_ready n fault r text (inl e) = inl e
@@ -109,9 +100,6 @@ module _ (study : Question) where
   ]
 
   -- ---- at what a checker holds
-
-  pub read_at : (n : ℕ) (o : Option ReportFault) (r : Reading) → o ≡ None → IsReady study n o r → IsRead study r
-  read_at n o r e h = read_of n r (subst (λ x. IsReady study n x r) e h)
 
   pub still_ready_at : (n : ℕ) (o : Option ReportFault) (fault : ReportFault) (r : Reading) (text : List ℕ) → o ≡ Some fault → IsReady study n o r → IsReady study (n + 1) o r
   still_ready_at n o fault r text e h = subst (λ x. IsReady study (n + 1) x r) (sym e) (still_ready n fault r text (subst (λ x. IsReady study n x r) e h))

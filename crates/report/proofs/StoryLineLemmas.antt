@@ -1,5 +1,5 @@
 -- What a reading stands for in lemmas.
-use Rattle.std.proofs.Common.{◌≡◌, refl, sym, ap, ap₂, ◌∙◌, subst, ℕ, ◌+◌, ◌<◌, ◌≤◌, inl, inr, Bool, true, false, not, ◌&&◌, List, [], ◌∷◌, ◌++◌, map, length, Option, Some, None, option_map, arith, append_assoc, append-nil, length-append, cond, min, ltb-true}
+use Rattle.std.proofs.Common.{◌≡◌, refl, sym, ap, ap₂, ◌∙◌, subst, ℕ, ◌+◌, ◌<◌, ◌≤◌, inl, inr, Bool, true, false, not, List, [], ◌∷◌, ◌++◌, map, length, Option, Some, None, option_map, arith, append_assoc, append-nil, length-append, cond, min, ltb-true}
 use Rattle.std.specs.Prelude.{slice_get, nat_lt, ◌==◌, ◌^◌, ◌-◌}
 use Rattle.std.specs.Option.{option_or}
 use Rattle.std.specs.List.{list_all}
@@ -21,8 +21,8 @@ use Rattle.meaning.specs.Literals.{is_literal}
 use Rattle.meaning.specs.Stories.{is_claim_false, has_literals}
 use Rattle.meaning.specs.StoryFaults.{unless, literal_fault, reason_fault}
 use Rattle.verdicts.specs.declared.refusals.Refusal.{Refusal}
-use Rattle.verdicts.specs.Lines.{Line, Suppose, So, Clash}
-use Rattle.verdicts.specs.Places.{Place, AtSuppose, AtStep, AtLemma, Standing}
+use Rattle.verdicts.specs.Lines.{Suppose, So, Clash}
+use Rattle.verdicts.specs.Places.{Place, AtSuppose, AtLemma, Standing}
 use Rattle.verdicts.specs.Faults.{refusal_of, known_of, is_last_lemma, cite_fault, fault_of}
 use Rattle.verdicts.specs.Judge.{after_witness, after_lemma, advance}
 use Rattle.verdicts.proofs.JudgeLaws.{good_holds}
@@ -30,7 +30,6 @@ use Rattle.verdicts.proofs.PrefixLaws.{all_snoc}
 use Rattle.verdicts.proofs.RangeLaws.{are_supposed, good_in_range}
 use Rattle.verdicts.proofs.SoundLaws.{Holds}
 use Rattle.verdicts.proofs.StepLaws.{reasons_same, lengths_same}
-use Rattle.report_lines.specs.declared.places.Place.{Place as HeldPlace}
 use Rattle.report_lines.specs.declared.places.Place.TheVariants as place
 use Rattle.report_lines.specs.Held.{held_place, held_number, held_reason}
 use Rattle.story.specs.Lines.{supposition_fault, step_fault}

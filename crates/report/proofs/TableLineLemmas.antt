@@ -17,7 +17,7 @@ use Rattle.verdicts.specs.declared.refusals.Refusal.{Refusal}
 use Rattle.verdicts.specs.declared.refusals.Refusal.TheVariants.{Row}
 use Rattle.verdicts.specs.declared.verdicts.Verdict.TheVariants.{Possible}
 use Rattle.verdicts.specs.Lines.{Row as RowLine}
-use Rattle.verdicts.specs.Places.{Place, AtTitle, AtKind, AtVoters, AtAlternatives, AtAxioms, AtVerdict, AtLimit, AtRule, AtRow, AtCore, AtLemmas, AtLemma, AtSuppose, AtStep, AtWitness, AtWitnessRow, AtEnd, AtNothing, Standing}
+use Rattle.verdicts.specs.Places.{Place, AtWitnessRow, AtEnd, Standing}
 use Rattle.verdicts.specs.Faults.{unless_so, next_after, next_core, rest_of, table_fault, asked_at, row_fault}
 use Rattle.verdicts.specs.Judge.{after_witness, after_row}
 use Rattle.report_lines.specs.declared.places.Place.TheVariants as place

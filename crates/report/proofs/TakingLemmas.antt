@@ -1,5 +1,5 @@
 -- What a line that is read says, and what it finds held.
-use Rattle.std.proofs.Common.{◌≡◌, refl, sym, ap, ◌∙◌, subst, ℕ, ◌+◌, ◌<◌, Bool, true, List, [], ◌∷◌, map, length, drop, Option, Some, None, Result, arith, option_map}
+use Rattle.std.proofs.Common.{◌≡◌, refl, sym, ap, ◌∙◌, subst, ℕ, ◌+◌, ◌<◌, true, List, [], ◌∷◌, map, length, drop, Option, Some, Result, arith, option_map}
 use Rattle.std.specs.Prelude.{nat_lt, codes}
 use Rattle.std.specs.List.{list_all}
 use Rattle.std.specs.Str.{bytes_eq}
@@ -17,8 +17,8 @@ use Rattle.verdicts.specs.declared.refusals.Refusal.{Refusal}
 use Rattle.verdicts.specs.Texts.{words_of}
 use Rattle.verdicts.specs.Reading.{names}
 use Rattle.verdicts.specs.Lines.{Line, Title, KindIs, VotersAre, AlternativesAre, AxiomsAre, SaysPossible, SaysImpossible, SaysUndecided, LimitIs, RuleOf, Row, CoreIs, LemmasAre, Heading, Suppose, So, Clash, WithRule, WithOpen, End}
-use Rattle.verdicts.specs.Places.{Place, AtTitle, AtKind, AtVoters, AtAlternatives, AtAxioms, AtVerdict, AtLimit, AtRule, AtRow, AtCore, AtLemmas, AtLemma, AtSuppose, AtStep, AtWitness, AtWitnessRow, AtEnd, AtNothing, Standing, wanted}
-use Rattle.verdicts.specs.Faults.{places_of, is_core, next_after, next_core}
+use Rattle.verdicts.specs.Places.{Place, AtRow, AtCore, AtSuppose, AtStep, AtWitness, AtWitnessRow, Standing, wanted}
+use Rattle.verdicts.specs.Faults.{places_of, is_core, next_after}
 use Rattle.verdicts.specs.Judge.{read_line}
 use Rattle.verdicts.proofs.LineLaws.{map_is, keyed_is, test_is}
 use Rattle.verdicts.proofs.FitLaws.{Fits, wanted_fits}

@@ -132,7 +132,10 @@ impl Reading {
     fn end_lemma(&mut self, alloc: Global, last: Reason) -> Result<(), NoMemory>
         ensures { (s : Standing) (study : Question) (wanted : StoryReason) → Stands study self.old s →
             OnOk result (Stands study self.new (record s {
-                earlier = s.earlier ++ record { suppose = s.suppose; steps = s.steps; last = wanted } ∷ []; suppose = []; steps = [] })) }
+              earlier = s.earlier ++ record { suppose = s.suppose; steps = s.steps; last = wanted } ∷ [];
+              suppose = [];
+              steps = [];
+            })) }
     {
         if self.earlier.len() >= u32::MAX as usize {
             return Err(NoMemory);

@@ -1,4 +1,4 @@
-use Rattle.std.proofs.Common.{◌≡◌, sym, ◌∙◌}
+use Rattle.std.proofs.Common.{sym, ◌∙◌}
 use Rattle.report.proofs.StoryLineLemmas.{all_told}
 use Rattle.report.proofs.readings.Reading.after_lemma.Goals as goal
 

@@ -1,4 +1,4 @@
-use Rattle.std.proofs.Common.{◌≡◌, sym, ◌∙◌}
+use Rattle.std.proofs.Common.{sym, ◌∙◌}
 use Rattle.report.proofs.WitnessLineLemmas.{to_witness, to_end}
 use Rattle.report.proofs.readings.Reading.after_witness.Goals as goal
 

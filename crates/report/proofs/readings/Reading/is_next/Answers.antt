@@ -1,10 +1,9 @@
-use Rattle.std.proofs.Common.{◌≡◌, sym, ap, ap₂, ◌∙◌, ltb-true, ℕ, List, Some, None, length, arith}
+use Rattle.std.proofs.Common.{sym, ap, ◌∙◌, ltb-true, List, length, arith}
 use Rattle.std.specs.Prelude.{slice_get}
 use Rattle.std.proofs.lemmas.Option.{slice_get_within}
 use Rattle.vocab.specs.Titled.{Titled}
-use Rattle.verdicts.specs.Faults.{next_core, name_fault, unless_so}
-use Rattle.verdicts.specs.declared.refusals.Refusal.TheVariants.{Core}
-use Rattle.report.proofs.WitnessLineLemmas.{next_is, next_there_now, place_in_range, few_places, name_same}
+use Rattle.verdicts.specs.Faults.{name_fault}
+use Rattle.report.proofs.WitnessLineLemmas.{next_there_now, place_in_range, few_places, name_same}
 use Rattle.report.proofs.readings.Reading.is_next.Goals as goal
 
 pub get-axiom-requires : goal.get-axiom-requires

@@ -1,4 +1,4 @@
-use Rattle.std.proofs.Common.{◌≡◌, sym, ◌∙◌, arith}
+use Rattle.std.proofs.Common.{sym, ◌∙◌, arith}
 use Rattle.std.proofs.lemmas.Option.{slice_get_past}
 use Rattle.report.proofs.WitnessLineLemmas.{next_is}
 use Rattle.report.proofs.readings.Reading.next_core.Goals as goal

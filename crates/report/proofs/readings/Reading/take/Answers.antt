@@ -1,4 +1,4 @@
-use Rattle.std.proofs.Common.{ap, ◌∙◌, Ok}
+use Rattle.std.proofs.Common.{Ok}
 use Rattle.verdicts.specs.Lines.{Title, VotersAre, AlternativesAre, AxiomsAre, SaysPossible, SaysImpossible, SaysUndecided, LimitIs, RuleOf, CoreIs, LemmasAre, Heading, Suppose, So, Clash, WithRule, WithOpen, End}
 use Rattle.report_lines.specs.declared.lines.Line.TheVariants as held
 use Rattle.report.proofs.TakingLemmas.{said_of, taken_as, at_suppose, at_so, at_clash, at_rule, at_open, core_names, holds_rows, suppose_in, so_in}

@@ -1,4 +1,4 @@
-use Rattle.std.proofs.Common.{◌≡◌, sym}
+use Rattle.std.proofs.Common.{sym}
 use Rattle.std.proofs.lemmas.Option.{none-some}
 use Rattle.vocab.specs.Size.{Extent}
 use Rattle.meaning.specs.StoryFaults.{reason_fault}

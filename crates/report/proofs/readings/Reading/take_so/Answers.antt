@@ -1,9 +1,6 @@
-use Rattle.std.proofs.Common.{◌≡◌, sym, subst, List, true}
-use Rattle.std.specs.List.{list_all}
+use Rattle.std.proofs.Common.{sym}
 use Rattle.std.proofs.lemmas.Option.{none-some}
 use Rattle.vocab.specs.Size.{Extent}
-use Rattle.meaning.specs.declared.stories.Lemma.{Lemma}
-use Rattle.meaning.specs.Stories.{has_literals}
 use Rattle.verdicts.specs.Faults.{fault_of}
 use Rattle.verdicts.specs.Lines.{So}
 use Rattle.story.specs.Lines.{step_fault}

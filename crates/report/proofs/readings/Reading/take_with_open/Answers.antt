@@ -1,4 +1,4 @@
-use Rattle.std.proofs.Common.{◌≡◌, sym, ap, ◌∙◌, ◌++◌, ◌∷◌, [], arith}
+use Rattle.std.proofs.Common.{sym, ap, ◌∙◌, ◌++◌, ◌∷◌, [], arith}
 use Rattle.std.specs.Prelude.{◌==◌}
 use Rattle.meaning.specs.declared.cores.Witness.TheVariants.{Open}
 use Rattle.verdicts.specs.declared.refusals.Refusal.TheVariants.{Core, OpenMark}
