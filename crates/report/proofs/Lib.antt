@@ -2,5 +2,8 @@ pub mod PieceLemmas
 pub mod ReaderLemmas
 pub mod FileLemmas
 pub mod WorthLemmas
+pub mod TableLineLemmas
+pub mod TakingLemmas
+pub mod CheckerLemmas
 pub mod WitnessLineLemmas
 pub mod StoryLineLemmas

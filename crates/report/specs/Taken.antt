@@ -1,12 +1,14 @@
 -- What it is to take a line that is read.
-use Rattle.std.specs.Prelude.{◌≡◌, Option, None, Result, IfOk}
+use Rattle.std.specs.Prelude.{◌≡◌, ℕ, List, Option, None, Some, Result, IfOk}
 use Rattle.lists.specs.declared.memory.NoMemory.{NoMemory}
 use Rattle.vocab.specs.Study.{Question}
 use Rattle.verdicts.specs.declared.refusals.Refusal.{Refusal}
 use Rattle.verdicts.specs.Lines.{Line}
 use Rattle.verdicts.specs.Places.{Place, Standing, AtSuppose, AtStep}
-use Rattle.verdicts.specs.Faults.{fault_of}
-use Rattle.verdicts.specs.Judge.{advance}
+use Rattle.verdicts.specs.Faults.{table_fault, asked_at, fault_of}
+use Rattle.verdicts.specs.Judge.{after_row, advance, read_line}
+use Rattle.report_lines.specs.declared.lines.Line.{Line as HeldLine}
+use Rattle.report_lines.specs.Held.{held_line}
 use Rattle.report.specs.declared.readings.Reading.{Reading}
 use Rattle.report.specs.Held.{Stands}
 
@@ -23,3 +25,12 @@ abbrev pub IsInStory : Place → Type 0
 IsInStory AtSuppose = Unit {0}
 IsInStory AtStep = Unit {0}
 IsInStory _ = ⊥
+
+-- the same of a table whose last row is read
+abbrev pub TakesTable : Question → Standing → Reading → Result (Option Refusal) NoMemory → Type 0
+TakesTable study s r result =
+    IfOk result (λ fault. (fault ≡ table_fault study s.rows (asked_at study s.place s)) × (fault ≡ None → Stands study r (after_row study s.place s)))
+
+-- a line of this text is what the grammar wants of a standing
+abbrev pub IsLine : Question → Standing → List ℕ → HeldLine → Type 0
+IsLine study s text line = (wanted : Line) × (read_line study s text ≡ Some wanted) × (line ≡ held_line study wanted)

@@ -1,7 +1,9 @@
 //! Checks a report line by line.
 
 ghost use Rattle.std.specs.Prelude.{◌≡◌, ◌≢◌, ◌+◌, ◌≤◌, ◌<◌, List, ℕ, [], ◌∷◌, ◌++◌, length, Some, Err, IfOk};
-ghost use Rattle.verdicts.specs.Judge.{judge, conclude};
+ghost use Rattle.verdicts.specs.Judge.{judge, conclude, at_end};
+ghost use Rattle.verdicts.specs.Places.{Place as WantedPlace};
+ghost use Rattle.report_lines.specs.Held.{held_place};
 ghost use Rattle.report.specs.Answers.{told_of, Concludes};
 ghost use Rattle.report.specs.Held.{StandsFor, IsReady};
 
@@ -11,10 +13,25 @@ use crate::subject::Subject;
 use edge::Gate;
 use lists::NoMemory;
 use outcomes::OutcomeKind;
-use report_lines::Confirmed;
+use report_lines::{Confirmed, Place};
 use std::alloc::Global;
 use std::thread::Threads;
+use verdicts::Refusal;
 use vocab::Study;
+
+/// What is answered where no line is faulty, of a place and of what follows the last line end, with the number of the line
+/// that it would be.
+fn end_of(place: Place, rest: &[u8], line: u32) -> Result<Confirmed, ReportFault>
+    ensures { (p : WantedPlace) → place ≡ held_place p → Concludes (at_end line rest.now p) result }
+{
+    match place {
+        Place::AtNothing(claim) if rest.is_empty() => Ok(claim),
+        _ => Err(ReportFault::Line {
+            line,
+            refusal: Refusal::Form,
+        }),
+    }
+}
 
 /// Checks a report line by line. It stands for the lines that it was given; after its first fault it answers that fault to
 /// every call.
@@ -79,12 +96,26 @@ impl<'a, K: OutcomeKind> Checker<'a, K> {
             self.new.fault ≢ Some ReportFault.NoMemory →
             StandsFor self.old.subject.study.now self.new.lines self.new.fault self.new.reading (lines ++ text.now ∷ []) }
     {
-        let _ = rt;
-        let _ = gate;
-        let _ = text;
         self.lines += 1;
-        self.fault = Some(ReportFault::NoMemory);
-        Err(ReportFault::NoMemory)
+        match self.fault {
+            Some(fault) => Err(fault),
+            None => {
+                self.fault = self
+                    .reading
+                    .judge(rt, gate, &self.subject, self.lines, text);
+                self.told()
+            }
+        }
+    }
+
+    /// What is answered of the lines so far.
+    fn told(&self) -> Result<(), ReportFault>
+        ensures { result ≡ told_of self.now.fault }
+    {
+        match self.fault {
+            Some(fault) => Err(fault),
+            None => Ok(()),
+        }
     }
 
     /// What is answered of the report that has these lines, each with its line end, and then the rest.
@@ -94,8 +125,10 @@ impl<'a, K: OutcomeKind> Checker<'a, K> {
             Concludes (conclude (length lines + 1) rest.now (judge self.now.subject.study.now lines)) result }
         ensures wanting { self.now.fault ≡ Some ReportFault.NoMemory → result ≡ Err ReportFault.NoMemory }
     {
-        let _ = rest;
-        Err(ReportFault::NoMemory)
+        match self.fault {
+            Some(fault) => Err(fault),
+            None => end_of(self.reading.place, rest, self.lines + 1),
+        }
     }
 
     /// What is answered of the report that has these lines, each with its line end: Ok exactly where it is confirmed.

@@ -2,13 +2,16 @@
 #![tactic(auto)]
 
 mod checker;
+mod core_lines;
 mod cutting;
 mod faults;
 mod files;
+mod head_lines;
 mod reader;
 mod readings;
 mod story_lines;
 mod subject;
+mod table_lines;
 mod taking;
 mod witness_lines;
 

@@ -76,12 +76,12 @@ module _ (size : Extent) where
   in_literals_at Ranking (Loses x p) e = absurd (true≢false (sym e))
   in_literals_at Sets l e = absurd (true≢false (sym e))
 
-  in_literals : (l : Literal) → is_literal size l ≡ true → IsIn (literals size) l × (profile_of l < sort_count size Profile)
+  pub in_literals : (l : Literal) → is_literal size l ≡ true → IsIn (literals size) l × (profile_of l < sort_count size Profile)
   in_literals l e =
       let r = in_literals_at size.kind l e in
       (in_flat (literals_at size size.kind) (below (sort_count size Profile)) (profile_of l) l (in_below _ (profile_of l) r.1) r.0, r.1)
 
-  literal_read : IsSize size → (l : Literal) → is_literal size l ≡ true → read_literal size (literal_text size l) ≡ Some l
+  pub literal_read : IsSize size → (l : Literal) → is_literal size l ≡ true → read_literal size (literal_text size l) ≡ Some l
   literal_read is l e =
       let i = in_literals l e in
       named_text (literal_text size) (literals size) l (λ k j same. literals_same size is k l (in_literals k (literal_in size k j)).1 i.1 same) i.0

@@ -1,0 +1,116 @@
+-- One more line.
+use Rattle.std.proofs.Common.{◌≡◌, ◌≢◌, refl, sym, subst, ℕ, ◌+◌, ◌⊎◌, inl, inr, List, [], ◌∷◌, ◌++◌, length, Option, Some, None, option_map, arith, length-append}
+use Rattle.vocab.specs.Study.{Question}
+use Rattle.meaning.specs.declared.stories.Lemma.{Lemma}
+use Rattle.verdicts.specs.declared.refusals.Refusal.{Refusal}
+use Rattle.verdicts.specs.declared.refusals.Refusal.TheVariants.{Form}
+use Rattle.verdicts.specs.Lines.{Line}
+use Rattle.verdicts.specs.Places.{Standing, start}
+use Rattle.verdicts.specs.Faults.{fault_of}
+use Rattle.verdicts.specs.Judge.{advance, read_line, Told, Good, Refused, settle_at, settle, judge}
+use Rattle.verdicts.proofs.StepLaws.{told_more, judge_snoc}
+use Rattle.report_lines.specs.declared.lines.Line.{Line as HeldLine}
+use Rattle.report_lines.specs.Held.{held_line}
+use Rattle.report.specs.declared.faults.ReportFault.{ReportFault}
+use Rattle.report.specs.declared.faults.ReportFault.TheVariants.{Line as AtLine, NoMemory}
+use Rattle.report.specs.declared.readings.Reading.{Reading}
+use Rattle.report.specs.Held.{supposed, Stands, StandsAs, StandsFor, IsReady}
+use Rattle.report.specs.Taken.{Took}
+
+-- ---- one line
+
+same_length : (es bs : List Lemma) → supposed es ≡ supposed bs → length es ≡ length bs
+same_length [] [] e = refl
+same_length [] (b ∷ bs) e = absurd (cc)
+same_length (a ∷ es) [] e = absurd (cc)
+same_length (a ∷ es) (b ∷ bs) e = let t : supposed es ≡ supposed bs = cc in let rest = same_length es bs t in omega (arith, rest)
+
+-- memory was wanting, or was not
+is_wanting : (fault : Option ReportFault) → (fault ≡ Some NoMemory) ⊎ (fault ≢ Some NoMemory)
+is_wanting None = inr (λ e. absurd (cc))
+is_wanting (Some NoMemory) = inl refl
+is_wanting (Some (AtLine line word)) = inr (λ e. absurd (cc))
+
+module _ (study : Question) where
+  -- the number of the lemma that comes next
+  pub next_number : (r : Reading) (s : Standing) (n k : ℕ) → Stands study r s → n ≡ k + 1 → k ≡ length r.earlier → n ≡ length s.earlier + 1
+  next_number r s n k h e f = let same = same_length r.earlier s.earlier h.earlier in omega (arith, e, f, same)
+
+  -- what is held of a line is what the grammar wants
+  pub line_of : (o : Option Line) (line : HeldLine) → Some line ≡ option_map (held_line study) o → (w : Line) × (o ≡ Some w) × (line ≡ held_line study w)
+  line_of None line e = absurd (cc)
+  line_of (Some w) line e = let same : line ≡ held_line study w = cc in (w, refl, same)
+
+  none_of : (o : Option Line) → None ≡ option_map (held_line study) o → o ≡ None
+  none_of None e = refl
+  none_of (Some w) e = absurd (cc)
+
+  -- a line that is not wanted
+  pub unread : (n : ℕ) (s : Standing) (text : List ℕ) (r : Reading) → None ≡ option_map (held_line study) (read_line study s text) → StandsAs study (Some (AtLine n Form)) r (settle study n s (read_line study s text) Good)
+  unread n s text r e = subst (λ o. StandsAs study (Some (AtLine n Form)) r (settle study n s o Good)) (sym (none_of (read_line study s text) e)) refl
+
+  -- a line that is taken
+  pub taken : (n : ℕ) (s : Standing) (text : List ℕ) (w : Line) (r : Reading) (fault : Option Refusal) → read_line study s text ≡ Some w → Took study s w r fault → StandsAs study (option_map (AtLine n) fault) r (settle study n s (read_line study s text) Good)
+  taken n s text w r fault e h = subst (λ o. StandsAs study (option_map (AtLine n) fault) r (settle study n s o Good)) (sym e) (by_fault fault h.0 h.1)
+    where
+      by_fault : (fault : Option Refusal) → fault ≡ fault_of study s w → (fault ≡ None → Stands study r (advance study s w)) → StandsAs study (option_map (AtLine n) fault) r (settle_at study n s w (fault_of study s w) Good)
+      by_fault None f stands = subst (λ o. StandsAs study None r (settle_at study n s w o Good)) f (refl, stands refl)
+      by_fault (Some word) f stands = subst (λ o. StandsAs study (Some (AtLine n word)) r (settle_at study n s w o Good)) f refl
+
+  -- ---- after other lines
+
+  longer : (n : ℕ) (lines : List (List ℕ)) (text : List ℕ) → n ≡ length lines → n + 1 ≡ length (lines ++ text ∷ [])
+  longer n lines text e = omega (arith, e, length-append lines (text ∷ []))
+
+  told_next : (lines : List (List ℕ)) (text : List ℕ) → judge study (lines ++ text ∷ []) ≡ told_more study (1 + length lines) (judge study lines) text
+  told_next lines text = judge_snoc study 1 start lines text
+
+  -- after a faulty line nothing changes
+  pub still : (n : ℕ) (fault : ReportFault) (r : Reading) (lines : List (List ℕ)) (text : List ℕ) → StandsFor study n (Some fault) r lines → StandsFor study (n + 1) (Some fault) r (lines ++ text ∷ [])
+  still n fault r lines text h =
+      (longer n lines text h.0, subst (StandsAs study (Some fault) r) (sym (told_next lines text)) (by_told (judge study lines) h.1))
+    where
+      by_told : (told : Told) → StandsAs study (Some fault) r told → StandsAs study (Some fault) r (told_more study (1 + length lines) told text)
+      by_told (Good s) k = let wrong : Some fault ≡ None = k.0 in absurd (cc)
+      by_told (Refused line word) k = k
+
+  -- the next line after lines without a fault
+  pub step : (n : ℕ) (fault : Option ReportFault) (r after : Reading) (lines : List (List ℕ)) (text : List ℕ) → StandsFor study n None r lines →
+      ((s : Standing) → Stands study r s → StandsAs study fault after (settle study (n + 1) s (read_line study s text) Good)) → StandsFor study (n + 1) fault after (lines ++ text ∷ [])
+  step n fault r after lines text h go =
+      let number : n + 1 ≡ 1 + length lines = omega (arith, h.0) in
+      (longer n lines text h.0, subst (StandsAs study fault after) (sym (told_next lines text)) (subst (λ k. StandsAs study fault after (told_more study k (judge study lines) text)) number (by_told (judge study lines) h.1)))
+    where
+      by_told : (told : Told) → StandsAs study None r told → StandsAs study fault after (told_more study (n + 1) told text)
+      by_told (Good s) k = go s k.1
+      by_told (Refused line word) k = let wrong : None ≡ Some (AtLine line word) = k in absurd (cc)
+
+  -- a checker with a fault stays ready
+  pub still_ready : (n : ℕ) (fault : ReportFault) (r : Reading) (text : List ℕ) → IsReady study n (Some fault) r → IsReady study (n + 1) (Some fault) r
+  still_ready n fault r text (inl e) = inl e
+  still_ready n fault r text (inr (lines, h)) = inr (lines ++ text ∷ [], still n fault r lines text h)
+
+  -- the next line leaves a checker ready
+  pub step_ready : (n : ℕ) (fault : Option ReportFault) (r after : Reading) (text : List ℕ) → IsReady study n None r →
+      ((s : Standing) → Stands study r s → fault ≢ Some NoMemory → StandsAs study fault after (settle study (n + 1) s (read_line study s text) Good)) → IsReady study (n + 1) fault after
+  step_ready n fault r after text (inl e) go = absurd (cc)
+  step_ready n fault r after text (inr (lines, h)) go = elim (is_wanting fault) [
+    | inl e ↦ inl e
+    | inr other ↦ inr (lines ++ text ∷ [], step n fault r after lines text h (λ s k. go s k other))
+  ]
+
+  -- ---- at what a checker holds
+
+  pub still_ready_at : (n : ℕ) (o : Option ReportFault) (fault : ReportFault) (r : Reading) (text : List ℕ) → o ≡ Some fault → IsReady study n o r → IsReady study (n + 1) o r
+  still_ready_at n o fault r text e h = subst (λ x. IsReady study (n + 1) x r) (sym e) (still_ready n fault r text (subst (λ x. IsReady study n x r) e h))
+
+  pub still_at : (n : ℕ) (o : Option ReportFault) (fault : ReportFault) (r : Reading) (lines : List (List ℕ)) (text : List ℕ) → o ≡ Some fault → StandsFor study n o r lines → StandsFor study (n + 1) o r (lines ++ text ∷ [])
+  still_at n o fault r lines text e h = subst (λ x. StandsFor study (n + 1) x r (lines ++ text ∷ [])) (sym e) (still n fault r lines text (subst (λ x. StandsFor study n x r lines) e h))
+
+  pub step_ready_at : (n : ℕ) (o fault : Option ReportFault) (r after : Reading) (text : List ℕ) → o ≡ None → IsReady study n o r →
+      ((s : Standing) → Stands study r s → fault ≢ Some NoMemory → StandsAs study fault after (settle study (n + 1) s (read_line study s text) Good)) → IsReady study (n + 1) fault after
+  step_ready_at n o fault r after text e h go = step_ready n fault r after text (subst (λ x. IsReady study n x r) e h) go
+
+  pub step_at : (n : ℕ) (o fault : Option ReportFault) (r after : Reading) (lines : List (List ℕ)) (text : List ℕ) → o ≡ None → StandsFor study n o r lines →
+      ((s : Standing) → Stands study r s → StandsAs study fault after (settle study (n + 1) s (read_line study s text) Good)) → StandsFor study (n + 1) fault after (lines ++ text ∷ [])
+  step_at n o fault r after lines text e h go = step n fault r after lines text (subst (λ x. StandsFor study n x r lines) e h) go

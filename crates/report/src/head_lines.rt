@@ -1,0 +1,144 @@
+//! Takes the lines that say what the study and the verdict are.
+
+ghost use Rattle.std.specs.Prelude.{◌≡◌, ℕ, List, map};
+ghost use Rattle.std.specs.Str.{bytes_eq};
+ghost use Rattle.std.specs.Cmp.Lexicographic.{pointwise};
+ghost use Rattle.vocab.specs.Study.{Question};
+ghost use Rattle.verdicts.specs.Lines.{Title, KindIs, VotersAre, AlternativesAre, AxiomsAre, SaysPossible, SaysImpossible, SaysUndecided, LimitIs, RuleOf, End};
+ghost use Rattle.verdicts.specs.Places.{Place as WantedPlace, Standing};
+ghost use Rattle.verdicts.specs.Faults.{unless_so, same_kind};
+ghost use Rattle.verdicts.specs.Judge.{after_end};
+ghost use Rattle.report_lines.specs.Held.{held_number, held_place};
+ghost use Rattle.report.specs.Held.{Stands};
+ghost use Rattle.report.specs.Taken.{Took};
+
+use crate::readings::Reading;
+use crate::subject::Subject;
+use outcomes::OutcomeKind;
+use report_lines::{Confirmed, Place};
+use verdicts::Refusal;
+use vocab::{Kind, Study};
+
+/// Whether two kinds are the same.
+fn is_kind(kind: Kind, wanted: Kind) -> bool
+    ensures { result ≡ same_kind kind wanted }
+{
+    kind == wanted
+}
+
+/// The place after the last line.
+fn after_end(place: Place) -> Place
+    ensures { (p : WantedPlace) → place ≡ held_place p → result ≡ held_place (after_end p) }
+{
+    match place {
+        Place::AtEnd(claim) => Place::AtNothing(claim),
+        other => other,
+    }
+}
+
+impl Reading {
+    /// Goes to the next place, and refuses the line unless a test passes.
+    fn pass(&mut self, passes: bool, refusal: Refusal, next: Place) -> Option<Refusal>
+        ensures fault { result ≡ unless_so passes refusal }
+        ensures reading { self.new ≡ record self.old { place = next } }
+    {
+        self.place = next;
+        if passes { None } else { Some(refusal) }
+    }
+
+    /// Takes the first line.
+    pub(crate) fn take_title(&mut self) -> Option<Refusal>
+        ensures { (study : Question) (s : Standing) → Stands study self.old s → Took study s Title self.new result }
+    {
+        self.place = Place::AtKind;
+        None
+    }
+
+    /// Takes the kind of rule.
+    pub(crate) fn take_kind(&mut self, study: &Study, kind: Kind) -> Option<Refusal>
+        ensures { (s : Standing) → Stands study.now self.old s → Took study.now s (KindIs kind) self.new result }
+    {
+        let same = is_kind(kind, study.size().kind());
+        self.pass(same, Refusal::StudyDiffers, Place::AtVoters)
+    }
+
+    /// Takes the number of voters.
+    pub(crate) fn take_voters(&mut self, study: &Study, count: u64) -> Option<Refusal>
+        ensures { (s : Standing) (n : ℕ) → Stands study.now self.old s → count ≡ held_number n →
+            Took study.now s (VotersAre n) self.new result }
+    {
+        let same = count == study.size().voters() as u64;
+        self.pass(same, Refusal::StudyDiffers, Place::AtAlternatives)
+    }
+
+    /// Takes the number of alternatives.
+    pub(crate) fn take_alternatives(&mut self, study: &Study, count: u64) -> Option<Refusal>
+        ensures { (s : Standing) (n : ℕ) → Stands study.now self.old s → count ≡ held_number n →
+            Took study.now s (AlternativesAre n) self.new result }
+    {
+        let same = count == study.size().alternatives() as u64;
+        self.pass(same, Refusal::StudyDiffers, Place::AtAxioms)
+    }
+
+    /// Takes the names of the axioms, which are those of the study or not.
+    pub(crate) fn take_axioms(&mut self, same: bool) -> Option<Refusal>
+        ensures { (study : Question) (s : Standing) (names : List (List ℕ)) → Stands study self.old s →
+            same ≡ pointwise bytes_eq names (map (λ a. a.name) study.axioms) → Took study s (AxiomsAre names) self.new result }
+    {
+        self.pass(same, Refusal::StudyDiffers, Place::AtVerdict)
+    }
+
+    /// Takes the line that some rule satisfies all axioms.
+    pub(crate) fn take_possible(&mut self) -> Option<Refusal>
+        ensures { (study : Question) (s : Standing) → Stands study self.old s → Took study s SaysPossible self.new result }
+    {
+        self.place = Place::AtRule;
+        None
+    }
+
+    /// Takes the line that no rule satisfies all axioms.
+    pub(crate) fn take_impossible(&mut self) -> Option<Refusal>
+        ensures { (study : Question) (s : Standing) → Stands study self.old s → Took study s SaysImpossible self.new result }
+    {
+        self.place = Place::AtCore;
+        None
+    }
+
+    /// Refuses the line that nothing is claimed.
+    pub(crate) fn take_undecided(&mut self) -> Option<Refusal>
+        ensures { (study : Question) (s : Standing) → Stands study self.old s → Took study s SaysUndecided self.new result }
+    {
+        self.pass(false, Refusal::Undecided, Place::AtLimit)
+    }
+
+    /// Takes the limit of a search that found nothing. The line before it is refused, so that no verdict rests on the claim
+    /// that the place has.
+    pub(crate) fn take_limit(&mut self) -> Option<Refusal>
+        ensures { (study : Question) (s : Standing) (n : ℕ) → Stands study self.old s → Took study s (LimitIs n) self.new result }
+    {
+        self.place = Place::AtEnd(Confirmed::Impossible);
+        None
+    }
+
+    /// Takes the number of rows of a rule.
+    pub(crate) fn take_rule_of<K: OutcomeKind>(
+        &mut self,
+        subject: &Subject<K>,
+        count: u64,
+    ) -> Option<Refusal>
+        requires size { subject.now.study.now.size ≡ K.size subject.now.kind.now }
+        ensures { (s : Standing) (n : ℕ) → Stands subject.now.study.now self.old s → count ≡ held_number n →
+            Took subject.now.study.now s (RuleOf n) self.new result }
+    {
+        let same = count == subject.kind.space().count() as u64;
+        self.pass(same, Refusal::Row, Place::AtRow)
+    }
+
+    /// Takes the last line.
+    pub(crate) fn take_end(&mut self) -> Option<Refusal>
+        ensures { (study : Question) (s : Standing) → Stands study self.old s → Took study s End self.new result }
+    {
+        self.place = after_end(self.place);
+        None
+    }
+}

@@ -1,0 +1,112 @@
+-- The first axiom of a name, and the names of all axioms.
+use Rattle.std.proofs.Common.{◌≡◌, refl, sym, ap, ap₂, ◌∙◌, ℕ, zero, suc, ◌+◌, ◌<◌, ◌≤◌, Bool, true, false, cond, not, ◌&&◌, inl, inr, Option, Some, None, option_map, option_and_then, List, [], ◌∷◌, ◌++◌, map, length, drop, arith, lt-ltb, append_assoc}
+use Rattle.std.specs.Prelude.{nat_lt, slice_get}
+use Rattle.std.specs.Cmp.Lexicographic.{pointwise}
+use Rattle.std.specs.Str.{bytes_eq}
+use Rattle.std.proofs.lemmas.Bool.{cases_lt}
+use Rattle.vocab.specs.Titled.{Titled}
+use Rattle.meaning.specs.Cores.{is_core_from}
+use Rattle.meaning.specs.Space.{up_from}
+use Rattle.verdicts.specs.Texts.{named_by}
+use Rattle.verdicts.specs.Lines.{title_of, name_at}
+use Rattle.verdicts.specs.Reading.{read_axiom}
+use Rattle.verdicts.specs.Faults.{places_of, is_core}
+
+-- no number below k has the text
+abbrev pub IsPassed : (ℕ → List ℕ) → List ℕ → ℕ → ℕ → Type 0
+IsPassed text_of word a k = (j : ℕ) → a ≤ j → j < k → bytes_eq (text_of j) word ≡ false
+
+module _ (text_of : ℕ → List ℕ) (word : List ℕ) where
+  from_here : (b : Bool) (a : ℕ) (o : Option ℕ) → b ≡ true → cond b (Some a) o ≡ Some a
+  from_here b a o h = ap (λ t. cond t (Some a) o) h
+
+  past : (b : Bool) (a : ℕ) (o : Option ℕ) → b ≡ false → cond b (Some a) o ≡ o
+  past b a o h = ap (λ t. cond t (Some a) o) h
+
+  first_from : (n a k : ℕ) → a ≤ k → k < a + n → IsPassed text_of word a k → bytes_eq (text_of k) word ≡ true → named_by text_of (up_from a n) word ≡ Some k
+  first_from zero a k l h passed here = absurd (omega (arith, l, h))
+  first_from (suc n) a k l h passed here = elim (cases_lt a k) [
+    | inl less ↦ past (bytes_eq (text_of a) word) a (named_by text_of (up_from (suc a) n) word) (passed a (omega arith) less)
+        ∙ first_from n (suc a) k less (omega (arith, h)) (λ j m i. passed j (omega (arith, m)) i) here
+    | inr more ↦
+        let same : k ≡ a = omega (arith, l, more) in
+        from_here (bytes_eq (text_of a) word) a (named_by text_of (up_from (suc a) n) word) (ap (λ i. bytes_eq (text_of i) word) (sym same) ∙ here) ∙ ap Some (sym same)
+  ]
+
+  none_from : (n a k : ℕ) → a + n ≡ k → IsPassed text_of word a k → named_by text_of (up_from a n) word ≡ None
+  none_from zero a k e passed = refl
+  none_from (suc n) a k e passed =
+      past (bytes_eq (text_of a) word) a (named_by text_of (up_from (suc a) n) word) (passed a (omega arith) (omega (arith, e)))
+      ∙ none_from n (suc a) k (omega (arith, e)) (λ j m i. passed j (omega (arith, m)) i)
+
+module _ (axioms : List Titled) (word : List ℕ) where
+  -- the first axiom of a name, or that none has it
+  pub first_axiom : (k : ℕ) → k < length axioms → ((j : ℕ) → j < k → bytes_eq (name_at axioms j) word ≡ false) → bytes_eq (name_at axioms k) word ≡ true → Some k ≡ read_axiom axioms word
+  first_axiom k l passed here = sym (first_from (name_at axioms) word (length axioms) 0 k (omega arith) (omega (arith, l)) (λ j m i. passed j i) here)
+
+  pub no_axiom : ((j : ℕ) → j < length axioms → bytes_eq (name_at axioms j) word ≡ false) → None ≡ read_axiom axioms word
+  no_axiom passed = sym (none_from (name_at axioms) word (length axioms) 0 (length axioms) (omega arith) (λ j m i. passed j i))
+
+abbrev pub names_of : List Titled → List (List ℕ)
+names_of axioms = map (λ a. a.name) axioms
+
+-- the names from a place on
+pub names_from : (axioms : List Titled) (k : ℕ) (a : Titled) → slice_get axioms k ≡ Some a → drop k (names_of axioms) ≡ a.name ∷ drop (k + 1) (names_of axioms)
+names_from [] k a e = absurd (cc)
+names_from (b ∷ axioms) zero a e = let same : b ≡ a = cc in ap (λ (t : Titled). t.name ∷ names_of axioms) same
+names_from (b ∷ axioms) (suc k) a e = names_from axioms k a e ∙ ap (λ n. a.name ∷ drop n (names_of (b ∷ axioms))) (more k)
+  where
+    more : (k : ℕ) → suc (k + 1) ≡ suc k + 1
+    more k = omega arith
+
+-- what a call tells of the axiom at a place
+pub item_is : (axioms told : List Titled) (k : ℕ) (a : Titled) → told ≡ axioms → slice_get told k ≡ Some a → slice_get axioms k ≡ Some a
+item_is axioms told k a e h = ap (λ items. slice_get items k) (sym e) ∙ h
+
+pub name_is : (axioms told : List Titled) (k : ℕ) (a : Titled) (name bytes : List ℕ) → told ≡ axioms → slice_get told k ≡ Some a → name ≡ a.name → bytes ≡ name → name_at axioms k ≡ bytes
+name_is axioms told k a name bytes e h n b = ap title_of (item_is axioms told k a e h) ∙ sym n ∙ sym b
+
+-- one more word and one more name
+pub names_more : (axioms : List Titled) (k : ℕ) (a : Titled) (words more : List (List ℕ)) (word : List ℕ) (b : Bool)
+    → slice_get axioms k ≡ Some a → words ≡ word ∷ more → b ≡ bytes_eq word a.name → pointwise bytes_eq words (drop k (names_of axioms)) ≡ b && pointwise bytes_eq more (drop (k + 1) (names_of axioms))
+names_more axioms k a words more word b h e t =
+    ap₂ (λ ws ns. pointwise bytes_eq ws ns) e (names_from axioms k a h) ∙ ap (λ c. c && pointwise bytes_eq more (drop (k + 1) (names_of axioms))) (sym t)
+
+-- places of names, above a place
+abbrev pub rises : ℕ → ℕ → Option (List ℕ) → Bool
+rises from end None = false
+rises from end (Some core) = is_core_from from end core
+
+rises_more : (from end k : ℕ) (o : Option (List ℕ)) → k < end → (b : Bool) → nat_lt k from ≡ b → rises from end (option_map (λ core. k ∷ core) o) ≡ not b && rises (k + 1) end o
+rises_more from end k None l true h = refl
+rises_more from end k None l false h = refl
+rises_more from end k (Some core) l b h = ap₂ (λ s t. not s && t && is_core_from (k + 1) end core) h (lt-ltb k end l) ∙ by_test b
+  where
+    by_test : (b : Bool) → (not b && true && is_core_from (k + 1) end core) ≡ (not b && is_core_from (k + 1) end core)
+    by_test true = refl
+    by_test false = refl
+
+module _ (axioms : List Titled) where
+  named_place : (words more : List (List ℕ)) (word : List ℕ) (k : ℕ) → words ≡ word ∷ more → Some k ≡ read_axiom axioms word → places_of axioms words ≡ option_map (λ core. k ∷ core) (places_of axioms more)
+  named_place words more word k e h = ap (places_of axioms) e ∙ ap (option_and_then (λ k. option_map (λ core. k ∷ core) (places_of axioms more))) (sym h)
+
+  pub unnamed_place : (words more : List (List ℕ)) (word : List ℕ) → words ≡ word ∷ more → None ≡ read_axiom axioms word → places_of axioms words ≡ None
+  unnamed_place words more word e h = ap (places_of axioms) e ∙ ap (option_and_then (λ k. option_map (λ core. k ∷ core) (places_of axioms more))) (sym h)
+
+  -- the next name is that of an axiom, before which the last one stands or not
+  pub core_more : (from k : ℕ) (words more : List (List ℕ)) (word : List ℕ) (b : Bool) → words ≡ word ∷ more → Some k ≡ read_axiom axioms word → k < length axioms → nat_lt k from ≡ b
+      → rises from (length axioms) (places_of axioms words) ≡ not b && rises (k + 1) (length axioms) (places_of axioms more)
+  core_more from k words more word b e h l t = ap (rises from (length axioms)) (named_place words more word k e h) ∙ rises_more from (length axioms) k (places_of axioms more) l b t
+
+  pub core_starts : (o : Option (List ℕ)) → is_core (length axioms) o ≡ rises 0 (length axioms) o
+  core_starts None = refl
+  core_starts (Some core) = refl
+
+  -- places that are held, and those of the words that are left
+  pub places_more : (core : List ℕ) (k : ℕ) (words more : List (List ℕ)) (word : List ℕ) → words ≡ word ∷ more → Some k ≡ read_axiom axioms word
+      → option_map (λ others. core ++ others) (places_of axioms words) ≡ option_map (λ others. (core ++ k ∷ []) ++ others) (places_of axioms more)
+  places_more core k words more word e h = ap (option_map (λ others. core ++ others)) (named_place words more word k e h) ∙ joined (places_of axioms more)
+    where
+      joined : (o : Option (List ℕ)) → option_map (λ others. core ++ others) (option_map (λ others. k ∷ others) o) ≡ option_map (λ others. (core ++ k ∷ []) ++ others) o
+      joined None = refl
+      joined (Some others) = ap Some (sym (append_assoc core (k ∷ []) others))

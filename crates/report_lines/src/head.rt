@@ -1,0 +1,140 @@
+//! Lines of the study, and of the verdict.
+
+ghost use Rattle.std.specs.Prelude.{◌≡◌, ℕ, option_map};
+ghost use Rattle.vocab.specs.Study.{Question};
+ghost use Rattle.verdicts.specs.Numbers.{read_number};
+ghost use Rattle.verdicts.specs.Texts.{words_of};
+ghost use Rattle.verdicts.specs.Reading.{keyed, one_word};
+ghost use Rattle.report_lines.specs.Held.{held_number};
+ghost use Rattle.report_lines.specs.Wanted.{held_wanted};
+
+use crate::lines::Line;
+use crate::names::{are_all_axioms, are_core};
+use crate::numbers::read_number;
+use crate::places::{Confirmed, Place};
+use crate::words::{after_first, are_names, first_keyed, is_same};
+use vocab::{Kind, Study};
+
+/// The first line.
+pub(crate) fn read_title(text: &[u8]) -> Option<Line>
+    ensures { (study : Question) (number : ℕ) → result ≡ held_wanted study Place.AtTitle number (words_of text.now) }
+{
+    if is_same(text, b"bench report 1") {
+        Some(Line::Title)
+    } else {
+        None
+    }
+}
+
+/// The line of the kind.
+pub(crate) fn read_kind(text: &[u8]) -> Option<Line>
+    ensures { (study : Question) (number : ℕ) → result ≡ held_wanted study Place.AtKind number (words_of text.now) }
+{
+    let Some(word) = first_keyed(text, b"kind") else {
+        return None;
+    };
+    if is_same(word, b"choice") {
+        Some(Line::KindIs(Kind::Choice))
+    } else if is_same(word, b"ranking") {
+        Some(Line::KindIs(Kind::Ranking))
+    } else {
+        None
+    }
+}
+
+/// The number of a line that has a key and a number.
+pub(crate) fn read_count(text: &[u8], key: &[u8]) -> Option<u64>
+    ensures { result ≡ option_map held_number (keyed key.now (one_word read_number) (words_of text.now)) }
+{
+    let Some(word) = first_keyed(text, key) else {
+        return None;
+    };
+    read_number(word)
+}
+
+/// The line of how many voters there are.
+pub(crate) fn read_voters(text: &[u8]) -> Option<Line>
+    ensures { (study : Question) (number : ℕ) → result ≡ held_wanted study Place.AtVoters number (words_of text.now) }
+{
+    match read_count(text, b"voters") {
+        Some(count) => Some(Line::VotersAre(count)),
+        None => None,
+    }
+}
+
+/// The line of how many alternatives there are.
+pub(crate) fn read_alternatives(text: &[u8]) -> Option<Line>
+    ensures { (study : Question) (number : ℕ) → result ≡ held_wanted study Place.AtAlternatives number (words_of text.now) }
+{
+    match read_count(text, b"alternatives") {
+        Some(count) => Some(Line::AlternativesAre(count)),
+        None => None,
+    }
+}
+
+/// The line of the axioms' names.
+pub(crate) fn read_axioms(study: &Study, text: &[u8]) -> Option<Line>
+    ensures { (number : ℕ) → result ≡ held_wanted study.now Place.AtAxioms number (words_of text.now) }
+{
+    let Some(rest) = after_first(text, b"axioms") else {
+        return None;
+    };
+    if are_names(rest) {
+        Some(Line::AxiomsAre(are_all_axioms(study, rest)))
+    } else {
+        None
+    }
+}
+
+/// The line of the verdict.
+pub(crate) fn read_verdict(text: &[u8]) -> Option<Line>
+    ensures { (study : Question) (number : ℕ) → result ≡ held_wanted study Place.AtVerdict number (words_of text.now) }
+{
+    let Some(word) = first_keyed(text, b"verdict") else {
+        return None;
+    };
+    if is_same(word, b"possible") {
+        Some(Line::SaysPossible)
+    } else if is_same(word, b"impossible") {
+        Some(Line::SaysImpossible)
+    } else if is_same(word, b"undecided") {
+        Some(Line::SaysUndecided)
+    } else {
+        None
+    }
+}
+
+/// The line of the limit within which nothing was decided.
+pub(crate) fn read_limit(text: &[u8]) -> Option<Line>
+    ensures { (study : Question) (number : ℕ) → result ≡ held_wanted study Place.AtLimit number (words_of text.now) }
+{
+    match read_count(text, b"conflicts") {
+        Some(limit) => Some(Line::LimitIs(limit)),
+        None => None,
+    }
+}
+
+/// The line of the core.
+pub(crate) fn read_core_line(study: &Study, text: &[u8]) -> Option<Line>
+    ensures { (number : ℕ) → result ≡ held_wanted study.now Place.AtCore number (words_of text.now) }
+{
+    let Some(rest) = after_first(text, b"core") else {
+        return None;
+    };
+    if are_names(rest) {
+        Some(Line::CoreIs(are_core(study, rest)))
+    } else {
+        None
+    }
+}
+
+/// The last line.
+pub(crate) fn read_end(text: &[u8]) -> Option<Line>
+    ensures { (study : Question) (number : ℕ) (claim : Confirmed) → result ≡ held_wanted study (Place.AtEnd claim) number (words_of text.now) }
+{
+    if is_same(text, b"end") {
+        Some(Line::End)
+    } else {
+        None
+    }
+}
