@@ -1,5 +1,5 @@
 -- What a reading stands for in lemmas.
-use Rattle.std.proofs.Common.{◌≡◌, refl, sym, ap, ap₂, ◌∙◌, subst, ℕ, ◌+◌, ◌<◌, ◌≤◌, inl, inr, Bool, true, false, not, List, [], ◌∷◌, ◌++◌, map, length, Option, Some, None, option_map, arith, append_assoc, append-nil, length-append, cond, min, ltb-true}
+use Rattle.std.proofs.Common.{◌≡◌, refl, sym, ap, ap₂, ◌∙◌, subst, ℕ, ◌≤◌, inl, inr, Bool, true, false, not, List, [], ◌∷◌, ◌++◌, map, length, Option, Some, None, option_map, arith, append_assoc, append-nil, length-append, cond, min, ltb-true}
 use Rattle.std.specs.Prelude.{slice_get, nat_lt, ◌==◌, ◌^◌, ◌-◌}
 use Rattle.std.specs.Option.{option_or}
 use Rattle.std.specs.List.{list_all}
@@ -26,7 +26,6 @@ use Rattle.verdicts.specs.Places.{Place, AtSuppose, AtLemma, Standing}
 use Rattle.verdicts.specs.Faults.{refusal_of, known_of, is_last_lemma, cite_fault, fault_of}
 use Rattle.verdicts.specs.Judge.{after_witness, after_lemma, advance}
 use Rattle.verdicts.proofs.JudgeLaws.{good_holds}
-use Rattle.verdicts.proofs.PrefixLaws.{all_snoc}
 use Rattle.verdicts.proofs.RangeLaws.{are_supposed, good_in_range}
 use Rattle.verdicts.proofs.SoundLaws.{Holds}
 use Rattle.verdicts.proofs.StepLaws.{reasons_same, lengths_same}
@@ -36,7 +35,6 @@ use Rattle.story.specs.Lines.{supposition_fault, step_fault}
 use Rattle.worlds.specs.Boards.{Known}
 use Rattle.report.specs.declared.readings.Reading.{Reading}
 use Rattle.report.specs.Held.{Stands, IsRead, supposed}
-use Rattle.report.proofs.WitnessLineLemmas.{moved}
 
 -- ---- numbers and lists
 
@@ -44,29 +42,9 @@ none_left : (xs : List Literal) → length xs ≡ 0 → xs ≡ []
 none_left [] e = refl
 none_left (x ∷ xs) e = absurd (omega (arith, e))
 
-tests_same : (a b c d : ℕ) → (a ≡ b → c ≡ d) → (c ≡ d → a ≡ b) → (a == b) ≡ (c == d)
-tests_same a b c d f g = by_tests (a == b) (c == d) refl refl
-  where
-    by_tests : (p q : Bool) → (a == b) ≡ p → (c == d) ≡ q → p ≡ q
-    by_tests true true e h = refl
-    by_tests false false e h = refl
-    by_tests true false e h = sym (sym h ∙ (Decides-eqb c d).1 (f ((Decides-eqb a b).0 e)))
-    by_tests false true e h = sym e ∙ (Decides-eqb a b).1 (g ((Decides-eqb c d).0 h))
-
--- whether a lemma is the last
-pub last_same : (n m k c : ℕ) → n ≡ m → n ≤ 4294967295 → k ≡ held_number c → (n + 1 == k) ≡ (m + 1 == c)
-last_same n m k c e l h = tests_same (n + 1) k (m + 1) c (λ a. omega (arith, a, e, l, h)) (λ a. omega (arith, a, e, l, h))
-
--- whether it was the last
-pub was_last : (n m k c : ℕ) → n ≡ m → n ≤ 4294967295 → k ≡ held_number c → n ≡ k → (m == c) ≡ true
+-- whether a lemma was the last
+was_last : (n m k c : ℕ) → n ≡ m → n ≤ 4294967295 → k ≡ held_number c → n ≡ k → (m == c) ≡ true
 was_last n m k c e l h a = (Decides-eqb m c).1 (omega (arith, a, e, l, h))
-
-pub was_not_last : (n m k c : ℕ) → n ≡ m → n ≤ 4294967295 → k ≡ held_number c → (n ≡ k → ⊥) → (m == c) ≡ false
-was_not_last n m k c e l h d = by_test (m == c) refl
-  where
-    by_test : (b : Bool) → (m == c) ≡ b → b ≡ false
-    by_test true t = let same : m ≡ c = (Decides-eqb m c).0 t in absurd (d (omega (arith, same, e, l, h)))
-    by_test false t = refl
 
 -- ---- faults
 
@@ -125,11 +103,12 @@ at_suppose : (p : Place) → held_place p ≡ place.AtSuppose → p ≡ AtSuppos
 at_suppose AtSuppose e = refl
 at_suppose p e = absurd (cc)
 
+-- the standing with the present lemma among the earlier ones
+abbrev pub told : Standing → Reason → Standing
+told s w = record s { earlier = s.earlier ++ record { suppose = s.suppose; steps = s.steps; last = w } ∷ []; suppose = []; steps = [] }
+
 module _ (study : Question) (r : Reading) where
   -- what the callees ask
-  pub core_there : IsRead study r → list_all (λ k. nat_lt k (length study.axioms)) r.core ≡ true
-  core_there i = subst (λ (core : List ℕ). list_all (λ k. nat_lt k (length study.axioms)) core ≡ true) (sym i.stands.core) (good_in_range study i.standing i.lines i.good).core
-
   pub earlier_there : IsRead study r → (size : Extent) (es : List Lemma) → study.size ≡ size → es ≡ r.earlier → list_all (has_literals size) es ≡ true
   earlier_there i size es same slice =
       let here = have_literals study r.earlier i.standing.earlier i.stands.earlier i.stands.alone (good_in_range study i.standing i.lines i.good).earlier in
@@ -140,9 +119,6 @@ module _ (study : Question) (r : Reading) where
     few_lemmas = lengths_same study r.earlier s.earlier h.earlier
 
     -- ---- a supposition
-
-    pub last_is : (length r.earlier + 1 == r.count) ≡ is_last_lemma s
-    last_is = last_same (length r.earlier) (length s.earlier) r.count s.count few_lemmas h.few h.count
 
     pub suppose_fault_is : (l : Literal) (final : Bool) → final ≡ is_last_lemma s → fault_of study s (Suppose l) ≡ option_map refusal_of (supposition_fault final r.board.literals l)
     suppose_fault_is l final e = ap₂ (λ b known. option_map refusal_of (option_or (unless (not b) Supposes) (literal_fault known l))) (sym e) (sym h.known)
@@ -218,36 +194,7 @@ module _ (study : Question) (r : Reading) where
         ∙ ap (λ (known : List Literal). option_map refusal_of (reason_fault study.size study.axioms r.core r.earlier known (held_reason w))) h.known
         ∙ ap (option_map refusal_of) (cited (known_of s) w))
 
-    -- the standing with the present lemma among the earlier ones
-    abbrev pub told : Reason → Standing
-    told w = record s { earlier = s.earlier ++ record { suppose = s.suppose; steps = s.steps; last = w } ∷ []; suppose = []; steps = [] }
-
-    pub with_lemma : (w last : Reason) (es : List Lemma) (b : Known) → length r.earlier < 4294967295 → es ≡ r.earlier ++ record { suppose = r.suppose; steps = []; last = last } ∷ [] → b.size ≡ r.board.size → b.literals ≡ [] →
-        Stands study (record r { earlier = es; suppose = []; board = b }) (told w)
-    with_lemma w last es b few e size known = record {
-      place = h.place;
-      rows = h.rows;
-      core = h.core;
-      count = h.count;
-      earlier = ap supposed e ∙ map-append (λ (lemma : Lemma). lemma.suppose) r.earlier (lemma ∷ []) ∙ ap₂ (λ (ls : List (List Literal)) (l : List Literal). ls ++ l ∷ []) h.earlier h.suppose
-          ∙ sym (map-append (λ (lemma : Lemma). lemma.suppose) s.earlier (record { suppose = s.suppose; steps = s.steps; last = w } ∷ []));
-      alone = subst (λ (ls : List Lemma). list_all (λ lemma. length lemma.steps == 0) ls ≡ true) (sym e) (all_snoc (λ lemma. length lemma.steps == 0) r.earlier lemma h.alone refl);
-      few = omega (arith, few, ap length e, length-append r.earlier (lemma ∷ []));
-      suppose = refl;
-      size = size ∙ h.size;
-      known = known;
-      witnesses = h.witnesses;
-    }
-      where
-        lemma : Lemma
-        lemma = record { suppose = r.suppose; steps = []; last = last }
-
     -- ---- after a lemma
 
     pub all_told : (t : Reading) → length r.earlier ≡ r.count → Stands study t (after_witness s) → Stands study t (after_lemma s)
     all_told t e g = subst (λ b. Stands study t (cond b (after_witness s) (record s { place = AtLemma }))) (sym (was_last (length r.earlier) (length s.earlier) r.count s.count few_lemmas h.few h.count e)) g
-
-    pub more_to_tell : (length r.earlier ≡ r.count → ⊥) → Stands study (record r { place = place.AtLemma }) (after_lemma s)
-    more_to_tell d =
-        subst (λ b. Stands study (record r { place = place.AtLemma }) (cond b (after_witness s) (record s { place = AtLemma }))) (sym (was_not_last (length r.earlier) (length s.earlier) r.count s.count few_lemmas h.few h.count d))
-        (moved study r s h place.AtLemma AtLemma refl)
