@@ -5,3 +5,6 @@ pub mod Resolved
 pub mod Counting
 pub mod Whole
 pub mod StudyKinds
+pub mod SoundAxioms
+pub mod NamedAxioms
+pub mod WholeStudies

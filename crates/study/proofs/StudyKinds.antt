@@ -23,7 +23,7 @@ use Rattle.study.specs.Refusing.{and_then, refused_as}
 use Rattle.study.specs.Sentences.{Worded, resolved_all, within, study_of}
 use Rattle.study.proofs.Listings.{CameFrom, came_from, ok_once}
 
-some_value : {A E : Type 0} (o : Option A) (e : E) (x : A) → ok_or o e ≡ Ok x → o ≡ Some x
+pub some_value : {A E : Type 0} (o : Option A) (e : E) (x : A) → ok_or o e ≡ Ok x → o ≡ Some x
 some_value None e x h = absurd (cc)
 some_value (Some y) e x h = let same : y ≡ x = cc in ap Some same
 
@@ -56,7 +56,8 @@ draft_kind document d e =
     let others = came_from _ (known_keys document) d sentences.after in
     subst (λ (x : Draft). x.head.kind ≢ Sets) (ok_once others.after) (head_kind document head.value head.first)
 
-known : {A E F : Type 0} (f : E → F) (r : Result A E) (x : A) → refused_as f r ≡ Ok x → r ≡ Ok x
+-- a step that was refused in other words came through before
+pub known : {A E F : Type 0} (f : E → F) (r : Result A E) (x : A) → refused_as f r ≡ Ok x → r ≡ Ok x
 known f (Ok y) x h = ap Ok (ok_once h)
 known f (Err e) x h = absurd (cc)
 

@@ -54,7 +54,7 @@ distinct_axioms : (axioms : List Titled) → study.have_own_names axioms ≡ are
 distinct_axioms [] = refl
 distinct_axioms (a ∷ axioms) = rw (any_axiom a.name axioms, distinct_axioms axioms) refl
 
-read_names : (entries : List Entry) (ws : List Worded) → AreReadAs entries ws → map (λ w. w.name) ws ≡ map (λ e. e.name) entries
+pub read_names : (entries : List Entry) (ws : List Worded) → AreReadAs entries ws → map (λ w. w.name) ws ≡ map (λ e. e.name) entries
 read_names [] [] r = refl
 read_names [] (w ∷ ws) r = absurd r
 read_names (e ∷ entries) [] r = absurd r
@@ -65,7 +65,7 @@ resolved_name size w a e =
     let one = came_from (λ tree. Ok (record { name = w.name; sentence = tree })) (refused_as (fault.Sort w.name) (answer_of size w.sentence)) a e in
     sym (ap (λ x. x.name) (ok_once one.after))
 
-resolved_names : (size : Extent) (ws : List Worded) (axioms : List Titled) → resolved_all size ws ≡ Ok axioms → map (λ a. a.name) axioms ≡ map (λ w. w.name) ws
+pub resolved_names : (size : Extent) (ws : List Worded) (axioms : List Titled) → resolved_all size ws ≡ Ok axioms → map (λ a. a.name) axioms ≡ map (λ w. w.name) ws
 resolved_names size [] axioms e = rw (← ok_once e) refl
 resolved_names size (w ∷ ws) axioms e =
     let one = came_from (λ a. and_then (λ axioms. Ok (a ∷ axioms)) (resolved_all size ws)) (resolved_one size w) axioms e in

@@ -1,6 +1,6 @@
 //! What holds of all bytes.
 
-ghost use Rattle.study.specs.Laws.{HaveKinds, HaveOneAnswer};
+ghost use Rattle.study.specs.Laws.{AreWhole, HaveKinds, HaveOneAnswer};
 
 /// Bytes have at most one answer, want of memory aside. So each refusal comes exactly where it is the first that holds.
 pub fn studies_have_one_answer()
@@ -10,4 +10,9 @@ pub fn studies_have_one_answer()
 /// Each study that bytes give is of rules that choose an alternative, or of rules that rank them.
 pub fn studies_have_kinds()
     ensures { HaveKinds }
+{}
+
+/// Each study that bytes give is one that the bench takes, at a size, and its axioms have names.
+pub fn studies_are_whole()
+    ensures { AreWhole }
 {}
