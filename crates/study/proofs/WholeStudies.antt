@@ -80,10 +80,11 @@ listing_study listing sentences study is all e =
     let body = came_from _ (within listing.size Body axioms.value) study instances.after in
     let work = came_from _ (within listing.size Work axioms.value) study body.after in
     let sound = sound_all listing.size sentences axioms.value (small_from_read listing.axioms sentences all) axioms.first in
-    subst IsWhole (ok_once work.after)
-    (whole_study listing sentences axioms.value is.whole all axioms.first sound instances.first body.first work.first,
-    is.size,
-    axioms_named listing.axioms axioms.value is.named (resolved_names listing.size sentences axioms.value axioms.first ∙ read_names listing.axioms sentences all))
+    subst IsWhole (ok_once work.after) (
+      whole_study listing sentences axioms.value is.whole all axioms.first sound instances.first body.first work.first,
+      is.size,
+      axioms_named listing.axioms axioms.value is.named (resolved_names listing.size sentences axioms.value axioms.first ∙ read_names listing.axioms sentences all),
+    )
 
 answer_study : (listing : Listing) (study : Question) → IsNamedListing listing → IsAnswer listing (Ok study) → IsWhole study
 answer_study listing study is (refused name reason unread e) = absurd (cc)
