@@ -1,2 +1,4 @@
 pub mod WriteLemmas
+pub mod LoopLemmas
 pub mod WordLemmas
+pub mod LineLemmas

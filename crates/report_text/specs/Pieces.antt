@@ -18,6 +18,11 @@ use Rattle.verdicts.specs.Texts.{joined}
 abbrev pub spaced : List (List ℕ) → List ℕ
 spaced words = flat_map (λ word. 32 ∷ word) words
 
+-- the texts of items one after another, each by its number, from a number on
+abbrev pub spelled : {X : Type 0} → (ℕ → X → List ℕ) → ℕ → List X → List ℕ
+spelled text n [] = []
+spelled text n (x ∷ xs) = text n x ++ spelled text (n + 1) xs
+
 -- a line of a key, which ends with a blank, and a number
 abbrev pub count_text : List ℕ → ℕ → List ℕ
 count_text key count = key ++ (number_text count ++ 10 ∷ [])

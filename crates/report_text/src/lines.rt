@@ -4,8 +4,8 @@ ghost use Rattle.std.specs.Prelude.{◌≡◌, ◌++◌, ◌∷◌, [], ◌&&◌
 ghost use Rattle.std.specs.List.{list_all};
 ghost use Rattle.meaning.specs.Literals.{is_literal};
 ghost use Rattle.verdicts.specs.Lines.{Suppose};
-ghost use Rattle.verdicts.specs.Report.{is_lemma_text, is_reason, lemma_lines, step_line, story_lines};
-ghost use Rattle.report_text.specs.Pieces.{lines_text};
+ghost use Rattle.verdicts.specs.Report.{is_lemma_text, is_reason, lemma_lines, step_line};
+ghost use Rattle.report_text.specs.Pieces.{ended, lines_text, spelled};
 
 use crate::texts::{Count, Raw, Text, Two};
 use crate::words::{LiteralWord, ReasonWords, Subject};
@@ -23,7 +23,7 @@ struct Supposed<'a> {
 impl Text for Supposed<'_> {
     ghost can = { λ lines. IsTrue (list_all (is_literal lines.of.study.now.size) lines.literals.now) };
 
-    ghost text = { λ lines. lines_text lines.of.study.now (map Suppose lines.literals.now) };
+    ghost text = { λ lines. spelled (λ _ l. ended lines.of.study.now (Suppose l)) 0 lines.literals.now };
 
     fn write<O: Sink>(&self, out: &mut O) -> Result<(), Failed> {
         for literal in self.literals {
@@ -47,7 +47,7 @@ struct Steps<'a> {
 impl Text for Steps<'_> {
     ghost can = { λ lines. IsTrue (list_all (λ step. is_literal lines.of.study.now.size step.literal && is_reason lines.of.study.now step.reason) lines.steps.now) };
 
-    ghost text = { λ lines. lines_text lines.of.study.now (map step_line lines.steps.now) };
+    ghost text = { λ lines. spelled (λ _ step. ended lines.of.study.now (step_line step)) 0 lines.steps.now };
 
     fn write<O: Sink>(&self, out: &mut O) -> Result<(), Failed> {
         for step in self.steps {
@@ -111,7 +111,7 @@ pub(crate) struct StoryLines<'a> {
 impl Text for StoryLines<'_> {
     ghost can = { λ lines. IsTrue (list_all (is_lemma_text lines.of.study.now) lines.lemmas.now) };
 
-    ghost text = { λ lines. lines_text lines.of.study.now (story_lines 1 lines.lemmas.now) };
+    ghost text = { λ lines. spelled (λ number lemma. lines_text lines.of.study.now (lemma_lines number lemma)) 1 lines.lemmas.now };
 
     fn write<O: Sink>(&self, out: &mut O) -> Result<(), Failed> {
         for place in 0..self.lemmas.len() {
