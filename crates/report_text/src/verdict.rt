@@ -23,12 +23,12 @@ use verdicts::Verdict;
 use vocab::{Places, Study};
 
 /// Writes the text of an impossibility.
-fn write_impossible<K: OutcomeKind, O: Sink>(
+fn write_impossible<'a, K: OutcomeKind, O: Sink>(
     out: &mut O,
-    kind: &K,
-    study: &Study,
-    core: &Places,
-    story: &Items<Lemma>,
+    kind: &'a K,
+    study: &'a Study,
+    core: &'a Places,
+    story: &'a Items<Lemma>,
     witnesses: &Items<Witness>,
 ) -> Result<(), Failed>
     requires size { study.now.size ≡ K.size kind.now }
