@@ -105,11 +105,11 @@ pub witnesses_spelled : (study : Question) (f : ℕ → Witness → Bool) (core 
 witnesses_spelled study f core n [] h = no_witness study (drop n core)
 witnesses_spelled study f core n (w ∷ witnesses) h = elim (cases_lt n (length core)) [
   | inl less ↦
-    let next : drop n core ≡ slice_index core n ∷ drop (n + 1) core = rw (add-one, drop-cons core n 0) refl in
-    let more : pointwise f (drop (n + 1) core) witnesses ≡ true = (and_parts (f (slice_index core n) w) (pointwise f (drop (n + 1) core) witnesses) (rw next at h)).1 in
-    ap (λ (rest : List ℕ). witness_text study core n w ++ rest) (witnesses_spelled study f core (n + 1) witnesses more)
-    ∙ sym (flat_map-append (ended study) (witness_lines study (slice_index core n) w) (all_witness_lines study (drop (n + 1) core) witnesses))
-    ∙ ap (λ (left : List ℕ). lines_text study (all_witness_lines study left (w ∷ witnesses))) (sym next)
+      let next : drop n core ≡ slice_index core n ∷ drop (n + 1) core = rw (add-one, drop-cons core n 0) refl in
+      let more : pointwise f (drop (n + 1) core) witnesses ≡ true = (and_parts (f (slice_index core n) w) (pointwise f (drop (n + 1) core) witnesses) (rw next at h)).1 in
+      ap (λ (rest : List ℕ). witness_text study core n w ++ rest) (witnesses_spelled study f core (n + 1) witnesses more)
+      ∙ sym (flat_map-append (ended study) (witness_lines study (slice_index core n) w) (all_witness_lines study (drop (n + 1) core) witnesses))
+      ∙ ap (λ (left : List ℕ). lines_text study (all_witness_lines study left (w ∷ witnesses))) (sym next)
   | inr past ↦ absurd (false≢true (rw (drop_all n core past) at h))
 ]
 
@@ -175,7 +175,7 @@ impossible_text study core story witnesses =
     ∙ regroup head ((codes "verdict impossible\ncore" ++ names) ++ ((10 ∷ lemmas) ++ told)) marks (codes "end\n")
     ∙ ap (λ (claim : List ℕ). (head ++ claim) ++ codes "end\n")
     (claim_parts names lemmas told marks
-      ∙ ap₂ (λ (a b : List ℕ). codes "verdict impossible\n" ++ ((a ++ 10 ∷ []) ++ (lemmas ++ b))) (sym (joined_spaced (codes "core") (map (name_at study.axioms) core))) (sym (flat_map-append (ended study) (story_lines 1 story) (all_witness_lines study core witnesses))))
+    ∙ ap₂ (λ (a b : List ℕ). codes "verdict impossible\n" ++ ((a ++ 10 ∷ []) ++ (lemmas ++ b))) (sym (joined_spaced (codes "core") (map (name_at study.axioms) core))) (sym (flat_map-append (ended study) (story_lines 1 story) (all_witness_lines study core witnesses))))
     ∙ sym (report_parts study (Impossible core story witnesses))
   where
     regroup : (a b c d : List ℕ) → (a ++ b) ++ (c ++ d) ≡ (a ++ (b ++ c)) ++ d

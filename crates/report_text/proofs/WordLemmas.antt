@@ -20,7 +20,7 @@ joined_spaced word (next ∷ words) = ap (λ rest. word ++ (32 ∷ rest)) (joine
 -- the values from a level on are that of the level and those after it
 pub next_value : (study : Question) (size : Extent) (tree : Tree) (s : Sort) (rest : Tree) (values : List ℕ) (level v : ℕ) → study.size ≡ size → tree ≡ All s rest → level < length values → v ≡ slice_index values level
     → spaced (value_words study (prefix_of tree) (drop level values)) ≡ (32 ∷ value_text size s v) ++ spaced (value_words study (prefix_of rest) (drop (level + 1) values))
-next_value study size tree s rest values level v same is within at = 
+next_value study size tree s rest values level v same is within at =
     let own : spaced (value_words study (prefix_of tree) (drop level values)) ≡ (32 ∷ value_text study.size s v) ++ spaced (value_words study (prefix_of rest) (drop (level + 1) values)) = rw (is, at, add-one, drop-cons values level 0) refl in
     own ∙ ap (λ (e : Extent). (32 ∷ value_text e s v) ++ spaced (value_words study (prefix_of rest) (drop (level + 1) values))) same
 

@@ -4,6 +4,8 @@
 mod head;
 mod lines;
 mod rules;
+#[cfg(test)]
+mod tests;
 mod texts;
 mod verdict;
 mod words;

@@ -182,9 +182,7 @@ impl Text for ReasonWords<'_> {
                 let profile = self.of.space.profile_text(p);
                 Two(Raw(b"outcome "), Raw(profile.bytes())).write(out)
             }
-            Reason::Lemma(lemma) => {
-                Two(Raw(b"lemma "), Number(u64::from(lemma) + 1)).write(out)
-            }
+            Reason::Lemma(lemma) => { Two(Raw(b"lemma "), Number(u64::from(lemma) + 1)).write(out) }
         }
     }
 }

@@ -23,7 +23,7 @@ returns-in_err-write_witness g c =
     let item = c.index-witnesses-place.result in
     renamed _ _ _ _ c.from_residual.result _ _ (witnesses_spelled study (is_witness_text study) core 0 c.args.witnesses.now c.requires.can)
     (loop_stops (witness_text study core) c.args.witnesses.now 0 c.loop-place.place item _ _ _ _ c.loop-place.invariant _ _ c.in_err-write_witness.field-0.0 c.from_residual.result _ c.loop-place-test.true
-      (ap₂ (witness_text study core) (from_zero c.loop-place.place) c.index-witnesses-place.is) c.from_residual.ensures.0 c.in_err-write_witness.ensures)
+    (ap₂ (witness_text study core) (from_zero c.loop-place.place) c.index-witnesses-place.is) c.from_residual.ensures.0 c.in_err-write_witness.ensures)
 
 pub loop-place-preserved : goal.loop-place-preserved
 loop-place-preserved g c =
