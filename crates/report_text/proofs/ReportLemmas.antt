@@ -1,5 +1,5 @@
 -- The names, the rules and the witnesses of a report, and all of it.
-use Rattle.std.proofs.Common.{◌≡◌, refl, sym, ap, ap₂, ◌∙◌, subst, ℕ, zero, suc, ◌+◌, ◌<◌, ◌≤◌, inl, inr, Bool, true, length, List, [], ◌∷◌, ◌++◌, map, drop, get_or, Option, Some, None, codes, add-one, append-nil, append_assoc, drop-cons, ltb-true, arith}
+use Rattle.std.proofs.Common.{◌≡◌, refl, sym, ap, ap₂, ◌∙◌, subst, ℕ, zero, suc, ◌+◌, ◌<◌, inl, inr, Bool, true, length, List, [], ◌∷◌, ◌++◌, map, drop, get_or, Some, codes, add-one, append-nil, append_assoc, drop-cons, ltb-true, arith}
 use Rattle.std.specs.Prelude.{nat_lt, slice_get, slice_index}
 use Rattle.std.specs.List.{list_all}
 use Rattle.std.specs.Cmp.Lexicographic.{pointwise}
@@ -17,10 +17,9 @@ use Rattle.meaning.specs.Texts.{kind_text, profile_text, outcome_text}
 use Rattle.meaning.specs.Truth.{is_rule}
 use Rattle.verdicts.specs.declared.verdicts.Verdict.{Verdict}
 use Rattle.verdicts.specs.declared.verdicts.Verdict.TheVariants.{Possible, Impossible, Undecided}
-use Rattle.verdicts.specs.Lines.{Line, Row, CoreIs, AxiomsAre, End, name_at, title_of}
+use Rattle.verdicts.specs.Lines.{AxiomsAre, End, name_at, title_of}
 use Rattle.verdicts.specs.Numbers.{number_text}
-use Rattle.verdicts.specs.Report.{row_lines, lemma_lines, story_lines, head_lines, witness_lines, all_witness_lines, verdict_lines, report_lines, report_text}
-use Rattle.verdicts.specs.Texts.{joined}
+use Rattle.verdicts.specs.Report.{row_lines, lemma_lines, story_lines, head_lines, witness_lines, all_witness_lines, verdict_lines, report_text}
 use Rattle.report_text.specs.Pieces.{count_text, ended, lines_text, spaced, spelled}
 use Rattle.report_text.proofs.WordLemmas.{joined_spaced}
 

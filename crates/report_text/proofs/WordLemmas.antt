@@ -1,5 +1,5 @@
 -- The words of reasons, one after another.
-use Rattle.std.proofs.Common.{◌≡◌, refl, sym, ap, ◌∙◌, ℕ, ◌+◌, ◌<◌, length, List, [], ◌∷◌, ◌++◌, drop, get_or, slice_get, codes, Option, Some, add-one, append-nil, drop-cons}
+use Rattle.std.proofs.Common.{◌≡◌, refl, sym, ap, ◌∙◌, ℕ, ◌+◌, ◌<◌, length, List, [], ◌∷◌, ◌++◌, drop, slice_get, codes, Option, Some, add-one, append-nil, drop-cons}
 use Rattle.std.specs.Prelude.{slice_index}
 use Rattle.vocab.specs.declared.kinds.Sort.{Sort}
 use Rattle.vocab.specs.Formula.{prefix_of}

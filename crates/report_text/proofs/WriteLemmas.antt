@@ -1,10 +1,9 @@
 -- Texts that are written one after another.
-use Rattle.std.proofs.Common.{◌≡◌, refl, sym, ap, ◌∙◌, subst, ℕ, ◌+◌, ◌-◌, ◌≤◌, min, length, List, [], ◌∷◌, ◌++◌, take, Option, None, Some, Result, Ok, Err, OnOk, OnErr, is_some, zero, suc, append-nil, arith}
+use Rattle.std.proofs.Common.{◌≡◌, refl, sym, ap, ◌∙◌, subst, ℕ, ◌+◌, ◌≤◌, min, length, List, [], ◌∷◌, ◌++◌, take, Option, None, Some, Result, Ok, Err, zero, suc, append-nil, arith}
 use Rattle.std.proofs.lemmas.Bool.{false≢true}
 use Rattle.std.specs.Result.{IsErr}
 use Rattle.std.specs.Io.KnownBytes.{Appends}
-use Rattle.edge.specs.Faults.{HasCause, Rose}
-use Rattle.edge.specs.Told.{TellsAsBefore, AppendsPrefix}
+use Rattle.edge.specs.Told.{TellsAsBefore}
 use Rattle.edge.proofs.Known.{Appends-more}
 use Rattle.report_text.specs.Writes.{Writes}
 

@@ -1,17 +1,10 @@
 -- The pieces in which a report is written.
-use Rattle.std.specs.Prelude.{◌≡◌, ℕ, ◌+◌, ◌<◌, List, [], ◌∷◌, ◌++◌, map, drop, slice_get, IsTrue, codes}
-use Rattle.std.specs.List.{flat_map, list_all}
-use Rattle.std.specs.Cmp.Lexicographic.{pointwise}
-use Rattle.vocab.specs.declared.literals.Literal.{Literal}
+use Rattle.std.specs.Prelude.{ℕ, ◌+◌, List, [], ◌∷◌, ◌++◌}
+use Rattle.std.specs.List.{flat_map}
 use Rattle.vocab.specs.Study.{Question}
-use Rattle.vocab.specs.Titled.{Titled}
-use Rattle.meaning.specs.declared.cores.Witness.{Witness}
-use Rattle.meaning.specs.declared.stories.Lemma.{Lemma}
 use Rattle.meaning.specs.declared.stories.Reason.{Reason}
-use Rattle.meaning.specs.declared.stories.StoryStep.{StoryStep}
-use Rattle.verdicts.specs.Lines.{Line, Suppose, line_text, reason_words, name_at}
+use Rattle.verdicts.specs.Lines.{Line, line_text, reason_words}
 use Rattle.verdicts.specs.Numbers.{number_text}
-use Rattle.verdicts.specs.Report.{step_line, lemma_lines, story_lines, row_lines}
 use Rattle.verdicts.specs.Texts.{joined}
 
 -- words, each with a blank before it

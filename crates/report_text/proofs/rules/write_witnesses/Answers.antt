@@ -1,9 +1,8 @@
-use Rattle.std.proofs.Common.{◌≡◌, sym, ap₂, subst, ℕ, List, get_or, true}
+use Rattle.std.proofs.Common.{◌≡◌, sym, ap₂, subst, ℕ, List, true}
 use Rattle.std.specs.Prelude.{slice_index}
 use Rattle.meaning.specs.declared.cores.Witness.{Witness}
 use Rattle.meaning.specs.declared.cores.Witness.TheVariants.{Open}
-use Rattle.verdicts.specs.Report.{is_witness_text, witness_lines}
-use Rattle.report_text.specs.Pieces.{lines_text}
+use Rattle.verdicts.specs.Report.{is_witness_text}
 use Rattle.report_text.proofs.LoopLemmas.{loop_stops, loop_goes_on, loop_ends}
 use Rattle.report_text.proofs.ReportLemmas.{from_zero, witness_there, witness_text, witnesses_spelled}
 use Rattle.report_text.proofs.WriteLemmas.{renamed}

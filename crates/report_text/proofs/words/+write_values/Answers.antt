@@ -1,4 +1,4 @@
-use Rattle.std.proofs.Common.{◌≡◌, sym, ap, arith}
+use Rattle.std.proofs.Common.{sym, ap, arith}
 use Rattle.vocab.specs.Tree.{tree_of}
 use Rattle.report_text.proofs.WordLemmas.{next_value}
 use Rattle.report_text.proofs.WriteLemmas.{renamed, stopped, followed}

@@ -1,4 +1,4 @@
-use Rattle.std.proofs.Common.{◌≡◌, ◌∷◌, ap, ◌∙◌, ℕ, List, get_or}
+use Rattle.std.proofs.Common.{◌∷◌, ap, ◌∙◌, ℕ, List}
 use Rattle.vocab.specs.Titled.{Titled}
 use Rattle.report_text.proofs.LoopLemmas.{loop_stops, loop_goes_on}
 use Rattle.report_text.proofs.head.NamesText.write.Goals as goal

@@ -1,11 +1,6 @@
-use Rattle.std.proofs.Common.{ℕ, ◌∷◌, [], ◌++◌, take}
-use Rattle.std.specs.Prelude.{slice_index}
+use Rattle.std.proofs.Common.{◌∷◌, take}
 use Rattle.vocab.specs.Titled.{Titled}
-use Rattle.meaning.specs.Texts.{profile_text, outcome_text}
-use Rattle.meaning.specs.declared.cores.Witness.{Witness}
-use Rattle.verdicts.specs.Lines.{name_at}
-use Rattle.verdicts.specs.Report.{witness_lines}
-use Rattle.report_text.specs.Pieces.{lines_text, spelled}
+use Rattle.report_text.specs.Pieces.{spelled}
 use Rattle.report_text.proofs.WriteLemmas.{Wrote}
 use Rattle.report_text.proofs.head.NamesText.write.Given as goal
 

@@ -1,9 +1,9 @@
-use Rattle.std.proofs.Common.{◌≡◌, ap, ◌∙◌, get_or, arith}
+use Rattle.std.proofs.Common.{◌≡◌, ap, ◌∙◌, get_or}
 use Rattle.meaning.specs.declared.stories.StoryStep.{StoryStep}
 use Rattle.verdicts.specs.Report.{step_line}
 use Rattle.report_text.specs.Pieces.{ended}
 use Rattle.report_text.proofs.LineLemmas.{so_text}
-use Rattle.report_text.proofs.LoopLemmas.{loop_stops, loop_goes_on, loop_ends}
+use Rattle.report_text.proofs.LoopLemmas.{loop_stops, loop_goes_on}
 use Rattle.report_text.proofs.lines.StepsText.write.Goals as goal
 
 pub returns-in_err-write : goal.returns-in_err-write

@@ -1,4 +1,4 @@
-use Rattle.std.proofs.Common.{◌≡◌, sym, ap, ◌∙◌, ◌+◌, ℕ, get_or, arith}
+use Rattle.std.proofs.Common.{◌≡◌, ap, ◌+◌, ℕ, get_or, arith}
 use Rattle.verdicts.specs.Report.{lemma_lines}
 use Rattle.meaning.specs.declared.stories.Lemma.{Lemma}
 use Rattle.report_text.specs.Pieces.{lines_text}

@@ -1,4 +1,3 @@
-use Rattle.std.proofs.Common.{arith}
 use Rattle.vocab.specs.declared.literals.Literal.TheVariants.{Wins}
 use Rattle.verdicts.specs.Lines.{Suppose}
 use Rattle.report_text.specs.Pieces.{ended}

@@ -1,7 +1,6 @@
 use Rattle.std.proofs.Common.{take}
 use Rattle.verdicts.specs.Lines.{Suppose}
-use Rattle.verdicts.specs.Report.{step_line, lemma_lines}
-use Rattle.report_text.specs.Pieces.{ended, lines_text, spelled}
+use Rattle.report_text.specs.Pieces.{ended, spelled}
 use Rattle.report_text.proofs.WriteLemmas.{Wrote}
 use Rattle.report_text.proofs.lines.SupposedText.write.Given as goal
 
