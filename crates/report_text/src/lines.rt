@@ -1,6 +1,6 @@
 //! The lines of a story.
 
-ghost use Rattle.std.specs.Prelude.{◌≡◌, ◌++◌, ◌∷◌, [], ◌&&◌, map, length, IsTrue};
+ghost use Rattle.std.specs.Prelude.{◌&&◌, IsTrue};
 ghost use Rattle.std.specs.List.{list_all};
 ghost use Rattle.meaning.specs.Literals.{is_literal};
 ghost use Rattle.verdicts.specs.Lines.{Suppose};

@@ -1,8 +1,7 @@
 //! Reports of a study of one voter and two alternatives, and sinks that fail.
 
 ghost use Rattle.std.specs.Prelude.{◌≡◌, [], ◌∷◌, codes, IfOk, IsTrue};
-ghost use Rattle.vocab.specs.Titled.{Titled};
-ghost use Rattle.vocab.specs.Tree.{tree_of, All, Leaf, Equal, Var};
+ghost use Rattle.vocab.specs.Tree.{All, Leaf, Equal, Var};
 ghost use Rattle.verdicts.specs.Report.{has_text};
 
 use crate::print;

@@ -1,6 +1,6 @@
 //! Texts that are written piece by piece.
 
-ghost use Rattle.std.specs.Prelude.{◌≡◌, ◌++◌, ◌∷◌, [], List, ℕ};
+ghost use Rattle.std.specs.Prelude.{◌++◌, List, ℕ};
 ghost use Rattle.verdicts.specs.Numbers.{number_text};
 ghost use Rattle.report_text.specs.Pieces.{count_text};
 ghost use Rattle.report_text.specs.Writes.{Writes};
