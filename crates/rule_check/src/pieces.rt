@@ -1,6 +1,6 @@
 //! A round of instances, in pieces that are shared among workers.
 
-ghost use Rattle.std.specs.Prelude.{◌≡◌, ◌≤◌, ◌+◌, IfOk, length};
+ghost use Rattle.std.specs.Prelude.{◌≤◌, ◌+◌, IfOk, length};
 ghost use Rattle.crew.specs.Right.{AreRight};
 ghost use Rattle.rule_check.specs.Pieces.{CanBeTried, IsLeastFalse, IsLeastOfPiece, start_of, end_of};
 

@@ -1,9 +1,8 @@
 //! A rule of two voters and three alternatives, and two axioms of which it fails the second.
 
-ghost use Rattle.std.specs.Prelude.{◌≡◌, ◌≤◌, [], ◌∷◌, nat_lt, codes, length, IfOk, IsTrue};
+ghost use Rattle.std.specs.Prelude.{◌≡◌, ◌≤◌, nat_lt, codes, length, IfOk, IsTrue};
 ghost use Rattle.std.specs.List.{list_all};
-ghost use Rattle.vocab.specs.Titled.{Titled};
-ghost use Rattle.vocab.specs.Tree.{tree_of, All, Leaf, Equal, WinsAt, Const, Var};
+ghost use Rattle.vocab.specs.Tree.{All, Leaf, Equal, WinsAt, Const, Var};
 ghost use Rattle.meaning.specs.Truth.{is_rule};
 
 use crate::check_rule;

@@ -1,0 +1,181 @@
+-- The names, the rules and the witnesses of a report, and all of it.
+use Rattle.std.proofs.Common.{◌≡◌, refl, sym, ap, ap₂, ◌∙◌, subst, ℕ, zero, suc, ◌+◌, ◌<◌, inl, inr, Bool, true, length, List, [], ◌∷◌, ◌++◌, map, drop, get_or, Some, codes, add-one, append-nil, append_assoc, drop-cons, ltb-true, arith}
+use Rattle.std.specs.Prelude.{nat_lt, slice_get, slice_index}
+use Rattle.std.specs.List.{list_all}
+use Rattle.std.specs.Cmp.Lexicographic.{pointwise}
+use Rattle.std.proofs.lemmas.Bool.{and_parts, cases_lt, false≢true}
+use Rattle.std.proofs.lemmas.Grind.{flat_map-append}
+use Rattle.std.proofs.lemmas.List.{drop_all}
+use Rattle.vocab.specs.declared.kinds.Sort.TheVariants.{Profile}
+use Rattle.vocab.specs.Size.{Extent, sort_count, outcome_count}
+use Rattle.vocab.specs.Study.{Question}
+use Rattle.vocab.specs.Titled.{Titled}
+use Rattle.meaning.specs.declared.cores.Witness.{Witness}
+use Rattle.meaning.specs.declared.cores.Witness.TheVariants.{Rule, Open}
+use Rattle.meaning.specs.declared.stories.Lemma.{Lemma}
+use Rattle.meaning.specs.Texts.{kind_text, profile_text, outcome_text}
+use Rattle.meaning.specs.Truth.{is_rule}
+use Rattle.verdicts.specs.declared.verdicts.Verdict.{Verdict}
+use Rattle.verdicts.specs.declared.verdicts.Verdict.TheVariants.{Possible, Impossible, Undecided}
+use Rattle.verdicts.specs.Lines.{AxiomsAre, End, name_at, title_of}
+use Rattle.verdicts.specs.Numbers.{number_text}
+use Rattle.verdicts.specs.Report.{row_lines, lemma_lines, story_lines, head_lines, witness_lines, all_witness_lines, verdict_lines, report_text}
+use Rattle.report_text.specs.Pieces.{count_text, ended, lines_text, spaced, spelled}
+use Rattle.report_text.proofs.WordLemmas.{joined_spaced}
+
+-- the item at a place
+pub at_item : {X : Type 0} (xs : List X) (i : ℕ) (x : X) → slice_get xs i ≡ Some x → x ≡ get_or xs i x
+at_item [] i x e = refl
+at_item (y ∷ xs) zero x e = let same : y ≡ x = cc in sym same
+at_item (y ∷ xs) (suc i) x e = at_item xs i x e
+
+-- ---- names
+
+pub names_spelled : {X : Type 0} (f : X → List ℕ) (n : ℕ) (xs : List X) → spelled (λ _ x. 32 ∷ f x) n xs ≡ spaced (map f xs)
+names_spelled f n [] = refl
+names_spelled f n (x ∷ xs) = ap (λ (rest : List ℕ). (32 ∷ f x) ++ rest) (names_spelled f (n + 1) xs)
+
+pub name_there : (axioms : List Titled) (k : ℕ) (a : Titled) → slice_get axioms k ≡ Some a → a.name ≡ name_at axioms k
+name_there axioms k a at = sym (ap title_of at)
+
+-- the lines that say what the study is
+pub head_text : (study : Question) →
+    (codes "bench report 1\nkind " ++ (kind_text study.size.kind ++ 10 ∷ [])) ++ (count_text (codes "voters ") study.size.voters ++ (count_text (codes "alternatives ") study.size.alternatives ++ (codes "axioms" ++ (spelled (λ _ (a : Titled). 32 ∷ a.name) 0 study.axioms ++ 10 ∷ []))))
+    ≡ lines_text study (head_lines study)
+head_text study =
+    let names : codes "axioms" ++ (spelled (λ _ (a : Titled). 32 ∷ a.name) 0 study.axioms ++ 10 ∷ []) ≡ lines_text study (AxiomsAre (map (λ (a : Titled). a.name) study.axioms) ∷ [])
+    = ap (λ (words : List ℕ). codes "axioms" ++ (words ++ 10 ∷ [])) (names_spelled (λ (a : Titled). a.name) 0 study.axioms)
+    ∙ ap (λ (words : List ℕ). words ++ 10 ∷ []) (sym (joined_spaced (codes "axioms") (map (λ (a : Titled). a.name) study.axioms)))
+    ∙ sym (append-nil (ended study (AxiomsAre (map (λ (a : Titled). a.name) study.axioms)))) in
+    ap (λ (rest : List ℕ). (codes "bench report 1\nkind " ++ (kind_text study.size.kind ++ 10 ∷ [])) ++ (count_text (codes "voters ") study.size.voters ++ (count_text (codes "alternatives ") study.size.alternatives ++ rest))) names
+
+-- ---- rules
+
+-- the row of a profile with an outcome
+abbrev pub row_text : Extent → ℕ → ℕ → List ℕ
+row_text size p o = profile_text size p ++ (32 ∷ (outcome_text size o ++ 10 ∷ []))
+
+pub from_zero : (n : ℕ) → n ≡ 0 + n
+from_zero n = omega arith
+
+pub row_is : (size : Extent) (p o : ℕ) (profile outcome : List ℕ) → profile ≡ profile_text size p → outcome ≡ outcome_text size o → profile ++ (32 ∷ (outcome ++ 10 ∷ [])) ≡ row_text size (0 + p) o
+row_is size p o profile outcome a b = ap₂ (λ (x y : List ℕ). x ++ (32 ∷ (y ++ 10 ∷ []))) a b ∙ ap (λ (n : ℕ). row_text size n o) (from_zero p)
+
+in_list : (P : ℕ → Bool) (xs : List ℕ) (i x : ℕ) → list_all P xs ≡ true → slice_get xs i ≡ Some x → P x ≡ true
+in_list P [] i x h at = cc
+in_list P (y ∷ xs) zero x h at = let same : y ≡ x = cc in subst (λ z. P z ≡ true) same (and_parts (P y) (list_all P xs) h).0
+in_list P (y ∷ xs) (suc i) x h at = in_list P xs i x (and_parts (P y) (list_all P xs) h).1 at
+
+pub outcome_there : (size : Extent) (table : List ℕ) (p o : ℕ) → is_rule size table ≡ true → slice_get table p ≡ Some o → o < outcome_count size.kind size.alternatives
+outcome_there size table p o rule at = ltb-true o _ (in_list (λ q. nat_lt q (outcome_count size.kind size.alternatives)) table p o (and_parts _ (list_all (λ q. nat_lt q (outcome_count size.kind size.alternatives)) table) rule).1 at)
+
+pub rows_spelled : (study : Question) (n : ℕ) (table : List ℕ) → spelled (row_text study.size) n table ≡ lines_text study (row_lines n table)
+rows_spelled study n [] = refl
+rows_spelled study n (o ∷ table) = ap₂ (λ (a b : List ℕ). a ++ b) (sym (append_assoc (profile_text study.size n) (32 ∷ outcome_text study.size o) (10 ∷ []))) (rows_spelled study (n + 1) table)
+
+module _ (study : Question) (size : Extent) (same : study.size ≡ size) where
+  pub rule_witness : (k : ℕ) (table : List ℕ) → codes "without " ++ (name_at study.axioms k ++ (count_text (codes " rule ") (sort_count size Profile) ++ spelled (row_text size) 0 table)) ≡ lines_text study (witness_lines study k (Rule table))
+  rule_witness k table =
+      let count : List ℕ = codes " rule " ++ number_text (sort_count study.size Profile) in
+      let rows : spelled (row_text study.size) 0 table ≡ lines_text study (row_lines 0 table) = rows_spelled study 0 table in
+      ap (λ (e : Extent). codes "without " ++ (name_at study.axioms k ++ (count_text (codes " rule ") (sort_count e Profile) ++ spelled (row_text e) 0 table))) (sym same)
+      ∙ ap (λ (rest : List ℕ). codes "without " ++ (name_at study.axioms k ++ ((count ++ 10 ∷ []) ++ rest))) rows
+      ∙ ap (λ (rest : List ℕ). codes "without " ++ rest) (regroup (name_at study.axioms k) count (10 ∷ []) (lines_text study (row_lines 0 table)))
+    where
+      regroup : (a b c d : List ℕ) → a ++ ((b ++ c) ++ d) ≡ ((a ++ b) ++ c) ++ d
+      regroup a b c d = simp append_assoc
+
+  pub open_witness : (k limit : ℕ) → codes "without " ++ (name_at study.axioms k ++ count_text (codes " open ") limit) ≡ lines_text study (witness_lines study k (Open limit))
+  open_witness k limit = ap (λ (rest : List ℕ). codes "without " ++ rest) (regroup (name_at study.axioms k) (codes " open " ++ number_text limit) (10 ∷ []))
+    where
+      regroup : (a b c : List ℕ) → a ++ (b ++ c) ≡ ((a ++ b) ++ c) ++ []
+      regroup a b c = rw (append-nil ((a ++ b) ++ c)) (simp append_assoc)
+
+-- the witness of the axiom of a core at a place
+abbrev pub witness_text : Question → List ℕ → ℕ → Witness → List ℕ
+witness_text study core i witness = lines_text study (witness_lines study (slice_index core i) witness)
+
+no_witness : (study : Question) (core : List ℕ) → [] ≡ lines_text study (all_witness_lines study core [])
+no_witness study [] = refl
+no_witness study (k ∷ core) = refl
+
+pub witnesses_spelled : (study : Question) (f : ℕ → Witness → Bool) (core : List ℕ) (n : ℕ) (witnesses : List Witness) → pointwise f (drop n core) witnesses ≡ true
+    → spelled (witness_text study core) n witnesses ≡ lines_text study (all_witness_lines study (drop n core) witnesses)
+witnesses_spelled study f core n [] h = no_witness study (drop n core)
+witnesses_spelled study f core n (w ∷ witnesses) h = elim (cases_lt n (length core)) [
+  | inl less ↦
+      let next : drop n core ≡ slice_index core n ∷ drop (n + 1) core = rw (add-one, drop-cons core n 0) refl in
+      let more : pointwise f (drop (n + 1) core) witnesses ≡ true = (and_parts (f (slice_index core n) w) (pointwise f (drop (n + 1) core) witnesses) (rw next at h)).1 in
+      ap (λ (rest : List ℕ). witness_text study core n w ++ rest) (witnesses_spelled study f core (n + 1) witnesses more)
+      ∙ sym (flat_map-append (ended study) (witness_lines study (slice_index core n) w) (all_witness_lines study (drop (n + 1) core) witnesses))
+      ∙ ap (λ (left : List ℕ). lines_text study (all_witness_lines study left (w ∷ witnesses))) (sym next)
+  | inr past ↦ absurd (false≢true (rw (drop_all n core past) at h))
+]
+
+pub witness_there : (f : ℕ → Witness → Bool) (core : List ℕ) (witnesses : List Witness) (i : ℕ) (d : Witness) → pointwise f core witnesses ≡ true → i < length witnesses → f (slice_index core i) (get_or witnesses i d) ≡ true
+witness_there f core [] i d h less = absurd (omega arith)
+witness_there f [] (w ∷ witnesses) i d h less = absurd (false≢true h)
+witness_there f (k ∷ core) (w ∷ witnesses) zero d h less = (and_parts (f k w) (pointwise f core witnesses) h).0
+witness_there f (k ∷ core) (w ∷ witnesses) (suc i) d h less = witness_there f core witnesses i d (and_parts (f k w) (pointwise f core witnesses) h).1 (omega arith)
+
+pub as_many : (f : ℕ → Witness → Bool) (core : List ℕ) (witnesses : List Witness) → pointwise f core witnesses ≡ true → length core ≡ length witnesses
+as_many f [] [] h = refl
+as_many f [] (w ∷ witnesses) h = absurd (false≢true h)
+as_many f (k ∷ core) [] h = absurd (false≢true h)
+as_many f (k ∷ core) (w ∷ witnesses) h = ap suc (as_many f core witnesses (and_parts (f k w) (pointwise f core witnesses) h).1)
+
+-- ---- reports
+
+-- what the study is, the verdict and the end
+report_parts : (study : Question) (verdict : Verdict) → report_text study verdict ≡ (lines_text study (head_lines study) ++ lines_text study (verdict_lines study verdict)) ++ codes "end\n"
+report_parts study verdict =
+    flat_map-append (ended study) (head_lines study ++ verdict_lines study verdict) (End ∷ [])
+    ∙ ap (λ (front : List ℕ). front ++ codes "end\n") (flat_map-append (ended study) (head_lines study) (verdict_lines study verdict))
+
+pub undecided_text : (study : Question) → lines_text study (head_lines study) ++ (count_text (codes "verdict undecided\nconflicts ") study.conflicts ++ codes "end\n") ≡ report_text study Undecided
+undecided_text study = regroup (lines_text study (head_lines study)) (codes "verdict undecided\nconflicts " ++ (number_text study.conflicts ++ 10 ∷ [])) (codes "end\n") ∙ sym (report_parts study Undecided)
+  where
+    regroup : (a b c : List ℕ) → a ++ (b ++ c) ≡ (a ++ (b ++ [])) ++ c
+    regroup a b c = ap (λ (b : List ℕ). a ++ (b ++ c)) (sym (append-nil b)) ∙ sym (append_assoc a (b ++ []) c)
+
+pub possible_text : (study : Question) (size : Extent) → study.size ≡ size → (table : List ℕ) →
+    lines_text study (head_lines study) ++ (count_text (codes "verdict possible\nrule ") (sort_count size Profile) ++ (spelled (row_text size) 0 table ++ codes "end\n")) ≡ report_text study (Possible table)
+possible_text study size same table =
+    ap (λ (e : Extent). lines_text study (head_lines study) ++ (count_text (codes "verdict possible\nrule ") (sort_count e Profile) ++ (spelled (row_text e) 0 table ++ codes "end\n"))) (sym same)
+    ∙ ap (λ (rows : List ℕ). lines_text study (head_lines study) ++ (count_text (codes "verdict possible\nrule ") (sort_count study.size Profile) ++ (rows ++ codes "end\n"))) (rows_spelled study 0 table)
+    ∙ regroup (lines_text study (head_lines study)) (count_text (codes "verdict possible\nrule ") (sort_count study.size Profile)) (lines_text study (row_lines 0 table)) (codes "end\n")
+    ∙ sym (report_parts study (Possible table))
+  where
+    regroup : (a b c d : List ℕ) → a ++ (b ++ (c ++ d)) ≡ (a ++ (b ++ c)) ++ d
+    regroup a b c d = simp append_assoc
+
+story_spelled : (study : Question) (n : ℕ) (story : List Lemma) → spelled (λ number lemma. lines_text study (lemma_lines number lemma)) n story ≡ lines_text study (story_lines n story)
+story_spelled study n [] = refl
+story_spelled study n (lemma ∷ story) =
+    ap (λ (rest : List ℕ). lines_text study (lemma_lines n lemma) ++ rest) (story_spelled study (n + 1) story)
+    ∙ sym (flat_map-append (ended study) (lemma_lines n lemma) (story_lines (n + 1) story))
+
+-- the core, the number of lemmas, the story and the witnesses
+claim_parts : (names lemmas story witnesses : List ℕ) →
+    ((codes "verdict impossible\ncore" ++ names) ++ ((10 ∷ lemmas) ++ story)) ++ witnesses ≡ codes "verdict impossible\n" ++ (((codes "core" ++ names) ++ 10 ∷ []) ++ (lemmas ++ (story ++ witnesses)))
+claim_parts names lemmas story witnesses = simp append_assoc
+
+pub impossible_text : (study : Question) (core : List ℕ) (story : List Lemma) (witnesses : List Witness) →
+    (lines_text study (head_lines study) ++ ((codes "verdict impossible\ncore" ++ spelled (λ _ (k : ℕ). 32 ∷ name_at study.axioms k) 0 core) ++ (count_text (codes "\nlemmas ") (length story) ++ spelled (λ number lemma. lines_text study (lemma_lines number lemma)) 1 story)))
+    ++ (lines_text study (all_witness_lines study core witnesses) ++ codes "end\n")
+    ≡ report_text study (Impossible core story witnesses)
+impossible_text study core story witnesses =
+    let head : List ℕ = lines_text study (head_lines study) in
+    let names : List ℕ = spaced (map (name_at study.axioms) core) in
+    let lemmas : List ℕ = count_text (codes "lemmas ") (length story) in
+    let told : List ℕ = lines_text study (story_lines 1 story) in
+    let marks : List ℕ = lines_text study (all_witness_lines study core witnesses) in
+    ap₂ (λ (a b : List ℕ). (head ++ ((codes "verdict impossible\ncore" ++ a) ++ ((10 ∷ lemmas) ++ b))) ++ (marks ++ codes "end\n")) (names_spelled (name_at study.axioms) 0 core) (story_spelled study 1 story)
+    ∙ regroup head ((codes "verdict impossible\ncore" ++ names) ++ ((10 ∷ lemmas) ++ told)) marks (codes "end\n")
+    ∙ ap (λ (claim : List ℕ). (head ++ claim) ++ codes "end\n")
+    (claim_parts names lemmas told marks
+    ∙ ap₂ (λ (a b : List ℕ). codes "verdict impossible\n" ++ ((a ++ 10 ∷ []) ++ (lemmas ++ b))) (sym (joined_spaced (codes "core") (map (name_at study.axioms) core))) (sym (flat_map-append (ended study) (story_lines 1 story) (all_witness_lines study core witnesses))))
+    ∙ sym (report_parts study (Impossible core story witnesses))
+  where
+    regroup : (a b c d : List ℕ) → (a ++ b) ++ (c ++ d) ≡ (a ++ (b ++ c)) ++ d
+    regroup a b c d = simp append_assoc

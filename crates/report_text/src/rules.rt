@@ -1,0 +1,91 @@
+//! Rules row by row, and the witnesses of a core.
+
+ghost use Rattle.std.specs.Prelude.{◌≡◌, ◌++◌, ◌∷◌, ◌<◌, [], nat_lt, length, IsTrue};
+ghost use Rattle.std.specs.List.{list_all};
+ghost use Rattle.std.specs.Cmp.Lexicographic.{pointwise};
+ghost use Rattle.meaning.specs.Texts.{outcome_text, profile_text};
+ghost use Rattle.meaning.specs.Truth.{is_rule};
+ghost use Rattle.verdicts.specs.Report.{all_witness_lines, is_witness_text, witness_lines};
+ghost use Rattle.report_text.specs.Pieces.{lines_text, spelled};
+ghost use Rattle.report_text.specs.Writes.{Writes};
+
+use crate::texts::{Count, Raw, Text, Two};
+use edge::{Failed, Sink};
+use meaning::Witness;
+use outcomes::OutcomeKind;
+use vocab::{Study, Table};
+
+/// The rows of a rule.
+#[derive(Drop)]
+pub(crate) struct Rows<'a, K> {
+    pub(crate) kind: &'a K,
+    pub(crate) table: &'a Table,
+}
+
+impl<K: OutcomeKind> Text for Rows<'_, K> {
+    ghost can = { λ rows. IsTrue (is_rule (K.size rows.kind.now) rows.table.now) };
+
+    ghost text = { λ rows. spelled (λ p o. profile_text (K.size rows.kind.now) p ++ (32 ∷ (outcome_text (K.size rows.kind.now) o ++ 10 ∷ []))) 0 rows.table.now };
+
+    fn write<O: Sink>(&self, out: &mut O) -> Result<(), Failed> {
+        for p in 0..self.table.len() {
+            let profile = self.kind.space().profile_text(p as u32);
+            let outcome = self.kind.text(u32::from(*self.table.get(p)));
+            let end = Two(Raw(outcome.bytes()), Raw(b"\n"));
+            Two(Raw(profile.bytes()), Two(Raw(b" "), end)).write(out)?;
+        }
+        Ok(())
+    }
+}
+
+/// The witness of the axiom at a place: a rule with its rows, or an open mark.
+fn write_witness<K: OutcomeKind, O: Sink>(
+    out: &mut O,
+    kind: &K,
+    study: &Study,
+    place: u32,
+    witness: &Witness,
+) -> Result<(), Failed>
+    requires size { study.now.size ≡ K.size kind.now }
+    requires place { place < length study.now.axioms }
+    requires can { IsTrue (is_witness_text study.now place witness.now) }
+    ensures { Writes (O.taken out.old) (O.taken out.new) (O.faults out.old) (O.faults out.new) result (lines_text study.now (witness_lines study.now place witness.now)) }
+{
+    let name = study.axioms().get(place as usize).name();
+    match witness {
+        Witness::Rule(table) => {
+            let count = Count {
+                key: b" rule ",
+                count: u64::from(kind.space().count()),
+            };
+            let rows = Two(count, Rows { kind, table });
+            Two(Raw(b"without "), Two(Raw(name.bytes()), rows)).write(out)
+        }
+        Witness::Open(limit) => {
+            let open = Count {
+                key: b" open ",
+                count: u64::from(*limit),
+            };
+            Two(Raw(b"without "), Two(Raw(name.bytes()), open)).write(out)
+        }
+    }
+}
+
+/// A witness for each axiom of a core.
+pub(crate) fn write_witnesses<K: OutcomeKind, O: Sink>(
+    out: &mut O,
+    kind: &K,
+    study: &Study,
+    core: &[u32],
+    witnesses: &[Witness],
+) -> Result<(), Failed>
+    requires size { study.now.size ≡ K.size kind.now }
+    requires core { IsTrue (list_all (λ k. nat_lt k (length study.now.axioms)) core.now) }
+    requires can { IsTrue (pointwise (is_witness_text study.now) core.now witnesses.now) }
+    ensures { Writes (O.taken out.old) (O.taken out.new) (O.faults out.old) (O.faults out.new) result (lines_text study.now (all_witness_lines study.now core.now witnesses.now)) }
+{
+    for place in 0..witnesses.len() {
+        write_witness(out, kind, study, core[place], &witnesses[place])?;
+    }
+    Ok(())
+}

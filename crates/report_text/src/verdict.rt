@@ -1,0 +1,109 @@
+//! The text of a verdict.
+
+ghost use Rattle.std.specs.Prelude.{◌≡◌, IsTrue, OnOk, OnErr};
+ghost use Rattle.std.specs.Io.KnownBytes.{Appends};
+ghost use Rattle.edge.specs.Faults.{HasCause};
+ghost use Rattle.edge.specs.Told.{AppendsPrefix, TellsAsBefore};
+ghost use Rattle.verdicts.specs.declared.verdicts.Verdict.TheVariants.{Impossible};
+ghost use Rattle.verdicts.specs.Report.{has_text, report_text};
+ghost use Rattle.report_text.specs.Writes.{Writes};
+
+use crate::head::{CoreNames, Head};
+use crate::lines::StoryLines;
+use crate::rules::{Rows, write_witnesses};
+use crate::texts::{Count, Raw, Text, Two};
+use crate::words::Subject;
+use edge::{Failed, Sink};
+use lists::Items;
+use meaning::{Lemma, Witness};
+use outcomes::OutcomeKind;
+use verdicts::Verdict;
+use vocab::{Places, Study};
+
+/// Writes the text of an impossibility.
+fn write_impossible<'a, K: OutcomeKind, O: Sink>(
+    out: &mut O,
+    kind: &'a K,
+    study: &'a Study,
+    core: &'a Places,
+    story: &'a Items<Lemma>,
+    witnesses: &Items<Witness>,
+) -> Result<(), Failed>
+    requires size { study.now.size ≡ K.size kind.now }
+    requires has_text { IsTrue (has_text study.now (Impossible core.now story.now witnesses.now)) }
+    ensures { Writes (O.taken out.old) (O.taken out.new) (O.faults out.old) (O.faults out.new) result (report_text study.now (Impossible core.now story.now witnesses.now)) }
+{
+    let names = CoreNames {
+        study,
+        core: core.as_slice(),
+    };
+    let lemmas = Count {
+        key: b"\nlemmas ",
+        count: story.len() as u64,
+    };
+    let of = Subject {
+        study,
+        space: kind.space(),
+    };
+    let lines = StoryLines {
+        of,
+        lemmas: story.as_slice(),
+    };
+    let claim = Two(Raw(b"verdict impossible\ncore"), names);
+    Two(Head { study }, Two(claim, Two(lemmas, lines))).write(out)?;
+    write_witnesses(out, kind, study, core.as_slice(), witnesses.as_slice())?;
+    Raw(b"end\n").write(out)
+}
+
+/// Writes the text of a verdict.
+fn write_verdict<K: OutcomeKind, O: Sink>(
+    out: &mut O,
+    kind: &K,
+    study: &Study,
+    verdict: &Verdict,
+) -> Result<(), Failed>
+    requires size { study.now.size ≡ K.size kind.now }
+    requires has_text { IsTrue (has_text study.now verdict.now) }
+    ensures { Writes (O.taken out.old) (O.taken out.new) (O.faults out.old) (O.faults out.new) result (report_text study.now verdict.now) }
+{
+    match verdict {
+        Verdict::Possible(table) => {
+            let count = Count {
+                key: b"verdict possible\nrule ",
+                count: u64::from(kind.space().count()),
+            };
+            let rows = Two(Rows { kind, table }, Raw(b"end\n"));
+            Two(Head { study }, Two(count, rows)).write(out)
+        }
+        Verdict::Impossible {
+            core,
+            story,
+            witnesses,
+        } => write_impossible(out, kind, study, core, story, witnesses),
+        Verdict::Undecided => {
+            let limit = Count {
+                key: b"verdict undecided\nconflicts ",
+                count: u64::from(study.conflicts()),
+            };
+            Two(Head { study }, Two(limit, Raw(b"end\n"))).write(out)
+        }
+    }
+}
+
+/// Writes the text of a verdict that has one. Where the sink fails, the front of the text was written. No memory is
+/// taken.
+pub fn print<K: OutcomeKind, O: Sink>(
+    kind: &K,
+    study: &Study,
+    verdict: &Verdict,
+    out: &mut O,
+) -> Result<(), Failed>
+    requires size { study.now.size ≡ K.size kind.now }
+    requires has_text { IsTrue (has_text study.now verdict.now) }
+    ensures ok { OnOk result (Appends (O.taken out.old) (O.taken out.new) (report_text study.now verdict.now)) }
+    ensures err { OnErr result (AppendsPrefix (O.taken out.old) (O.taken out.new) (report_text study.now verdict.now)) }
+    ensures tells { TellsAsBefore (O.taken out.old) (O.taken out.new) }
+    ensures cause { HasCause (O.faults out.old) (O.faults out.new) result }
+{
+    write_verdict(out, kind, study, verdict)
+}
