@@ -1,6 +1,6 @@
 -- The first axiom of a name, and the names of all axioms.
-use Rattle.std.proofs.Common.{◌≡◌, refl, sym, ap, ap₂, ◌∙◌, ℕ, zero, suc, ◌+◌, ◌<◌, ◌≤◌, Bool, true, false, cond, not, ◌&&◌, inl, inr, Option, Some, None, option_map, option_and_then, List, [], ◌∷◌, ◌++◌, map, length, drop, arith, lt-ltb, append_assoc}
-use Rattle.std.specs.Prelude.{nat_lt, slice_get}
+use Rattle.std.proofs.Common.{◌≡◌, refl, sym, ap, ap₂, ◌∙◌, ℕ, zero, suc, ◌+◌, ◌<◌, ◌≤◌, Bool, true, false, cond, ◌&&◌, inl, inr, Option, Some, None, List, [], ◌∷◌, map, length, drop, arith}
+use Rattle.std.specs.Prelude.{slice_get}
 use Rattle.std.specs.Cmp.Lexicographic.{pointwise}
 use Rattle.std.specs.Str.{bytes_eq}
 use Rattle.std.proofs.lemmas.Bool.{cases_lt}
@@ -10,7 +10,6 @@ use Rattle.meaning.specs.Space.{up_from}
 use Rattle.verdicts.specs.Texts.{named_by}
 use Rattle.verdicts.specs.Lines.{title_of, name_at}
 use Rattle.verdicts.specs.Reading.{read_axiom}
-use Rattle.verdicts.specs.Faults.{places_of, is_core}
 
 -- no number below k has the text
 abbrev pub IsPassed : (ℕ → List ℕ) → List ℕ → ℕ → ℕ → Type 0
@@ -76,37 +75,3 @@ names_more axioms k a words more word b h e t =
 abbrev pub rises : ℕ → ℕ → Option (List ℕ) → Bool
 rises from end None = false
 rises from end (Some core) = is_core_from from end core
-
-rises_more : (from end k : ℕ) (o : Option (List ℕ)) → k < end → (b : Bool) → nat_lt k from ≡ b → rises from end (option_map (λ core. k ∷ core) o) ≡ not b && rises (k + 1) end o
-rises_more from end k None l true h = refl
-rises_more from end k None l false h = refl
-rises_more from end k (Some core) l b h = ap₂ (λ s t. not s && t && is_core_from (k + 1) end core) h (lt-ltb k end l) ∙ by_test b
-  where
-    by_test : (b : Bool) → (not b && true && is_core_from (k + 1) end core) ≡ (not b && is_core_from (k + 1) end core)
-    by_test true = refl
-    by_test false = refl
-
-module _ (axioms : List Titled) where
-  named_place : (words more : List (List ℕ)) (word : List ℕ) (k : ℕ) → words ≡ word ∷ more → Some k ≡ read_axiom axioms word → places_of axioms words ≡ option_map (λ core. k ∷ core) (places_of axioms more)
-  named_place words more word k e h = ap (places_of axioms) e ∙ ap (option_and_then (λ k. option_map (λ core. k ∷ core) (places_of axioms more))) (sym h)
-
-  pub unnamed_place : (words more : List (List ℕ)) (word : List ℕ) → words ≡ word ∷ more → None ≡ read_axiom axioms word → places_of axioms words ≡ None
-  unnamed_place words more word e h = ap (places_of axioms) e ∙ ap (option_and_then (λ k. option_map (λ core. k ∷ core) (places_of axioms more))) (sym h)
-
-  -- the next name is that of an axiom, before which the last one stands or not
-  pub core_more : (from k : ℕ) (words more : List (List ℕ)) (word : List ℕ) (b : Bool) → words ≡ word ∷ more → Some k ≡ read_axiom axioms word → k < length axioms → nat_lt k from ≡ b
-      → rises from (length axioms) (places_of axioms words) ≡ not b && rises (k + 1) (length axioms) (places_of axioms more)
-  core_more from k words more word b e h l t = ap (rises from (length axioms)) (named_place words more word k e h) ∙ rises_more from (length axioms) k (places_of axioms more) l b t
-
-  pub core_starts : (o : Option (List ℕ)) → is_core (length axioms) o ≡ rises 0 (length axioms) o
-  core_starts None = refl
-  core_starts (Some core) = refl
-
-  -- places that are held, and those of the words that are left
-  pub places_more : (core : List ℕ) (k : ℕ) (words more : List (List ℕ)) (word : List ℕ) → words ≡ word ∷ more → Some k ≡ read_axiom axioms word
-      → option_map (λ others. core ++ others) (places_of axioms words) ≡ option_map (λ others. (core ++ k ∷ []) ++ others) (places_of axioms more)
-  places_more core k words more word e h = ap (option_map (λ others. core ++ others)) (named_place words more word k e h) ∙ joined (places_of axioms more)
-    where
-      joined : (o : Option (List ℕ)) → option_map (λ others. core ++ others) (option_map (λ others. k ∷ others) o) ≡ option_map (λ others. (core ++ k ∷ []) ++ others) o
-      joined None = refl
-      joined (Some others) = ap Some (sym (append_assoc core (k ∷ []) others))

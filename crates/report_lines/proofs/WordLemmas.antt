@@ -20,13 +20,6 @@ end_of text = position_or_len (λ b. b == 32) text
 pub end_within : (text : List ℕ) → end_of text ≤ length text
 end_within text = prefix_len-le-length (λ b. not (b == 32)) text
 
-pub end_some : (text : List ℕ) (k : ℕ) → Some k ≡ position (λ b. b == 32) text → k ≡ end_of text
-end_some text k e = by_test (nat_lt (end_of text) (length text)) e
-  where
-    by_test : (t : Bool) → Some k ≡ cond t (Some (end_of text)) None → k ≡ end_of text
-    by_test true e = cc
-    by_test false e = absurd (cc)
-
 pub end_none : (text : List ℕ) → None ≡ position (λ b. b == 32) text → length text ≡ end_of text
 end_none text e = by_test (nat_lt (end_of text) (length text)) refl e
   where

@@ -19,3 +19,6 @@ pub use core_line::read_core;
 pub use lines::Line;
 pub use places::{Confirmed, Place};
 pub use reading::read_line;
+
+#[cfg(test)]
+mod tests;

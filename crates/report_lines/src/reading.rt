@@ -13,6 +13,9 @@ use crate::{head, rules, story};
 use outcomes::OutcomeKind;
 use vocab::Study;
 
+/// The most bytes of a line.
+const LONGEST: usize = 4096;
+
 /// The line that is wanted at the place.
 fn read_at<K: OutcomeKind>(
     kind: &K,
@@ -60,7 +63,7 @@ pub fn read_line<K: OutcomeKind>(
     ensures { (s : Standing) → place ≡ held_place s.place → number ≡ length s.earlier + 1 →
         result ≡ option_map (held_line study.now) (read_line study.now s text.now) }
 {
-    if text.len() > 4096 {
+    if text.len() > LONGEST {
         None
     } else {
         read_at(kind, study, place, number, text)

@@ -66,10 +66,10 @@ fn read_alternative(space: &Space, word: &[u8]) -> Option<u32>
     ensures { result ≡ read_value space.now Alt word.now }
 {
     profiles::laws::spaces_have_sizes(space);
-    let [byte] = word else {
+    if word.len() != 1 {
         return None;
-    };
-    match alternative_of(space, *byte) {
+    }
+    match alternative_of(space, word[0]) {
         Some(alternative) => Some(u32::from(alternative)),
         None => None,
     }
