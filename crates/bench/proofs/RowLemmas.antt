@@ -87,9 +87,9 @@ module _ (told : Option Files) (words : List (List ℕ)) (s : ℕ) (t : List ℕ
   pub right_clause : IfSome told (λ files. Lawful words files s t) → Appends a b t
       → IfSome told (λ files. (study : Question) (report : List ℕ) (verdict : Verdict) → IsCheckOver words files study report → IsReport study verdict report → length report ≤ most_report_bytes → s ≤ 4 → Says s a b 0 (answer_text (Confirmed verdict)))
   right_clause is written = map_told told _ _ (λ files h study report verdict over right fits low.
-    let confirmed = right_judged study report verdict (read_is_reportable over.bytes study over.read) right fits in
-    let said = says words files s _ t _ a b h written (answered_report words files study report over) in
-    subst (λ (x : Answer). Says s a b (answer_status x) (answer_text x)) confirmed said) is
+      let confirmed = right_judged study report verdict (read_is_reportable over.bytes study over.read) right fits in
+      let said = says words files s _ t _ a b h written (answered_report words files study report over) in
+      subst (λ (x : Answer). Says s a b (answer_status x) (answer_text x)) confirmed said) is
 
   pub zero_clause : IfSome told (λ files. Lawful words files s t)
       → IfSome told (λ files. (study report : List ℕ) → IsCheck words study report → s ≡ 0 → IsCheckOfRight words files)

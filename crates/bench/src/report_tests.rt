@@ -61,10 +61,12 @@ fn is_answered<R: Threads + Sync>(
     let (one, by_one) = check(rt, alloc, 1, &Open, study, report)?;
     let (many, by_many) = check(rt, alloc, 16, &Open, study, report)?;
     let line = format!(in alloc; "{text}\n")?;
-    Ok(one == status
-        && many == status
-        && by_one.as_slice() == line.as_bytes()
-        && by_many.as_slice() == line.as_bytes())
+    Ok(
+        one == status
+            && many == status
+            && by_one.as_slice() == line.as_bytes()
+            && by_many.as_slice() == line.as_bytes(),
+    )
 }
 
 /// The text with other lines in place of the line of this number, from 1.
@@ -85,7 +87,8 @@ fn changed(alloc: Global, text: &str, number: usize, lines: &str) -> Result<Stri
 
 #[test]
 fn stories_are_confirmed(rt: HostRuntime) -> Result<(), Fail> {
-    let alone = "kind = \"choice\"\nvoters = 1\nalternatives = 1\naxioms = [\"non_dictatorship\"]\n";
+    let alone =
+        "kind = \"choice\"\nvoters = 1\nalternatives = 1\naxioms = [\"non_dictatorship\"]\n";
     let alone_story =
         "bench report 1\nkind choice\nvoters 1\nalternatives 1\naxioms non_dictatorship\nverdict impossible\ncore non_dictatorship\nlemmas 1\nlemma 1\nclash by axiom non_dictatorship 1\nwithout non_dictatorship rule 1\na a\nend\n";
     let cases = [
@@ -110,12 +113,20 @@ fn changed_stories_are_refused(rt: HostRuntime) -> Result<(), Fail> {
         (7, "core neutrality anonymity\n", "refused line 7: core"),
         (8, "lemmas 0\n", "refused line 8: form"),
         (8, "lemmas 3\n", "refused line 20: form"),
-        (12, "so !b@ba|ab by axiom neutrality ab|ba a b a\n", "refused line 12: not_forced"),
+        (
+            12,
+            "so !b@ba|ab by axiom neutrality ab|ba a b a\n",
+            "refused line 12: not_forced",
+        ),
         (15, "so !a@ab|ba by lemma 2\n", "refused line 15: later"),
         (15, "so !a@ab|ba by lemma 0\n", "refused line 15: form"),
         (15, "suppose b@ab|ba\n", "refused line 15: supposes"),
         (16, "so !a@ab|ba by lemma 1\n", "refused line 16: known"),
-        (16, "so b@ab|ba by outcome ab|ba \n", "refused line 16: form"),
+        (
+            16,
+            "so b@ab|ba by outcome ab|ba \n",
+            "refused line 16: form",
+        ),
         (20, "without neutrality rule 4\n", "refused line 20: core"),
         (20, "without anonymity rule 3\n", "refused line 20: row"),
         (20, "without anonymity open 9\n", "refused line 20: open"),
@@ -131,7 +142,13 @@ fn changed_stories_are_refused(rt: HostRuntime) -> Result<(), Fail> {
         assert!(rt; right, "at {text}");
     }
     let report = changed(alloc, LIBERAL_STORY, 14, "without pareto open 999\n")?;
-    let right = is_answered(&rt, alloc, LIBERAL, report.as_str(), "refused line 14: open")?;
+    let right = is_answered(
+        &rt,
+        alloc,
+        LIBERAL,
+        report.as_str(),
+        "refused line 14: open",
+    )?;
     assert!(rt; right);
     Ok(())
 }
@@ -166,7 +183,13 @@ fn long_lines_are_no_lines(rt: HostRuntime) -> Result<(), Fail> {
     }
     line.push_str("\n")?;
     let report = changed(alloc, SYMMETRIC_STORY, 12, line.as_str())?;
-    let right = is_answered(&rt, alloc, SYMMETRIC, report.as_str(), "refused line 12: form")?;
+    let right = is_answered(
+        &rt,
+        alloc,
+        SYMMETRIC,
+        report.as_str(),
+        "refused line 12: form",
+    )?;
     assert!(rt; right);
     Ok(())
 }

@@ -482,11 +482,27 @@ fn calm_devices_never_fail(rt: HostRuntime) -> Result<(), Fail> {
     let alloc = rt.alloc();
     let mut shelf = CalmShelf::new(alloc);
     let words = words_of(alloc, &["check", "study", "report"])?;
-    let run = bench(&rt, alloc, 1, &words, &mut shelf, &mut CalmSink::new(), &Open);
+    let run = bench(
+        &rt,
+        alloc,
+        1,
+        &words,
+        &mut shelf,
+        &mut CalmSink::new(),
+        &Open,
+    );
     assert_eq!(rt; run.status, 3);
     shelf.hold("study", STUDY.as_bytes())?;
     shelf.hold("report", REPORT.as_bytes())?;
-    let run = bench(&rt, alloc, 1, &words, &mut shelf, &mut CalmSink::new(), &Open);
+    let run = bench(
+        &rt,
+        alloc,
+        1,
+        &words,
+        &mut shelf,
+        &mut CalmSink::new(),
+        &Open,
+    );
     assert_eq!(rt; run.status, 0);
     Ok(())
 }

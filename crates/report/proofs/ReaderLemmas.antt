@@ -60,9 +60,10 @@ module _ (study : Question) (count : ℕ) (fault : Option ReportFault) (r : Read
 
   -- a line went on
   pub going_stands : (held text w : List ℕ) → has_no_end w ≡ true → StandsForText study count fault r held text → StandsForText study count fault r (head_of (held ++ w)) (text ++ w)
-  going_stands held text w h k =
-      (subst (λ ls. StandsFor study count fault r ls) (sym (front_going text w h)) k.0,
-       ap (λ t. head_of (t ++ w)) k.1 ∙ take_more 4097 (final (pieces text)) w ∙ ap head_of (sym (final_going text w h)))
+  going_stands held text w h k = (
+    subst (λ ls. StandsFor study count fault r ls) (sym (front_going text w h)) k.0,
+    ap (λ t. head_of (t ++ w)) k.1 ∙ take_more 4097 (final (pieces text)) w ∙ ap head_of (sym (final_going text w h)),
+  )
 
 -- the front of a line that is held, and what follows
 pub head_more : (held rest w : List ℕ) → held ≡ head_of rest → head_of (held ++ w) ≡ head_of (rest ++ w)

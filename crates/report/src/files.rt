@@ -89,7 +89,7 @@ fn read_pieces<R: Threads + Sync, S: Shelf, K: OutcomeKind, G: Gate>(
     ensures lines { IfOk result (λ _. reader.new.checker.lines ≤ 268435456) }
     ensures read { IfOk result (λ ending. (bytes : List ℕ) × IsEndedAt ending (S.left shelf.old name.now) (S.left shelf.new name.now) reader.new.checker.fault bytes
         × HasTaken reader.old.checker.subject.study.now reader.old.checker.lines reader.new.checker.lines reader.old.checker.fault reader.new.checker.fault
-            reader.old.checker.reading reader.new.checker.reading reader.old.held.items reader.new.held.items bytes) }
+        reader.old.checker.reading reader.new.checker.reading reader.old.held.items reader.new.held.items bytes) }
     ensures failed { IsErrOf result FileFault.Failed → Rose (S.faults shelf.old name.now) (S.faults shelf.new name.now) }
     ensures same { S.files shelf.new ≡ S.files shelf.old }
     ensures others { OthersStay (S.left shelf.old) (S.left shelf.new) name.now }

@@ -20,5 +20,5 @@ returns-in-Ok-worth_at-clause-worth g c =
     let worth : IfSome (g.S.Shelf.files c.args.shelf.now) (λ files. IsWorthOf study files c.args.name.now c.in-Ok-worth_at.worth) =
     file_worth (g.S.Shelf.files c.args.shelf.now) study c.args.name.now (g.S.Shelf.left c.rewind.new.self c.args.name.now) c.in-Ok-worth_at.worth c.in-Ok.ensures.held c.in-Ok.ensures.start
     (λ held known. subst (λ (q : Question). IsWorth (answer_within most_report_bytes q held) c.in-Ok-worth_at.worth) same
-      (c.in-Ok-worth_at.ensures (g.S.Shelf.left c.rewind.new.self c.args.name.now) (g.S.Shelf.left c.read_pieces.new.shelf c.args.name.now) read.0 held read.1 known stands)) in
+    (c.in-Ok-worth_at.ensures (g.S.Shelf.left c.rewind.new.self c.args.name.now) (g.S.Shelf.left c.read_pieces.new.shelf c.args.name.now) read.0 held read.1 known stands)) in
     worth

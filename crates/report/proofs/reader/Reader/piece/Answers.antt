@@ -54,9 +54,9 @@ returns-clause-taken g c =
     let old = c.loop-line.self.checker in
     let new = c.hold.new.self.checker in
     on_ok c.hold.result c.hold.ensures.held (λ held text stands.
-      let now : StandsForText first.subject.study.now old.lines old.fault old.reading c.hold.new.self.held.items (text ++ c.args.bytes.now) =
-      piece_rest first.subject.study.now old.lines old.fault old.reading text c.args.bytes.now inv.read c.loop-line.rest.now c.loop-line.self.held.items c.hold.new.self.held.items c.in_default.ensures inv.cut held (inv.taken text stands) in
-      rw (sym c.hold.ensures.checker) at now)
+    let now : StandsForText first.subject.study.now old.lines old.fault old.reading c.hold.new.self.held.items (text ++ c.args.bytes.now) =
+    piece_rest first.subject.study.now old.lines old.fault old.reading text c.args.bytes.now inv.read c.loop-line.rest.now c.loop-line.self.held.items c.hold.new.self.held.items c.in_default.ensures inv.cut held (inv.taken text stands) in
+    rw (sym c.hold.ensures.checker) at now)
 
 -- src/reader.rt:125:5
 pub returns-clause-held : goal.returns-clause-held
