@@ -10,7 +10,6 @@ use Rattle.bench.specs.Refusals.{study_line}
 use Rattle.bench.specs.declared.answers.Answer.{Answer}
 use Rattle.bench.specs.declared.answers.Stop.{Stop}
 use Rattle.bench.specs.CheckTable.{most_study_bytes, Judged, Checked, study_too_long, study_refused, judged}
-use Rattle.lists.specs.declared.memory.NoMemory.{NoMemory}
 use Rattle.report.specs.declared.files.Worth.{Worth}
 use Rattle.report.specs.Files.{IsWorthOf}
 use Rattle.bench.specs.Said.{IsSaid}
@@ -90,7 +89,7 @@ module _ (told : Option Files) (study report : List ℕ) where
   report_cause before middle now bytes question fell rose h read = at_report (rose_since (before report) (middle report) (now report) (fell report) rose) (study_read bytes question h read)
 
 -- what is said of a report in a file that may be told
-pub said_row : (told : Option Files) (question : Question) (report : List ℕ) (worth : Worth) (result : Result Answer NoMemory)
+pub said_row : (told : Option Files) (question : Question) (report : List ℕ) (worth : Worth) (result : Result Answer Stop)
     → IfSome told (λ files. IsWorthOf question files report worth) → IfOk result (λ answer. IsSaid worth answer.status answer.text)
     → IfSome told (λ files. IfOk result (λ answer. (held : List ℕ) × (files report ≡ Some held) × Judged question held answer.status answer.text))
 said_row None question report worth result is said = tt

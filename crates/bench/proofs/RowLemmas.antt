@@ -91,6 +91,7 @@ module _ (told : Option Files) (words : List (List ℕ)) (s : ℕ) (t : List ℕ
       let said = says words files s _ t _ a b h written (answered_report words files study report over) in
       subst (λ (x : Answer). Says s a b (answer_status x) (answer_text x)) confirmed said) is
 
-  pub zero_clause : IfSome told (λ files. Lawful words files s t)
-      → IfSome told (λ files. (study report : List ℕ) → IsCheck words study report → s ≡ 0 → IsCheckOfRight words files)
-  zero_clause is = map_told told _ _ (λ files h study report asked zero. zero_is_right words files study report t asked (subst (λ n. Lawful words files n t) zero h)) is
+-- what status 0 says of `check`
+pub zero_clause : (told : Option Files) (words : List (List ℕ)) (s : ℕ) (t : List ℕ) → IfSome told (λ files. Lawful words files s t)
+    → IfSome told (λ files. (study report : List ℕ) → IsCheck words study report → s ≡ 0 → IsCheckOfRight words files)
+zero_clause told words s t is = map_told told _ _ (λ files h study report asked zero. zero_is_right words files study report t asked (subst (λ n. Lawful words files n t) zero h)) is

@@ -7,6 +7,7 @@ ghost use Rattle.vocab.specs.declared.kinds.Kind.TheVariants.{Sets};
 ghost use Rattle.report.specs.Files.{IsWorthOf};
 ghost use Rattle.bench.specs.CheckTable.{Judged, Checked};
 ghost use Rattle.bench.specs.Refusals.{study_line};
+ghost use Rattle.bench.specs.Said.{IsSaid};
 ghost use Rattle.bench.specs.TopCall.{HasReadCause, IsCheckStatus};
 
 use crate::answers::{Answer, Stop, say};
@@ -72,6 +73,15 @@ fn refuse(alloc: Global, fault: &StudyFault) -> Result<Answer, Stop>
     }
 }
 
+/// What is said of a report.
+fn answer(alloc: Global, worth: &Worth) -> Result<Answer, Stop>
+    ensures said { IfOk result (λ answer. IsSaid worth.now answer.status answer.text) }
+    ensures status { IfOk result (λ answer. answer.status ≤ 1) }
+    ensures no_read_fault { result ≢ Err Stop.ReadFault }
+{
+    Ok(say_worth(alloc, worth)?)
+}
+
 /// Reads the report and judges it.
 fn check_report<R: Threads + Sync, S: Shelf, G: Gate>(
     rt: &R,
@@ -92,7 +102,7 @@ fn check_report<R: Threads + Sync, S: Shelf, G: Gate>(
     ensures status { IfOk result (λ answer. answer.status ≤ 1) }
 {
     match check_by_kind(rt, alloc, gate, workers, shelf, study, report) {
-        Ok(worth) => Ok(say_worth(alloc, &worth)?),
+        Ok(worth) => answer(alloc, &worth),
         Err(FileFault::Failed) => Err(Stop::ReadFault),
         Err(FileFault::NoMemory) => Err(Stop::NoMemory),
     }

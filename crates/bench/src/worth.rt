@@ -1,6 +1,6 @@
 //! What is said of a report.
 
-ghost use Rattle.std.specs.Prelude.{◌≡◌, ◌++◌, ◌∷◌, [], codes, IfOk, OnOk};
+ghost use Rattle.std.specs.Prelude.{◌≡◌, ◌≤◌, ◌++◌, ◌∷◌, [], codes, IfOk, OnOk};
 ghost use Rattle.verdicts.specs.Numbers.{number_text};
 ghost use Rattle.verdicts.specs.Words.{refusal_text};
 ghost use Rattle.bench.specs.Said.{IsSaid};
@@ -57,7 +57,8 @@ fn refused_line(alloc: Global, line: u32, refusal: &Refusal) -> Result<Bytes, No
 
 /// The answer for what a report is worth.
 pub fn say_worth(alloc: Global, worth: &Worth) -> Result<Answer, NoMemory>
-    ensures { IfOk result (λ answer. IsSaid worth.now answer.status answer.text) }
+    ensures said { IfOk result (λ answer. IsSaid worth.now answer.status answer.text) }
+    ensures status { IfOk result (λ answer. answer.status ≤ 1) }
 {
     match worth {
         Worth::Confirmed(Confirmed::Possible) => say(alloc, 0, b"confirmed possible\n"),

@@ -13,7 +13,7 @@ returns-in-Err-TooLong-clause-lawful g c =
     too_long_row told c.args.study.now c.args.report.now _ _ long c.in_ok-say-in-Err-TooLong.ensures.status c.in_ok-say-in-Err-TooLong.ensures.text
 
 pub check_report-requires-clause-known : goal.check_report-requires-clause-known
-check_report-requires-clause-known g c = kinds_known c.as_slice.result.now c.in-Ok-read_study.study c.in-Ok-read_study.ensures.ok
+check_report-requires-clause-known g c κs within = kinds_known c.as_slice.result.now c.in-Ok-read_study.study c.in-Ok-read_study.ensures.ok
 
 pub returns-in-Ok-read_study-clause-lawful : goal.returns-in-Ok-read_study-clause-lawful
 returns-in-Ok-read_study-clause-lawful g c =
