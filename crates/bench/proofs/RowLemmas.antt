@@ -1,5 +1,5 @@
 -- Row by row: where a row of the table applies, the answer is the one that it gives.
-use Rattle.std.proofs.Common.{◌≡◌, refl, subst, ℕ, ◌≤◌, List, length, codes, Option, None, Some, IfSome, Ok}
+use Rattle.std.proofs.Common.{◌≡◌, refl, ap, ◌∙◌, subst, ℕ, ◌≤◌, List, length, codes, Option, None, Some, IfSome, Ok}
 use Rattle.std.specs.Io.KnownBytes.{Appends}
 use Rattle.edge.specs.Shelf.{Files}
 use Rattle.vocab.specs.Study.{Question}
@@ -17,9 +17,9 @@ use Rattle.bench.specs.Refusals.{study_line}
 use Rattle.bench.specs.Words.{Check, Axioms, request_of, IsCheck}
 use Rattle.bench.specs.CheckTable.{answer_status, judgement, Judged, study_too_long, study_refused, judged}
 use Rattle.bench.specs.Lawful.{Lawful, usage, check, listed}
-use Rattle.bench.specs.TopCall.{Says, IsCheckOfLongStudy, IsCheckOfRefused, IsCheckOver, IsCheckOfRight}
+use Rattle.bench.specs.TopCall.{Says, IsCheckOfLongStudy, IsCheckOfRefused, IsCheckOver, IsCheckOfRight, IsConfirmedRight}
 use Rattle.bench.proofs.OneAnswer.{some_same, one_answer}
-use Rattle.bench.proofs.Verdicts.{confirmed_report, confirmed_claims, zero_is_confirmed, right_judged}
+use Rattle.bench.proofs.Verdicts.{confirmed_report, confirmed_fits, confirmed_claims, zero_is_confirmed, right_judged}
 
 -- a study that was read is one whose reports the laws speak of
 read_is_reportable : (bytes : List ℕ) (study : Question) → IsStudyOf bytes (Ok study) → IsReportable study
@@ -58,21 +58,24 @@ module _ (words : List (List ℕ)) (files : Files) where
   answered_report study report h = over study report _ _ h (record { status_is = refl; text_is = refl })
 
   -- an answer of status 0 to `check` is that to a right report
-  pub zero_is_right : (study report : List ℕ) (t : List ℕ) → IsCheck words study report → Lawful words files 0 t → IsCheckOfRight words files
+  pub zero_is_right : (study report : List ℕ) (t : List ℕ) → IsCheck words study report → Lawful words files 0 t → (right : IsCheckOfRight words files) × (t ≡ answer_text (Confirmed right.verdict))
   zero_is_right study report t asked (usage n a e) = absurd (cc)
   zero_is_right study report t asked (listed k n a e) = absurd (let same : Check study report ≡ Axioms k = some_same (request_of words) _ _ asked n in cc)
   zero_is_right study report t asked (check x y n (study_too_long b h a e)) = absurd (cc)
   zero_is_right study report t asked (check x y n (study_refused b f h r a e)) = absurd (cc)
   zero_is_right study report t asked (check x y n (judged b q held h r p j)) =
-      let confirmed = zero_is_confirmed q held (judgement q held) j.status_is in
-      record {
-        study = q;
-        report = held;
-        verdict = confirmed.0;
-        over = record { study_name = x; report_name = y; bytes = b; asked = n; held = h; read = r; report_held = p };
-        right = confirmed_report q held confirmed.0 confirmed.1;
-        holds = confirmed_claims q held confirmed.0 confirmed.1;
-      }
+      let confirmed = zero_is_confirmed q held (judgement q held) j.status_is in (
+        record {
+          study = q;
+          report = held;
+          verdict = confirmed.0;
+          over = record { study_name = x; report_name = y; bytes = b; asked = n; held = h; read = r; report_held = p };
+          right = confirmed_report q held confirmed.0 confirmed.1;
+          fits = confirmed_fits q held confirmed.0 confirmed.1;
+          holds = confirmed_claims q held confirmed.0 confirmed.1;
+        },
+        j.text_is ∙ ap answer_text confirmed.1,
+      )
 
 -- each row as a clause of the top call, where the shelf may tell its files
 module _ (told : Option Files) (words : List (List ℕ)) (s : ℕ) (t : List ℕ) (a b : Option (List ℕ)) where
@@ -92,6 +95,8 @@ module _ (told : Option Files) (words : List (List ℕ)) (s : ℕ) (t : List ℕ
       subst (λ (x : Answer). Says s a b (answer_status x) (answer_text x)) confirmed said) is
 
 -- what status 0 says of `check`
-pub zero_clause : (told : Option Files) (words : List (List ℕ)) (s : ℕ) (t : List ℕ) → IfSome told (λ files. Lawful words files s t)
-    → IfSome told (λ files. (study report : List ℕ) → IsCheck words study report → s ≡ 0 → IsCheckOfRight words files)
-zero_clause told words s t is = map_told told _ _ (λ files h study report asked zero. zero_is_right words files study report t asked (subst (λ n. Lawful words files n t) zero h)) is
+pub zero_clause : (told : Option Files) (words : List (List ℕ)) (s : ℕ) (t : List ℕ) (a b : Option (List ℕ)) → IfSome told (λ files. Lawful words files s t) → Appends a b t
+    → IfSome told (λ files. (study report : List ℕ) → IsCheck words study report → s ≡ 0 → IsConfirmedRight words files s a b)
+zero_clause told words s t a b is written = map_told told _ _ (λ files h study report asked zero.
+    let right = zero_is_right words files study report t asked (subst (λ n. Lawful words files n t) zero h) in
+    (right.0, (zero, subst (λ (x : List ℕ). Appends a b x) right.1 written))) is

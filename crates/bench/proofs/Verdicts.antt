@@ -26,6 +26,9 @@ module _ (study : Question) (held : List ℕ) where
   pub confirmed_report : (verdict : Verdict) → judgement study held ≡ Confirmed verdict → IsReport study verdict held
   confirmed_report verdict e = judge_sound study held verdict ((within_limit most_report_bytes study held verdict).0 e).1
 
+  pub confirmed_fits : (verdict : Verdict) → judgement study held ≡ Confirmed verdict → length held ≤ most_report_bytes
+  confirmed_fits verdict e = ((within_limit most_report_bytes study held verdict).0 e).0
+
   pub confirmed_claims : (verdict : Verdict) → judgement study held ≡ Confirmed verdict → Claims study verdict
   confirmed_claims (Possible table) e = (claims_hold study held).0 table ((within_limit most_report_bytes study held (Possible table)).0 e).1
   confirmed_claims (Impossible core story witnesses) e = λ table. (((claims_hold study held).1 core story witnesses).0 ((within_limit most_report_bytes study held (Impossible core story witnesses)).0 e).1 table).0

@@ -11,7 +11,10 @@ use Rattle.meaning.specs.Space.{below}
 use Rattle.meaning.specs.Truth.{satisfies}
 use Rattle.verdicts.specs.declared.verdicts.Verdict.{Verdict}
 use Rattle.verdicts.specs.declared.verdicts.Verdict.TheVariants.{Possible, Impossible, Undecided}
+use Rattle.verdicts.specs.Judge.{Confirmed}
 use Rattle.verdicts.specs.Report.{IsReport}
+use Rattle.verdicts.specs.Words.{answer_text}
+use Rattle.report.specs.Files.{most_report_bytes}
 use Rattle.bench.specs.Words.{IsCheck}
 use Rattle.bench.specs.CheckTable.{Holds, HoldsTooMany}
 use Rattle.bench.specs.Lawful.{Lawful}
@@ -83,11 +86,16 @@ Claims study (Possible table) = IsTrue (satisfies study.size study.axioms (below
 Claims study (Impossible core story witnesses) = (table : List ℕ) → ¬ IsTrue (satisfies study.size study.axioms core table)
 Claims study Undecided = ⊥
 
--- the words are `check`, its first file gives a study, and its second is the report of a verdict that is right over it; what the verdict claims holds
+-- the words are `check`, its first file gives a study, and its second is the report, within its limit, of a verdict that is right over it; what the verdict claims holds
 pub record IsCheckOfRight (words : List (List ℕ)) (files : Files) : Type 0 where
   pub study : Question
   pub report : List ℕ
   pub verdict : Verdict
   pub over : IsCheckOver words files study report
   pub right : IsReport study verdict report
+  pub fits : length report ≤ most_report_bytes
   pub holds : Claims study verdict
+
+-- such a report is confirmed: status 0, and the line for its verdict was written
+abbrev pub IsConfirmedRight : List (List ℕ) → Files → ℕ → Option (List ℕ) → Option (List ℕ) → Type 0
+IsConfirmedRight words files status before now = (right : IsCheckOfRight words files) × Says status before now 0 (answer_text (Confirmed right.verdict))

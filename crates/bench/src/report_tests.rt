@@ -6,11 +6,15 @@ ghost use Rattle.std.specs.Prelude.{◌≤◌};
 use crate::tests::words_of;
 use crate::top::bench;
 use edge::{Gate, MemoryShelf, MemorySink, Open};
+use lists::NoMemory;
+use outcomes::ChoiceKind;
 use profiles::Space;
+use report::{Confirmed, check_report};
 use std::alloc::Global;
 use std::sync::atomic::{AtomicU64, Ordering};
 use std::test::Fail;
 use std::thread::Threads;
+use study::read_study;
 use vocab::{Kind, Size};
 
 /// No rule for two voters and two alternatives is anonymous and neutral.
@@ -72,9 +76,9 @@ fn is_answered<R: Threads + Sync>(
 /// The text with other lines in place of the line of this number, from 1.
 fn changed(alloc: Global, text: &str, number: usize, lines: &str) -> Result<String, Fail> {
     let mut whole = String::new(alloc);
-    let mut place = 0;
+    let mut place: usize = 0;
     for line in text.split('\n') {
-        place += 1;
+        place = place.saturating_add(1);
         if place == number {
             whole.push_str(lines)?;
         } else if !line.is_empty() {
@@ -91,10 +95,16 @@ fn stories_are_confirmed(rt: HostRuntime) -> Result<(), Fail> {
         "kind = \"choice\"\nvoters = 1\nalternatives = 1\naxioms = [\"non_dictatorship\"]\n";
     let alone_story =
         "bench report 1\nkind choice\nvoters 1\nalternatives 1\naxioms non_dictatorship\nverdict impossible\ncore non_dictatorship\nlemmas 1\nlemma 1\nclash by axiom non_dictatorship 1\nwithout non_dictatorship rule 1\na a\nend\n";
+    // Of one voter alone a rule that ranks keeps what he says, and that is a dictatorship.
+    let ranks =
+        "kind = \"ranking\"\nvoters = 1\nalternatives = 2\naxioms = [\"pareto\", \"non_dictatorship\"]\n";
+    let ranks_story =
+        "bench report 1\nkind ranking\nvoters 1\nalternatives 2\naxioms pareto non_dictatorship\nverdict impossible\ncore pareto non_dictatorship\nlemmas 1\nlemma 1\nso a>b@ab by axiom pareto ab a b\nso b>a@ba by axiom pareto ba b a\nclash by axiom non_dictatorship 1\nwithout pareto rule 2\nab ba\nba ba\nwithout non_dictatorship rule 2\nab ab\nba ba\nend\n";
     let cases = [
         (SYMMETRIC, SYMMETRIC_STORY),
         (LIBERAL, LIBERAL_STORY),
         (alone, alone_story),
+        (ranks, ranks_story),
     ];
     for (study, report) in cases {
         let right = is_answered(&rt, rt.alloc(), study, report, "confirmed impossible")?;
@@ -106,12 +116,20 @@ fn stories_are_confirmed(rt: HostRuntime) -> Result<(), Fail> {
 #[test]
 fn changed_stories_are_refused(rt: HostRuntime) -> Result<(), Fail> {
     let cases = [
+        (1, "bench report 2\n", "refused line 1: form"),
+        (2, "kind sets\n", "refused line 2: form"),
+        (2, "kind ranking\n", "refused line 2: study"),
         (3, "voters 3\n", "refused line 3: study"),
+        (3, "voters 99999999999999999999\n", "refused line 3: study"),
         (3, "voters 02\n", "refused line 3: form"),
         (6, "verdict undecided\n", "refused line 6: undecided"),
         (7, "core neutrality\n", "refused line 11: not_in_core"),
         (7, "core neutrality anonymity\n", "refused line 7: core"),
+        (7, "core anonymity fair\n", "refused line 7: core"),
+        (7, "core\n", "refused line 11: not_in_core"),
         (8, "lemmas 0\n", "refused line 8: form"),
+        (8, "lemmas 99999999999999999999\n", "refused line 20: form"),
+        (12, "suppose b@ba|ab\n", "refused line 12: form"),
         (8, "lemmas 3\n", "refused line 20: form"),
         (
             12,
@@ -120,7 +138,16 @@ fn changed_stories_are_refused(rt: HostRuntime) -> Result<(), Fail> {
         ),
         (15, "so !a@ab|ba by lemma 2\n", "refused line 15: later"),
         (15, "so !a@ab|ba by lemma 0\n", "refused line 15: form"),
-        (15, "suppose b@ab|ba\n", "refused line 15: supposes"),
+        (
+            15,
+            "so !a@ab|ba by lemma 99999999999999999999\n",
+            "refused line 15: later",
+        ),
+        (
+            15,
+            "suppose b@ab|ba\nso !a@ab|ba by lemma 1\n",
+            "refused line 15: supposes",
+        ),
         (16, "so !a@ab|ba by lemma 1\n", "refused line 16: known"),
         (
             16,
@@ -129,6 +156,11 @@ fn changed_stories_are_refused(rt: HostRuntime) -> Result<(), Fail> {
         ),
         (20, "without neutrality rule 4\n", "refused line 20: core"),
         (20, "without anonymity rule 3\n", "refused line 20: row"),
+        (
+            20,
+            "without anonymity rule 999999999999999999999999999999\n",
+            "refused line 20: row",
+        ),
         (20, "without anonymity open 9\n", "refused line 20: open"),
         (28, "ba|ab b\n", "refused line 29: fails anonymity 10"),
         (29, "ba|ab a\n", "refused line 29: row"),
@@ -154,10 +186,27 @@ fn changed_stories_are_refused(rt: HostRuntime) -> Result<(), Fail> {
 }
 
 #[test]
+fn texts_are_checked_by_one_call(rt: HostRuntime) -> Result<(), Fail> {
+    let alloc = rt.alloc();
+    let study = read_study(alloc, SYMMETRIC.as_bytes()).ok().ok_or("study")?;
+    let Kind::Choice = study.size().kind() else {
+        return Err(Fail::from(NoMemory));
+    };
+    let kind = ChoiceKind::new(Space::new(study.size()));
+    let story = SYMMETRIC_STORY.as_bytes();
+    let confirmed = check_report(&rt, alloc, &Open, 1, &kind, &study, story);
+    assert!(rt; confirmed == Ok(Confirmed::Impossible));
+    let front = story.get(..100).ok_or("front")?;
+    let cut = check_report(&rt, alloc, &Open, 16, &kind, &study, front);
+    assert!(rt; cut.is_err());
+    Ok(())
+}
+
+#[test]
 fn cut_reports_are_refused_where_they_end(rt: HostRuntime) -> Result<(), Fail> {
     let alloc = rt.alloc();
     let mut report = String::new(alloc);
-    let mut number = 1;
+    let mut number: u32 = 1;
     for line in SYMMETRIC_STORY.split('\n') {
         if line.is_empty() {
             break;
@@ -169,7 +218,7 @@ fn cut_reports_are_refused_where_they_end(rt: HostRuntime) -> Result<(), Fail> {
         let right = is_answered(&rt, alloc, SYMMETRIC, report.as_str(), text.as_str())?;
         assert!(rt; right, "at {number}, without its line end");
         report.push_str("\n")?;
-        number += 1;
+        number = number.saturating_add(1);
     }
     Ok(())
 }

@@ -1,4 +1,6 @@
-//! The worked examples of `check`, over devices in memory.
+//! The worked examples of `check`, over devices in memory, with one worker and with sixteen.
+
+ghost use Rattle.std.specs.Prelude.{◌≤◌};
 
 use crate::top::bench;
 use edge::{CalmShelf, CalmSink, MemoryShelf, MemorySink, Open};
@@ -21,7 +23,28 @@ pub fn words_of(alloc: Global, words: &[&str]) -> Result<Vec<String>, AllocError
     Ok(list)
 }
 
-/// The status and the bytes of `check`, where these calls of the shelf fail.
+/// The status and the bytes of `check` with so many workers, where these calls of the shelf fail.
+fn check_among<R: Threads + Sync>(
+    rt: &R,
+    alloc: Global,
+    workers: u8,
+    study: &str,
+    report: &str,
+    failing: &[u32],
+) -> Result<(u8, Vec<u8>), NoMemory>
+    requires some { 1 ≤ workers }
+    requires few { workers ≤ 16 }
+{
+    let mut shelf = MemoryShelf::new(alloc, failing)?;
+    shelf.hold("study", study.as_bytes())?;
+    shelf.hold("report", report.as_bytes())?;
+    let words = words_of(alloc, &["check", "study", "report"])?;
+    let mut out = MemorySink::new(alloc, 1000, &[])?;
+    let run = bench(rt, alloc, workers, &words, &mut shelf, &mut out, &Open);
+    Ok((run.status, out.bytes().to_vec(alloc)?))
+}
+
+/// The status and the bytes of `check` with one worker, which with sixteen are the same, or else status 255.
 fn check<R: Threads + Sync>(
     rt: &R,
     alloc: Global,
@@ -29,13 +52,13 @@ fn check<R: Threads + Sync>(
     report: &str,
     failing: &[u32],
 ) -> Result<(u8, Vec<u8>), NoMemory> {
-    let mut shelf = MemoryShelf::new(alloc, failing)?;
-    shelf.hold("study", study.as_bytes())?;
-    shelf.hold("report", report.as_bytes())?;
-    let words = words_of(alloc, &["check", "study", "report"])?;
-    let mut out = MemorySink::new(alloc, 1000, &[])?;
-    let run = bench(rt, alloc, 1, &words, &mut shelf, &mut out, &Open);
-    Ok((run.status, out.bytes().to_vec(alloc)?))
+    let (status, bytes) = check_among(rt, alloc, 1, study, report, failing)?;
+    let (other, others) = check_among(rt, alloc, 16, study, report, failing)?;
+    if status == other && bytes.as_slice() == others.as_slice() {
+        Ok((status, bytes))
+    } else {
+        Ok((255, bytes))
+    }
 }
 
 #[test]

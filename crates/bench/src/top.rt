@@ -17,7 +17,7 @@ ghost use Rattle.bench.specs.Refusals.{study_line};
 ghost use Rattle.bench.specs.Words.{Axioms, IsCheck, texts, request_of, usage_line};
 ghost use Rattle.bench.specs.CheckTable.{answer_status, judgement};
 ghost use Rattle.bench.specs.Lawful.{Lawful};
-ghost use Rattle.bench.specs.TopCall.{IsStatus, Answered, AnsweredInPart, HasFileCause, IsStudyAloneTouched, AreFilesUntouched, Says, IsCheckOfLongStudy, IsCheckOfRefused, IsCheckOver, IsCheckOfRight};
+ghost use Rattle.bench.specs.TopCall.{IsStatus, Answered, AnsweredInPart, HasFileCause, IsStudyAloneTouched, AreFilesUntouched, Says, IsCheckOfLongStudy, IsCheckOfRefused, IsCheckOver, IsConfirmedRight};
 
 use crate::answers::{Answer, Stop, say};
 use crate::check::check;
@@ -137,7 +137,7 @@ pub fn bench<R: Threads + Sync, S: Shelf, K: Sink, G: Gate>(
         IsReport study verdict report → length report ≤ most_report_bytes → result.status ≤ 4 →
         Says result.status (K.taken out.old) (K.taken out.new) 0 (answer_text (Confirmed verdict))) }
     ensures confirmed_right { IfSome (S.files shelf.old) (λ files. (study report : List ℕ) → IsCheck (texts words.now) study report → result.status ≡ 0 →
-        IsCheckOfRight (texts words.now) files) }
+        IsConfirmedRight (texts words.now) files result.status (K.taken out.old) (K.taken out.new)) }
 
     // A fault of the shelf comes only where it counted one at a file of the command, and nothing is written.
     ensures read_fault { result.status ≡ 5 → HasFileCause (texts words.now) (S.files shelf.old) (S.faults shelf.old) (S.faults shelf.new) }

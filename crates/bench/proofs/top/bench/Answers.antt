@@ -21,7 +21,7 @@ returns-in-Ok-write_text-clause-right_confirmed g c =
 
 pub returns-in-Ok-write_text-clause-confirmed_right : goal.returns-in-Ok-write_text-clause-confirmed_right
 returns-in-Ok-write_text-clause-confirmed_right g c =
-    zero_clause (g.S.Shelf.files c.args.shelf.now) (texts c.args.words.now) c.in-Ok.answer.status c.in-Ok.answer.text c.in-Ok.ensures.lawful
+    zero_clause (g.S.Shelf.files c.args.shelf.now) (texts c.args.words.now) c.in-Ok.answer.status c.in-Ok.answer.text _ _ c.in-Ok.ensures.lawful (rw c.as_slice.ensures at c.in-Ok-write_text.ensures.ok)
 
 pub returns-clause-cut_short : goal.returns-clause-cut_short
 returns-clause-cut_short g c =
