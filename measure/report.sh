@@ -2,7 +2,7 @@
 # Seconds and peak memory of `check` for a report of a rule with 14,400 rows (2 voters, 5 alternatives, unanimity and
 # pareto), and for a report of an impossibility with ten thousand steps and more (2 voters, 2 alternatives, the two lemmas of
 # studies/anonymity_neutrality.report, the first of them many times over), each against `wc -l` of the same file. A third
-# report has ten times as many lemmas as the second.
+# report has as many lemmas as the second, and one step more in each: its peak must be that of the second, but for 512 KB.
 # The last lines are `ratio NAME R`: the seconds of `check` by those of `wc -l`. Each runs 5 times, and the shortest counts.
 set -eu
 root=$(cd -- "$(dirname -- "$(readlink -f -- "${BASH_SOURCE[0]}")")/.." && pwd)
@@ -28,11 +28,13 @@ with open(work + "/rule.report", "w") as out:
     print("end", file=out)
 lines = open(source).read().split("\n")[:-1]
 head, first, last, rest = lines[:7], lines[9:13], lines[14:19], lines[19:]
-for name, count in (("story", 5000), ("longer", 50000)):
+count = 5000
+longer = first[:1] + ["so !b@ab|ba by outcome ab|ba"] + first[1:]
+for name, told in (("story", first), ("longer", longer)):
     with open("%s/%s.report" % (work, name), "w") as out:
         print("\n".join(head) + "\nlemmas %d" % (count + 1), file=out)
         for number in range(1, count + 1):
-            print("lemma %d\n%s" % (number, "\n".join(first)), file=out)
+            print("lemma %d\n%s" % (number, "\n".join(told)), file=out)
         print("lemma %d\n%s\n%s" % (count + 1, "\n".join(last), "\n".join(rest)), file=out)
 PY
 program=$root/crates/bench/out/bench
@@ -54,13 +56,15 @@ def run(words):
         best = spent if best is None else min(best, spent)
         peak = max(peak, usage.ru_maxrss)
     return best, peak, text
-ratios = []
+ratios, peaks = [], {}
 for name, wanted in (("rule", "confirmed possible\n"), ("story", "confirmed impossible\n"), ("longer", "confirmed impossible\n")):
     report = "%s/%s.report" % (work, name)
     seconds, memory, text = run([program, "check", "%s/%s.toml" % (work, name), report])
     assert text == wanted, text
     counted, _, text = run(["/usr/bin/wc", "-l", report])
     print("%s: %d lines, %d bytes; check %.4f s, %d KB; wc -l %.4f s" % (name, int(text.split()[0]), os.path.getsize(report), seconds, memory, counted))
+    peaks[name] = memory
     ratios.append("ratio %s %.1f" % (name, seconds / counted))
 print("\n".join(ratios))
+assert peaks["longer"] <= peaks["story"] + 512, "memory grows with the steps of a story"
 PY
