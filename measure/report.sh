@@ -39,29 +39,19 @@ for name, told in (("story", first), ("longer", longer)):
 PY
 program=$root/crates/bench/out/bench
 env -u BENCH_QUICK "$root/bench" check "$root/studies/unanimity.toml" "$root/studies/unanimity.report" >/dev/null # builds where a source is newer
+rustc -O --edition 2021 -o "$work/peak" "$root/measure/peak.rs" 2>/dev/null
 python3 - "$program" "$work" <<'PY'
-import os, subprocess, sys, time
+import os, subprocess, sys
 program, work = sys.argv[1:]
-def run(words):
-    best, peak, text = None, 0, ""
-    for _ in range(5):
-        read, write = os.pipe()
-        start = time.perf_counter()
-        child = os.posix_spawn(words[0], words, os.environ, file_actions=[(os.POSIX_SPAWN_DUP2, write, 1), (os.POSIX_SPAWN_CLOSE, read)])
-        os.close(write)
-        with os.fdopen(read) as out:
-            text = out.read()
-        _, _, usage = os.wait4(child, 0)
-        spent = time.perf_counter() - start
-        best = spent if best is None else min(best, spent)
-        peak = max(peak, usage.ru_maxrss)
-    return best, peak, text
+def run(*words):
+    seconds, memory, text = subprocess.run([work + "/peak", "5", *words], capture_output=True, text=True, check=True).stdout.split(" ", 2)
+    return float(seconds), int(memory), text
 ratios, peaks = [], {}
 for name, wanted in (("rule", "confirmed possible\n"), ("story", "confirmed impossible\n"), ("longer", "confirmed impossible\n")):
     report = "%s/%s.report" % (work, name)
-    seconds, memory, text = run([program, "check", "%s/%s.toml" % (work, name), report])
+    seconds, memory, text = run(program, "check", "%s/%s.toml" % (work, name), report)
     assert text == wanted, text
-    counted, _, text = run(["/usr/bin/wc", "-l", report])
+    counted, _, text = run("/usr/bin/wc", "-l", report)
     print("%s: %d lines, %d bytes; check %.4f s, %d KB; wc -l %.4f s" % (name, int(text.split()[0]), os.path.getsize(report), seconds, memory, counted))
     peaks[name] = memory
     ratios.append("ratio %s %.1f" % (name, seconds / counted))
