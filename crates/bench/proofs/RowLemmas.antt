@@ -72,7 +72,7 @@ module _ (words : List (List ℕ)) (files : Files) where
           over = record { study_name = x; report_name = y; bytes = b; asked = n; held = h; read = r; report_held = p };
           right = confirmed_report q held confirmed.0 confirmed.1;
           fits = confirmed_fits q held confirmed.0 confirmed.1;
-          holds = confirmed_claims q held confirmed.0 confirmed.1;
+          holds = confirmed_claims q held (studies_whole b q r).1 confirmed.0 confirmed.1;
         },
         j.text_is ∙ ap answer_text confirmed.1,
       )

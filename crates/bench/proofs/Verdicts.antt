@@ -1,6 +1,7 @@
 -- What is said of a report, and what that says of rules.
 use Rattle.std.proofs.Common.{◌≡◌, refl, sym, ap, ◌∙◌, subst, ℕ, zero, suc, ◌+◌, ◌<◌, ◌≤◌, ◌^◌, true, false, List, [], ◌∷◌, ◌++◌, map, length, arith, true≢false, length-append}
 use Rattle.std.specs.List.{flat_map}
+use Rattle.vocab.specs.Size.{IsSize}
 use Rattle.vocab.specs.Study.{Question}
 use Rattle.meaning.specs.declared.stories.Lemma.{Lemma}
 use Rattle.meaning.specs.Space.{below}
@@ -29,16 +30,16 @@ module _ (study : Question) (held : List ℕ) where
   pub confirmed_fits : (verdict : Verdict) → judgement study held ≡ Confirmed verdict → length held ≤ most_report_bytes
   confirmed_fits verdict e = ((within_limit most_report_bytes study held verdict).0 e).0
 
-  pub confirmed_claims : (verdict : Verdict) → judgement study held ≡ Confirmed verdict → Claims study verdict
-  confirmed_claims (Possible table) e = (claims_hold study held).0 table ((within_limit most_report_bytes study held (Possible table)).0 e).1
-  confirmed_claims (Impossible core story witnesses) e = λ table. (((claims_hold study held).1 core story witnesses).0 ((within_limit most_report_bytes study held (Impossible core story witnesses)).0 e).1 table).0
-  confirmed_claims Undecided e = true≢false (sym (confirmed_report Undecided e).claims_some)
+  pub confirmed_claims : IsSize study.size → (verdict : Verdict) → judgement study held ≡ Confirmed verdict → Claims study verdict
+  confirmed_claims size (Possible table) e = (claims_hold study size held).0 table ((within_limit most_report_bytes study held (Possible table)).0 e).1
+  confirmed_claims size (Impossible core story witnesses) e = λ table. (((claims_hold study size held).1 core story witnesses).0 ((within_limit most_report_bytes study held (Impossible core story witnesses)).0 e).1 table).0
+  confirmed_claims size Undecided e = true≢false (sym (confirmed_report Undecided e).claims_some)
 
   -- what is said for what a report is worth is what the judge answers
   by_answer : (a : Answer) (w : Worth) (s : ℕ) (t : List ℕ) → judgement study held ≡ a → IsWorth a w → IsSaid w s t → (s ≡ answer_status a) × (t ≡ answer_text a)
   by_answer (Confirmed (Possible table)) w s t e is said = subst (λ (x : Worth). IsSaid x s t) is said
   by_answer (Confirmed (Impossible core story witnesses)) w s t e is said = subst (λ (x : Worth). IsSaid x s t) is said
-  by_answer (Confirmed Undecided) w s t e is said = absurd (confirmed_claims Undecided e)
+  by_answer (Confirmed Undecided) w s t e is said = absurd (true≢false (sym (confirmed_report Undecided e).claims_some))
   by_answer (Faulty line word) w s t e is said = subst (λ (x : Worth). IsSaid x s t) is said
   by_answer TooLong w s t e is said = subst (λ (x : Worth). IsSaid x s t) is said
 

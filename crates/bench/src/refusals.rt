@@ -47,6 +47,7 @@ fn add_size_fault(text: &mut Bytes, fault: SizeFault) -> Result<(), NoMemory>
         SizeFault::Voters(n) => add_integer(text, b"voters ", n),
         SizeFault::Alternatives(m) => add_integer(text, b"alternatives ", m),
         SizeFault::Profiles(count) => add_count(text, b"profiles ", count),
+        SizeFault::Domain => text.append(b"no ballots"),
     }
 }
 
@@ -104,6 +105,10 @@ fn add_fault(text: &mut Bytes, fault: &StudyFault) -> Result<(), NoMemory>
         StudyFault::Sort(name, fault) => {
             add_axiom(text, *name)?;
             add_sort_fault(text, fault)
+        }
+        StudyFault::Open(name) => {
+            add_axiom(text, *name)?;
+            text.append(b"open")
         }
         StudyFault::Instances(name, count) => {
             add_axiom(text, *name)?;

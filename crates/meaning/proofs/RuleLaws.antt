@@ -142,7 +142,7 @@ module _ (size : Extent) (known_kind : size.kind ≢ Sets) (v : ℕ → Bool) wh
       all_from (λ p. list_all (list_any (literal_under size v)) (frame_of size size.kind p)) (sort_count size Profile) 0 (λ p low high.
       let in_p : p < sort_count size Profile = omega arith in
       frame-same size p in_p (literal_under size v) (holds_of size (slice_index table p)) size.kind (λ l in_l here. bits l in_l ∙ ap (λ (q : ℕ). holds_of size (slice_index table q) l) here)
-      ∙ (is_frame size known_kind p in_p).each (slice_index table p) (outcome_in_range size table rule p))
+      ∙ (is_frame size known_kind p in_p).each (slice_index table p) (outcome_in_range size table rule (let some : 0 < sort_count size Profile = omega arith in some) p))
 
   both_ways_of : (axioms : List Titled) → list_all (is_sentence size) axioms ≡ true → (chosen : List ℕ) → list_all (λ k. nat_lt k (length axioms)) chosen ≡ true →
       (is_satisfied v (clauses_for size axioms chosen) ≡ true) ↔ ((table : List ℕ) × (satisfies size axioms chosen table ≡ true) × HasValues size table v)

@@ -2,11 +2,11 @@
 use Rattle.std.proofs.Common.{◌≡◌, ◌∙◌, ap, min, refl, ℕ, List, [], ◌∷◌, true, false, length, map, Option, Some, None}
 use Rattle.std.specs.Prelude.{codes}
 use Rattle.vocab.specs.declared.kinds.Kind.TheVariants.{Choice, Ranking}
-use Rattle.vocab.specs.declared.kinds.Sort.TheVariants.{Voter, Alt, Profile}
+use Rattle.vocab.specs.declared.kinds.Sort.TheVariants.{Voter, Alt, Ballot, Profile}
 use Rattle.vocab.specs.declared.literals.Literal.{Literal}
 use Rattle.vocab.specs.declared.literals.Literal.TheVariants.{Wins, Loses}
 use Rattle.vocab.specs.Limits.{atom_count, instance_count}
-use Rattle.vocab.specs.Size.{Extent}
+use Rattle.vocab.specs.Size.{Extent, ballot_places, full_size, sort_count}
 use Rattle.vocab.specs.Titled.{Titled}
 use Rattle.vocab.specs.Tree.{Tree, Var, Const, With, SwapVoters, SwapAlts, Swap, Equal, Prefers, WinsAt, Ranks, Leaf, Not, Both, Either, Implies, Same, All, Exists}
 use Rattle.cnf.specs.Signed.{Signed}
@@ -24,7 +24,7 @@ use Rattle.meaning.specs.Cores.{is_core_right}
 use Rattle.meaning.specs.Instances.{is_instance_true}
 use Rattle.meaning.specs.declared.clauses.Counts.{Counts}
 use Rattle.meaning.specs.Measure.{largest, measure_of, plus_counts}
-use Rattle.meaning.specs.Space.{rankings, ballots}
+use Rattle.meaning.specs.Space.{rankings, casts_of, majority, prefers}
 use Rattle.meaning.specs.Stories.{is_story}
 use Rattle.meaning.specs.StoryFaults.{story_refusal}
 use Rattle.meaning.specs.StudyClauses.{from_frame, study_clauses}
@@ -36,10 +36,10 @@ use Rattle.meaning.proofs.MeasureLaws.{are_counts}
 
 -- rules that choose, and rules that rank, for n voters and m alternatives
 abbrev pub choice : ℕ → ℕ → Extent
-choice n m = record { kind = Choice; voters = n; alternatives = m }
+choice n m = full_size Choice n m
 
 abbrev pub ranked : ℕ → ℕ → Extent
-ranked n m = record { kind = Ranking; voters = n; alternatives = m }
+ranked n m = full_size Ranking n m
 
 -- an axiom; its name plays no part
 abbrev axiom_of : Tree → Titled
@@ -60,11 +60,42 @@ five_alternatives_have_120_rankings : length (rankings 5) ≡ 120
 five_alternatives_have_120_rankings = refl
 
 -- the number of a profile is its ballots in base 6, the first voter's first
-profile_7_is_one_ballot_twice : ballots (choice 2 3) 7 ≡ 1 ∷ 1 ∷ []
+profile_7_is_one_ballot_twice : casts_of (choice 2 3) 7 ≡ 1 ∷ 1 ∷ []
 profile_7_is_one_ballot_twice = refl
 
 profile_27_is_cab_bca : profile_text (choice 2 3) 27 ≡ codes "cab|bca"
 profile_27_is_cab_bca = refl
+
+-- ---- fewer ballots, and absence
+
+-- the second ranking alone
+only_ba : Extent
+only_ba = record { kind = Choice; voters = 1; alternatives = 2; ballots = 2; absent = false }
+
+one_ballot_makes_one_profile : (sort_count only_ba Ballot ≡ 1) × (sort_count only_ba Profile ≡ 1) × (profile_text only_ba 0 ≡ codes "ba")
+unfolding only_ba
+one_ballot_makes_one_profile = (refl, refl, refl)
+
+-- two voters, each of whom may be absent
+may_be_absent : Extent
+may_be_absent = record { kind = Choice; voters = 2; alternatives = 2; ballots = 3; absent = true }
+
+third_profile_has_an_absent_voter : (sort_count may_be_absent Profile ≡ 8) × (profile_text may_be_absent 2 ≡ codes "ab|-") × (profile_text may_be_absent 7 ≡ codes "-|ba")
+unfolding may_be_absent
+third_profile_has_an_absent_voter = (refl, refl, refl)
+
+-- at ab|- the voter who is there decides, and the absent one prefers nothing
+absent_voters_say_nothing : (prefers may_be_absent 0 0 1 2 ≡ true) × (prefers may_be_absent 1 0 1 2 ≡ false) × (prefers may_be_absent 1 1 0 2 ≡ false) × (majority may_be_absent 0 1 2 ≡ true)
+unfolding may_be_absent
+absent_voters_say_nothing = (refl, refl, refl, refl)
+
+-- abc, bac, bca and cba: those of 36 places whose bits are 1 + 4 + 8 + 32
+single_peaked : Extent
+single_peaked = record { kind = Choice; voters = 3; alternatives = 3; ballots = 45; absent = false }
+
+peaks_have_64_profiles : (ballot_places single_peaked ≡ 0 ∷ 2 ∷ 3 ∷ 5 ∷ []) × (sort_count single_peaked Profile ≡ 64) × (profile_text single_peaked 27 ≡ codes "bac|bca|cba")
+unfolding single_peaked
+peaks_have_64_profiles = (refl, refl, refl)
 
 -- ---- one voter, two alternatives and unanimity
 

@@ -8,7 +8,7 @@ use Rattle.vocab.specs.declared.kinds.Sort.TheVariants.{Profile}
 use Rattle.vocab.specs.declared.literals.Literal.{Literal}
 use Rattle.vocab.specs.Limits.{instance_count}
 use Rattle.vocab.specs.Literal.{opposite_of, profile_of, has}
-use Rattle.vocab.specs.Size.{Extent, sort_count, outcome_count}
+use Rattle.vocab.specs.Size.{Extent, IsSize, sort_count, outcome_count}
 use Rattle.vocab.specs.Sorted.{is_of_sort, is_sorted, are_of_sorts}
 use Rattle.vocab.specs.Study.{is_sentence}
 use Rattle.vocab.specs.Titled.{Titled}
@@ -83,7 +83,7 @@ PartialTruthIsSound = (size : Extent) (table : List ℕ) (known : List Literal) 
 
 -- where a story is accepted, no rule satisfies the core
 abbrev pub AcceptedStoryHasNoRule : Type 0
-AcceptedStoryHasNoRule = (size : Extent) (axioms : List Titled) (core : List ℕ) (story : List Lemma) → IsTrue (is_story size axioms core story) →
+AcceptedStoryHasNoRule = (size : Extent) → IsSize size → (axioms : List Titled) (core : List ℕ) (story : List Lemma) → IsTrue (is_story size axioms core story) →
     (table : List ℕ) → ¬ IsTrue (satisfies size axioms core table)
 
 -- a story over literals of the size has no faulty line exactly where it is accepted

@@ -1,7 +1,7 @@
 //! What holds of the definitions. Each law is the contract of a function that does nothing.
 
-ghost use Rattle.meaning.specs.Rankings.{AreAllRankings};
-ghost use Rattle.meaning.specs.Digits.{AreAllNumbered, AreProfiles};
+ghost use Rattle.meaning.specs.Rankings.{AreAllRankings, AreAllBallots};
+ghost use Rattle.meaning.specs.Digits.{AreAllNumbered, AreAllProfiles};
 ghost use Rattle.meaning.specs.Tarski.{IsTarskis};
 ghost use Rattle.meaning.specs.Laws.{TermsHaveValues, SentencesHaveInstances, TruthIsWritten, FormulasHaveLiterals, OneOfOppositesHolds, PartialTruthIsSound, AcceptedStoryHasNoRule, FaultlessIsAccepted, ClausesSayTruth, ClausesDecide, ClausesOfIff, FormulasHaveCounts, LiteralsAreVariables, RulesHaveBits, FramesSayOutcome, ClausesSayStudy, AssignmentsAreRules, ClausesAreSatisfiable, ClausesHaveReasons};
 
@@ -15,9 +15,14 @@ pub fn numbers_are_digits()
     ensures { AreAllNumbered }
 {}
 
-/// There are as many profiles as lists of ballots.
+/// Profiles are the lists of casts that a size allows.
 pub fn profiles_are_numbers()
-    ensures { AreProfiles }
+    ensures { AreAllProfiles }
+{}
+
+/// The ballots of a size are the rankings that it lists, in order.
+pub fn ballots_are_rankings()
+    ensures { AreAllBallots }
 {}
 
 /// The test of a formula answers as Tarski says.

@@ -39,7 +39,7 @@ module _ (size : Extent) (is_size : IsSize size) where
 
   other_text : (k : Kind) → k ≢ Sets → (o q : ℕ) → o < outcome_count k size.alternatives → q < outcome_count k size.alternatives → outcome_text_of size k o ≡ outcome_text_of size k q → o ≡ q
   other_text Choice n o q in_o in_q e = let f : letter o ≡ letter q = ap (λ t. slice_index t 0) e in omega (arith, f)
-  other_text Ranking n o q in_o in_q e = (have_texts_of_their_own size is_size).ballots o q in_o in_q e
+  other_text Ranking n o q in_o in_q e = (have_texts_of_their_own size is_size).rankings o q in_o in_q e
   other_text Sets n o q in_o in_q e = absurd (n refl)
 
 pub have_texts_of_letters : (size : Extent) → IsSizeWithLiterals size → HaveTextsOfLetters size

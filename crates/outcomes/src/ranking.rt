@@ -7,10 +7,11 @@ ghost use Rattle.vocab.specs.Size.{IsSize};
 use crate::kind::OutcomeKind;
 use crate::{frames, places};
 use cnf::{Clauses, Lit, PushFault};
-use profiles::{Space, laws};
-use vocab::{Literal, Name, Sort};
+use profiles::{Space, is_above, laws, place_of, ranking_count, ranking_text};
+use vocab::{Literal, Name};
 
-/// Outcomes that are strict rankings: the code of an outcome is the number of its ranking in lexicographic order.
+/// Outcomes that are strict rankings: the code of an outcome is the place of its ranking among all rankings, whatever ballots the
+/// size has.
 #[derive(Clone, Copy)]
 pub struct RankingKind {
     space: Space,
@@ -37,7 +38,7 @@ impl OutcomeKind for RankingKind {
     }
 
     fn outcomes(&self) -> u32 {
-        self.space.size().sort_len(Sort::Ballot)
+        ranking_count(self.space.size().alternatives())
     }
 
     fn bits(&self) -> u32 {
@@ -46,7 +47,10 @@ impl OutcomeKind for RankingKind {
 
     fn holds(&self, outcome: u32, literal: &Literal) -> bool {
         match *literal {
-            Literal::Above(x, y, _) => self.space.better(outcome, u32::from(x), u32::from(y)),
+            Literal::Above(x, y, _) => {
+                let alternatives = self.space.size().alternatives();
+                is_above(alternatives, outcome, u32::from(x), u32::from(y))
+            }
             _ => unreachable!(),
         }
     }
@@ -83,11 +87,11 @@ impl OutcomeKind for RankingKind {
     }
 
     fn text(&self, outcome: u32) -> Name {
-        self.space.ballot_text(outcome)
+        ranking_text(self.space.size().alternatives(), outcome)
     }
 
     fn read(&self, text: &[u8]) -> Option<u32> {
-        self.space.read_ballot(text)
+        place_of(self.space.size().alternatives(), text)
     }
 
     ghost not_sets = { λ k e. let same : k.space.kind ≡ Ranking = k.ranks in Prim.cc };

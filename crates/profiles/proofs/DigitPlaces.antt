@@ -1,15 +1,16 @@
 -- A digit of a number is a quotient's remainder.
-use Rattle.std.proofs.Common.{◌≡◌, refl, sym, ◌∙◌, ap, subst, ℕ, zero, suc, ◌+◌, ◌-◌, ◌*◌, ◌/◌, ◌%◌, ◌<◌, List, [], ◌∷◌, ◌++◌, length, get_or, take, drop, replicate, set, arith, add-one, mul_assoc, eq-zero-or-pos, inl, inr}
+use Rattle.std.proofs.Common.{◌≡◌, refl, sym, ◌∙◌, ap, ap₂, length-append, subst, ℕ, zero, suc, ◌+◌, ◌-◌, ◌*◌, ◌/◌, ◌%◌, ◌<◌, ◌≤◌, List, [], ◌∷◌, ◌++◌, length, get_or, take, drop, replicate, set, arith, add-one, mul_assoc, eq-zero-or-pos, inl, inr}
 use Rattle.std.proofs.lemmas.Nat.{div_below, mod_below}
 use Rattle.std.proofs.Math.Nat.{div-add-mod', mod-eq_of_lt, mul-add-div_right, mul-add-mod_self_right, mul-div_cancel_left, one-mul, mul-zero}
-use Rattle.std.proofs.lemmas.List.{length-replicate, get_or-replicate, get_or_append_left}
-use Rattle.std.proofs.Math.Seq.{drop-cons}
+use Rattle.std.proofs.lemmas.List.{length-replicate, get_or-replicate, get_or_append_left, get_or-append_right, take_all}
+use Rattle.std.proofs.Math.Seq.{drop-cons, take-append_seam}
+use Rattle.vocab.specs.InPlace.{padded}
 use Rattle.vocab.specs.Limits.{product}
-use Rattle.vocab.specs.Size.{Extent, IsSize, factorial, sort_count}
+use Rattle.vocab.specs.Size.{Extent, IsSize, cast_count, sort_count}
 use Rattle.vocab.specs.declared.kinds.Sort.TheVariants.{Profile}
-use Rattle.meaning.specs.Space.{digits_of, ballot_bases, ballots}
-use Rattle.meaning.proofs.DigitLaws.{are_profiles}
-use Rattle.meaning.proofs.SpaceLaws.{factorial_pos, pow_positive}
+use Rattle.meaning.specs.Space.{digits_of, cast_bases, casts_of}
+use Rattle.meaning.proofs.DigitLaws.{lists_at_most, lists_within, product-replicate}
+use Rattle.meaning.proofs.SpaceLaws.{cast_positive, pow_positive}
 use Rattle.profiles.specs.Weights.{place_values, weights_of}
 
 pub length-place_values : (bases : List ℕ) → length (place_values bases) ≡ length bases
@@ -59,42 +60,48 @@ at_place_value (b ∷ bases) (suc j) h = at_place_value bases j (omega (arith, h
 
 -- ---- the weights of a space
 
-pub length-bases : (size : Extent) → length (ballot_bases size) ≡ size.voters
-length-bases size = length-replicate size.voters (factorial size.alternatives)
+pub length-bases : (size : Extent) → length (cast_bases size) ≡ size.voters
+length-bases size = length-replicate size.voters (cast_count size)
 
-pub length-ballots : (size : Extent) (p : ℕ) → length (ballots size p) ≡ size.voters
-length-ballots size p = length-digits_of (ballot_bases size) p ∙ length-bases size
+pub length-casts : (size : Extent) (p : ℕ) → length (casts_of size p) ≡ size.voters
+length-casts size p = length-digits_of (cast_bases size) p ∙ length-bases size
 
-pub below_product : (size : Extent) (p : ℕ) → p < sort_count size Profile → p < product (ballot_bases size)
-below_product size p h = subst (λ (x : ℕ). p < x) (sym (are_profiles size)) h
+-- the number of a list of casts, all absent or not
+abbrev pub IsListed : Extent → ℕ → Type 0
+IsListed size p = p < product (cast_bases size)
 
-pub weight_at : (size : Extent) (i : ℕ) → i < size.voters → get_or (weights_of size) i 0 ≡ get_or (place_values (ballot_bases size)) i 0
-weight_at size i h = get_or_append_left (place_values (ballot_bases size)) _ 0 i (omega (arith, length-place_values (ballot_bases size), length-bases size))
+pub below_product : (size : Extent) (p : ℕ) → p < sort_count size Profile → IsListed size p
+below_product size p h = omega (arith, h, lists_within size)
 
-pub weight_positive : (size : Extent) (i : ℕ) → i < size.voters → 0 < get_or (weights_of size) i 0
-weight_positive size i h =
-    let parts = factor (ballot_bases size) i (omega (arith, length-bases size)) in
-    let some : 0 < product (ballot_bases size) = subst (λ (x : ℕ). 0 < x) (sym (are_profiles size)) (pow_positive (factorial size.alternatives) size.voters (factorial_pos size.alternatives)) in
-    rw (weight_at size i h) (positive_of (parts.0 * get_or (ballot_bases size) i 0) (get_or (place_values (ballot_bases size)) i 0) 0 (subst (λ (x : ℕ). 0 < x) parts.1 some))
+pub weight_at : (size : Extent) (i : ℕ) → i < size.voters → get_or (weights_of size) i 0 ≡ get_or (place_values (cast_bases size)) i 0
+weight_at size i h = get_or_append_left (place_values (cast_bases size)) _ 0 i (omega (arith, length-place_values (cast_bases size), length-bases size))
 
--- the ballot of a voter, by one quotient and one remainder
-pub ballot_at : (size : Extent) (p i : ℕ) → p < sort_count size Profile → i < size.voters → p / get_or (weights_of size) i 0 % factorial size.alternatives ≡ get_or (ballots size p) i 0
-ballot_at size p i h l =
-    let inner : i < length (ballot_bases size) = omega (arith, length-bases size) in
-    ap (λ w. p / w % factorial size.alternatives) (weight_at size i l)
-    ∙ ap (λ b. p / get_or (place_values (ballot_bases size)) i 0 % b) (sym (get_or-replicate size.voters i (factorial size.alternatives) 0 l))
-    ∙ sym (digit_at (ballot_bases size) p i (below_product size p h) inner)
+pub some_list : (size : Extent) → IsSize size → 0 < product (cast_bases size)
+some_list size valid = subst (λ (x : ℕ). 0 < x) (sym (product-replicate size.voters (cast_count size))) (pow_positive (cast_count size) size.voters (cast_positive size valid))
 
-pub ballot_below : (size : Extent) (p i : ℕ) → p < sort_count size Profile → i < size.voters → get_or (ballots size p) i 0 < factorial size.alternatives
-ballot_below size p i h l = subst (λ (x : ℕ). x < factorial size.alternatives) (ballot_at size p i h l) (mod_below (p / get_or (weights_of size) i 0) (factorial size.alternatives) (factorial_pos size.alternatives))
+pub weight_positive : (size : Extent) (i : ℕ) → IsSize size → i < size.voters → 0 < get_or (weights_of size) i 0
+weight_positive size i valid h =
+    let parts = factor (cast_bases size) i (omega (arith, length-bases size)) in
+    rw (weight_at size i h) (positive_of (parts.0 * get_or (cast_bases size) i 0) (get_or (place_values (cast_bases size)) i 0) 0 (subst (λ (x : ℕ). 0 < x) parts.1 (some_list size valid)))
+
+-- the cast of a voter, by one quotient and one remainder
+pub cast_at : (size : Extent) (p i : ℕ) → IsListed size p → i < size.voters → p / get_or (weights_of size) i 0 % cast_count size ≡ get_or (casts_of size p) i 0
+cast_at size p i h l =
+    let inner : i < length (cast_bases size) = omega (arith, length-bases size) in
+    ap (λ w. p / w % cast_count size) (weight_at size i l)
+    ∙ ap (λ b. p / get_or (place_values (cast_bases size)) i 0 % b) (sym (get_or-replicate size.voters i (cast_count size) 0 l))
+    ∙ sym (digit_at (cast_bases size) p i h inner)
+
+pub cast_below : (size : Extent) (p i : ℕ) → IsSize size → IsListed size p → i < size.voters → get_or (casts_of size p) i 0 < cast_count size
+cast_below size p i valid h l = subst (λ (x : ℕ). x < cast_count size) (cast_at size p i h l) (mod_below (p / get_or (weights_of size) i 0) (cast_count size) (cast_positive size valid))
 
 -- ---- filling the weights, the greatest first
 
-pub next_weight : (size : Extent) (i w : ℕ) → i < size.voters → w ≡ product (drop i (ballot_bases size)) → w / factorial size.alternatives ≡ product (drop (i + 1) (ballot_bases size))
-next_weight size i w l e =
-    let inner : i < length (ballot_bases size) = omega (arith, length-bases size) in
-    let front : drop i (ballot_bases size) ≡ factorial size.alternatives ∷ drop (suc i) (ballot_bases size) = drop-cons (ballot_bases size) i 0 inner ∙ ap (λ (b : ℕ). b ∷ drop (suc i) (ballot_bases size)) (get_or-replicate size.voters i (factorial size.alternatives) 0 l) in
-    ap (λ x. x / factorial size.alternatives) (e ∙ ap product front) ∙ mul-div_cancel_left (product (drop (suc i) (ballot_bases size))) (factorial_pos size.alternatives) ∙ ap (λ k. product (drop k (ballot_bases size))) (sym (add-one i))
+pub next_weight : (size : Extent) (i w : ℕ) → IsSize size → i < size.voters → w ≡ product (drop i (cast_bases size)) → w / cast_count size ≡ product (drop (i + 1) (cast_bases size))
+next_weight size i w valid l e =
+    let inner : i < length (cast_bases size) = omega (arith, length-bases size) in
+    let front : drop i (cast_bases size) ≡ cast_count size ∷ drop (suc i) (cast_bases size) = drop-cons (cast_bases size) i 0 inner ∙ ap (λ (b : ℕ). b ∷ drop (suc i) (cast_bases size)) (get_or-replicate size.voters i (cast_count size) 0 l) in
+    ap (λ x. x / cast_count size) (e ∙ ap product front) ∙ mul-div_cancel_left (product (drop (suc i) (cast_bases size))) (cast_positive size valid) ∙ ap (λ k. product (drop k (cast_bases size))) (sym (add-one i))
 
 -- a list in front of zeros grows by its next number
 pub set-filled : (xs : List ℕ) (n i w : ℕ) → i < length xs → i < n → w ≡ get_or xs i 0 → set (take i xs ++ replicate (n - i) 0) i w ≡ take (i + 1) xs ++ replicate (n - (i + 1)) 0
@@ -111,9 +118,25 @@ set-filled (x ∷ xs) (suc n) (suc i) w l h e =
     let front : suc i + 1 ≡ suc (i + 1) = omega arith in
     rw (left, after, front) (ap (λ (ys : List ℕ). x ∷ ys) rest)
 
-pub filled_weights : (size : Extent) (i w : ℕ) → IsSize size → i < size.voters → w ≡ product (drop (i + 1) (ballot_bases size))
-    → set (take i (place_values (ballot_bases size)) ++ replicate (8 - i) 0) i w ≡ take (i + 1) (place_values (ballot_bases size)) ++ replicate (8 - (i + 1)) 0
+pub filled_weights : (size : Extent) (i w : ℕ) → IsSize size → i < size.voters → w ≡ product (drop (i + 1) (cast_bases size))
+    → set (take i (place_values (cast_bases size)) ++ replicate (8 - i) 0) i w ≡ take (i + 1) (place_values (cast_bases size)) ++ replicate (8 - (i + 1)) 0
 filled_weights size i w valid l e =
-    let inner : i < length (ballot_bases size) = omega (arith, length-bases size) in
-    set-filled (place_values (ballot_bases size)) 8 i w (omega (arith, length-place_values (ballot_bases size))) (omega (arith, valid.few_voters))
-    (e ∙ ap (λ k. product (drop k (ballot_bases size))) (add-one i) ∙ sym (at_place_value (ballot_bases size) i inner))
+    let inner : i < length (cast_bases size) = omega (arith, length-bases size) in
+    set-filled (place_values (cast_bases size)) 8 i w (omega (arith, length-place_values (cast_bases size))) (omega (arith, valid.few_voters))
+    (e ∙ ap (λ k. product (drop k (cast_bases size))) (add-one i) ∙ sym (at_place_value (cast_bases size) i inner))
+
+-- there is at most one list of casts that is no profile
+pub lists_few : (size : Extent) → product (cast_bases size) ≤ sort_count size Profile + 1
+lists_few size = lists_at_most size
+
+-- one more number in front of zeros
+pub padded-more : (xs : List ℕ) (n v : ℕ) → length xs < n → set (padded n xs) (length xs) v ≡ padded n (xs ++ v ∷ [])
+padded-more xs n v l =
+    let more = xs ++ v ∷ [] in
+    let long : length more ≡ length xs + 1 = length-append xs (v ∷ []) in
+    let front : take (length xs) (xs ++ v ∷ []) ≡ xs = take-append_seam xs (v ∷ []) in
+    let whole : take (length xs + 1) (xs ++ v ∷ []) ≡ xs ++ v ∷ [] = take_all (length xs + 1) (xs ++ v ∷ []) (let le : length (xs ++ v ∷ []) ≤ length xs + 1 = omega (arith, long) in le) in
+    let item : v ≡ get_or (xs ++ v ∷ []) (length xs) 0 = sym (get_or-append_right xs (v ∷ []) (length xs) (length xs) 0 refl (omega arith) ∙ ap (λ k. get_or (v ∷ []) k 0) (let none : length xs - length xs ≡ 0 = omega arith in none)) in
+    ap (λ ys. set (ys ++ replicate (n - length xs) 0) (length xs) v) (sym front)
+    ∙ set-filled (xs ++ v ∷ []) n (length xs) v (omega (arith, long)) l item
+    ∙ ap₂ (λ (ys : List ℕ) (k : ℕ). ys ++ replicate (n - k) 0) whole (sym long)

@@ -1,7 +1,8 @@
 -- Texts that are joined with a byte between each two.
-use Rattle.std.proofs.Common.{◌≡◌, sym, ◌∙◌, ap, ℕ, ◌<◌, List, [], ◌∷◌, ◌++◌, length, drop, arith, append_assoc}
+use Rattle.std.proofs.Common.{◌≡◌, sym, ◌∙◌, ap, ap₂, take, ℕ, ◌<◌, List, [], ◌∷◌, ◌++◌, length, drop, arith, append_assoc}
 use Rattle.std.specs.List.{join_with_byte}
 use Rattle.std.proofs.lemmas.List.{append-nil}
+use Rattle.std.proofs.Math.Seq.{take-append_seam}
 
 -- each text after a bar
 abbrev pub barred : List (List ℕ) → List ℕ
@@ -27,3 +28,7 @@ after_same [] [] r s l e = e
 after_same [] (y ∷ ys) r s l e = absurd (omega (arith, l))
 after_same (x ∷ xs) [] r s l e = absurd (omega (arith, l))
 after_same (x ∷ xs) (y ∷ ys) r s l e = after_same xs ys r s (omega (arith, l)) (ap (drop 1) e)
+
+-- the texts themselves
+pub front_same : (xs ys r s : List ℕ) → length xs ≡ length ys → xs ++ r ≡ ys ++ s → xs ≡ ys
+front_same xs ys r s l e = sym (take-append_seam xs r) ∙ ap₂ (λ (k : ℕ) (zs : List ℕ). take k zs) l e ∙ take-append_seam ys s

@@ -1,20 +1,21 @@
 -- What the tables of rankings say, computed once over their rows.
-use Rattle.std.proofs.Common.{◌≡◌, refl, sym, ◌∙◌, ap, ap₂, ℕ, zero, suc, ◌+◌, ◌-◌, ◌*◌, ◌<◌, ◌≤◌, Bool, true, ◌&&◌, true≢false, List, [], ◌∷◌, map, length, get_or, drop, arith, eqb-true, ltb-true, subst, take, set, ◌++◌, mul-le-mul_right, suc-mul, add_assoc, append_assoc}
+use Rattle.std.proofs.Common.{◌≡◌, refl, sym, ◌∙◌, ap, ap₂, ℕ, zero, suc, ◌+◌, ◌-◌, ◌*◌, ◌<◌, ◌≤◌, Bool, true, false, cond, ◌&&◌, true≢false, List, [], ◌∷◌, map, length, get_or, drop, arith, eqb-true, ltb-true, subst, take, set, ◌++◌, mul-le-mul_right, suc-mul, add_assoc, append_assoc}
 use Rattle.std.specs.Prelude.{◌==◌, nat_lt, nat_eq, count_by}
 use Rattle.std.specs.List.{list_all}
 use Rattle.std.specs.Cmp.Lexicographic.{pointwise}
 use Rattle.std.proofs.lemmas.Bool.{and_parts}
 use Rattle.std.proofs.lemmas.Bool.Decides.{nat_tests}
-use Rattle.std.proofs.lemmas.List.{get_or-map, get_or-drop, take_more, take_more_set, length-map}
+use Rattle.std.proofs.lemmas.List.{get_or_append_left, get_or-map, get_or-drop, take_more, take_more_set, length-map}
 use Rattle.std.proofs.lemmas.List.Recursion.{and_at}
 use Rattle.std.proofs.lemmas.List.Sums.{count_by-le-length}
 use Rattle.vocab.specs.Name.{is_name}
-use Rattle.vocab.specs.Size.{factorial}
+use Rattle.vocab.specs.Size.{Extent, IsSize, ballot_count, ballot_places, cast_count, factorial}
 use Rattle.meaning.specs.Space.{exchanged, below, up_from, rankings, ranking, ranking_number, place, is_above}
 use Rattle.meaning.specs.Texts.{letter}
 use Rattle.meaning.proofs.SpaceLaws.{all_at, length-rankings}
+use Rattle.meaning.proofs.BallotLaws.{ballots_within}
 use Rattle.meaning.proofs.RankingLaws.{are_rankings}
-use Rattle.profiles.specs.Weights.{rank_of}
+use Rattle.profiles.specs.Weights.{places_of, rank_of}
 use Rattle.profiles.specs.declared.tables.TheConstants.{EXCHANGED, PAIRS, PLACES, RANKINGS}
 
 -- a test of each row of a list with its number
@@ -202,3 +203,18 @@ exchanged_at m x y b some few hx hy h =
     let parts = and_parts (nat_lt c (factorial m)) (pointwise nat_eq (ranking m c) (map (exchanged x y) (ranking m b))) (exchange_fact m x y b some few hx hy h) in
     let within : c < factorial m = ltb-true _ _ parts.0 in
     (within, sym ((are_rankings m).numbered c within) ∙ ap (ranking_number m) (same_list _ _ parts.1))
+
+-- a size has few ballots and few casts
+pub few_ballots : (size : Extent) → IsSize size → ballot_count size ≤ 120
+few_ballots size valid = omega (arith, ballots_within size, factorial_small size.alternatives valid.few_alternatives)
+
+pub few_casts : (size : Extent) → IsSize size → cast_count size ≤ 121
+few_casts size valid = cases size.absent
+  where
+    cases : (absent : Bool) → cond absent (ballot_count size + 1) (ballot_count size) ≤ 121
+    cases true = omega (arith, few_ballots size valid)
+    cases false = omega (arith, few_ballots size valid)
+
+-- the place of a ballot, read in front of zeros
+pub place_listed : (size : Extent) (b : ℕ) → b < ballot_count size → get_or (places_of size) b 0 ≡ get_or (ballot_places size) b 0
+place_listed size b l = get_or_append_left (ballot_places size) _ 0 b l

@@ -11,6 +11,7 @@ mod tests;
 mod texts;
 mod votes;
 
-pub use reading::NotAProfile;
+pub use reading::{NotAProfile, place_of};
 pub use space::Space;
-pub use texts::ProfileText;
+pub use tables::{is_above, ranking_count};
+pub use texts::{ProfileText, ranking_text};

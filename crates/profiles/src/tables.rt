@@ -274,8 +274,8 @@ fn place_at(ballot: u32, alternative: usize) -> u8
     PLACES[ballot as usize][alternative]
 }
 
-/// Whether x stands above y in a ranking.
-pub(crate) fn is_above(alternatives: u8, ballot: u32, x: u32, y: u32) -> bool
+/// Whether x stands above y in the ranking of a place among all rankings of so many alternatives.
+pub fn is_above(alternatives: u8, ballot: u32, x: u32, y: u32) -> bool
     requires some { 1 ≤ alternatives }
     requires few { alternatives ≤ 5 }
     requires ballot { ballot < factorial alternatives }
@@ -432,7 +432,15 @@ static EXCHANGED: [[u8; 120]; 11] = [
 ];
 
 /// How many orders there are of few items.
-static FACTORIALS: [u32; 5] = [1, 1, 2, 6, 24];
+static FACTORIALS: [u32; 6] = [1, 1, 2, 6, 24, 120];
+
+/// How many rankings there are of so many alternatives.
+pub fn ranking_count(alternatives: u8) -> u32
+    requires { alternatives ≤ 5 }
+    ensures { result ≡ factorial alternatives }
+{
+    FACTORIALS[alternatives as usize]
+}
 
 fn factorial_of(items: usize) -> u32
     requires { items < 5 }

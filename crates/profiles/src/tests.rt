@@ -114,6 +114,7 @@ fn votes(rt: HostRuntime) {
     assert!(rt; space.count() == 36);
     assert!(rt; space.size().voters() == 2);
     assert!(rt; space.size().alternatives() == 3);
+    assert!(rt; space.ballots() == 6);
     // x, y, whether voter 1, voter 2 and the majority have x above y
     let rows = [
         (0, 1, true, false, false),
@@ -143,6 +144,7 @@ fn changes(rt: HostRuntime) {
     assert!(rt; space.count() == 36);
     assert!(rt; space.size().voters() == 2);
     assert!(rt; space.size().alternatives() == 3);
+    assert!(rt; space.size().has_all_ballots());
     assert_eq!(rt; space.with(27, 1, 0), 24, "cab|abc");
     assert_eq!(rt; space.swap_voters(27, 0, 1), 22, "bca|cab");
     assert_eq!(rt; space.swap_voters(27, 1, 1), 27, "cab|bca");
@@ -158,6 +160,7 @@ fn changes(rt: HostRuntime) {
 fn two_exchanges_of_two_alternatives_are_none(rt: HostRuntime) {
     let space = space(&rt, 2, 3);
     assert!(rt; space.size().alternatives() == 3);
+    assert!(rt; space.size().has_all_ballots());
     for p in 0..space.count() {
         for (x, y) in [(0, 1), (0, 2), (1, 2), (1, 1)] {
             assert!(rt; x < 3 && y < 3);
@@ -186,4 +189,77 @@ fn laws(rt: HostRuntime) {
     let space = space(&rt, 5, 3);
     crate::laws::spaces_have_sizes(&space);
     crate::laws::texts_are_distinct(&space);
+}
+
+/// The space of a size at which the rankings of some places may be cast.
+fn domain(rt: &impl Abort, voters: i64, alternatives: i64, ballots: u128, absent: bool) -> Space {
+    let size = Size::with_domain(Kind::Choice, voters, alternatives, ballots, absent);
+    Space::new(size.expect(rt, "a size"))
+}
+
+// Of the six rankings of a, b and c, those at places 0, 2, 3 and 5 may be cast: abc, bac, bca and cba.
+#[test]
+fn fewer_ballots(rt: HostRuntime) {
+    let space = domain(&rt, 3, 3, 45, false);
+    assert!(rt; space.count() == 64);
+    assert!(rt; space.ballots() == 4);
+    assert_eq!(rt; space.ballot_text(2).bytes(), b"bca".as_slice());
+    assert_eq!(rt; space.read_ballot(b"bca"), Some(2));
+    assert_eq!(rt; space.read_ballot(b"acb"), None);
+    assert_eq!(rt; space.profile_text(27).bytes(), b"bac|bca|cba".as_slice());
+    assert_eq!(rt; space.read_profile(b"bac|bca|cba"), Ok(27));
+    assert_eq!(rt; space.read_profile(b"bac|acb|cba"), Err(NotAProfile));
+}
+
+// At bac|bca|cba all have b above a, and the second and third have c above a.
+#[test]
+fn votes_of_fewer_ballots(rt: HostRuntime) {
+    let space = domain(&rt, 3, 3, 45, false);
+    assert!(rt; space.count() == 64);
+    assert!(rt; space.size().voters() == 3);
+    assert!(rt; space.size().alternatives() == 3);
+    assert!(rt; space.prefers(0, 0, 2, 27));
+    assert!(rt; space.prefers(1, 2, 0, 27));
+    assert!(rt; space.majority(2, 0, 27));
+}
+
+// Two voters with both ballots: ab|ab, ab|ba, ab|-, ba|ab, ba|ba, ba|-, -|ab and -|ba.
+#[test]
+fn absence_is_a_cast(rt: HostRuntime) {
+    let space = domain(&rt, 2, 2, 3, true);
+    assert!(rt; space.count() == 8);
+    for p in 0..space.count() {
+        let text = space.profile_text(p);
+        assert_eq!(rt; space.read_profile(text.bytes()), Ok(p), "profile {p}");
+    }
+    assert_eq!(rt; space.profile_text(2).bytes(), b"ab|-".as_slice());
+    assert_eq!(rt; space.read_profile(b"-|-"), Err(NotAProfile));
+}
+
+#[test]
+fn changes_with_an_absent_voter(rt: HostRuntime) {
+    let space = domain(&rt, 2, 2, 3, true);
+    assert!(rt; space.count() == 8);
+    assert!(rt; space.size().voters() == 2);
+    assert!(rt; space.size().alternatives() == 2);
+    assert!(rt; space.size().has_all_ballots());
+    assert!(rt; space.ballots() == 2);
+    assert_eq!(rt; space.ballot_of(2, 1), 2);
+    assert_eq!(rt; space.swap_voters(2, 0, 1), 6, "-|ab");
+    assert_eq!(rt; space.with(2, 1, 1), 1, "ab|ba");
+    assert_eq!(rt; space.swap_alts(2, 0, 1), 5, "ba|-");
+}
+
+// At ab|- the voter who is there decides.
+#[test]
+fn votes_with_an_absent_voter(rt: HostRuntime) {
+    let space = domain(&rt, 2, 2, 3, true);
+    assert!(rt; space.count() == 8);
+    assert!(rt; space.size().voters() == 2);
+    assert!(rt; space.size().alternatives() == 2);
+    assert!(rt; space.ballots() == 2);
+    assert!(rt; !space.prefers(1, 0, 1, 2));
+    assert!(rt; !space.prefers(1, 1, 0, 2));
+    assert!(rt; space.majority(0, 1, 2));
+    assert!(rt; !space.casts(1, 1, 2));
 }

@@ -168,14 +168,14 @@ module _ (study : Question) where
   row_found : (r : Reading) (s : Standing) (p o n : ℕ) (q : Place) → Stands study r s → s.place ≡ q → Fits study q n (Row p o) → Holds study q s → list_all (λ k. nat_lt k (length study.axioms)) s.core ≡ true → HoldsRows r o
   row_found r s p o n AtRow h at fits holds core = record {
     rows = subst (λ rows. list_all (λ o. nat_lt o (outcome_count study.size.kind study.size.alternatives)) rows ≡ true) (sym h.rows) holds.0;
-    more = subst (λ rows. length rows < sort_count study.size Profile) (sym h.rows) holds.1;
+    more = subst (λ rows. length rows < sort_count study.size Profile) (sym h.rows) (holds.1 (let some : 0 < sort_count study.size Profile = omega (arith, fits.0) in some));
     outcome = fits.1;
     core = subst (λ core. list_all (λ k. nat_lt k (length study.axioms)) core ≡ true) (sym h.core) core;
     next = λ e. let same : AtRow ≡ AtWitnessRow = is_witness_row AtRow (sym e ∙ h.place ∙ ap held_place at) in absurd (cc);
   }
   row_found r s p o n AtWitnessRow h at fits holds core = record {
     rows = subst (λ rows. list_all (λ o. nat_lt o (outcome_count study.size.kind study.size.alternatives)) rows ≡ true) (sym h.rows) holds.1.0;
-    more = subst (λ rows. length rows < sort_count study.size Profile) (sym h.rows) holds.1.1;
+    more = subst (λ rows. length rows < sort_count study.size Profile) (sym h.rows) (holds.1.1 (let some : 0 < sort_count study.size Profile = omega (arith, fits.0) in some));
     outcome = fits.1;
     core = subst (λ core. list_all (λ k. nat_lt k (length study.axioms)) core ≡ true) (sym h.core) core;
     next = λ e. let same : length r.core ≡ length s.core = ap length h.core in omega (arith, h.witnesses, same, next_less s.core s.witnesses holds.2 holds.3);

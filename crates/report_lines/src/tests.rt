@@ -1,6 +1,7 @@
 //! Lines of reports on two voters and two alternatives.
 
 ghost use Rattle.std.specs.Prelude.{◌≡◌, [], ◌∷◌, codes, IfOk};
+ghost use Rattle.vocab.specs.Size.{full_size};
 ghost use Rattle.vocab.specs.Titled.{Titled};
 ghost use Rattle.vocab.specs.Tree.{tree_of, All, Leaf, Equal, Var};
 
@@ -14,7 +15,7 @@ use std::test::Fail;
 use vocab::{Atom, Axiom, Axioms, Env, Formula, Kind, Literal, Name, Size, Sort, Study, Term};
 
 fn two_and_two() -> Result<Size, Fail>
-    ensures { IfOk result (λ size. size ≡ record { kind = Kind.Choice; voters = 2; alternatives = 2 }) }
+    ensures { IfOk result (λ size. size ≡ full_size Kind.Choice 2 2) }
 {
     Ok(Size::check(Kind::Choice, 2, 2).ok().ok_or("size")?)
 }
@@ -32,7 +33,7 @@ fn one_axiom(alloc: Global) -> Result<Axioms, Fail>
 }
 
 fn study(alloc: Global) -> Result<Study, Fail>
-    ensures { IfOk result (λ study. study.size ≡ record { kind = Kind.Choice; voters = 2; alternatives = 2 }) }
+    ensures { IfOk result (λ study. study.size ≡ full_size Kind.Choice 2 2) }
 {
     Ok(Study::new(two_and_two()?, 100, one_axiom(alloc)?))
 }

@@ -1,6 +1,7 @@
 //! Reports of a study of one voter and two alternatives, and sinks that fail.
 
 ghost use Rattle.std.specs.Prelude.{◌≡◌, [], ◌∷◌, codes, IfOk, IsTrue};
+ghost use Rattle.vocab.specs.Size.{full_size};
 ghost use Rattle.vocab.specs.Tree.{All, Leaf, Equal, Var};
 ghost use Rattle.verdicts.specs.Report.{has_text};
 
@@ -19,7 +20,7 @@ use vocab::{
 
 /// A study with the axiom that each voter is itself, by the name `same`.
 fn one_axiom(alloc: Global) -> Result<Study, Fail>
-    ensures { IfOk result (λ study. study ≡ record { size = record { kind = Kind.Choice; voters = 1; alternatives = 2 }; conflicts = 100; axioms = record { name = codes "same"; sentence = All Sort.Voter (Leaf (Equal (Var 0) (Var 0))) } ∷ [] }) }
+    ensures { IfOk result (λ study. study ≡ record { size = full_size Kind.Choice 1 2; conflicts = 100; axioms = record { name = codes "same"; sentence = All Sort.Voter (Leaf (Equal (Var 0) (Var 0))) } ∷ [] }) }
 {
     let size = Size::check(Kind::Choice, 1, 2).ok().ok_or("size")?;
     let name = Name::new(b"same").ok_or("name")?;
@@ -66,7 +67,7 @@ fn one_lemma(alloc: Global) -> Result<Lemma, Fail>
 
 /// A claim with that lemma alone. No claim is checked before it is written.
 fn impossible(alloc: Global) -> Result<Verdict, Fail>
-    ensures { IfOk result (λ verdict. IsTrue (has_text (record { size = record { kind = Kind.Choice; voters = 1; alternatives = 2 }; conflicts = 100; axioms = record { name = codes "same"; sentence = All Sort.Voter (Leaf (Equal (Var 0) (Var 0))) } ∷ [] }) verdict)) }
+    ensures { IfOk result (λ verdict. IsTrue (has_text (record { size = full_size Kind.Choice 1 2; conflicts = 100; axioms = record { name = codes "same"; sentence = All Sort.Voter (Leaf (Equal (Var 0) (Var 0))) } ∷ [] }) verdict)) }
 {
     let mut core = Items::new(alloc);
     core.push(0)?;

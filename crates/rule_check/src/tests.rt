@@ -2,6 +2,7 @@
 
 ghost use Rattle.std.specs.Prelude.{◌≡◌, ◌≤◌, nat_lt, codes, length, IfOk, IsTrue};
 ghost use Rattle.std.specs.List.{list_all};
+ghost use Rattle.vocab.specs.Size.{full_size};
 ghost use Rattle.vocab.specs.Tree.{All, Leaf, Equal, WinsAt, Const, Var};
 ghost use Rattle.meaning.specs.Truth.{is_rule};
 
@@ -18,7 +19,7 @@ use verdicts::Refusal;
 use vocab::{Atom, Axiom, Axioms, Formula, Kind, Name, Size, Sort, Study, Table, Term};
 
 fn small_size() -> Result<Size, Fail>
-    ensures { IfOk result (λ size. size ≡ record { kind = Kind.Choice; voters = 2; alternatives = 3 }) }
+    ensures { IfOk result (λ size. size ≡ full_size Kind.Choice 2 3) }
 {
     Ok(Size::check(Kind::Choice, 2, 3).ok().ok_or("size")?)
 }
@@ -48,7 +49,7 @@ fn first(alloc: Global) -> Result<Axiom, Fail>
 }
 
 fn two_axioms(alloc: Global) -> Result<Study, Fail>
-    ensures size { IfOk result (λ study. study.size ≡ record { kind = Kind.Choice; voters = 2; alternatives = 3 }) }
+    ensures size { IfOk result (λ study. study.size ≡ full_size Kind.Choice 2 3) }
     ensures axioms { IfOk result (λ study. length study.axioms ≡ 2) }
 {
     let mut axioms: Axioms = Items::new(alloc);
@@ -59,7 +60,7 @@ fn two_axioms(alloc: Global) -> Result<Study, Fail>
 
 /// The rule by which the first alternative wins at each of the 36 profiles but those numbered 30 and 34.
 fn rule(alloc: Global) -> Result<Table, Fail>
-    ensures { IfOk result (λ table. IsTrue (is_rule (record { kind = Kind.Choice; voters = 2; alternatives = 3 }) table)) }
+    ensures { IfOk result (λ table. IsTrue (is_rule (full_size Kind.Choice 2 3) table)) }
 {
     let mut table = Items::new(alloc);
     table.append(&[

@@ -1,5 +1,5 @@
 -- What a visit of a whole sentence answers.
-use Rattle.std.proofs.Common.{◌≡◌, refl, sym, ◌∙◌, ap, ap₂, ◌≤◌, List, [], ◌∷◌, arith, IsTrue}
+use Rattle.std.proofs.Common.{◌≡◌, true, refl, sym, ◌∙◌, ap, ap₂, ◌≤◌, List, [], ◌∷◌, arith, IsTrue}
 use Rattle.std.specs.Prelude.{◌≢◌, Result, Ok, Err, IfOk, MatchResult}
 use Rattle.vocab.specs.declared.sentences.Formula.{Formula}
 use Rattle.vocab.specs.Formula.{quantifier_depth}
@@ -7,7 +7,7 @@ use Rattle.vocab.specs.Limits as limits
 use Rattle.vocab.specs.NamedDepth.{depth, quantifiers}
 use Rattle.vocab.specs.NamedTree.{NamedTree}
 use Rattle.vocab.specs.Size.{Extent}
-use Rattle.vocab.specs.Sorted.{is_sorted}
+use Rattle.vocab.specs.Sorted.{is_sorted_if}
 use Rattle.vocab.specs.Tree.{Tree, tree_of}
 use Rattle.meaning.specs.Truth.{is_true_at}
 use Rattle.sorts.specs.declared.faults.SortFault.{SortFault}
@@ -44,8 +44,8 @@ unfolding answer_of
 whole_answer size f (Ok t) h = ap₂ first_or h.0 (sym h.1)
 whole_answer size f (Err e) h = λ memory. first_answer e (faults size [] f) (resolved size [] f) (h memory)
 
-pub whole_sorted : (size : Extent) (f : NamedTree) (r : Result Formula SortFault) → IsWholeVisit size f r → IfOk r (λ t. IsTrue (is_sorted size [] (tree_of t)))
-whole_sorted size f (Ok t) h = ap (is_sorted size []) h.1 ∙ formula_sorted size [] f h.0
+pub whole_sorted : (size : Extent) (f : NamedTree) (r : Result Formula SortFault) → IsWholeVisit size f r → IfOk r (λ t. IsTrue (is_sorted_if true size [] (tree_of t)))
+whole_sorted size f (Ok t) h = ap (is_sorted_if true size []) h.1 ∙ formula_sorted size [] f h.0
 whole_sorted size f (Err e) h = tt
 
 pub whole_quantified : (size : Extent) (f : NamedTree) (r : Result Formula SortFault) → quantifiers f ≤ 12 → IsWholeVisit size f r → IfOk r (λ t. quantifier_depth (tree_of t) ≤ 12)

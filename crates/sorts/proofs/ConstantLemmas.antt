@@ -3,7 +3,7 @@ use Rattle.std.proofs.Common.{◌≡◌, refl, sym, ◌∙◌, ap, ℕ, zero, su
 use Rattle.std.specs.Prelude.{◌≢◌, find, IfSome, IfNone}
 use Rattle.std.specs.Cmp.Lexicographic.{bytes_decides}
 use Rattle.std.specs.Str.{bytes_eq}
-use Rattle.vocab.specs.Size.{Extent, factorial}
+use Rattle.vocab.specs.Size.{Extent, ballot_count}
 use Rattle.meaning.specs.Space.{up_from}
 use Rattle.meaning.specs.Texts.{ballot_text}
 use Rattle.profiles.specs.Distinct.{HaveTextsOfTheirOwn}
@@ -46,14 +46,14 @@ differs xs ys ne = elim (bytes_eq xs ys) as (λ r. bytes_eq xs ys ≡ r → r �
 
 -- a ballot that is read is the one of the letters, and where none is read there is none
 pub read_is_value : (size : Extent) (letters : List ℕ) (r : Option ℕ) → HaveTextsOfTheirOwn size
-    → IfSome r (λ b. (b < factorial size.alternatives) × (letters ≡ ballot_text size b))
-    → IfNone r ((b : ℕ) → b < factorial size.alternatives → letters ≢ ballot_text size b)
+    → IfSome r (λ b. (b < ballot_count size) × (letters ≡ ballot_text size b))
+    → IfNone r ((b : ℕ) → b < ballot_count size → letters ≢ ballot_text size b)
     → r ≡ ballot_value size letters
 unfolding ballot_value
 read_is_value size letters (Some b) own found none =
     let t : ℕ → Bool = λ x. bytes_eq letters (ballot_text size x) in
-    let lt : b < 0 + factorial size.alternatives = omega (arith, found.0) in
-    sym (find_only t 0 (factorial size.alternatives) b (omega arith) lt ((bytes_decides letters (ballot_text size b)).1 found.1)
+    let lt : b < 0 + ballot_count size = omega (arith, found.0) in
+    sym (find_only t 0 (ballot_count size) b (omega arith) lt ((bytes_decides letters (ballot_text size b)).1 found.1)
     (λ x below_it e. own.ballots x b (omega (arith, below_it)) found.0 (sym ((bytes_decides letters (ballot_text size x)).0 e) ∙ found.1)))
 read_is_value size letters None own found none =
-    sym (find_none (λ x. bytes_eq letters (ballot_text size x)) 0 (factorial size.alternatives) (λ x lt. differs letters (ballot_text size x) (none x (omega (arith, lt)))))
+    sym (find_none (λ x. bytes_eq letters (ballot_text size x)) 0 (ballot_count size) (λ x lt. differs letters (ballot_text size x) (none x (omega (arith, lt)))))

@@ -10,8 +10,8 @@ use Rattle.vocab.specs.declared.kinds.Sort.{Sort}
 use Rattle.vocab.specs.declared.kinds.Sort.TheVariants.{Voter, Alt, Ballot, Profile}
 use Rattle.vocab.specs.NamedTree as tree
 use Rattle.vocab.specs.NamedTree.{NamedTermTree, NamedTermTrees, NamedTree}
-use Rattle.vocab.specs.Size.{Extent, sort_count, factorial}
-use Rattle.vocab.specs.Sorted.{same_sort, all_sorts, is_option_sort, is_of_sort, is_atom_sorted, is_sorted}
+use Rattle.vocab.specs.Size.{Extent, sort_count, ballot_count}
+use Rattle.vocab.specs.Sorted.{same_sort, all_sorts, is_option_sort, is_of_sort_if, is_atom_sorted_if, is_sorted_if}
 use Rattle.vocab.specs.Tree as plain
 use Rattle.vocab.specs.Tree.{TermTree, AtomTree, Tree}
 use Rattle.meaning.specs.Space.{up_from}
@@ -104,9 +104,9 @@ found_below t a (suc n) v h =
       | false ↦ λ k. omega (arith, found_below t (suc a) n v k)
     ] h
 
-ballot_below : (size : Extent) (letters : List ℕ) (v : ℕ) → ballot_value size letters ≡ Some v → v < factorial size.alternatives
+ballot_below : (size : Extent) (letters : List ℕ) (v : ℕ) → ballot_value size letters ≡ Some v → v < ballot_count size
 unfolding ballot_value
-ballot_below size letters v h = omega (arith, found_below (λ b. bytes_eq letters (ballot_text size b)) 0 (factorial size.alternatives) v h)
+ballot_below size letters v h = omega (arith, found_below (λ b. bytes_eq letters (ballot_text size b)) 0 (ballot_count size) v h)
 
 voter_below : (size : Extent) (i v : ℕ) → voter_value size i ≡ Some v → v < size.voters
 voter_below size i v h =
@@ -132,7 +132,7 @@ abbrev pub AreOfSorts : Extent → List Sort → List Sort → List TermTree →
 AreOfSorts size around [] [] = Unit {0}
 AreOfSorts size around [] (t ∷ ts) = ⊥
 AreOfSorts size around (s ∷ sorts) [] = ⊥
-AreOfSorts size around (s ∷ sorts) (t ∷ ts) = (is_of_sort size around s t ≡ true) × AreOfSorts size around sorts ts
+AreOfSorts size around (s ∷ sorts) (t ∷ ts) = (is_of_sort_if true size around s t ≡ true) × AreOfSorts size around sorts ts
 
 same_true : (s t : Sort) → same_sort s t ≡ true → s ≡ t
 same_true Voter Voter h = refl
@@ -154,13 +154,13 @@ same_true Profile Profile h = refl
 
 -- a constant is of the sort that it has a number of
 constant_of : (size : Extent) (around : List Sort) (s t : Sort) (v : ℕ) (o : Option ℕ) → same_sort s t ≡ true → v < sort_count size t → o ≡ Some v
-    → is_of_sort size around s (plain.Const (unwrap_or o 0)) ≡ true
+    → is_of_sort_if true size around s (plain.Const (unwrap_or o 0)) ≡ true
 constant_of size around s t v o same lt known =
     rw (same_true s t same, known) (lt-ltb v (sort_count size t) lt)
 
 -- what holds of any two, three or four terms of some sorts holds of the terms
 pub two_terms : (size : Extent) (around : List Sort) (a b : Sort) (P : List TermTree → Type 0)
-    → ((x y : TermTree) → is_of_sort size around a x ≡ true → is_of_sort size around b y ≡ true → P (x ∷ y ∷ []))
+    → ((x y : TermTree) → is_of_sort_if true size around a x ≡ true → is_of_sort_if true size around b y ≡ true → P (x ∷ y ∷ []))
     → (ts : List TermTree) → AreOfSorts size around (a ∷ b ∷ []) ts → P ts
 two_terms size around a b P each [] h = absurd h
 two_terms size around a b P each (x ∷ []) h = absurd h.1
@@ -168,34 +168,34 @@ two_terms size around a b P each (x ∷ y ∷ []) h = each x y h.0 h.1.0
 two_terms size around a b P each (x ∷ y ∷ z ∷ ts) h = absurd h.1.1
 
 pub three_terms : (size : Extent) (around : List Sort) (a b c : Sort) (P : List TermTree → Type 0)
-    → ((x y z : TermTree) → is_of_sort size around a x ≡ true → is_of_sort size around b y ≡ true → is_of_sort size around c z ≡ true → P (x ∷ y ∷ z ∷ []))
+    → ((x y z : TermTree) → is_of_sort_if true size around a x ≡ true → is_of_sort_if true size around b y ≡ true → is_of_sort_if true size around c z ≡ true → P (x ∷ y ∷ z ∷ []))
     → (ts : List TermTree) → AreOfSorts size around (a ∷ b ∷ c ∷ []) ts → P ts
 three_terms size around a b c P each [] h = absurd h
 three_terms size around a b c P each (x ∷ ts) h = two_terms size around b c (λ us. P (x ∷ us)) (λ y z hy hz. each x y z h.0 hy hz) ts h.1
 
 pub four_terms : (size : Extent) (around : List Sort) (a b c d : Sort) (P : List TermTree → Type 0)
-    → ((x y z w : TermTree) → is_of_sort size around a x ≡ true → is_of_sort size around b y ≡ true → is_of_sort size around c z ≡ true → is_of_sort size around d w ≡ true → P (x ∷ y ∷ z ∷ w ∷ []))
+    → ((x y z w : TermTree) → is_of_sort_if true size around a x ≡ true → is_of_sort_if true size around b y ≡ true → is_of_sort_if true size around c z ≡ true → is_of_sort_if true size around d w ≡ true → P (x ∷ y ∷ z ∷ w ∷ []))
     → (ts : List TermTree) → AreOfSorts size around (a ∷ b ∷ c ∷ d ∷ []) ts → P ts
 four_terms size around a b c d P each [] h = absurd h
 four_terms size around a b c d P each (x ∷ ts) h = three_terms size around b c d (λ us. P (x ∷ us)) (λ y z w hy hz hw. each x y z w h.0 hy hz hw) ts h.1
 
 -- a function at terms of its sorts gives a value of the sort that it gives
 function_of_sort : (size : Extent) (around : List Sort) (s : Sort) (f : Function) (ts : List TermTree) → AreOfSorts size around (function_sorts f) ts → same_sort s (given_sort f) ≡ true
-    → is_of_sort size around s (function_tree (Some f) ts) ≡ true
-function_of_sort size around s With ts are h = three_terms size around _ _ _ (λ us. is_of_sort size around s (function_tree (Some With) us) ≡ true) (λ x y z hx hy hz. and_from _ _ (and_from _ _ (and_from _ _ h hx) hy) hz) ts are
-function_of_sort size around s SwapVoters ts are h = three_terms size around _ _ _ (λ us. is_of_sort size around s (function_tree (Some SwapVoters) us) ≡ true) (λ x y z hx hy hz. and_from _ _ (and_from _ _ (and_from _ _ h hx) hy) hz) ts are
-function_of_sort size around s SwapAlts ts are h = three_terms size around _ _ _ (λ us. is_of_sort size around s (function_tree (Some SwapAlts) us) ≡ true) (λ x y z hx hy hz. and_from _ _ (and_from _ _ (and_from _ _ h hx) hy) hz) ts are
-function_of_sort size around s Swap ts are h = three_terms size around _ _ _ (λ us. is_of_sort size around s (function_tree (Some Swap) us) ≡ true) (λ x y z hx hy hz. and_from _ _ (and_from _ _ (and_from _ _ h hx) hy) hz) ts are
+    → is_of_sort_if true size around s (function_tree (Some f) ts) ≡ true
+function_of_sort size around s With ts are h = three_terms size around _ _ _ (λ us. is_of_sort_if true size around s (function_tree (Some With) us) ≡ true) (λ x y z hx hy hz. and_from _ _ (and_from _ _ (and_from _ _ h hx) hy) hz) ts are
+function_of_sort size around s SwapVoters ts are h = three_terms size around _ _ _ (λ us. is_of_sort_if true size around s (function_tree (Some SwapVoters) us) ≡ true) (λ x y z hx hy hz. and_from _ _ (and_from _ _ (and_from _ _ h hx) hy) hz) ts are
+function_of_sort size around s SwapAlts ts are h = three_terms size around _ _ _ (λ us. is_of_sort_if true size around s (function_tree (Some SwapAlts) us) ≡ true) (λ x y z hx hy hz. and_from _ _ (and_from _ _ (and_from _ _ (and_from _ _ h hx) hy) hz) refl) ts are
+function_of_sort size around s Swap ts are h = three_terms size around _ _ _ (λ us. is_of_sort_if true size around s (function_tree (Some Swap) us) ≡ true) (λ x y z hx hy hz. and_from _ _ (and_from _ _ (and_from _ _ h hx) hy) hz) ts are
 
 -- a predicate at terms of its sorts is well sorted
 predicate_sorted : (size : Extent) (around : List Sort) (p : Predicate) (ts : List TermTree) → AreOfSorts size around (predicate_sorts p) ts → is_said_of size.kind p ≡ true
-    → is_atom_sorted size around (predicate_tree (Some p) ts) ≡ true
-predicate_sorted size around Prefers ts are h = four_terms size around _ _ _ _ (λ us. is_atom_sorted size around (predicate_tree (Some Prefers) us) ≡ true) (λ x y z w hx hy hz hw. and_from _ _ (and_from _ _ (and_from _ _ hx hy) hz) hw) ts are
-predicate_sorted size around Better ts are h = three_terms size around _ _ _ (λ us. is_atom_sorted size around (predicate_tree (Some Better) us) ≡ true) (λ x y z hx hy hz. and_from _ _ (and_from _ _ hx hy) hz) ts are
-predicate_sorted size around Casts ts are h = three_terms size around _ _ _ (λ us. is_atom_sorted size around (predicate_tree (Some Casts) us) ≡ true) (λ x y z hx hy hz. and_from _ _ (and_from _ _ hx hy) hz) ts are
-predicate_sorted size around Majority ts are h = three_terms size around _ _ _ (λ us. is_atom_sorted size around (predicate_tree (Some Majority) us) ≡ true) (λ x y z hx hy hz. and_from _ _ (and_from _ _ hx hy) hz) ts are
-predicate_sorted size around Wins ts are h = two_terms size around _ _ (λ us. is_atom_sorted size around (predicate_tree (Some Wins) us) ≡ true) (λ x y hx hy. and_from _ _ (and_from _ _ h hx) hy) ts are
-predicate_sorted size around Ranks ts are h = three_terms size around _ _ _ (λ us. is_atom_sorted size around (predicate_tree (Some Ranks) us) ≡ true) (λ x y z hx hy hz. and_from _ _ (and_from _ _ (and_from _ _ h hx) hy) hz) ts are
+    → is_atom_sorted_if true size around (predicate_tree (Some p) ts) ≡ true
+predicate_sorted size around Prefers ts are h = four_terms size around _ _ _ _ (λ us. is_atom_sorted_if true size around (predicate_tree (Some Prefers) us) ≡ true) (λ x y z w hx hy hz hw. and_from _ _ (and_from _ _ (and_from _ _ hx hy) hz) hw) ts are
+predicate_sorted size around Better ts are h = three_terms size around _ _ _ (λ us. is_atom_sorted_if true size around (predicate_tree (Some Better) us) ≡ true) (λ x y z hx hy hz. and_from _ _ (and_from _ _ hx hy) hz) ts are
+predicate_sorted size around Casts ts are h = three_terms size around _ _ _ (λ us. is_atom_sorted_if true size around (predicate_tree (Some Casts) us) ≡ true) (λ x y z hx hy hz. and_from _ _ (and_from _ _ hx hy) hz) ts are
+predicate_sorted size around Majority ts are h = three_terms size around _ _ _ (λ us. is_atom_sorted_if true size around (predicate_tree (Some Majority) us) ≡ true) (λ x y z hx hy hz. and_from _ _ (and_from _ _ hx hy) hz) ts are
+predicate_sorted size around Wins ts are h = two_terms size around _ _ (λ us. is_atom_sorted_if true size around (predicate_tree (Some Wins) us) ≡ true) (λ x y hx hy. and_from _ _ (and_from _ _ h hx) hy) ts are
+predicate_sorted size around Ranks ts are h = three_terms size around _ _ _ (λ us. is_atom_sorted_if true size around (predicate_tree (Some Ranks) us) ≡ true) (λ x y z hx hy hz. and_from _ _ (and_from _ _ (and_from _ _ h hx) hy) hz) ts are
 
 -- the sort of a term, said of an option
 given_of : (s : Sort) (o : Option Function) (f : Function) → o ≡ Some f → is_option_sort s (option_map given_sort o) ≡ true → same_sort s (given_sort f) ≡ true
@@ -204,7 +204,7 @@ given_of s o f known h = ap (λ q. is_option_sort s (option_map given_sort q)) (
 mutual
   -- a term without faults is of its sort
   pub term_sorted : (size : Extent) (scope : Scope) (s : Sort) (t : NamedTermTree) → term_faults size scope t ≡ [] → is_option_sort s (sort_of scope t) ≡ true
-      → is_of_sort size (outermost_first scope) s (resolved_term size scope t) ≡ true
+      → is_of_sort_if true size (outermost_first scope) s (resolved_term size scope t) ≡ true
   term_sorted size scope s (tree.Var name) none h =
       let found = has_value (sort_in name scope) _ none in
       ap (is_option_sort s) (sort_at_level name scope found.0 found.1 ∙ sym found.1) ∙ h
@@ -214,7 +214,7 @@ mutual
   term_sorted size scope s (tree.Call name ts) none h =
       let right = function_right name (function_of name) (count_of ts) (λ sorts. argument_faults size scope name 1 sorts ts) none in
       let are = terms_sorted size scope (function_sorts right.0) ts (are_right size scope name 1 (function_sorts right.0) ts right.2 right.3) in
-      ap (λ o. is_of_sort size (outermost_first scope) s (function_tree o (resolved_terms size scope ts))) right.1
+      ap (λ o. is_of_sort_if true size (outermost_first scope) s (function_tree o (resolved_terms size scope ts))) right.1
       ∙ function_of_sort size (outermost_first scope) s right.0 (resolved_terms size scope ts) are (given_of s (function_of name) right.0 right.1 h)
 
   -- and so are arguments
@@ -251,16 +251,16 @@ common_sort None q h = absurd cc
 common_sort (Some s) q h = (s, same_self s, h)
 
 -- a formula without faults is well sorted
-pub formula_sorted : (size : Extent) (scope : Scope) (f : NamedTree) → faults size scope f ≡ [] → is_sorted size (outermost_first scope) (resolved size scope f) ≡ true
+pub formula_sorted : (size : Extent) (scope : Scope) (f : NamedTree) → faults size scope f ≡ [] → is_sorted_if true size (outermost_first scope) (resolved size scope f) ≡ true
 formula_sorted size scope (tree.Pred name ts) none =
     let right = predicate_right size.kind name (predicate_of name) (count_of ts) (λ sorts. argument_faults size scope name 1 sorts ts) none in
     let are = terms_sorted size scope (predicate_sorts right.0) ts (are_right size scope name 1 (predicate_sorts right.0) ts right.2 right.4) in
-    ap (λ o. is_atom_sorted size (outermost_first scope) (predicate_tree o (resolved_terms size scope ts))) right.1
+    ap (λ o. is_atom_sorted_if true size (outermost_first scope) (predicate_tree o (resolved_terms size scope ts))) right.1
     ∙ predicate_sorted size (outermost_first scope) right.0 (resolved_terms size scope ts) are right.3
 formula_sorted size scope (tree.Equal s t) none =
     let terms = none_left _ (unless (are_same (sort_of scope s) (sort_of scope t)) _) none in
     let same = common_sort (sort_of scope s) (sort_of scope t) (holds_unless _ _ (none_right (term_faults size scope s ++ term_faults size scope t) _ none)) in
-    some_sort (λ sort. is_of_sort size (outermost_first scope) sort (resolved_term size scope s) && is_of_sort size (outermost_first scope) sort (resolved_term size scope t)) same.0
+    some_sort (λ sort. is_of_sort_if true size (outermost_first scope) sort (resolved_term size scope s) && is_of_sort_if true size (outermost_first scope) sort (resolved_term size scope t)) same.0
     (and_from _ _ (term_sorted size scope same.0 s (none_left _ (term_faults size scope t) terms) same.1) (term_sorted size scope same.0 t (none_right (term_faults size scope s) _ terms) same.2))
 formula_sorted size scope (tree.Not f) none = formula_sorted size scope f none
 formula_sorted size scope (tree.Both f g) none = and_from _ _ (formula_sorted size scope f (none_left _ (faults size scope g) none)) (formula_sorted size scope g (none_right (faults size scope f) _ none))

@@ -1,7 +1,8 @@
 -- Constants: the values of a size that have names of their own.
 use Rattle.std.specs.Prelude.{ℕ, zero, suc, ◌+◌, ◌-◌, ◌/◌, ◌%◌, ◌&&◌, nat_le, nat_lt, List, [], ◌∷◌, ◌++◌, codes, if◌then◌else◌, find, Option, Some, None}
 use Rattle.std.specs.Str.{bytes_eq}
-use Rattle.vocab.specs.Size.{Extent, factorial}
+use Rattle.vocab.specs.declared.kinds.Sort.TheVariants.{Ballot}
+use Rattle.vocab.specs.Size.{Extent, sort_count}
 use Rattle.meaning.specs.Space.{below}
 use Rattle.meaning.specs.Texts.{ballot_text}
 
@@ -35,4 +36,4 @@ module _ (size : Extent) where
 
   -- the ballot whose text some letters are
   unfoldable pub ballot_value : List ℕ → Option ℕ
-  ballot_value letters = find (λ b. bytes_eq letters (ballot_text size b)) (below (factorial size.alternatives))
+  ballot_value letters = find (λ b. bytes_eq letters (ballot_text size b)) (below (sort_count size Ballot))

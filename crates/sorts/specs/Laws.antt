@@ -1,5 +1,5 @@
 -- What holds of resolved sentences: the statements of the laws. Each is proved as the contract of a function of the same name in src/laws.rt.
-use Rattle.std.specs.Prelude.{◌≡◌, ℕ, List, [], ◌∷◌, IsTrue}
+use Rattle.std.specs.Prelude.{◌≡◌, ℕ, true, List, [], ◌∷◌, IsTrue}
 use Rattle.vocab.specs.declared.kinds.Sort.{Sort}
 use Rattle.vocab.specs.Formula.{prefix_of, quantifier_depth}
 use Rattle.vocab.specs.Limits as limits
@@ -7,7 +7,7 @@ use Rattle.vocab.specs.NamedDepth.{depth, quantifiers}
 use Rattle.vocab.specs.NamedTree as tree
 use Rattle.vocab.specs.NamedTree.{NamedTree}
 use Rattle.vocab.specs.Size.{Extent}
-use Rattle.vocab.specs.Sorted.{is_sorted}
+use Rattle.vocab.specs.Sorted.{is_sorted_if}
 use Rattle.vocab.specs.Tree.{Tree}
 use Rattle.meaning.specs.Truth.{is_true_at}
 use Rattle.sorts.specs.Faults.{faults}
@@ -20,9 +20,9 @@ abbrev pub leading_sorts : NamedTree → List Sort
 leading_sorts (tree.All name s f) = s ∷ leading_sorts f
 leading_sorts _ = []
 
--- a tree is of the size and of the shape of a sentence: it is closed and well sorted, is as deep, has as many quantifiers on one path and the same leading universals
+-- a tree is of the size and of the shape of a sentence: it is closed and well sorted, but may exchange alternatives in a profile at every size, is as deep, has as many quantifiers on one path and the same leading universals
 pub record HasShapeOf (size : Extent) (scope : Scope) (f : NamedTree) (t : Tree) : Type 0 where
-  pub sorted : IsTrue (is_sorted size (outermost_first scope) t)
+  pub sorted : IsTrue (is_sorted_if true size (outermost_first scope) t)
   pub as_deep : limits.depth t ≡ depth f
   pub quantified : quantifier_depth t ≡ quantifiers f
   pub leading : prefix_of t ≡ leading_sorts f

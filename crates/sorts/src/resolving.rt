@@ -1,11 +1,11 @@
 //! Resolving sentences.
 
-ghost use Rattle.std.specs.Prelude.{◌≡◌, ◌≢◌, ◌≤◌, [], IsTrue, IfOk, MatchResult, Ok, Err};
+ghost use Rattle.std.specs.Prelude.{true, ◌≡◌, ◌≢◌, ◌≤◌, [], IsTrue, IfOk, MatchResult, Ok, Err};
 ghost use Rattle.vocab.specs.Formula.{quantifier_depth};
 ghost use Rattle.vocab.specs.Limits.{depth as tree_depth};
 ghost use Rattle.vocab.specs.NamedDepth.{depth, quantifiers};
 ghost use Rattle.vocab.specs.NamedView.{named_tree};
-ghost use Rattle.vocab.specs.Sorted.{is_sorted};
+ghost use Rattle.vocab.specs.Sorted.{is_sorted_if};
 ghost use Rattle.vocab.specs.Tree.{tree_of};
 ghost use Rattle.sorts.specs.Answers.{answer_of};
 ghost use Rattle.sorts.specs.Laws.{HasTruthOf};
@@ -27,7 +27,7 @@ pub fn resolve(alloc: Global, sentence: &Named, space: &Space) -> Result<Formula
     ensures answer { MatchResult result
         (λ f. answer_of space.now (named_tree sentence.now) ≡ Ok (tree_of f))
         (λ e. e ≢ SortFault.NoMemory → answer_of space.now (named_tree sentence.now) ≡ Err e) }
-    ensures sorted { IfOk result (λ f. IsTrue (is_sorted space.now [] (tree_of f))) }
+    ensures sorted { IfOk result (λ f. IsTrue (is_sorted_if true space.now [] (tree_of f))) }
     ensures few_quantifiers { IfOk result (λ f. quantifier_depth (tree_of f) ≤ 12) }
     ensures shallow_tree { IfOk result (λ f. tree_depth (tree_of f) ≤ 64) }
     ensures same_truth { IfOk result (λ f. HasTruthOf space.now (named_tree sentence.now) (tree_of f)) }

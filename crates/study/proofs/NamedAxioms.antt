@@ -1,17 +1,15 @@
 -- What is listed has names: that of an axiom of the library, or that of a sentence of the study's own.
-use Rattle.std.proofs.Common.{◌≡◌, ℕ, List, [], ◌∷◌, map, Bool, true, false, if◌then◌else◌, Option, None, Some, Result, Ok, Err, IsTrue, codes, refl, sym, ap, ◌∙◌, subst}
+use Rattle.std.proofs.Common.{◌≡◌, ℕ, List, [], ◌∷◌, map, Bool, true, false, if◌then◌else◌, Option, None, Some, Result, Ok, Err, IsTrue, codes, refl, sym, subst}
 use Rattle.std.proofs.lemmas.Bool.{and_from}
 use Rattle.std.specs.List.{list_all, AllByRecursion}
 use Rattle.std.specs.Option.{ok_or}
-use Rattle.toml.specs.Data.{Data, string, integer, array, table, Members, no_members, member, get_member}
+use Rattle.toml.specs.Data.{Data, string, table, Members, no_members, member, get_member}
 use Rattle.vocab.specs.declared.kinds.Kind.{Kind}
 use Rattle.vocab.specs.Name.{is_name}
 use Rattle.vocab.specs.Titled.{Titled}
 use Rattle.axiom_library.specs.Library.{Entry, text_among, text_under}
 use Rattle.axiom_library.proofs.Entries.{under_name, text_readable}
 use Rattle.study.specs.declared.drafts.Draft.{Draft}
-use Rattle.study.specs.declared.faults.StudyFault.{StudyFault}
-use Rattle.study.specs.declared.faults.StudyFault.TheVariants as fault
 use Rattle.study.specs.Document.{axioms_of, own_sentence, sentences_in, sentences_of, known_keys, head_of, draft_of}
 use Rattle.study.specs.Listing.{or_own, entry_of, text_of, listed}
 use Rattle.study.specs.Refusing.{and_then}

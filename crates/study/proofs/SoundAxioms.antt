@@ -1,12 +1,11 @@
 -- What small sentences resolve to is sound.
-use Rattle.std.proofs.Common.{◌≡◌, ◌≤◌, ℕ, List, [], ◌∷◌, true, nat_le, Ok, Err, refl, sym, ap, ◌∙◌, subst}
+use Rattle.std.proofs.Common.{◌≡◌, ◌≤◌, List, [], ◌∷◌, true, Ok, refl, sym, subst}
 use Rattle.std.proofs.lemmas.Bool.{and_from, le-leb}
 use Rattle.std.specs.List.{list_all}
 use Rattle.vocab.specs.Formula.{quantifier_depth}
 use Rattle.vocab.specs.Limits as limits
 use Rattle.vocab.specs.NamedTree.{NamedTree}
 use Rattle.vocab.specs.Size.{Extent}
-use Rattle.vocab.specs.Sorted.{is_sorted}
 use Rattle.vocab.specs.Titled.{Titled}
 use Rattle.vocab.specs.Tree.{Tree}
 use Rattle.sorts.specs.declared.faults.SortFault.{SortFault}

@@ -1,13 +1,14 @@
 -- The kind of a study that bytes give.
 use Rattle.std.proofs.Common.{◌≡◌, ◌≢◌, refl, sym, ◌∙◌, ap, subst, ℕ, List, [], Bool, true, false, Option, None, Some, Result, Ok, Err, codes}
-use Rattle.std.specs.Prelude.{if◌then◌else◌, ℤ, nat_abs, nat_le, ◌^◌}
+use Rattle.std.specs.Prelude.{if◌then◌else◌, ℤ, nat_abs, nat_le}
 use Rattle.std.specs.Option.{ok_or}
 use Rattle.std.specs.Str.{bytes_eq}
-use Rattle.toml.specs.Data.{Data, string, integer, array, table, Members, get_member}
+use Rattle.toml.specs.Data.{Data, string, Members, get_member}
 use Rattle.vocab.specs.declared.kinds.Kind.{Kind}
 use Rattle.vocab.specs.declared.kinds.Kind.TheVariants.{Choice, Ranking, Sets}
-use Rattle.vocab.specs.Size.{Extent, factorial}
-use Rattle.vocab.specs.SizeFault.{is_between, size_of}
+use Rattle.vocab.specs.Size.{Extent, all_ballots, sort_count}
+use Rattle.vocab.specs.declared.kinds.Sort.TheVariants.{Profile}
+use Rattle.vocab.specs.SizeFault.{extent_of, has_domain, is_between, size_of}
 use Rattle.vocab.specs.Study.{Question}
 use Rattle.study.specs.declared.faults.StudyFault.{StudyFault}
 use Rattle.study.specs.declared.faults.StudyFault.TheVariants as fault
@@ -18,10 +19,10 @@ use Rattle.study.specs.declared.drafts.Head.{Head}
 use Rattle.study.specs.Document.{kind_of, integer_of, conflicts_of, axioms_of, sentences_of, known_keys, head_of, draft_of, document_of}
 use Rattle.study.specs.Listing.{limit_of, few_of, listed, once, listing_of}
 use Rattle.study.specs.Laws.{HaveKinds}
-use Rattle.study.specs.Reading.{IsStudyOf, IsAnswered, IsAnswer, refused, read, listing_in}
-use Rattle.study.specs.Refusing.{and_then, refused_as}
-use Rattle.study.specs.Sentences.{Worded, resolved_all, within, study_of}
-use Rattle.study.proofs.Listings.{CameFrom, came_from, ok_once}
+use Rattle.study.specs.Reading.{IsAnswered, IsAnswer, refused, read, listing_in}
+use Rattle.study.specs.Refusing.{refused_as}
+use Rattle.study.specs.Sentences.{Worded, resolved_all, opened, within, study_of}
+use Rattle.study.proofs.Listings.{came_from, ok_once}
 
 pub some_value : {A E : Type 0} (o : Option A) (e : E) (x : A) → ok_or o e ≡ Ok x → o ≡ Some x
 some_value None e x h = absurd (cc)
@@ -61,12 +62,13 @@ pub known : {A E F : Type 0} (f : E → F) (r : Result A E) (x : A) → refused_
 known f (Ok y) x h = ap Ok (ok_once h)
 known f (Err e) x h = absurd (cc)
 
-size_kind : (kind : Kind) (n m : ℤ) (voters alternatives few : Bool) (s : Extent) → is_between 1 n 8 ≡ voters → is_between 1 m 5 ≡ alternatives → nat_le (factorial (nat_abs m) ^ nat_abs n) 20000 ≡ few
+size_kind : (kind : Kind) (n m : ℤ) (voters alternatives domain few : Bool) (s : Extent) → is_between 1 n 8 ≡ voters → is_between 1 m 5 ≡ alternatives → has_domain (extent_of kind n m (all_ballots (nat_abs m)) false) ≡ domain → nat_le (sort_count (extent_of kind n m (all_ballots (nat_abs m)) false) Profile) 20000 ≡ few
     → size_of kind n m ≡ Ok s → s.kind ≡ kind
-size_kind kind n m false a f s e e' e'' h = absurd (let h' = rw e at h in cc)
-size_kind kind n m true false f s e e' e'' h = absurd (let h' = rw (e, e') at h in cc)
-size_kind kind n m true true false s e e' e'' h = absurd (let h' = rw (e, e', e'') at h in cc)
-size_kind kind n m true true true s e e' e'' h = let h' = rw (e, e', e'') at h in ap (λ (x : Extent). x.kind) (sym (ok_once h'))
+size_kind kind n m false a d f s e e' e1 e'' h = absurd (let h' = rw e at h in cc)
+size_kind kind n m true false d f s e e' e1 e'' h = absurd (let h' = rw (e, e') at h in cc)
+size_kind kind n m true true false f s e e' e1 e'' h = absurd (let h' = rw (e, e', e1) at h in cc)
+size_kind kind n m true true true false s e e' e1 e'' h = absurd (let h' = rw (e, e', e1, e'') at h in cc)
+size_kind kind n m true true true true s e e' e1 e'' h = let h' = rw (e, e', e1, e'') at h in ap (λ (x : Extent). x.kind) (sym (ok_once h'))
 
 listing_kind : (draft : Draft) (listing : Listing) → listing_of draft ≡ Ok listing → listing.size.kind ≡ draft.head.kind
 unfolding listing_of
@@ -77,13 +79,14 @@ listing_kind draft listing e =
     let entries = came_from _ (listed draft.head.kind draft.sentences draft.axioms) listing few.after in
     let alone = came_from _ (once draft.head.kind draft.sentences [] entries.value) listing entries.after in
     subst (λ (x : Listing). x.size.kind ≡ draft.head.kind) (ok_once alone.after)
-    (size_kind draft.head.kind draft.head.voters draft.head.alternatives _ _ _ size.value refl refl refl (known fault.Size _ size.value size.first))
+    (size_kind draft.head.kind draft.head.voters draft.head.alternatives _ _ _ _ size.value refl refl refl refl (known fault.Size _ size.value size.first))
 
 study_size : (size : Extent) (conflicts : ℕ) (sentences : List Worded) (q : Question) → study_of size conflicts sentences ≡ Ok q → q.size ≡ size
 unfolding study_of
 study_size size conflicts sentences q e =
     let axioms = came_from _ (resolved_all size sentences) q e in
-    let instances = came_from _ (within size Instances axioms.value) q axioms.after in
+    let open_to = came_from _ (opened size axioms.value) q axioms.after in
+    let instances = came_from _ (within size Instances axioms.value) q open_to.after in
     let body = came_from _ (within size Body axioms.value) q instances.after in
     let work = came_from _ (within size Work axioms.value) q body.after in
     ap (λ (x : Question). x.size) (sym (ok_once work.after))

@@ -6,7 +6,10 @@ use Rattle.std.specs.List.{list_all, list_any}
 use Rattle.std.specs.Str.{IsUtf8, is_utf8, bytes_eq}
 use Rattle.toml.specs.Data.{Members}
 use Rattle.toml.specs.Parse.{parse_document}
+use Rattle.vocab.specs.Formula.{quantifier_depth}
 use Rattle.vocab.specs.Limits.{depth, is_within_limits}
+use Rattle.vocab.specs.Sorted.{is_askable, is_sorted_if}
+use Rattle.vocab.proofs.SwapLaws.{sorted_if_askable}
 use Rattle.vocab.specs.Size.{Extent}
 use Rattle.vocab.specs.Study as study
 use Rattle.vocab.specs.Study.{Question, is_sentence, IsStudy}
@@ -22,7 +25,7 @@ use Rattle.study.specs.Document.{document_of, draft_of}
 use Rattle.study.specs.Listing.{have_own_names, listing_of, IsListing}
 use Rattle.study.specs.Reading.{listing_in, IsAnswer, refused, IsAnswered}
 use Rattle.study.specs.Refusing.{and_then, refused_as}
-use Rattle.study.specs.Sentences.{Worded, AreReadAs, resolved_one, resolved_all, told, most_of, count_of, refusal_of, within}
+use Rattle.study.specs.Sentences.{Worded, AreReadAs, resolved_one, resolved_all, told, most_of, count_of, refusal_of, opened, within}
 use Rattle.study.specs.Written.{AreSmall, IsFirstRefused, is_sound}
 use Rattle.study.proofs.Listings.{came_from, ok_once, listing_whole}
 
@@ -89,27 +92,33 @@ each_within : (size : Extent) (axioms : List Titled) → list_all (is_sound size
 each_within size [] sound instances body work = refl
 each_within size (a ∷ axioms) sound instances body work =
     let (first, rest) = and_parts (is_sound size a) (list_all (is_sound size) axioms) sound in
-    let (sentence, shallow) = and_parts (is_sentence size a) (nat_le (depth a.sentence) 64) first in
+    let (sentence, shallow) = and_parts (is_sorted_if true size [] a.sentence && nat_le (quantifier_depth a.sentence) 12) (nat_le (depth a.sentence) 64) first in
     let (i, more_i) = within_first size Instances a axioms _ refl instances in
     let (b, more_b) = within_first size Body a axioms _ refl body in
     let (w, more_w) = within_first size Work a axioms _ refl work in
     and_from _ _ (and_from _ _ (and_from _ _ (and_from _ _ shallow i) b) w) (each_within size axioms rest more_i more_b more_w)
 
-each_sentence : (size : Extent) (axioms : List Titled) → list_all (is_sound size) axioms ≡ true → list_all (is_sentence size) axioms ≡ true
-each_sentence size [] sound = refl
-each_sentence size (a ∷ axioms) sound =
+opened_first : (size : Extent) (a : Titled) (axioms : List Titled) (b : Bool) → is_askable size a.sentence ≡ b → (if b then opened size axioms else Err (fault.Open a.name)) ≡ Ok tt → (b ≡ true) × (opened size axioms ≡ Ok tt)
+opened_first size a axioms true is e = (refl, e)
+opened_first size a axioms false is e = absurd cc
+
+each_sentence : (size : Extent) (axioms : List Titled) → list_all (is_sound size) axioms ≡ true → opened size axioms ≡ Ok tt → list_all (is_sentence size) axioms ≡ true
+each_sentence size [] sound open_to = refl
+each_sentence size (a ∷ axioms) sound open_to =
     let (first, rest) = and_parts (is_sound size a) (list_all (is_sound size) axioms) sound in
-    let (sentence, shallow) = and_parts (is_sentence size a) (nat_le (depth a.sentence) 64) first in
-    and_from _ _ sentence (each_sentence size axioms rest)
+    let (sentence, shallow) = and_parts (is_sorted_if true size [] a.sentence && nat_le (quantifier_depth a.sentence) 12) (nat_le (depth a.sentence) 64) first in
+    let (sorted, few) = and_parts (is_sorted_if true size [] a.sentence) (nat_le (quantifier_depth a.sentence) 12) sentence in
+    let (asked, more) = opened_first size a axioms _ refl open_to in
+    and_from _ _ (and_from _ _ (sorted_if_askable size [] a.sentence sorted asked) few) (each_sentence size axioms rest more)
 
 -- a listing whose texts read, resolve and are within the limits makes a study
-pub whole_study : (listing : Listing) (ws : List Worded) (axioms : List Titled) → IsListing listing → AreReadAs listing.axioms ws → resolved_all listing.size ws ≡ Ok axioms → list_all (is_sound listing.size) axioms ≡ true
+pub whole_study : (listing : Listing) (ws : List Worded) (axioms : List Titled) → IsListing listing → AreReadAs listing.axioms ws → resolved_all listing.size ws ≡ Ok axioms → list_all (is_sound listing.size) axioms ≡ true → opened listing.size axioms ≡ Ok tt
     → within listing.size Instances axioms ≡ Ok tt → within listing.size Body axioms ≡ Ok tt → within listing.size Work axioms ≡ Ok tt → IsStudy (record { size = listing.size; conflicts = listing.conflicts; axioms = axioms })
-whole_study listing ws axioms whole r resolved sound instances body work =
+whole_study listing ws axioms whole r resolved sound open_to instances body work =
     let names : map (λ a. a.name) axioms ≡ map (λ e. e.name) listing.axioms = resolved_names listing.size ws axioms resolved ∙ read_names listing.axioms ws r in
     let lengths : length listing.axioms ≡ length axioms = sym (length_names (λ e. e.name) listing.axioms) ∙ ap length (sym names) ∙ length_names (λ a. a.name) axioms in
     record {
-      sentences = each_sentence listing.size axioms sound;
+      sentences = each_sentence listing.size axioms sound open_to;
       limits = each_within listing.size axioms sound instances body work;
       own_names = distinct_axioms axioms ∙ ap are_distinct names ∙ sym (distinct_entries listing.axioms) ∙ whole.own_names;
       few_axioms = subst (λ n. n ≤ 40) lengths whole.few_axioms;

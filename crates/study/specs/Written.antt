@@ -1,10 +1,11 @@
 -- What the program's sentences are to a contract, and what is known of each.
-use Rattle.std.specs.Prelude.{◌≡◌, ◌≢◌, ℕ, ◌≤◌, Bool, ◌&&◌, nat_le, List, [], ◌∷◌}
+use Rattle.std.specs.Prelude.{◌≡◌, ◌≢◌, ℕ, ◌≤◌, Bool, true, ◌&&◌, nat_le, List, [], ◌∷◌}
 use Rattle.vocab.specs.NamedDepth.{depth, quantifiers}
 use Rattle.vocab.specs.NamedView.{named_tree}
 use Rattle.vocab.specs.Limits as limits
 use Rattle.vocab.specs.Size.{Extent}
-use Rattle.vocab.specs.Study.{is_sentence}
+use Rattle.vocab.specs.Formula.{quantifier_depth}
+use Rattle.vocab.specs.Sorted.{is_sorted_if}
 use Rattle.vocab.specs.Titled.{Titled}
 use Rattle.syntax.specs.declared.faults.SyntaxFault.{SyntaxFault}
 use Rattle.syntax.specs.declared.faults.SyntaxFault.TheVariants as syntax_fault
@@ -49,6 +50,6 @@ abbrev pub AreSmall : List Worded → Type 0
 AreSmall [] = Unit {0}
 AreSmall (w ∷ sentences) = IsSmall w × AreSmall sentences
 
--- an axiom is a sentence of the size, of depth at most 64
+-- an axiom is well sorted, but may exchange alternatives in a profile at every size, has at most 12 quantifiers on one path and depth at most 64
 abbrev pub is_sound : Extent → Titled → Bool
-is_sound size a = is_sentence size a && nat_le (limits.depth a.sentence) 64
+is_sound size a = is_sorted_if true size [] a.sentence && nat_le (quantifier_depth a.sentence) 12 && nat_le (limits.depth a.sentence) 64

@@ -33,6 +33,8 @@ pub enum StudyFault {
     Syntax(Name, SyntaxFault),
     /// The axiom's sentence is none of the size.
     Sort(Name, SortFault),
+    /// The axiom's sentence exchanges alternatives in a profile, and not every ranking may be cast.
+    Open(Name),
     /// The axiom has more than 20,000,000 instances: so many, or 2^64 - 1 where there are more.
     Instances(Name, u64),
     /// The body of the axiom has more than 1,000,000 atoms: so many, or 2^64 - 1 where there are more.

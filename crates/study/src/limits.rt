@@ -3,7 +3,7 @@
 ghost use Rattle.std.specs.Prelude.{◌≡◌};
 ghost use Rattle.vocab.specs.Limits.{instance_count, atom_count};
 ghost use Rattle.vocab.specs.Tree.{tree_of};
-ghost use Rattle.study.specs.Sentences.{told, most_of, count_of, refusal_of, within};
+ghost use Rattle.study.specs.Sentences.{told, most_of, count_of, refusal_of, opened, within};
 
 use crate::faults::StudyFault;
 use vocab::{Axiom, Formula, Name, Size};
@@ -91,6 +91,18 @@ pub(crate) fn within(limit: Limit, size: Size, axioms: &[Axiom]) -> Result<(), S
         let count = count(limit, size, named.sentence());
         if count > most {
             return Err(refusal(limit, named.name(), count));
+        }
+    }
+    Ok(())
+}
+
+/// Refuses the first axiom that exchanges alternatives in a profile, where not every ranking may be cast.
+pub(crate) fn opened(size: Size, axioms: &[Axiom]) -> Result<(), StudyFault>
+    ensures { result ≡ opened size axioms.now }
+{
+    for named in axioms {
+        if !size.has_all_ballots() && named.sentence().swaps_alts() {
+            return Err(StudyFault::Open(named.name()));
         }
     }
     Ok(())

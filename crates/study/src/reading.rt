@@ -10,7 +10,7 @@ ghost use Rattle.study.specs.Written.{worded_of};
 
 use crate::document::draft_of;
 use crate::faults::StudyFault;
-use crate::limits::{Limit, within};
+use crate::limits::{Limit, opened, within};
 use crate::listing::{Listing, listing_of};
 use crate::sentences::{Written, read_all, resolve_all};
 use std::alloc::Global;
@@ -25,6 +25,7 @@ fn study_of(alloc: Global, listing: &Listing, sentences: &[Written]) -> Result<S
 {
     let size = listing.size;
     let axioms = resolve_all(alloc, size, sentences)?;
+    opened(size, axioms.as_slice())?;
     within(Limit::Instances, size, axioms.as_slice())?;
     within(Limit::Body, size, axioms.as_slice())?;
     within(Limit::Work, size, axioms.as_slice())?;

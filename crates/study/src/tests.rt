@@ -211,6 +211,7 @@ fn no_size(alloc: Global, fault: SizeFault) -> Result<String, AllocError> {
         SizeFault::Voters(number) => format!(in alloc; "voters {number}"),
         SizeFault::Alternatives(number) => format!(in alloc; "alternatives {number}"),
         SizeFault::Profiles(count) => format!(in alloc; "profiles {count}"),
+        SizeFault::Domain => String::from_str(alloc, "no ballots"),
     }
 }
 
@@ -226,6 +227,7 @@ fn refused(alloc: Global, fault: &StudyFault) -> Result<String, AllocError> {
         StudyFault::Twice(name) => said(alloc, "twice", name.bytes()),
         StudyFault::Syntax(name, fault) => unread(alloc, name, *fault),
         StudyFault::Sort(_, fault) => unsorted(alloc, *fault),
+        StudyFault::Open(name) => said(alloc, "open", name.bytes()),
         StudyFault::Instances(name, count) => counted(alloc, "instances", name, *count),
         StudyFault::Body(name, count) => counted(alloc, "body", name, *count),
         StudyFault::Work(name, count) => counted(alloc, "work", name, *count),

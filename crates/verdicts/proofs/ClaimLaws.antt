@@ -4,6 +4,7 @@ use Rattle.std.specs.Cmp.Lexicographic.{pointwise}
 use Rattle.std.specs.Prelude.{◌==◌, nat_lt, slice_get}
 use Rattle.std.specs.List.{list_all, list_any}
 use Rattle.std.proofs.lemmas.Bool.{and_parts, and_from, or_cases, cases_lt}
+use Rattle.vocab.specs.Size.{IsSize}
 use Rattle.vocab.specs.Study.{Question}
 use Rattle.meaning.specs.declared.cores.Witness.{Witness}
 use Rattle.meaning.specs.declared.cores.Witness.TheVariants.{Rule, Open}
@@ -41,7 +42,7 @@ rule_without study whole (c ∷ core) (Rule table ∷ witnesses) k h given here 
       | inr later ↦ rule_without study whole core witnesses k p.1 given later
     ]
 
-module _ (study : Question) (text : List ℕ) where
+module _ (study : Question) (taken : IsSize study.size) (text : List ℕ) where
   rule_holds : (table : List ℕ) → IsRuleConfirmed study text table
   rule_holds table e = (judge_sound study text (Possible table) e).right
 
@@ -49,7 +50,7 @@ module _ (study : Question) (text : List ℕ) where
   impossibility_holds core story witnesses e table =
       let p = and_parts (is_story study.size study.axioms core story) _ (judge_sound study text (Impossible core story witnesses) e).right in
       let q = and_parts (is_core_from 0 (length study.axioms) core) _ p.1 in
-      let none = no_rule study.size study.axioms core story p.0 table in (
+      let none = no_rule study.size taken study.axioms core story p.0 table in (
         none,
         λ all.
             let r = and_parts (is_rule study.size table) _ all in

@@ -30,7 +30,7 @@ use Rattle.meaning.specs.Stories.{is_decided, refutes, are_new, are_forced, is_l
 use Rattle.meaning.specs.Literals.{is_literal}
 use Rattle.std.specs.Option.{option_or, unwrap_or}
 use Rattle.meaning.specs.StoryFaults.{unless, literal_fault, reason_fault}
-use Rattle.meaning.proofs.SpaceLaws.{factorial_pos, pow_positive}
+use Rattle.meaning.proofs.SpaceLaws.{some_profile as size_has_profile}
 use Rattle.meaning.proofs.StoryFaultLaws.{passes_reason, passes_literal}
 use Rattle.verdicts.specs.Lines.{Line, KindIs, Row, LemmasAre, Suppose, So, Clash, End, name_at}
 use Rattle.verdicts.specs.Reading.{read_axiom}
@@ -88,7 +88,7 @@ module _ (study : Question) (is : IsReportable study) (strict : Bool) where
   K = outcome_count study.size.kind study.size.alternatives
 
   some_profile : 0 < P
-  some_profile = pow_positive _ study.size.voters (factorial_pos study.size.alternatives)
+  some_profile = size_has_profile study.size is.size
 
   abbrev Asked : Type 0 → Type 0
   Asked Q = strict ≡ true → Q

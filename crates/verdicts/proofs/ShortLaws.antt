@@ -1,7 +1,7 @@
 -- No line of a right report is longer than 4,096 bytes: it has at most 77 words of at most 52 bytes each.
 use Rattle.verdicts.proofs.TextLaws.{length_digits}
 use Rattle.std.proofs.Common.{◌≡◌, refl, sym, ap, ◌∙◌, subst, ℕ, zero, suc, ◌+◌, ◌*◌, ◌^◌, ◌<◌, ◌≤◌, inl, inr, Bool, true, not, ◌&&◌, List, [], ◌∷◌, ◌++◌, map, length, arith, true≢false, ltb-true, lt-ltb, leb-true, le-leb, le-ltb, length-append, eqb-true}
-use Rattle.std.specs.Prelude.{nat_lt, nat_le, slice_get}
+use Rattle.std.specs.Prelude.{nat_lt, nat_le, slice_get, Option, Some, None}
 use Rattle.std.specs.List.{list_all, join_with_byte}
 use Rattle.std.specs.Cmp.Lexicographic.{pointwise}
 use Rattle.std.proofs.lemmas.Bool.{and_parts, and_from, cases_lt}
@@ -15,13 +15,13 @@ use Rattle.vocab.specs.declared.literals.Literal.{Literal}
 use Rattle.vocab.specs.declared.literals.Literal.TheVariants.{Wins, Loses, Above}
 use Rattle.vocab.specs.Formula.{quantifier_depth}
 use Rattle.vocab.specs.Name.{is_name, has_name_shape}
-use Rattle.vocab.specs.Size.{Extent, IsSize, factorial, sort_count}
+use Rattle.vocab.specs.Size.{Extent, IsSize, ballot_places, cast_count, factorial, sort_count}
 use Rattle.vocab.specs.Sorted.{is_sorted}
 use Rattle.vocab.specs.Study.{Question, is_sentence}
 use Rattle.vocab.specs.Titled.{Titled}
 use Rattle.vocab.proofs.PrefixLemmas.{prefix_within_depth}
-use Rattle.meaning.specs.Space.{rankings, ranking, ballots, ballot_bases}
-use Rattle.meaning.specs.Texts.{ballot_text, profile_text, outcome_text_of, outcome_text, letter}
+use Rattle.meaning.specs.Space.{rankings, ranking, ranking_at, casts_of, cast_bases}
+use Rattle.meaning.specs.Texts.{ballot_text, cast_text, letters_or_dash, profile_text, ranking_text, outcome_text_of, outcome_text, letter}
 use Rattle.meaning.proofs.RankingLaws.{are_rankings}
 use Rattle.meaning.proofs.SpaceLaws.{length-rankings}
 use Rattle.verdicts.specs.Numbers.{number_text}
@@ -77,17 +77,28 @@ module _ (size : Extent) (is : IsSize size) where
         subst (λ (r : List ℕ). length r ≤ m) (sym e) (omega arith)
   ]
 
-  ballot_within : (b : ℕ) → length (ballot_text size b) ≤ 5
-  ballot_within b = omega (arith, length-map (ranking m b) letter, ranking_within b, is.few_alternatives)
+  ranking_text_within : (place : ℕ) → length (ranking_text m place) ≤ 5
+  ranking_text_within place = omega (arith, length-map (ranking m place) letter, ranking_within place, is.few_alternatives)
 
-  ballots_within : (bs : List ℕ) → list_all (within 5) (map (ballot_text size) bs) ≡ true
-  ballots_within [] = refl
-  ballots_within (b ∷ bs) = and_from _ _ (within_from 5 (ballot_text size b) (ballot_within b)) (ballots_within bs)
+  letters_or_dash_within : (o : Option ℕ) → length (letters_or_dash m o) ≤ 5
+  letters_or_dash_within None = omega arith
+  letters_or_dash_within (Some place) = ranking_text_within place
+
+  ballot_within : (b : ℕ) → length (ballot_text size b) ≤ 5
+  ballot_within b = by_place (slice_get (ballot_places size) b)
+    where
+      by_place : (o : Option ℕ) → length (map letter (ranking_at m o)) ≤ 5
+      by_place None = omega arith
+      by_place (Some place) = ranking_text_within place
+
+  casts_within : (cs : List ℕ) → list_all (within 5) (map (cast_text size) cs) ≡ true
+  casts_within [] = refl
+  casts_within (c ∷ cs) = and_from _ _ (within_from 5 (cast_text size c) (letters_or_dash_within (slice_get (ballot_places size) c))) (casts_within cs)
 
   profile_within : (p : ℕ) → length (profile_text size p) ≤ 48
   profile_within p =
-      let all = joined_within 124 5 (map (ballot_text size) (ballots size p)) (ballots_within (ballots size p)) in
-      omega (arith, all, length-map (ballots size p) (ballot_text size), length_digits (ballot_bases size) p, length-replicate size.voters (factorial m), is.few_voters)
+      let all = joined_within 124 5 (map (cast_text size) (casts_of size p)) (casts_within (casts_of size p)) in
+      omega (arith, all, length-map (casts_of size p) (cast_text size), length_digits (cast_bases size) p, length-replicate size.voters (cast_count size), is.few_voters)
 
   literal_within : (l : Literal) → length (literal_text size l) ≤ 52
   literal_within (Wins x p) = omega (arith, profile_within p)
@@ -96,7 +107,7 @@ module _ (size : Extent) (is : IsSize size) where
 
   outcome_within_of : (k : Kind) (o : ℕ) → length (outcome_text_of size k o) ≤ 52
   outcome_within_of Choice o = omega arith
-  outcome_within_of Ranking o = omega (arith, ballot_within o)
+  outcome_within_of Ranking o = omega (arith, ranking_text_within o)
   outcome_within_of Sets o = omega arith
 
   value_within : (s : Sort) (v : ℕ) → v < sort_count size s → length (value_text size s v) ≤ 52

@@ -30,7 +30,6 @@ use Rattle.meaning.specs.Cores.{is_core_from}
 use Rattle.meaning.specs.Stories.{is_decided, are_new, is_lemma, is_story}
 use Rattle.meaning.specs.Literals.{is_literal}
 use Rattle.std.specs.Option.{option_or, unwrap_or}
-use Rattle.meaning.proofs.SpaceLaws.{factorial_pos, pow_positive}
 use Rattle.meaning.proofs.StoryFaultLaws.{passes_reason, passes_literal}
 use Rattle.verdicts.specs.Lines.{Line, Title, KindIs, VotersAre, AlternativesAre, AxiomsAre, SaysPossible, SaysImpossible, SaysUndecided, RuleOf, Row, CoreIs, LemmasAre, Heading, Suppose, So, Clash, WithRule, WithOpen, End, name_at}
 use Rattle.verdicts.specs.Reading.{read_axiom}
@@ -115,9 +114,6 @@ module _ (study : Question) where
   abbrev K : ℕ
   K = outcome_count study.size.kind study.size.alternatives
 
-  some_profile : 0 < P
-  some_profile = pow_positive _ study.size.voters (factorial_pos study.size.alternatives)
-
   -- the lines that a reader has read
   abbrev opening : Standing → List Line
   opening s = head_lines study ++ SaysImpossible ∷ CoreIs (map (name_at study.axioms) s.core) ∷ LemmasAre s.count ∷ story_lines 1 s.earlier
@@ -188,7 +184,7 @@ module _ (study : Question) where
     pub witnesses : are_witnesses study s.core s.core s.witnesses ≡ true
 
   abbrev pub AreRows : Standing → Type 0
-  AreRows s = (list_all (λ o. nat_lt o K) s.rows ≡ true) × (length s.rows < P)
+  AreRows s = (list_all (λ o. nat_lt o K) s.rows ≡ true) × (0 < P → length s.rows < P)
 
   abbrev pub IsSound : Verdict → Type 0
   IsSound v = (is_right study v ≡ true) × (has_text study v ≡ true) × (claims study v ≡ true)
@@ -224,8 +220,8 @@ module _ (study : Question) where
       by_test false (Some a) h f = absurd (cc)
 
   -- after the last row of a rule
-  rule_row : (s : Standing) (p o : ℕ) → AreRows s → o < K → fault_of study (at AtRow s) (Row p o) ≡ None → HasRead (advance study (at AtRow s) (Row p o)) (printed AtRow s ++ Row p o ∷ [])
-  rule_row s p o h l e =
+  rule_row : 0 < P → (s : Standing) (p o : ℕ) → AreRows s → o < K → fault_of study (at AtRow s) (Row p o) ≡ None → HasRead (advance study (at AtRow s) (Row p o)) (printed AtRow s ++ Row p o ∷ [])
+  rule_row some s p o h l e =
       let f = none_first (unless_so (p == length s.rows) refusal.Row) _ e in
       let same : p ≡ length s.rows = eqb-true p (length s.rows) (none_unless (p == length s.rows) refusal.Row f.0) in
       let longer : length (s.rows ++ o ∷ []) ≡ length s.rows + 1 = length-append s.rows (o ∷ []) in
@@ -251,8 +247,8 @@ module _ (study : Question) where
           subst (λ b. HasRead (cond b end after) (printed AtRow s ++ Row p o ∷ [])) (sym whole) ((and_from _ _ rule (satisfied (s.rows ++ o ∷ []) (below (length study.axioms)) none), rule, refl), lines)
       by_test false t longer inside lines f =
           let part : (length (s.rows ++ o ∷ []) == P) ≡ false = ap (λ n. n == P) longer ∙ t in
-          let less : length (s.rows ++ o ∷ []) < P = less_of (length (s.rows ++ o ∷ [])) P (omega (arith, longer, h.1)) part in
-          subst (λ b. HasRead (cond b end after) (printed AtRow s ++ Row p o ∷ [])) (sym part) ((inside, less), lines)
+          let less : length (s.rows ++ o ∷ []) < P = less_of (length (s.rows ++ o ∷ [])) P (omega (arith, longer, h.1 some)) part in
+          subst (λ b. HasRead (cond b end after) (printed AtRow s ++ Row p o ∷ [])) (sym part) ((inside, λ _. less), lines)
 
   -- where the next witness, or the end, is wanted
   to_witness : (s : Standing) → IsTold s → s.rows ≡ [] → (lines : List Line) → opening s ++ all_witness_lines study s.core s.witnesses ≡ lines → HasRead (after_witness s) lines
@@ -270,8 +266,8 @@ module _ (study : Question) where
           )
 
   -- after a row of a witness
-  witness_row : (s : Standing) (p o k : ℕ) → IsTold s → AreRows s → next_core s ≡ Some k → o < K → fault_of study (at AtWitnessRow s) (Row p o) ≡ None → HasRead (advance study (at AtWitnessRow s) (Row p o)) (printed AtWitnessRow s ++ Row p o ∷ [])
-  witness_row s p o k told h nk l e =
+  witness_row : 0 < P → (s : Standing) (p o k : ℕ) → IsTold s → AreRows s → next_core s ≡ Some k → o < K → fault_of study (at AtWitnessRow s) (Row p o) ≡ None → HasRead (advance study (at AtWitnessRow s) (Row p o)) (printed AtWitnessRow s ++ Row p o ∷ [])
+  witness_row some s p o k told h nk l e =
       let f = none_first (unless_so (p == length s.rows) refusal.Row) _ e in
       let same : p ≡ length s.rows = eqb-true p (length s.rows) (none_unless (p == length s.rows) refusal.Row f.0) in
       let longer : length (s.rows ++ o ∷ []) ≡ length s.rows + 1 = length-append s.rows (o ∷ []) in
@@ -311,8 +307,8 @@ module _ (study : Question) where
           subst (λ b. HasRead (cond b (after_witness told_more) after) (printed AtWitnessRow s ++ Row p o ∷ [])) (sym whole) (to_witness told_more (record { core = told.core; story = told.story; all = told.all; some = told.some; texts = told.texts; witnesses = witnesses }) refl (printed AtWitnessRow s ++ Row p o ∷ []) all)
       by_test false t longer inside lines f =
           let part : (length table == P) ≡ false = ap (λ n. n == P) longer ∙ t in
-          let less : length table < P = less_of (length table) P (omega (arith, longer, h.1)) part in
-          subst (λ b. HasRead (cond b (after_witness told_more) after) (printed AtWitnessRow s ++ Row p o ∷ [])) (sym part) ((record { core = told.core; story = told.story; all = told.all; some = told.some; texts = told.texts; witnesses = told.witnesses }, (inside, less), k, nk), lines)
+          let less : length table < P = less_of (length table) P (omega (arith, longer, h.1 some)) part in
+          subst (λ b. HasRead (cond b (after_witness told_more) after) (printed AtWitnessRow s ++ Row p o ∷ [])) (sym part) ((record { core = told.core; story = told.story; all = told.all; some = told.some; texts = told.texts; witnesses = told.witnesses }, (inside, λ _. less), k, nk), lines)
 
   -- the lines of the present lemma
   suppose_lines : (before : List Line) (n : ℕ) (sup : List Literal) (l : Literal) (st : List StoryStep) → st ≡ [] → before ++ (Heading n ∷ map Suppose (sup ++ l ∷ []) ++ map step_line st) ≡ (before ++ (Heading n ∷ map Suppose sup ++ map step_line st)) ++ Suppose l ∷ []
@@ -495,7 +491,7 @@ module _ (study : Question) where
       let named = next_name (next_core s) k name nk f.0 in
       let count : n ≡ P = eqb-true n P (none_unless (n == P) refusal.Row f.1) in
       let before = opening s ++ all_witness_lines study s.core s.witnesses in (
-        (told_at AtWitnessRow s t, (subst (λ (os : List ℕ). list_all (λ o. nat_lt o K) os ≡ true) (sym empty) refl, subst (λ (os : List ℕ). length os < P) (sym empty) some_profile), k, nk),
+        (told_at AtWitnessRow s t, (subst (λ (os : List ℕ). list_all (λ o. nat_lt o K) os ≡ true) (sym empty) refl, λ some. subst (λ (os : List ℕ). length os < P) (sym empty) some), k, nk),
         ap (λ (os : List ℕ). before ++ WithRule (name_at study.axioms (or_zero (next_core s))) P ∷ row_lines 0 os) empty
             ∙ ap (λ j. before ++ WithRule (name_at study.axioms j) P ∷ []) (ap or_zero nk)
             ∙ ap (λ m. before ++ WithRule m P ∷ []) named
@@ -526,10 +522,10 @@ module _ (study : Question) where
   step_at AtLimit s l h f e = absurd h
   step_at AtRule s (RuleOf n) h f e =
       let count : n ≡ P = eqb-true n P (none_unless (n == P) refusal.Row e) in (
-        (subst (λ (os : List ℕ). list_all (λ o. nat_lt o K) os ≡ true) (sym h.rows) refl, subst (λ (os : List ℕ). length os < P) (sym h.rows) some_profile),
+        (subst (λ (os : List ℕ). list_all (λ o. nat_lt o K) os ≡ true) (sym h.rows) refl, λ some. subst (λ (os : List ℕ). length os < P) (sym h.rows) some),
         ap (λ (os : List ℕ). head_lines study ++ SaysPossible ∷ RuleOf P ∷ row_lines 0 os) h.rows ∙ ap (λ m. head_lines study ++ SaysPossible ∷ RuleOf m ∷ []) (sym count),
       )
-  step_at AtRow s (Row p o) h f e = rule_row s p o h f.1 e
+  step_at AtRow s (Row p o) h f e = rule_row (let some : 0 < P = omega (arith, f.0) in some) s p o h f.1 e
   step_at AtCore s (CoreIs ns) h f e = core_line s ns h e
   step_at AtLemmas s (LemmasAre n) h f e = lemmas_line s n h.0 h.1 f
   step_at AtLemma s (Heading n) h f e = heading_line s n h.0 h.1 h.2 f
@@ -540,7 +536,7 @@ module _ (study : Question) where
   step_at AtStep s (Clash r) h f e = clash_line (at AtStep s) r (in_lemma_at AtStep s h) f e
   step_at AtWitness s (WithRule name n) h f e = rule_witness_line s name n h.2 h.0 h.1 h.3 e
   step_at AtWitness s (WithOpen name n) h f e = open_witness_line s name n h.2 h.0 h.1 h.3 e
-  step_at AtWitnessRow s (Row p o) h f e = witness_row s p o h.2 h.0 h.1 h.3 f.1 e
+  step_at AtWitnessRow s (Row p o) h f e = witness_row (let some : 0 < P = omega (arith, f.0) in some) s p o h.2 h.0 h.1 h.3 f.1 e
   step_at (AtEnd v) s End h f e = (h, refl)
   step_at p s l h f e = absurd f
 

@@ -1,9 +1,9 @@
 -- Different values have different texts, and no text has a blank or a line end.
-use Rattle.std.proofs.Common.{◌≡◌, refl, sym, ap, ap₂, ◌∙◌, ℕ, zero, suc, ◌+◌, ◌%◌, ◌<◌, ◌≤◌, ◌≢◌, inl, inr, Bool, true, false, not, ◌&&◌, ◌||◌, List, [], ◌∷◌, ◌++◌, map, length, replicate, arith, true≢false, lt-ltb, ltb-true, eqb-true, leb-true}
-use Rattle.std.specs.Prelude.{◌==◌, nat_lt, nat_le, nat_eq}
+use Rattle.std.proofs.Common.{◌≡◌, get_or, cond, subst, refl, sym, ap, ap₂, ◌∙◌, ℕ, zero, suc, ◌+◌, ◌%◌, ◌<◌, ◌≤◌, ◌≢◌, inl, inr, Bool, true, false, not, ◌&&◌, ◌||◌, List, [], ◌∷◌, ◌++◌, map, length, replicate, arith, true≢false, lt-ltb, ltb-true, eqb-true, leb-true}
+use Rattle.std.specs.Prelude.{◌==◌, nat_lt, nat_le, nat_eq, slice_get, Option, Some, None}
 use Rattle.std.specs.List.{list_all, list_any, join_with_byte, slice_split}
 use Rattle.std.specs.Cmp.Lexicographic.{pointwise}
-use Rattle.std.proofs.lemmas.Bool.{and_parts, and_from, or_cases, not-true, or_parts}
+use Rattle.std.proofs.lemmas.Bool.{and_parts, and_from, or_cases, cases_lt, not-true, or_parts}
 use Rattle.std.proofs.lemmas.Slice.Eq.{bytes_eq-Decides}
 use Rattle.vocab.specs.declared.kinds.Kind.{Kind}
 use Rattle.vocab.specs.declared.kinds.Kind.TheVariants.{Choice, Ranking, Sets}
@@ -13,17 +13,19 @@ use Rattle.vocab.specs.declared.literals.Literal.{Literal}
 use Rattle.vocab.specs.declared.literals.Literal.TheVariants.{Wins, Loses, Above}
 use Rattle.vocab.specs.Name.{is_digit, is_lower, is_name_byte, is_name}
 use Rattle.vocab.specs.Literal.{profile_of}
-use Rattle.std.proofs.lemmas.List.{length-replicate, length-map}
-use Rattle.vocab.specs.Size.{Extent, IsSize, factorial, sort_count, outcome_count}
+use Rattle.std.proofs.lemmas.List.{get_or-map, length-replicate, length-map}
+use Rattle.vocab.specs.Size.{Extent, IsSize, ballot_count, ballot_places, cast_count, factorial, sort_count, outcome_count}
 use Rattle.vocab.specs.Study.{have_own_names}
 use Rattle.vocab.specs.Titled.{Titled}
 use Rattle.vocab.specs.Limits.{product}
-use Rattle.meaning.specs.Space.{number_of, digits_of, ranking, ranking_number, ballot_bases, ballots}
+use Rattle.meaning.specs.Space.{number_of, digits_of, ranking, ranking_number, ballot_number, ballot_ranking, cast_bases, casts_of}
 use Rattle.meaning.specs.Digits.{AreDigits}
 use Rattle.meaning.proofs.RankingLaws.{are_rankings}
-use Rattle.meaning.proofs.DigitLaws.{are_numbered, are_profiles}
+use Rattle.meaning.proofs.BallotLaws.{numbered_place, place_below, place_of_ballot, ranking_of_ballot}
+use Rattle.meaning.proofs.DigitLaws.{are_numbered, are_profiles, lists_within}
+use Rattle.std.proofs.lemmas.Option.{slice_get_past}
 use Rattle.verdicts.specs.Numbers.{number_text, value_after}
-use Rattle.meaning.specs.Texts.{letter, ballot_text, profile_text, outcome_text_of, outcome_text}
+use Rattle.meaning.specs.Texts.{letter, ballot_text, cast_text, letters_or_dash, profile_text, ranking_text, outcome_text_of, outcome_text}
 use Rattle.verdicts.specs.Texts.{value_text, literal_text}
 use Rattle.verdicts.specs.Lines.{name_at}
 use Rattle.verdicts.proofs.NumberLaws.{value_of_text, number_digits}
@@ -100,17 +102,63 @@ module _ (size : Extent) (is : IsSize size) where
   abbrev m : ℕ
   m = size.alternatives
 
-  ballots_word : (bs : List ℕ) → is_word (join_with_byte 124 (map (ballot_text size) bs)) ≡ true
-  ballots_word [] = refl
-  ballots_word (b ∷ []) = letters_word (ranking m b)
-  ballots_word (b ∷ c ∷ bs) = word_append (ballot_text size b) _ (letters_word (ranking m b)) (and_from _ _ refl (ballots_word (c ∷ bs)))
+  letters_or_dash_word : (o : Option ℕ) → is_word (letters_or_dash m o) ≡ true
+  letters_or_dash_word None = refl
+  letters_or_dash_word (Some place) = letters_word (ranking m place)
+
+  cast_word : (c : ℕ) → is_word (cast_text size c) ≡ true
+  cast_word c = letters_or_dash_word (slice_get (ballot_places size) c)
+
+  casts_word : (cs : List ℕ) → is_word (join_with_byte 124 (map (cast_text size) cs)) ≡ true
+  casts_word [] = refl
+  casts_word (c ∷ []) = cast_word c
+  casts_word (c ∷ d ∷ cs) = word_append (cast_text size c) _ (cast_word c) (and_from _ _ refl (casts_word (d ∷ cs)))
 
   pub profile_word : (p : ℕ) → is_word (profile_text size p) ≡ true
-  profile_word p = ballots_word (ballots size p)
+  profile_word p = casts_word (casts_of size p)
 
-  pub ballots_same : (b c : ℕ) → b < factorial m → c < factorial m → ballot_text size b ≡ ballot_text size c → b ≡ c
-  ballots_same b c h k e =
+  pub rankings_same : (b c : ℕ) → b < factorial m → c < factorial m → ranking_text m b ≡ ranking_text m c → b ≡ c
+  rankings_same b c h k e =
       sym ((are_rankings m).numbered b h) ∙ ap (ranking_number m) (letters_same (ranking m b) (ranking m c) e) ∙ (are_rankings m).numbered c k
+
+  pub ballots_same : (b c : ℕ) → b < ballot_count size → c < ballot_count size → ballot_text size b ≡ ballot_text size c → b ≡ c
+  ballots_same b c h k e =
+      let places : get_or (ballot_places size) b 0 ≡ get_or (ballot_places size) c 0 = rankings_same _ _ (place_below size b h) (place_below size c k) (ap (map letter) (sym (ranking_of_ballot size b h)) ∙ e ∙ ap (map letter) (ranking_of_ballot size c k)) in
+      sym (numbered_place size b h) ∙ ap (ballot_number size) places ∙ numbered_place size c k
+
+  cast_letters : (b : ℕ) → b < ballot_count size → cast_text size b ≡ ballot_text size b
+  cast_letters b h = ap (letters_or_dash m) (place_of_ballot size b h) ∙ ap (map letter) (sym (ranking_of_ballot size b h))
+
+  dash : (c : ℕ) → ballot_count size ≤ c → cast_text size c ≡ 45 ∷ []
+  dash c le = ap (letters_or_dash m) (slice_get_past (ballot_places size) c le)
+
+  no_dash : (b : ℕ) → b < ballot_count size → cast_text size b ≢ 45 ∷ []
+  no_dash b h e =
+      let place = get_or (ballot_places size) b 0 in
+      let size_is : length (ranking m (get_or (ballot_places size) b 0)) ≡ m = ((are_rankings m).each (get_or (ballot_places size) b 0) (place_below size b h)).size in
+      let text : map letter (ranking m (get_or (ballot_places size) b 0)) ≡ 45 ∷ [] = sym (ap (letters_or_dash m) (place_of_ballot size b h)) ∙ e in
+      let first : get_or (map letter (ranking m (get_or (ballot_places size) b 0))) 0 0 ≡ 45 = ap (λ t. get_or t 0 0) text in
+      let own : get_or (map letter (ranking m (get_or (ballot_places size) b 0))) 0 0 ≡ letter (get_or (ranking m (get_or (ballot_places size) b 0)) 0 0) = get_or-map letter (ranking m (get_or (ballot_places size) b 0)) 0 0 0 (omega (arith, size_is, is.some_alternative)) in
+      absurd (omega (arith, first, own))
+
+  at_most_one_more : cast_count size ≤ ballot_count size + 1
+  at_most_one_more = by_absence size.absent
+    where
+      by_absence : (absent : Bool) → cond absent (ballot_count size + 1) (ballot_count size) ≤ ballot_count size + 1
+      by_absence true = omega arith
+      by_absence false = omega arith
+
+  pub casts_same : (c d : ℕ) → c < cast_count size → d < cast_count size → cast_text size c ≡ cast_text size d → c ≡ d
+  casts_same c d h k e = elim (cases_lt c (ballot_count size)) [
+    | inl lc ↦ elim (cases_lt d (ballot_count size)) [
+      | inl ld ↦ ballots_same c d lc ld (sym (cast_letters c lc) ∙ e ∙ cast_letters d ld)
+      | inr ld ↦ absurd (no_dash c lc (e ∙ dash d ld))
+    ]
+    | inr lc ↦ elim (cases_lt d (ballot_count size)) [
+      | inl ld ↦ absurd (no_dash d ld (sym e ∙ dash c lc))
+      | inr ld ↦ omega (arith, at_most_one_more, h, k)
+    ]
+  ]
 
   -- no letter is `|`
   letters_lack : (xs : List ℕ) → list_all (λ x. nat_lt x m) xs ≡ true → lacks 124 (map letter xs) ≡ true
@@ -126,43 +174,42 @@ module _ (size : Extent) (is : IsSize size) where
           by_test true s = absurd (omega (arith, l, is.few_alternatives, eqb-true (letter x) 124 s))
           by_test false s = refl
 
-  texts_lack : (n : ℕ) (bs : List ℕ) → AreDigits (replicate n (factorial m)) bs → list_all (lacks 124) (map (ballot_text size) bs) ≡ true
-  texts_lack n [] h = refl
-  texts_lack zero (b ∷ bs) h = absurd (true≢false (sym h))
-  texts_lack (suc n) (b ∷ bs) h =
-      let p = and_parts (nat_lt b (factorial m)) (pointwise nat_lt bs (replicate n (factorial m))) h in
-      and_from _ _ (letters_lack (ranking m b) ((are_rankings m).each b (ltb-true b (factorial m) p.0)).in_range) (texts_lack n bs p.1)
+  cast_lacks : (c : ℕ) → lacks 124 (cast_text size c) ≡ true
+  cast_lacks c = elim (cases_lt c (ballot_count size)) [
+    | inl l ↦ subst (λ t. lacks 124 t ≡ true) (sym (ap (letters_or_dash m) (place_of_ballot size c l))) (letters_lack (ranking m (get_or (ballot_places size) c 0)) ((are_rankings m).each (get_or (ballot_places size) c 0) (place_below size c l)).in_range)
+    | inr le ↦ subst (λ t. lacks 124 t ≡ true) (sym (dash c le)) refl
+  ]
 
-  texts_same : (n : ℕ) (bs cs : List ℕ) → AreDigits (replicate n (factorial m)) bs → AreDigits (replicate n (factorial m)) cs → map (ballot_text size) bs ≡ map (ballot_text size) cs → bs ≡ cs
+  texts_lack : (cs : List ℕ) → list_all (lacks 124) (map (cast_text size) cs) ≡ true
+  texts_lack [] = refl
+  texts_lack (c ∷ cs) = and_from _ _ (cast_lacks c) (texts_lack cs)
+
+  texts_same : (n : ℕ) (bs cs : List ℕ) → AreDigits (replicate n (cast_count size)) bs → AreDigits (replicate n (cast_count size)) cs → map (cast_text size) bs ≡ map (cast_text size) cs → bs ≡ cs
   texts_same n [] [] h k e = refl
   texts_same n [] (c ∷ cs) h k e = absurd (cc)
   texts_same n (b ∷ bs) [] h k e = absurd (cc)
   texts_same zero (b ∷ bs) (c ∷ cs) h k e = absurd (true≢false (sym h))
   texts_same (suc n) (b ∷ bs) (c ∷ cs) h k e =
-      let p = and_parts (nat_lt b (factorial m)) (pointwise nat_lt bs (replicate n (factorial m))) h in
-      let q = and_parts (nat_lt c (factorial m)) (pointwise nat_lt cs (replicate n (factorial m))) k in
-      let s = cons_same (ballot_text size b) (ballot_text size c) (map (ballot_text size) bs) (map (ballot_text size) cs) e in
-      ap₂ (λ x xs. x ∷ xs) (ballots_same b c (ltb-true b (factorial m) p.0) (ltb-true c (factorial m) q.0) s.0) (texts_same n bs cs p.1 q.1 s.1)
+      let p = and_parts (nat_lt b (cast_count size)) (pointwise nat_lt bs (replicate n (cast_count size))) h in
+      let q = and_parts (nat_lt c (cast_count size)) (pointwise nat_lt cs (replicate n (cast_count size))) k in
+      let s = cons_same (cast_text size b) (cast_text size c) (map (cast_text size) bs) (map (cast_text size) cs) e in
+      ap₂ (λ x xs. x ∷ xs) (casts_same b c (ltb-true b (cast_count size) p.0) (ltb-true c (cast_count size) q.0) s.0) (texts_same n bs cs p.1 q.1 s.1)
 
-  digits_are : (p : ℕ) → p < sort_count size Profile → AreDigits (ballot_bases size) (ballots size p)
-  digits_are p h = (are_numbered (ballot_bases size)).digits p (omega (arith, h, are_profiles size))
+  digits_are : (p : ℕ) → p < sort_count size Profile → AreDigits (cast_bases size) (casts_of size p)
+  digits_are p h = (are_numbered (cast_bases size)).digits p (omega (arith, h, lists_within size))
 
   pub profiles_same : (p q : ℕ) → p < sort_count size Profile → q < sort_count size Profile → profile_text size p ≡ profile_text size q → p ≡ q
   profiles_same p q h k e =
-      let a = digits_are p h in
-      let b = digits_are q k in
-      let words = joins_same (map (ballot_text size) (ballots size p)) (map (ballot_text size) (ballots size q)) (texts_lack size.voters (ballots size p) a) (texts_lack size.voters (ballots size q) b) (some_ballot p) (some_ballot q) e in
-      let same = texts_same size.voters (ballots size p) (ballots size q) a b words in
-      sym ((are_numbered (ballot_bases size)).of_digits p (omega (arith, h, are_profiles size)))
-      ∙ ap (number_of (ballot_bases size)) same
-      ∙ (are_numbered (ballot_bases size)).of_digits q (omega (arith, k, are_profiles size))
+      let words = joins_same (map (cast_text size) (casts_of size p)) (map (cast_text size) (casts_of size q)) (texts_lack (casts_of size p)) (texts_lack (casts_of size q)) (some_cast p) (some_cast q) e in
+      let same = texts_same size.voters (casts_of size p) (casts_of size q) (digits_are p h) (digits_are q k) words in
+      sym ((are_profiles size).of_profile p h) ∙ ap (number_of (cast_bases size)) same ∙ (are_profiles size).of_profile q k
     where
-      some_ballot : (k : ℕ) → 0 < length (map (ballot_text size) (ballots size k))
-      some_ballot k = omega (arith, length_digits (ballot_bases size) k, length-map (ballots size k) (ballot_text size), length-replicate size.voters (factorial m), is.some_voter)
+      some_cast : (k : ℕ) → 0 < length (map (cast_text size) (casts_of size k))
+      some_cast k = omega (arith, length_digits (cast_bases size) k, length-map (casts_of size k) (cast_text size), length-replicate size.voters (cast_count size), is.some_voter)
 
   outcomes_same_of : (k : Kind) (o u : ℕ) → k ≢ Sets → o < outcome_count k m → u < outcome_count k m → outcome_text_of size k o ≡ outcome_text_of size k u → o ≡ u
   outcomes_same_of Choice o u n h k e = omega (arith, head_same (letter o) (letter u) [] [] e)
-  outcomes_same_of Ranking o u n h k e = ballots_same o u h k e
+  outcomes_same_of Ranking o u n h k e = rankings_same o u h k e
   outcomes_same_of Sets o u n h k e = absurd (n refl)
 
   pub outcome_word_of : (k : Kind) (o : ℕ) → is_word (outcome_text_of size k o) ≡ true
@@ -182,7 +229,7 @@ module _ (size : Extent) (is : IsSize size) where
   pub value_word : (s : Sort) (v : ℕ) → is_word (value_text size s v) ≡ true
   value_word Voter v = number_word (v + 1)
   value_word Alt v = letters_word (v ∷ [])
-  value_word Ballot v = letters_word (ranking m v)
+  value_word Ballot v = letters_word (ballot_ranking size v)
   value_word Profile v = profile_word v
 
   pub literal_word : (l : Literal) → is_word (literal_text size l) ≡ true

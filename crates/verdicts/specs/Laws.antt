@@ -78,7 +78,7 @@ IsCoreConfirmed study text core story witnesses = answer study text ≡ Confirme
 
 -- what a confirmed report claims holds
 abbrev pub ConfirmedClaimsHold : Type 0
-ConfirmedClaimsHold = (study : Question) (text : List ℕ) →
+ConfirmedClaimsHold = (study : Question) → IsSize study.size → (text : List ℕ) →
     ((table : List ℕ) → IsRuleConfirmed study text table)
     × ((core : List ℕ) (story : List Lemma) (witnesses : List Witness) → IsImpossibilityConfirmed study text core story witnesses × IsCoreConfirmed study text core story witnesses)
 

@@ -1,2 +1,4 @@
+pub mod SwapLaws
+pub mod Ranges
 pub mod Powers
 pub mod PrefixLemmas

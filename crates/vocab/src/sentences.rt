@@ -2,7 +2,8 @@
 
 ghost use Rattle.std.specs.Prelude.{◌≡◌, ◌≤◌, length};
 ghost use Rattle.vocab.specs.Formula.{prefix_of, body_of, quantifier_depth};
-ghost use Rattle.vocab.specs.Tree.{tree_of};
+ghost use Rattle.vocab.specs.Sorted.{swaps_in_term, swaps_in_atom, swaps_alts};
+ghost use Rattle.vocab.specs.Tree.{atom_tree, term_tree, tree_of};
 
 use crate::kinds::Sort;
 
@@ -42,7 +43,53 @@ pub enum Formula {
     Exists(Sort, Box<Formula>),
 }
 
+impl Term {
+    fn swaps_alts(&self) -> bool
+        ensures { result ≡ swaps_in_term (term_tree self.now) }
+    {
+        match self {
+            Term::Var(_) | Term::Const(_) => false,
+            Term::SwapAlts(_, _, _) => true,
+            Term::With(a, b, c) | Term::SwapVoters(a, b, c) | Term::Swap(a, b, c) => {
+                a.swaps_alts() || b.swaps_alts() || c.swaps_alts()
+            }
+        }
+    }
+}
+
+impl Atom {
+    fn swaps_alts(&self) -> bool
+        ensures { result ≡ swaps_in_atom (atom_tree self.now) }
+    {
+        match self {
+            Atom::Equal(a, b) | Atom::Wins(a, b) => a.swaps_alts() || b.swaps_alts(),
+            Atom::Better(a, b, c)
+            | Atom::Casts(a, b, c)
+            | Atom::Majority(a, b, c)
+            | Atom::Ranks(a, b, c) => a.swaps_alts() || b.swaps_alts() || c.swaps_alts(),
+            Atom::Prefers(a, b, c, d) => {
+                a.swaps_alts() || b.swaps_alts() || c.swaps_alts() || d.swaps_alts()
+            }
+        }
+    }
+}
+
 impl Formula {
+    /// Whether the sentence exchanges two alternatives in a profile.
+    pub fn swaps_alts(&self) -> bool
+        ensures { result ≡ swaps_alts (tree_of self.now) }
+    {
+        match self {
+            Formula::Leaf(atom) => atom.swaps_alts(),
+            Formula::Not(inner) => inner.swaps_alts(),
+            Formula::Both(left, right)
+            | Formula::Either(left, right)
+            | Formula::Implies(left, right)
+            | Formula::Same(left, right) => left.swaps_alts() || right.swaps_alts(),
+            Formula::All(_, inner) | Formula::Exists(_, inner) => inner.swaps_alts(),
+        }
+    }
+
     /// How many universal quantifiers lead the formula.
     pub fn prefix(&self) -> u8
         requires { quantifier_depth (tree_of self.now) ≤ 12 }

@@ -78,6 +78,40 @@ fn sorts_have_their_lengths(rt: HostRuntime) -> Result<(), Fail> {
 }
 
 #[test]
+fn sizes_have_domains(rt: HostRuntime) -> Result<(), Fail> {
+    let peaks = Size::with_domain(Kind::Choice, 3, 3, 45, false)
+        .ok()
+        .ok_or("a size")?;
+    assert_eq!(rt; peaks.sort_len(Sort::Ballot), 4);
+    assert_eq!(rt; peaks.sort_len(Sort::Profile), 64);
+    assert_eq!(rt; peaks.ballots(), 45);
+    assert!(rt; !peaks.has_all_ballots() && !peaks.full() && !peaks.absent());
+    let absent = Size::with_domain(Kind::Ranking, 2, 2, 3, true)
+        .ok()
+        .ok_or("a size")?;
+    assert_eq!(rt; absent.sort_len(Sort::Profile), 8);
+    assert!(rt; absent.has_all_ballots() && !absent.full() && absent.absent());
+    let all = (1 << 120) - 1;
+    assert!(rt;
+        Size::with_domain(Kind::Choice, 2, 5, all, false) == Size::check(Kind::Choice, 2, 5)
+    );
+    for (voters, alternatives, ballots, absent, fault) in [
+        (0, 0, 0, false, SizeFault::Voters(0)),
+        (1, 6, 0, false, SizeFault::Alternatives(6)),
+        (8, 5, 0, true, SizeFault::Domain),
+        (1, 2, 4, false, SizeFault::Domain),
+        (2, 5, 1 << 120, false, SizeFault::Domain),
+        (8, 5, all, true, SizeFault::Profiles(45_949_729_863_572_160)),
+    ] {
+        assert!(rt;
+            Size::with_domain(Kind::Choice, voters, alternatives, ballots, absent) == Err(fault),
+            "{voters} {alternatives}"
+        );
+    }
+    Ok(())
+}
+
+#[test]
 fn literals_have_opposites(rt: HostRuntime) {
     assert_eq!(rt; Literal::Wins(1, 7).opposite(), Literal::Loses(1, 7));
     assert_eq!(rt; Literal::Loses(0, 7).opposite(), Literal::Wins(0, 7));

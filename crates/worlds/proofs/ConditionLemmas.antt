@@ -9,7 +9,7 @@ use Rattle.vocab.specs.declared.kinds.Sort.{Sort}
 use Rattle.vocab.specs.declared.kinds.Sort.TheVariants.{Voter, Alt, Ballot, Profile}
 use Rattle.vocab.specs.declared.literals.Literal.TheVariants.{Wins, Above}
 use Rattle.vocab.specs.Formula.{quantifier_depth}
-use Rattle.vocab.specs.Size.{Extent, sort_count}
+use Rattle.vocab.specs.Size.{has_all_ballots, Extent, sort_count}
 use Rattle.vocab.specs.Sorted.{same_sort, all_sorts, is_option_sort, has_winners, is_of_sort, is_sorted, are_of_sorts}
 use Rattle.vocab.specs.Study.{is_sentence}
 use Rattle.vocab.specs.Titled.{Titled}
@@ -69,13 +69,14 @@ module _ (size : Extent) where
       let three = and_parts (same_sort h.0 Profile) (is_of_sort size r Profile p) two.0 in
       (term_at r env Profile p h.1.in_range three.1, term_at r env Voter i h.1.in_range two.1, term_at r env Voter j h.1.in_range one.1)
 
-  pub swap_alts_parts : (p x y : TermTree) (env : List ℕ) → HasSort size (SwapAlts p x y) env → IsTermAt size Profile p env × IsTermAt size Alt x env × IsTermAt size Alt y env
+  pub swap_alts_parts : (p x y : TermTree) (env : List ℕ) → HasSort size (SwapAlts p x y) env → IsTermAt size Profile p env × IsTermAt size Alt x env × IsTermAt size Alt y env × (has_all_ballots size ≡ true)
   swap_alts_parts p x y env h =
       let r = h.1.sorts in
-      let one = and_parts _ (is_of_sort size r Alt y) h.1.sorted in
+      let may = and_parts _ (has_all_ballots size) h.1.sorted in
+      let one = and_parts _ (is_of_sort size r Alt y) may.0 in
       let two = and_parts _ (is_of_sort size r Alt x) one.0 in
       let three = and_parts (same_sort h.0 Profile) (is_of_sort size r Profile p) two.0 in
-      (term_at r env Profile p h.1.in_range three.1, term_at r env Alt x h.1.in_range two.1, term_at r env Alt y h.1.in_range one.1)
+      (term_at r env Profile p h.1.in_range three.1, term_at r env Alt x h.1.in_range two.1, term_at r env Alt y h.1.in_range one.1, may.1)
 
   pub swap_parts : (x y z : TermTree) (env : List ℕ) → HasSort size (Swap x y z) env → IsTermAt size Alt x env × IsTermAt size Alt y env × IsTermAt size Alt z env
   swap_parts x y z env h =

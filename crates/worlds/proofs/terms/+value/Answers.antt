@@ -54,6 +54,10 @@ swap_alts-requires-clause-y t c =
     let part = (swap_alts_parts c.args.space.now (term_tree c.in-SwapAlts.p.value) (term_tree c.in-SwapAlts.x.value) (term_tree c.in-SwapAlts.y.value) c.args.env.now (rw c.in-SwapAlts.is at c.requires)).2 in
     c.value-in-SwapAlts-3.ensures.in_range Alt (rw c.deref-in-SwapAlts-3.ensures part)
 
+pub swap_alts-requires-clause-all : goal.swap_alts-requires-clause-all
+swap_alts-requires-clause-all t c =
+    (swap_alts_parts c.args.space.now (term_tree c.in-SwapAlts.p.value) (term_tree c.in-SwapAlts.x.value) (term_tree c.in-SwapAlts.y.value) c.args.env.now (rw c.in-SwapAlts.is at c.requires)).3
+
 pub swap-requires-clause-x : goal.swap-requires-clause-x
 swap-requires-clause-x t c =
     let part = (swap_parts c.args.space.now (term_tree c.in-Swap.x.value) (term_tree c.in-Swap.y.value) (term_tree c.in-Swap.z.value) c.args.env.now (rw c.in-Swap.is at c.requires)).0 in

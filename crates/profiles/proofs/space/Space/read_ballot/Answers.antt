@@ -1,17 +1,21 @@
-use Rattle.std.proofs.Common.{◌≡◌, ℕ, ap₂, ◌≤◌, ◌∙◌, sym, ap, map, length, arith}
-use Rattle.meaning.specs.Space.{ranking}
-use Rattle.meaning.specs.Texts.{letter}
-use Rattle.profiles.specs.Weights.{rank_of}
-use Rattle.profiles.proofs.ProfileTexts.{length-ballot_text}
-use Rattle.profiles.proofs.TableLemmas.{rank-ranking}
+use Rattle.std.proofs.Common.{◌<◌, ◌∙◌, ℕ, ap, sym, subst, get_or}
+use Rattle.vocab.specs.Size.{ballot_places, factorial}
+use Rattle.meaning.specs.Texts.{ranking_text}
+use Rattle.meaning.proofs.BallotLaws.{place_below}
+use Rattle.profiles.proofs.ProfileTexts.{ballot_letters, read_found, read_none}
 use Rattle.profiles.proofs.space.Space.read_ballot.Goals as goal
 
-pub returns-then-text-alternatives-clause-none : goal.returns-then-text-alternatives-clause-none
-returns-then-text-alternatives-clause-none c = λ b h e. c.if-text-alternatives.true (ap length e ∙ length-ballot_text c.args.self.now b h ∙ sym c.alternatives-alternatives.ensures.value)
+pub returns-in_default-clause-none : goal.returns-in_default-clause-none
+returns-in_default-clause-none c = λ b l e.
+    let m = c.alternatives.ensures.value in
+    c.in_default.ensures.none (get_or (ballot_places c.args.self.now) b 0) (subst (λ (n : ℕ). get_or (ballot_places c.args.self.now) b 0 < factorial n) (sym m) (place_below c.args.self.now b l))
+    (e ∙ ballot_letters c.args.self.now b l ∙ ap (λ n. ranking_text n (get_or (ballot_places c.args.self.now) b 0)) (sym m))
 
-pub returns-else-spells-clause-none : goal.returns-else-spells-clause-none
-returns-else-spells-clause-none c = λ b h e.
-    let some : 1 ≤ c.args.self.now.alternatives = omega arith in
-    let few : c.args.self.now.alternatives ≤ 5 = omega arith in
-    let number : b ≡ c.rank-ballot.result = sym (c.rank-ballot.ensures.value ∙ ap rank_of e ∙ rank-ranking c.args.self.now.alternatives b some few h) in
-    c.if-spells.ensures.other (e ∙ ap₂ (λ (m k : ℕ). map letter (ranking m k)) (sym c.alternatives-alternatives.ensures.value) number)
+pub returns-clause-found : goal.returns-clause-found
+returns-clause-found c =
+    read_found c.args.self.now c.args.text.now c.in-Some.place c.number_of.result (c.in-Some.ensures.found.1 ∙ ap (λ n. ranking_text n c.in-Some.place) c.alternatives.ensures.value) c.number_of.ensures.found
+
+pub returns-clause-none : goal.returns-clause-none
+returns-clause-none c =
+    read_none c.args.self.now c.voters-voters.ensures.valid c.args.text.now c.in-Some.place c.number_of.result (subst (λ (n : ℕ). c.in-Some.place < factorial n) c.alternatives.ensures.value c.in-Some.ensures.found.0)
+    (c.in-Some.ensures.found.1 ∙ ap (λ n. ranking_text n c.in-Some.place) c.alternatives.ensures.value) c.number_of.ensures.none
