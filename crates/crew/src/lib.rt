@@ -2,10 +2,12 @@
 //! the same for every number of workers.
 #![tactic(auto)]
 
+mod crews;
 mod jobs;
 mod pieces;
 #[cfg(test)]
 mod tests;
 
+pub use crews::Crew;
 pub use jobs::{Job, Parts};
 pub use pieces::map_pieces;

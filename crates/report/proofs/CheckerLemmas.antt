@@ -13,6 +13,7 @@ use Rattle.report_lines.specs.declared.lines.Line.{Line as HeldLine}
 use Rattle.report_lines.specs.Held.{held_line}
 use Rattle.report.specs.declared.faults.ReportFault.{ReportFault}
 use Rattle.report.specs.declared.faults.ReportFault.TheVariants.{Line as AtLine, NoMemory}
+use Rattle.report.specs.declared.progress.Progress.{Progress}
 use Rattle.report.specs.declared.readings.Reading.{Reading}
 use Rattle.report.specs.Held.{supposed, Stands, StandsAs, StandsFor, IsReady}
 use Rattle.report.specs.Taken.{Took}
@@ -30,6 +31,10 @@ is_wanting : (fault : Option ReportFault) → (fault ≡ Some NoMemory) ⊎ (fau
 is_wanting None = inr (λ e. absurd (cc))
 is_wanting (Some NoMemory) = inl refl
 is_wanting (Some (AtLine line word)) = inr (λ e. absurd (cc))
+
+-- so many lines, with this fault and reading
+abbrev pub at : ℕ → Option ReportFault → Reading → Progress
+at n fault r = record { reading = r; lines = n; fault = fault }
 
 module _ (study : Question) where
   -- the number of the lemma that comes next
@@ -66,7 +71,7 @@ module _ (study : Question) where
   told_next lines text = judge_snoc study 1 start lines text
 
   -- after a faulty line nothing changes
-  pub still : (n : ℕ) (fault : ReportFault) (r : Reading) (lines : List (List ℕ)) (text : List ℕ) → StandsFor study n (Some fault) r lines → StandsFor study (n + 1) (Some fault) r (lines ++ text ∷ [])
+  pub still : (n : ℕ) (fault : ReportFault) (r : Reading) (lines : List (List ℕ)) (text : List ℕ) → StandsFor study (at n (Some fault) r) lines → StandsFor study (at (n + 1) (Some fault) r) (lines ++ text ∷ [])
   still n fault r lines text h =
       (longer n lines text h.0, subst (StandsAs study (Some fault) r) (sym (told_next lines text)) (by_told (judge study lines) h.1))
     where
@@ -75,8 +80,8 @@ module _ (study : Question) where
       by_told (Refused line word) k = k
 
   -- the next line after lines without a fault
-  pub step : (n : ℕ) (fault : Option ReportFault) (r after : Reading) (lines : List (List ℕ)) (text : List ℕ) → StandsFor study n None r lines →
-      ((s : Standing) → Stands study r s → StandsAs study fault after (settle study (n + 1) s (read_line study s text) Good)) → StandsFor study (n + 1) fault after (lines ++ text ∷ [])
+  pub step : (n : ℕ) (fault : Option ReportFault) (r after : Reading) (lines : List (List ℕ)) (text : List ℕ) → StandsFor study (at n None r) lines →
+      ((s : Standing) → Stands study r s → StandsAs study fault after (settle study (n + 1) s (read_line study s text) Good)) → StandsFor study (at (n + 1) fault after) (lines ++ text ∷ [])
   step n fault r after lines text h go =
       let number : n + 1 ≡ 1 + length lines = omega (arith, h.0) in
       (longer n lines text h.0, subst (StandsAs study fault after) (sym (told_next lines text)) (subst (λ k. StandsAs study fault after (told_more study k (judge study lines) text)) number (by_told (judge study lines) h.1)))
@@ -86,13 +91,13 @@ module _ (study : Question) where
       by_told (Refused line word) k = let wrong : None ≡ Some (AtLine line word) = k in absurd (cc)
 
   -- a checker with a fault stays ready
-  pub still_ready : (n : ℕ) (fault : ReportFault) (r : Reading) (text : List ℕ) → IsReady study n (Some fault) r → IsReady study (n + 1) (Some fault) r
+  pub still_ready : (n : ℕ) (fault : ReportFault) (r : Reading) (text : List ℕ) → IsReady study (at n (Some fault) r) → IsReady study (at (n + 1) (Some fault) r)
   still_ready n fault r text (inl e) = inl e
   still_ready n fault r text (inr (lines, h)) = inr (lines ++ text ∷ [], still n fault r lines text h)
 
   -- the next line leaves a checker ready
-  pub step_ready : (n : ℕ) (fault : Option ReportFault) (r after : Reading) (text : List ℕ) → IsReady study n None r →
-      ((s : Standing) → Stands study r s → fault ≢ Some NoMemory → StandsAs study fault after (settle study (n + 1) s (read_line study s text) Good)) → IsReady study (n + 1) fault after
+  pub step_ready : (n : ℕ) (fault : Option ReportFault) (r after : Reading) (text : List ℕ) → IsReady study (at n None r) →
+      ((s : Standing) → Stands study r s → fault ≢ Some NoMemory → StandsAs study fault after (settle study (n + 1) s (read_line study s text) Good)) → IsReady study (at (n + 1) fault after)
   step_ready n fault r after text (inl e) go = absurd (cc)
   step_ready n fault r after text (inr (lines, h)) go = elim (is_wanting fault) [
     | inl e ↦ inl e
@@ -101,16 +106,16 @@ module _ (study : Question) where
 
   -- ---- at what a checker holds
 
-  pub still_ready_at : (n : ℕ) (o : Option ReportFault) (fault : ReportFault) (r : Reading) (text : List ℕ) → o ≡ Some fault → IsReady study n o r → IsReady study (n + 1) o r
-  still_ready_at n o fault r text e h = subst (λ x. IsReady study (n + 1) x r) (sym e) (still_ready n fault r text (subst (λ x. IsReady study n x r) e h))
+  pub still_ready_at : (n : ℕ) (o : Option ReportFault) (fault : ReportFault) (r : Reading) (text : List ℕ) → o ≡ Some fault → IsReady study (at n o r) → IsReady study (at (n + 1) o r)
+  still_ready_at n o fault r text e h = subst (λ x. IsReady study (at (n + 1) x r)) (sym e) (still_ready n fault r text (subst (λ x. IsReady study (at n x r)) e h))
 
-  pub still_at : (n : ℕ) (o : Option ReportFault) (fault : ReportFault) (r : Reading) (lines : List (List ℕ)) (text : List ℕ) → o ≡ Some fault → StandsFor study n o r lines → StandsFor study (n + 1) o r (lines ++ text ∷ [])
-  still_at n o fault r lines text e h = subst (λ x. StandsFor study (n + 1) x r (lines ++ text ∷ [])) (sym e) (still n fault r lines text (subst (λ x. StandsFor study n x r lines) e h))
+  pub still_at : (n : ℕ) (o : Option ReportFault) (fault : ReportFault) (r : Reading) (lines : List (List ℕ)) (text : List ℕ) → o ≡ Some fault → StandsFor study (at n o r) lines → StandsFor study (at (n + 1) o r) (lines ++ text ∷ [])
+  still_at n o fault r lines text e h = subst (λ x. StandsFor study (at (n + 1) x r) (lines ++ text ∷ [])) (sym e) (still n fault r lines text (subst (λ x. StandsFor study (at n x r) lines) e h))
 
-  pub step_ready_at : (n : ℕ) (o fault : Option ReportFault) (r after : Reading) (text : List ℕ) → o ≡ None → IsReady study n o r →
-      ((s : Standing) → Stands study r s → fault ≢ Some NoMemory → StandsAs study fault after (settle study (n + 1) s (read_line study s text) Good)) → IsReady study (n + 1) fault after
-  step_ready_at n o fault r after text e h go = step_ready n fault r after text (subst (λ x. IsReady study n x r) e h) go
+  pub step_ready_at : (n : ℕ) (o fault : Option ReportFault) (r after : Reading) (text : List ℕ) → o ≡ None → IsReady study (at n o r) →
+      ((s : Standing) → Stands study r s → fault ≢ Some NoMemory → StandsAs study fault after (settle study (n + 1) s (read_line study s text) Good)) → IsReady study (at (n + 1) fault after)
+  step_ready_at n o fault r after text e h go = step_ready n fault r after text (subst (λ x. IsReady study (at n x r)) e h) go
 
-  pub step_at : (n : ℕ) (o fault : Option ReportFault) (r after : Reading) (lines : List (List ℕ)) (text : List ℕ) → o ≡ None → StandsFor study n o r lines →
-      ((s : Standing) → Stands study r s → StandsAs study fault after (settle study (n + 1) s (read_line study s text) Good)) → StandsFor study (n + 1) fault after (lines ++ text ∷ [])
-  step_at n o fault r after lines text e h go = step n fault r after lines text (subst (λ x. StandsFor study n x r lines) e h) go
+  pub step_at : (n : ℕ) (o fault : Option ReportFault) (r after : Reading) (lines : List (List ℕ)) (text : List ℕ) → o ≡ None → StandsFor study (at n o r) lines →
+      ((s : Standing) → Stands study r s → StandsAs study fault after (settle study (n + 1) s (read_line study s text) Good)) → StandsFor study (at (n + 1) fault after) (lines ++ text ∷ [])
+  step_at n o fault r after lines text e h go = step n fault r after lines text (subst (λ x. StandsFor study (at n x r) lines) e h) go

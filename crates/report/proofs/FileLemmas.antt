@@ -5,7 +5,7 @@ use Rattle.edge.specs.Shelf.{Files, OthersStay, NoneFell}
 use Rattle.edge.proofs.Known.{Consumes-more}
 use Rattle.vocab.specs.Study.{Question}
 use Rattle.report.specs.declared.faults.ReportFault.{ReportFault}
-use Rattle.report.specs.declared.readings.Reading.{Reading}
+use Rattle.report.specs.declared.progress.Progress.{Progress}
 use Rattle.report.specs.Files.{HasTaken, most_report_bytes}
 use Rattle.report.specs.Pieces.{StandsForText}
 
@@ -21,12 +21,12 @@ pub consumes_none : (known : Option (List ℕ)) → Consumes known known []
 consumes_none None = tt
 consumes_none (Some xs) = refl
 
-pub taken_none : (study : Question) (n : ℕ) (f : Option ReportFault) (r : Reading) (held : List ℕ) → HasTaken study n n f f r r held held []
-taken_none study n f r held = λ text stands. subst (λ (t : List ℕ). StandsForText study n f r held t) (sym (append-nil text)) stands
+pub taken_none : (study : Question) (p : Progress) (held : List ℕ) → HasTaken study p p held held []
+taken_none study p held = λ text stands. subst (λ (t : List ℕ). StandsForText study p held t) (sym (append-nil text)) stands
 
-pub taken_more : (study : Question) (n m k : ℕ) (f g h : Option ReportFault) (r q p : Reading) (held now next xs ys : List ℕ)
-    → HasTaken study n m f g r q held now xs → HasTaken study m k g h q p now next ys → HasTaken study n k f h r p held next (xs ++ ys)
-taken_more study n m k f g h r q p held now next xs ys one two = λ text stands. subst (λ (t : List ℕ). StandsForText study k h p next t) (append_assoc text xs ys) (two (text ++ xs) (one text stands))
+pub taken_more : (study : Question) (p q r : Progress) (held now next xs ys : List ℕ)
+    → HasTaken study p q held now xs → HasTaken study q r now next ys → HasTaken study p r held next (xs ++ ys)
+taken_more study p q r held now next xs ys one two = λ text stands. subst (λ (t : List ℕ). StandsForText study r next t) (append_assoc text xs ys) (two (text ++ xs) (one text stands))
 
 -- nothing came of a read
 pub consumes_end : (before now next : Option (List ℕ)) (bytes chunk : List ℕ) (count : ℕ) → count ≡ 0 → Consumes before now bytes → Consumes now next (take count chunk) → Consumes before next bytes

@@ -9,7 +9,7 @@ use Rattle.verdicts.specs.Places.{Place, Standing, start, wanted, AtNothing}
 use Rattle.verdicts.specs.Judge.{Told, Good, Refused, read_line, settle, judge_from, judge, pieces, front, final, Answer, at_end, conclude, answer}
 use Rattle.verdicts.proofs.StepLaws.{told_more, judge_snoc}
 use Rattle.report.specs.declared.faults.ReportFault.{ReportFault}
-use Rattle.report.specs.declared.readings.Reading.{Reading}
+use Rattle.report.specs.declared.progress.Progress.{Progress}
 use Rattle.report.specs.Cutting.{has_no_end}
 use Rattle.report.specs.Held.{StandsAs, StandsFor}
 use Rattle.report.specs.Pieces.{head_of, StandsForText}
@@ -49,19 +49,19 @@ same_length : (lines : List (List ℕ)) (x y : List ℕ) → length (lines ++ x 
 same_length [] x y = refl
 same_length (l ∷ lines) x y = ap suc (same_length lines x y)
 
-module _ (study : Question) (count : ℕ) (fault : Option ReportFault) (r : Reading) where
+module _ (study : Question) (p : Progress) where
   -- a checker that was given the front of a line stands for the line
-  pub head_stands : (lines : List (List ℕ)) (line : List ℕ) → StandsFor study count fault r (lines ++ head_of line ∷ []) → StandsFor study count fault r (lines ++ line ∷ [])
-  head_stands lines line h = (h.0 ∙ same_length lines (head_of line) line, subst (λ t. StandsAs study fault r t) (head_judge study lines line) h.1)
+  pub head_stands : (lines : List (List ℕ)) (line : List ℕ) → StandsFor study p (lines ++ head_of line ∷ []) → StandsFor study p (lines ++ line ∷ [])
+  head_stands lines line h = (h.0 ∙ same_length lines (head_of line) line, subst (λ t. StandsAs study p.fault p.reading t) (head_judge study lines line) h.1)
 
   -- a line ended
-  pub ended_stands : (text w : List ℕ) → has_no_end w ≡ true → StandsFor study count fault r (front (pieces text) ++ (final (pieces text) ++ w) ∷ []) → StandsForText study count fault r [] (text ++ (w ++ 10 ∷ []))
-  ended_stands text w h k = (subst (λ ls. StandsFor study count fault r ls) (sym (front_ended text w h)) k, ap head_of (sym (final_ended text w h)))
+  pub ended_stands : (text w : List ℕ) → has_no_end w ≡ true → StandsFor study p (front (pieces text) ++ (final (pieces text) ++ w) ∷ []) → StandsForText study p [] (text ++ (w ++ 10 ∷ []))
+  ended_stands text w h k = (subst (λ ls. StandsFor study p ls) (sym (front_ended text w h)) k, ap head_of (sym (final_ended text w h)))
 
   -- a line went on
-  pub going_stands : (held text w : List ℕ) → has_no_end w ≡ true → StandsForText study count fault r held text → StandsForText study count fault r (head_of (held ++ w)) (text ++ w)
+  pub going_stands : (held text w : List ℕ) → has_no_end w ≡ true → StandsForText study p held text → StandsForText study p (head_of (held ++ w)) (text ++ w)
   going_stands held text w h k = (
-    subst (λ ls. StandsFor study count fault r ls) (sym (front_going text w h)) k.0,
+    subst (λ ls. StandsFor study p ls) (sym (front_going text w h)) k.0,
     ap (λ t. head_of (t ++ w)) k.1 ∙ take_more 4097 (final (pieces text)) w ∙ ap head_of (sym (final_going text w h)),
   )
 
@@ -90,29 +90,29 @@ head_concludes study text held e =
     by_told (Refused n word) = refl
 
 -- a line that was held so far has ended
-pub end_stands : (study : Question) (n m : ℕ) (f g : Option ReportFault) (r q : Reading) (lines : List (List ℕ)) (rest w held line : List ℕ)
-    → ((ls : List (List ℕ)) → StandsFor study n f r ls → StandsFor study m g q (ls ++ line ∷ []))
-    → line ≡ head_of (held ++ w) → held ≡ head_of rest → StandsFor study n f r lines → StandsFor study m g q (lines ++ (rest ++ w) ∷ [])
-end_stands study n m f g r q lines rest w held line taken e h stands =
-    head_stands study m g q lines (rest ++ w) (subst (λ t. StandsFor study m g q (lines ++ t ∷ [])) (e ∙ head_more held rest w h) (taken lines stands))
+pub end_stands : (study : Question) (p q : Progress) (lines : List (List ℕ)) (rest w held line : List ℕ)
+    → ((ls : List (List ℕ)) → StandsFor study p ls → StandsFor study q (ls ++ line ∷ []))
+    → line ≡ head_of (held ++ w) → held ≡ head_of rest → StandsFor study p lines → StandsFor study q (lines ++ (rest ++ w) ∷ [])
+end_stands study p q lines rest w held line taken e h stands =
+    head_stands study q lines (rest ++ w) (subst (λ t. StandsFor study q (lines ++ t ∷ [])) (e ∙ head_more held rest w h) (taken lines stands))
 
 -- a line of a piece has ended
-pub piece_line : (study : Question) (n m : ℕ) (f g : Option ReportFault) (r q : Reading) (text read line held none : List ℕ)
+pub piece_line : (study : Question) (p q : Progress) (text read line held none : List ℕ)
     → has_no_end line ≡ true
-    → ((lines : List (List ℕ)) (rest : List ℕ) → StandsFor study n f r lines → held ≡ head_of rest → StandsFor study m g q (lines ++ (rest ++ line) ∷ []))
-    → none ≡ [] → StandsForText study n f r held (text ++ read) → StandsForText study m g q none (text ++ (read ++ (line ++ 10 ∷ [])))
-piece_line study n m f g r q text read line held none h taken e stands =
-    subst (λ t. StandsForText study m g q none t) (append_assoc text read (line ++ 10 ∷ []))
-    (subst (λ t. StandsForText study m g q t ((text ++ read) ++ (line ++ 10 ∷ []))) (sym e)
-    (ended_stands study m g q (text ++ read) line h (taken (front (pieces (text ++ read))) (final (pieces (text ++ read))) stands.0 stands.1)))
+    → ((lines : List (List ℕ)) (rest : List ℕ) → StandsFor study p lines → held ≡ head_of rest → StandsFor study q (lines ++ (rest ++ line) ∷ []))
+    → none ≡ [] → StandsForText study p held (text ++ read) → StandsForText study q none (text ++ (read ++ (line ++ 10 ∷ [])))
+piece_line study p q text read line held none h taken e stands =
+    subst (λ t. StandsForText study q none t) (append_assoc text read (line ++ 10 ∷ []))
+    (subst (λ t. StandsForText study q t ((text ++ read) ++ (line ++ 10 ∷ []))) (sym e)
+    (ended_stands study q (text ++ read) line h (taken (front (pieces (text ++ read))) (final (pieces (text ++ read))) stands.0 stands.1)))
 
 -- what is left of a piece is held
-pub piece_rest : (study : Question) (n : ℕ) (f : Option ReportFault) (r : Reading) (text bytes read rest held now : List ℕ)
+pub piece_rest : (study : Question) (p : Progress) (text bytes read rest held now : List ℕ)
     → has_no_end rest ≡ true → bytes ≡ read ++ rest → now ≡ head_of (held ++ rest)
-    → StandsForText study n f r held (text ++ read) → StandsForText study n f r now (text ++ bytes)
-piece_rest study n f r text bytes read rest held now h cut e stands =
-    subst (λ t. StandsForText study n f r now t) (append_assoc text read rest ∙ ap (λ t. text ++ t) (sym cut))
-    (subst (λ t. StandsForText study n f r t ((text ++ read) ++ rest)) (sym e) (going_stands study n f r held (text ++ read) rest h stands))
+    → StandsForText study p held (text ++ read) → StandsForText study p now (text ++ bytes)
+piece_rest study p text bytes read rest held now h cut e stands =
+    subst (λ t. StandsForText study p now t) (append_assoc text read rest ∙ ap (λ t. text ++ t) (sym cut))
+    (subst (λ t. StandsForText study p t ((text ++ read) ++ rest)) (sym e) (going_stands study p held (text ++ read) rest h stands))
 
 -- of a piece with a line end in it, what is cut off and what is left
 pub cut_more : (bytes read rest line after : List ℕ) → bytes ≡ read ++ rest → rest ≡ line ++ 10 ∷ after → bytes ≡ (read ++ (line ++ 10 ∷ [])) ++ after

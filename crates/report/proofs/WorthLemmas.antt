@@ -18,7 +18,7 @@ use Rattle.report.specs.declared.files.Ending.{Ending}
 use Rattle.report.specs.declared.files.Ending.TheVariants as ending
 use Rattle.report.specs.declared.files.Worth.{Worth}
 use Rattle.report.specs.declared.files.Worth.TheVariants as worth
-use Rattle.report.specs.declared.readings.Reading.{Reading}
+use Rattle.report.specs.declared.progress.Progress.{Progress}
 use Rattle.report.specs.Answers.{Concludes}
 use Rattle.report.specs.Files.{IsEndedAt, IsWorth, IsWorthOf, most_report_bytes}
 use Rattle.report.specs.Held.{StandsAs}
@@ -92,22 +92,22 @@ concludes_line (IsConfirmed verdict) m word h = absurd (cc)
 concludes_line (Faulty n w) m word h = let one : m ≡ n = cc in let two : word ≡ w = cc in ap (λ k. worth.Faulty k word) one ∙ ap (worth.Faulty n) two
 concludes_line TooLong m word h = absurd h
 
-module _ (study : Question) (n : ℕ) (fault : Option ReportFault) (r : Reading) (now : List ℕ) where
+module _ (study : Question) (p : Progress) (now : List ℕ) where
   -- all was read
   pub whole_worth : (e : Ending) (known left : Option (List ℕ)) (bytes held : List ℕ) (result : Result Confirmed ReportFault) (w : Worth)
-      → e ≡ ending.Whole → IsEndedAt e known left fault bytes → known ≡ Some held
+      → e ≡ ending.Whole → IsEndedAt e known left p.fault bytes → known ≡ Some held
       → (Concludes (answer study bytes) result) → ((a : Answer) → Concludes a result → IsWorth a w) → IsWorth (answer_within most_report_bytes study held) w
   whole_worth e known left bytes held result w same ended k concluded worth_of =
-      let parts = whole_is known left fault bytes held (subst (λ x. IsEndedAt x known left fault bytes) same ended) k in
+      let parts = whole_is known left p.fault bytes held (subst (λ x. IsEndedAt x known left p.fault bytes) same ended) k in
       let short : length held ≤ most_report_bytes = subst (λ t. length t ≤ most_report_bytes) (sym parts.0) parts.1 in
       subst (λ a. IsWorth a w) (sym (short_answer study held short ∙ ap (answer study) parts.0)) (worth_of (answer study bytes) concluded)
 
   -- a line is faulty
-  refused_is : (told : Told) (m : ℕ) (word : Refusal) → fault ≡ Some (AtLine m word) → StandsAs study fault r told → told ≡ Refused m word
+  refused_is : (told : Told) (m : ℕ) (word : Refusal) → p.fault ≡ Some (AtLine m word) → StandsAs study p.fault p.reading told → told ≡ Refused m word
   refused_is (Good s) m word e h = absurd (cc)
   refused_is (Refused k w) m word e h = let one : k ≡ m = cc in let two : w ≡ word = cc in ap (λ i. Refused i w) one ∙ ap (Refused m) two
 
-  prefix_of : (e : Ending) (known left : Option (List ℕ)) (bytes held : List ℕ) → IsEndedAt e known left fault bytes → known ≡ Some held → (rest : List ℕ) × (held ≡ bytes ++ rest) × (length bytes ≤ most_report_bytes)
+  prefix_of : (e : Ending) (known left : Option (List ℕ)) (bytes held : List ℕ) → IsEndedAt e known left p.fault bytes → known ≡ Some held → (rest : List ℕ) × (held ≡ bytes ++ rest) × (length bytes ≤ most_report_bytes)
   prefix_of ending.Whole known left bytes held h k = let f = consumed_front left bytes held (subst (λ x. Consumes x left bytes) k h.0) in (f.0, f.1, h.2)
   prefix_of ending.Faulty known left bytes held h k = let f = consumed_front left bytes held (subst (λ x. Consumes x left bytes) k h.0) in (f.0, f.1, h.1)
   prefix_of ending.TooLong known left bytes held h k =
@@ -115,15 +115,15 @@ module _ (study : Question) (n : ℕ) (fault : Option ReportFault) (r : Reading)
       (h.0 ++ f.0, f.1 ∙ append_assoc bytes h.0 f.0, omega (arith, h.3))
 
   pub faulty_worth : (e : Ending) (known left : Option (List ℕ)) (bytes held : List ℕ) (m : ℕ) (word : Refusal)
-      → fault ≡ Some (AtLine m word) → IsEndedAt e known left fault bytes → known ≡ Some held → StandsForText study n fault r now bytes
+      → p.fault ≡ Some (AtLine m word) → IsEndedAt e known left p.fault bytes → known ≡ Some held → StandsForText study p now bytes
       → IsWorth (answer_within most_report_bytes study held) (worth.Faulty m word)
   faulty_worth e known left bytes held m word f ended k stands =
-      let p = prefix_of e known left bytes held ended k in
+      let parts = prefix_of e known left bytes held ended k in
       let told = refused_is (judge study (front (pieces bytes))) m word f stands.0.1 in
-      subst (λ a. IsWorth a (worth.Faulty m word)) (sym (ap (answer_within most_report_bytes study) p.1 ∙ faulty_answer study bytes p.0 m word p.2 told)) refl
+      subst (λ a. IsWorth a (worth.Faulty m word)) (sym (ap (answer_within most_report_bytes study) parts.1 ∙ faulty_answer study bytes parts.0 m word parts.2 told)) refl
 
   -- the file goes on beyond the limit, and no line is faulty
-  faultless_is : (told : Told) → fault ≡ None → StandsAs study fault r told → beyond told ≡ TooLong
+  faultless_is : (told : Told) → p.fault ≡ None → StandsAs study p.fault p.reading told → beyond told ≡ TooLong
   faultless_is (Good s) e h = refl
   faultless_is (Refused m word) e h = absurd (cc)
 
@@ -132,7 +132,7 @@ module _ (study : Question) (n : ℕ) (fault : Option ReportFault) (r : Reading)
   take_whole (x ∷ xs) ys k e = ap (λ i. take i (x ∷ (xs ++ ys))) (sym e) ∙ ap (λ zs. x ∷ zs) (take_whole xs ys (length xs) refl)
 
   pub long_worth : (e : Ending) (known left : Option (List ℕ)) (bytes held : List ℕ)
-      → fault ≡ None → e ≢ ending.Whole → IsEndedAt e known left fault bytes → known ≡ Some held → StandsForText study n fault r now bytes
+      → p.fault ≡ None → e ≢ ending.Whole → IsEndedAt e known left p.fault bytes → known ≡ Some held → StandsForText study p now bytes
       → IsWorth (answer_within most_report_bytes study held) worth.TooLong
   long_worth ending.Whole known left bytes held f differs ended k stands = absurd (differs refl)
   long_worth ending.Faulty known left bytes held f differs ended k stands = absurd (let bad : false ≡ true = ap is_some (sym f) ∙ ended.2 in true≢false (sym bad))

@@ -11,7 +11,7 @@ use Rattle.report.specs.declared.files.Ending.TheVariants as ending
 use Rattle.report.specs.declared.files.FileFault.{FileFault}
 use Rattle.report.specs.declared.files.Worth.{Worth}
 use Rattle.report.specs.declared.files.Worth.TheVariants as worth
-use Rattle.report.specs.declared.readings.Reading.{Reading}
+use Rattle.report.specs.declared.progress.Progress.{Progress}
 use Rattle.report.specs.Pieces.{StandsForText}
 
 -- the most bytes of a report
@@ -19,8 +19,8 @@ abbrev pub most_report_bytes : ℕ
 most_report_bytes = 268435456
 
 -- the reader took these bytes
-abbrev pub HasTaken : Question → (before now : ℕ) (fault_before fault_now : Option ReportFault) (reading_before reading_now : Reading) (held_before held_now bytes : List ℕ) → Type 0
-HasTaken study n m f g r q held now bytes = (text : List ℕ) → StandsForText study n f r held text → StandsForText study m g q now (text ++ bytes)
+abbrev pub HasTaken : Question → (before now : Progress) (held_before held_now bytes : List ℕ) → Type 0
+HasTaken study p q held now bytes = (text : List ℕ) → StandsForText study p held text → StandsForText study q now (text ++ bytes)
 
 -- where the reading of a file ended: all of it was read, or as much as the limit allows, or as much as has the first faulty line
 abbrev pub IsEndedAt : Ending → (before now : Option (List ℕ)) (fault : Option ReportFault) (bytes : List ℕ) → Type 0

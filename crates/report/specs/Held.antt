@@ -10,6 +10,7 @@ use Rattle.verdicts.specs.Judge.{Told, Good, Refused, judge}
 use Rattle.report_lines.specs.Held.{held_number, held_place}
 use Rattle.report.specs.declared.faults.ReportFault.{ReportFault}
 use Rattle.report.specs.declared.faults.ReportFault.TheVariants.{Line as AtLine, NoMemory}
+use Rattle.report.specs.declared.progress.Progress.{Progress}
 use Rattle.report.specs.declared.readings.Reading.{Reading}
 
 -- what lemmas suppose
@@ -42,10 +43,10 @@ abbrev pub StandsAs : Question → Option ReportFault → Reading → Told → T
 StandsAs study fault r (Good s) = (fault ≡ None) × Stands study r s
 StandsAs study fault r (Refused line word) = fault ≡ Some (AtLine line word)
 
--- a checker with this count, fault and reading stands for these lines
-abbrev pub StandsFor : Question → ℕ → Option ReportFault → Reading → List (List ℕ) → Type 0
-StandsFor study count fault r lines = (count ≡ length lines) × StandsAs study fault r (judge study lines)
+-- a checker that is so far stands for these lines
+abbrev pub StandsFor : Question → Progress → List (List ℕ) → Type 0
+StandsFor study p lines = (p.lines ≡ length lines) × StandsAs study p.fault p.reading (judge study lines)
 
 -- it stands for some lines, unless memory was wanting
-abbrev pub IsReady : Question → ℕ → Option ReportFault → Reading → Type 0
-IsReady study count fault r = (fault ≡ Some NoMemory) ⊎ ((lines : List (List ℕ)) × StandsFor study count fault r lines)
+abbrev pub IsReady : Question → Progress → Type 0
+IsReady study p = (p.fault ≡ Some NoMemory) ⊎ ((lines : List (List ℕ)) × StandsFor study p lines)

@@ -1,9 +1,8 @@
 -- What a reader of pieces stands for.
-use Rattle.std.specs.Prelude.{◌≡◌, ℕ, List, take, Option}
+use Rattle.std.specs.Prelude.{◌≡◌, ℕ, List, take}
 use Rattle.vocab.specs.Study.{Question}
 use Rattle.verdicts.specs.Judge.{pieces, front, final}
-use Rattle.report.specs.declared.faults.ReportFault.{ReportFault}
-use Rattle.report.specs.declared.readings.Reading.{Reading}
+use Rattle.report.specs.declared.progress.Progress.{Progress}
 use Rattle.report.specs.Held.{StandsFor}
 
 -- enough of a line to tell that it is too long
@@ -11,5 +10,5 @@ abbrev pub head_of : List ℕ → List ℕ
 head_of line = take 4097 line
 
 -- a reader stands for a text where its checker does for the lines that have ended, and it holds the front of what follows them
-abbrev pub StandsForText : Question → ℕ → Option ReportFault → Reading → List ℕ → List ℕ → Type 0
-StandsForText study count fault r held text = StandsFor study count fault r (front (pieces text)) × (held ≡ head_of (final (pieces text)))
+abbrev pub StandsForText : Question → Progress → List ℕ → List ℕ → Type 0
+StandsForText study p held text = StandsFor study p (front (pieces text)) × (held ≡ head_of (final (pieces text)))

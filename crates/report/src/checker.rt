@@ -8,8 +8,10 @@ ghost use Rattle.report.specs.Answers.{told_of, Concludes};
 ghost use Rattle.report.specs.Held.{StandsFor, IsReady};
 
 use crate::faults::ReportFault;
+use crate::progress::Progress;
 use crate::readings::Reading;
 use crate::subject::Subject;
+use crew::Crew;
 use edge::Gate;
 use lists::NoMemory;
 use outcomes::OutcomeKind;
@@ -36,11 +38,9 @@ fn end_of(place: Place, rest: &[u8], line: u32) -> Result<Confirmed, ReportFault
 /// Checks a report line by line. It stands for the lines that it was given; after its first fault it answers that fault to
 /// every call.
 #[derive(Drop)]
-pub struct Checker<'a, K> {
+pub struct Checker<'a, K: OutcomeKind> {
     pub(crate) subject: Subject<'a, K>,
-    pub(crate) reading: Reading,
-    pub(crate) lines: u32,
-    pub(crate) fault: Option<ReportFault>,
+    pub(crate) progress: Progress,
 }
 
 impl<'a, K: OutcomeKind> Checker<'a, K> {
@@ -57,7 +57,7 @@ impl<'a, K: OutcomeKind> Checker<'a, K> {
         ensures study { IfOk result (λ checker. checker.subject.study.now ≡ study.now) }
         ensures kind { IfOk result (λ checker. checker.subject.kind.now ≡ kind.now) }
         ensures workers { IfOk result (λ checker. checker.subject.workers ≡ workers) }
-        ensures stands { IfOk result (λ checker. StandsFor study.now checker.lines checker.fault checker.reading []) }
+        ensures stands { IfOk result (λ checker. StandsFor study.now checker.progress []) }
     {
         let subject = Subject {
             alloc,
@@ -66,12 +66,12 @@ impl<'a, K: OutcomeKind> Checker<'a, K> {
             workers,
         };
         let reading = Reading::new(&subject)?;
-        Ok(Checker {
-            subject,
+        let progress = Progress {
             reading,
             lines: 0,
             fault: None,
-        })
+        };
+        Ok(Checker { subject, progress })
     }
 
     /// Takes the next line, without its line end. Ok comes exactly where no line so far is faulty; else the first faulty one
@@ -82,27 +82,30 @@ impl<'a, K: OutcomeKind> Checker<'a, K> {
         gate: &G,
         text: &[u8],
     ) -> Result<(), ReportFault>
-        requires some { 1 ≤ self.old.subject.workers }
-        requires few { self.old.subject.workers ≤ 16 }
-        requires size { self.old.subject.study.now.size ≡ K.size self.old.subject.kind.now }
-        requires room { self.old.lines < 4294967294 }
-        requires ready { IsReady self.old.subject.study.now self.old.lines self.old.fault self.old.reading }
+        requires room { self.old.progress.lines < 4294967294 }
+        requires ready { IsReady self.old.subject.study.now self.old.progress }
         ensures subject { self.new.subject ≡ self.old.subject }
-        ensures lines { self.new.lines ≡ self.old.lines + 1 }
-        ensures ready { IsReady self.old.subject.study.now self.new.lines self.new.fault self.new.reading }
-        ensures told { result ≡ told_of self.new.fault }
-        ensures lasts { (fault : ReportFault) → self.old.fault ≡ Some fault → self.new.fault ≡ Some fault }
-        ensures taken { (lines : List (List ℕ)) → StandsFor self.old.subject.study.now self.old.lines self.old.fault self.old.reading lines →
-            self.new.fault ≢ Some ReportFault.NoMemory →
-            StandsFor self.old.subject.study.now self.new.lines self.new.fault self.new.reading (lines ++ text.now ∷ []) }
+        ensures lines { self.new.progress.lines ≡ self.old.progress.lines + 1 }
+        ensures ready { IsReady self.old.subject.study.now self.new.progress }
+        ensures told { result ≡ told_of self.new.progress.fault }
+        ensures lasts { (fault : ReportFault) → self.old.progress.fault ≡ Some fault → self.new.progress.fault ≡ Some fault }
+        ensures taken { (lines : List (List ℕ)) → StandsFor self.old.subject.study.now self.old.progress lines →
+            self.new.progress.fault ≢ Some ReportFault.NoMemory →
+            StandsFor self.old.subject.study.now self.new.progress (lines ++ text.now ∷ []) }
     {
-        self.lines += 1;
-        match self.fault {
+        self.progress.lines += 1;
+        match self.progress.fault {
             Some(fault) => Err(fault),
             None => {
-                self.fault = self
+                let crew = Crew {
+                    rt,
+                    gate,
+                    workers: self.subject.workers,
+                };
+                self.progress.fault = self
+                    .progress
                     .reading
-                    .judge(rt, gate, &self.subject, self.lines, text);
+                    .judge(&crew, &self.subject, self.progress.lines, text);
                 self.told()
             }
         }
@@ -110,9 +113,9 @@ impl<'a, K: OutcomeKind> Checker<'a, K> {
 
     /// What is answered of the lines so far.
     fn told(&self) -> Result<(), ReportFault>
-        ensures { result ≡ told_of self.now.fault }
+        ensures { result ≡ told_of self.now.progress.fault }
     {
-        match self.fault {
+        match self.progress.fault {
             Some(fault) => Err(fault),
             None => Ok(()),
         }
@@ -120,24 +123,24 @@ impl<'a, K: OutcomeKind> Checker<'a, K> {
 
     /// What is answered of the report that has these lines, each with its line end, and then the rest.
     pub(crate) fn conclude(&self, rest: &[u8]) -> Result<Confirmed, ReportFault>
-        requires room { self.now.lines ≤ 4294967294 }
-        ensures value { (lines : List (List ℕ)) → StandsFor self.now.subject.study.now self.now.lines self.now.fault self.now.reading lines →
+        requires room { self.now.progress.lines ≤ 4294967294 }
+        ensures value { (lines : List (List ℕ)) → StandsFor self.now.subject.study.now self.now.progress lines →
             Concludes (conclude (length lines + 1) rest.now (judge self.now.subject.study.now lines)) result }
-        ensures wanting { self.now.fault ≡ Some ReportFault.NoMemory → result ≡ Err ReportFault.NoMemory }
+        ensures wanting { self.now.progress.fault ≡ Some ReportFault.NoMemory → result ≡ Err ReportFault.NoMemory }
     {
-        match self.fault {
+        match self.progress.fault {
             Some(fault) => Err(fault),
-            None => end_of(self.reading.place, rest, self.lines + 1),
+            None => end_of(self.progress.reading.place, rest, self.progress.lines + 1),
         }
     }
 
     /// What is answered of the report that has these lines, each with its line end: Ok exactly where it is confirmed.
     /// Before the line `end` was read, the line after the last is refused as `Form`.
     pub fn finish(&self) -> Result<Confirmed, ReportFault>
-        requires room { self.now.lines ≤ 4294967294 }
-        ensures value { (lines : List (List ℕ)) → StandsFor self.now.subject.study.now self.now.lines self.now.fault self.now.reading lines →
+        requires room { self.now.progress.lines ≤ 4294967294 }
+        ensures value { (lines : List (List ℕ)) → StandsFor self.now.subject.study.now self.now.progress lines →
             Concludes (conclude (length lines + 1) [] (judge self.now.subject.study.now lines)) result }
-        ensures wanting { self.now.fault ≡ Some ReportFault.NoMemory → result ≡ Err ReportFault.NoMemory }
+        ensures wanting { self.now.progress.fault ≡ Some ReportFault.NoMemory → result ≡ Err ReportFault.NoMemory }
     {
         self.conclude(b"")
     }

@@ -13,12 +13,13 @@ ghost use Rattle.report.specs.Taken.{Took, Takes};
 use crate::readings::Reading;
 use crate::subject::Subject;
 use lists::NoMemory;
+use outcomes::OutcomeKind;
 use report_lines::{Place, read_core};
 use verdicts::Refusal;
 
 impl Reading {
     /// Takes the line of this text, whose names are those of axioms of the study in order or not.
-    pub(crate) fn take_core<K>(
+    pub(crate) fn take_core<K: OutcomeKind>(
         &mut self,
         subject: &Subject<K>,
         right: bool,

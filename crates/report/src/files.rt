@@ -79,17 +79,13 @@ fn read_pieces<R: Threads + Sync, S: Shelf, K: OutcomeKind, G: Gate>(
     shelf: &mut S,
     name: &str,
 ) -> Result<Ending, FileFault>
-    requires some { 1 ≤ reader.old.checker.subject.workers }
-    requires few { reader.old.checker.subject.workers ≤ 16 }
-    requires size { reader.old.checker.subject.study.now.size ≡ K.size reader.old.checker.subject.kind.now }
     requires held { length reader.old.held.items ≤ 4097 }
-    requires lines { reader.old.checker.lines ≡ 0 }
-    requires ready { IsReady reader.old.checker.subject.study.now reader.old.checker.lines reader.old.checker.fault reader.old.checker.reading }
+    requires lines { reader.old.checker.progress.lines ≡ 0 }
+    requires ready { IsReady reader.old.checker.subject.study.now reader.old.checker.progress }
     ensures subject { reader.new.checker.subject ≡ reader.old.checker.subject }
-    ensures lines { IfOk result (λ _. reader.new.checker.lines ≤ 268435456) }
-    ensures read { IfOk result (λ ending. (bytes : List ℕ) × IsEndedAt ending (S.left shelf.old name.now) (S.left shelf.new name.now) reader.new.checker.fault bytes
-        × HasTaken reader.old.checker.subject.study.now reader.old.checker.lines reader.new.checker.lines reader.old.checker.fault reader.new.checker.fault
-        reader.old.checker.reading reader.new.checker.reading reader.old.held.items reader.new.held.items bytes) }
+    ensures lines { IfOk result (λ _. reader.new.checker.progress.lines ≤ 268435456) }
+    ensures read { IfOk result (λ ending. (bytes : List ℕ) × IsEndedAt ending (S.left shelf.old name.now) (S.left shelf.new name.now) reader.new.checker.progress.fault bytes
+        × HasTaken reader.old.checker.subject.study.now reader.old.checker.progress reader.new.checker.progress reader.old.held.items reader.new.held.items bytes) }
     ensures failed { IsErrOf result FileFault.Failed → Rose (S.faults shelf.old name.now) (S.faults shelf.new name.now) }
     ensures same { S.files shelf.new ≡ S.files shelf.old }
     ensures others { OthersStay (S.left shelf.old) (S.left shelf.new) name.now }
@@ -116,10 +112,10 @@ fn read_pieces<R: Threads + Sync, S: Shelf, K: OutcomeKind, G: Gate>(
 
 /// What the report is worth whose reading ended so.
 fn worth_at<K: OutcomeKind>(reader: &Reader<K>, ending: Ending) -> Result<Worth, NoMemory>
-    requires lines { reader.now.checker.lines ≤ 268435456 }
+    requires lines { reader.now.checker.progress.lines ≤ 268435456 }
     ensures { IfOk result (λ worth. (known : Option (List ℕ)) (left : Option (List ℕ)) (bytes held : List ℕ) →
-        IsEndedAt ending known left reader.now.checker.fault bytes → known ≡ Some held →
-        StandsForText reader.now.checker.subject.study.now reader.now.checker.lines reader.now.checker.fault reader.now.checker.reading reader.now.held.items bytes →
+        IsEndedAt ending known left reader.now.checker.progress.fault bytes → known ≡ Some held →
+        StandsForText reader.now.checker.subject.study.now reader.now.checker.progress reader.now.held.items bytes →
         IsWorth (answer_within most_report_bytes reader.now.checker.subject.study.now held) worth) }
 {
     match ending {
@@ -144,13 +140,10 @@ fn worth_of<R: Threads + Sync, S: Shelf, K: OutcomeKind, G: Gate>(
     shelf: &mut S,
     name: &str,
 ) -> Result<Worth, FileFault>
-    requires some { 1 ≤ reader.old.checker.subject.workers }
-    requires few { reader.old.checker.subject.workers ≤ 16 }
-    requires size { reader.old.checker.subject.study.now.size ≡ K.size reader.old.checker.subject.kind.now }
     requires held { length reader.old.held.items ≤ 4097 }
-    requires lines { reader.old.checker.lines ≡ 0 }
-    requires ready { IsReady reader.old.checker.subject.study.now reader.old.checker.lines reader.old.checker.fault reader.old.checker.reading }
-    requires unread { StandsForText reader.old.checker.subject.study.now reader.old.checker.lines reader.old.checker.fault reader.old.checker.reading reader.old.held.items [] }
+    requires lines { reader.old.checker.progress.lines ≡ 0 }
+    requires ready { IsReady reader.old.checker.subject.study.now reader.old.checker.progress }
+    requires unread { StandsForText reader.old.checker.subject.study.now reader.old.checker.progress reader.old.held.items [] }
     ensures worth { IfSome (S.files shelf.old) (λ files. IfOk result (IsWorthOf reader.old.checker.subject.study.now files name.now)) }
     ensures failed { IsErrOf result FileFault.Failed → Rose (S.faults shelf.old name.now) (S.faults shelf.new name.now) }
     ensures same { S.files shelf.new ≡ S.files shelf.old }

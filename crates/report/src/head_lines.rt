@@ -126,7 +126,6 @@ impl Reading {
         subject: &Subject<K>,
         count: u64,
     ) -> Option<Refusal>
-        requires size { subject.now.study.now.size ≡ K.size subject.now.kind.now }
         ensures { (s : Standing) (n : ℕ) → Stands subject.now.study.now self.old s → count ≡ held_number n →
             Took subject.now.study.now s (RuleOf n) self.new result }
     {

@@ -7,6 +7,7 @@ mod cutting;
 mod faults;
 mod files;
 mod head_lines;
+mod progress;
 mod reader;
 mod readings;
 mod story_lines;

@@ -23,7 +23,7 @@ const HELD: usize = 4097;
 /// Checks a report that comes in pieces of its bytes, which may end anywhere. Of a line that has not ended it holds at most
 /// 4,097 bytes.
 #[derive(Drop)]
-pub struct Reader<'a, K> {
+pub struct Reader<'a, K: OutcomeKind> {
     pub(crate) checker: Checker<'a, K>,
     pub(crate) held: Vec<u8>,
 }
@@ -35,16 +35,13 @@ fn give<R: Threads + Sync, G: Gate, K: OutcomeKind>(
     checker: &mut Checker<K>,
     line: &[u8],
 ) -> Result<(), NoMemory>
-    requires some { 1 ≤ checker.old.subject.workers }
-    requires few { checker.old.subject.workers ≤ 16 }
-    requires size { checker.old.subject.study.now.size ≡ K.size checker.old.subject.kind.now }
-    requires room { checker.old.lines < 4294967294 }
-    requires ready { IsReady checker.old.subject.study.now checker.old.lines checker.old.fault checker.old.reading }
+    requires room { checker.old.progress.lines < 4294967294 }
+    requires ready { IsReady checker.old.subject.study.now checker.old.progress }
     ensures subject { checker.new.subject ≡ checker.old.subject }
-    ensures lines { checker.new.lines ≡ checker.old.lines + 1 }
-    ensures ready { IsReady checker.old.subject.study.now checker.new.lines checker.new.fault checker.new.reading }
-    ensures taken { OnOk result ((lines : List (List ℕ)) → StandsFor checker.old.subject.study.now checker.old.lines checker.old.fault checker.old.reading lines →
-        StandsFor checker.old.subject.study.now checker.new.lines checker.new.fault checker.new.reading (lines ++ line.now ∷ [])) }
+    ensures lines { checker.new.progress.lines ≡ checker.old.progress.lines + 1 }
+    ensures ready { IsReady checker.old.subject.study.now checker.new.progress }
+    ensures taken { OnOk result ((lines : List (List ℕ)) → StandsFor checker.old.subject.study.now checker.old.progress lines →
+        StandsFor checker.old.subject.study.now checker.new.progress (lines ++ line.now ∷ [])) }
 {
     match checker.line(rt, gate, line) {
         Ok(()) => Ok(()),
@@ -67,9 +64,9 @@ impl<'a, K: OutcomeKind> Reader<'a, K> {
         ensures study { IfOk result (λ reader. reader.checker.subject.study.now ≡ study.now) }
         ensures kind { IfOk result (λ reader. reader.checker.subject.kind.now ≡ kind.now) }
         ensures workers { IfOk result (λ reader. reader.checker.subject.workers ≡ workers) }
-        ensures lines { IfOk result (λ reader. reader.checker.lines ≡ 0) }
+        ensures lines { IfOk result (λ reader. reader.checker.progress.lines ≡ 0) }
         ensures held { IfOk result (λ reader. length reader.held.items ≤ 4097) }
-        ensures stands { IfOk result (λ reader. StandsForText study.now reader.checker.lines reader.checker.fault reader.checker.reading reader.held.items []) }
+        ensures stands { IfOk result (λ reader. StandsForText study.now reader.checker.progress reader.held.items []) }
     {
         let checker = Checker::new(alloc, kind, study, workers)?;
         Ok(Reader {
@@ -97,20 +94,17 @@ impl<'a, K: OutcomeKind> Reader<'a, K> {
         gate: &G,
         piece: &[u8],
     ) -> Result<(), NoMemory>
-        requires some { 1 ≤ self.old.checker.subject.workers }
-        requires few { self.old.checker.subject.workers ≤ 16 }
-        requires size { self.old.checker.subject.study.now.size ≡ K.size self.old.checker.subject.kind.now }
         requires held { length self.old.held.items ≤ 4097 }
-        requires room { self.old.checker.lines < 4294967294 }
-        requires ready { IsReady self.old.checker.subject.study.now self.old.checker.lines self.old.checker.fault self.old.checker.reading }
+        requires room { self.old.checker.progress.lines < 4294967294 }
+        requires ready { IsReady self.old.checker.subject.study.now self.old.checker.progress }
         ensures subject { self.new.checker.subject ≡ self.old.checker.subject }
-        ensures lines { OnOk result (self.new.checker.lines ≡ self.old.checker.lines + 1) }
-        ensures ready { OnOk result (IsReady self.old.checker.subject.study.now self.new.checker.lines self.new.checker.fault self.new.checker.reading) }
+        ensures lines { OnOk result (self.new.checker.progress.lines ≡ self.old.checker.progress.lines + 1) }
+        ensures ready { OnOk result (IsReady self.old.checker.subject.study.now self.new.checker.progress) }
         ensures ended { OnOk result (self.new.held.items ≡ []) }
         ensures taken { OnOk result ((lines : List (List ℕ)) (rest : List ℕ) →
-            StandsFor self.old.checker.subject.study.now self.old.checker.lines self.old.checker.fault self.old.checker.reading lines →
+            StandsFor self.old.checker.subject.study.now self.old.checker.progress lines →
             self.old.held.items ≡ head_of rest →
-            StandsFor self.old.checker.subject.study.now self.new.checker.lines self.new.checker.fault self.new.checker.reading (lines ++ (rest ++ piece.now) ∷ [])) }
+            StandsFor self.old.checker.subject.study.now self.new.checker.progress (lines ++ (rest ++ piece.now) ∷ [])) }
     {
         if self.held.is_empty() {
             return give(rt, gate, &mut self.checker, piece);
@@ -128,19 +122,16 @@ impl<'a, K: OutcomeKind> Reader<'a, K> {
         gate: &G,
         bytes: &[u8],
     ) -> Result<(), NoMemory>
-        requires some { 1 ≤ self.old.checker.subject.workers }
-        requires few { self.old.checker.subject.workers ≤ 16 }
-        requires size { self.old.checker.subject.study.now.size ≡ K.size self.old.checker.subject.kind.now }
         requires held { length self.old.held.items ≤ 4097 }
-        requires room { self.old.checker.lines + length bytes.now < 4294967294 }
-        requires ready { IsReady self.old.checker.subject.study.now self.old.checker.lines self.old.checker.fault self.old.checker.reading }
+        requires room { self.old.checker.progress.lines + length bytes.now < 4294967294 }
+        requires ready { IsReady self.old.checker.subject.study.now self.old.checker.progress }
         ensures subject { self.new.checker.subject ≡ self.old.checker.subject }
-        ensures lines { OnOk result (self.new.checker.lines ≤ self.old.checker.lines + length bytes.now) }
-        ensures ready { OnOk result (IsReady self.old.checker.subject.study.now self.new.checker.lines self.new.checker.fault self.new.checker.reading) }
+        ensures lines { OnOk result (self.new.checker.progress.lines ≤ self.old.checker.progress.lines + length bytes.now) }
+        ensures ready { OnOk result (IsReady self.old.checker.subject.study.now self.new.checker.progress) }
         ensures held { OnOk result (length self.new.held.items ≤ 4097) }
         ensures taken { OnOk result ((text : List ℕ) →
-            StandsForText self.old.checker.subject.study.now self.old.checker.lines self.old.checker.fault self.old.checker.reading self.old.held.items text →
-            StandsForText self.old.checker.subject.study.now self.new.checker.lines self.new.checker.fault self.new.checker.reading self.new.held.items (text ++ bytes.now)) }
+            StandsForText self.old.checker.subject.study.now self.old.checker.progress self.old.held.items text →
+            StandsForText self.old.checker.subject.study.now self.new.checker.progress self.new.held.items (text ++ bytes.now)) }
     {
         let mut rest = bytes;
         while let Some((line, after)) = cut_word(rest) {
@@ -152,23 +143,23 @@ impl<'a, K: OutcomeKind> Reader<'a, K> {
 
     /// The first fault, if there was one.
     pub fn fault(&self) -> Option<ReportFault>
-        ensures { result ≡ self.now.checker.fault }
+        ensures { result ≡ self.now.checker.progress.fault }
     {
-        self.checker.fault
+        self.checker.progress.fault
     }
 
     /// Whether a line was faulty, so that no byte after it plays a part.
     pub fn is_faulty(&self) -> bool
-        ensures { result ≡ is_some self.now.checker.fault }
+        ensures { result ≡ is_some self.now.checker.progress.fault }
     {
-        self.checker.fault.is_some()
+        self.checker.progress.fault.is_some()
     }
 
     /// What is answered of the text: Ok exactly where it is confirmed.
     pub fn end(&self) -> Result<Confirmed, ReportFault>
-        requires room { self.now.checker.lines ≤ 4294967294 }
+        requires room { self.now.checker.progress.lines ≤ 4294967294 }
         ensures { (text : List ℕ) →
-            StandsForText self.now.checker.subject.study.now self.now.checker.lines self.now.checker.fault self.now.checker.reading self.now.held.items text →
+            StandsForText self.now.checker.subject.study.now self.now.checker.progress self.now.held.items text →
             Concludes (answer self.now.checker.subject.study.now text) result }
     {
         self.checker.conclude(self.held.as_slice())

@@ -30,7 +30,6 @@ pub(crate) struct Reading {
 impl Reading {
     /// Nothing is read.
     pub(crate) fn new<K: OutcomeKind>(subject: &Subject<K>) -> Result<Reading, NoMemory>
-        requires { subject.now.study.now.size ≡ K.size subject.now.kind.now }
         ensures { IfOk result (λ reading. Stands subject.now.study.now reading start) }
     {
         Ok(Reading {

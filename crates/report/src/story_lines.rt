@@ -44,7 +44,6 @@ impl Reading {
         subject: &Subject<K>,
         literal: &Literal,
     ) -> Result<Option<Refusal>, NoMemory>
-        requires size { subject.now.study.now.size ≡ K.size subject.now.kind.now }
         requires read { IsRead subject.now.study.now self.old }
         requires literal { IsTrue (is_literal subject.now.study.now.size literal.now) }
         ensures { (s : Standing) → Stands subject.now.study.now self.old s → s.place ≡ AtSuppose →
@@ -66,7 +65,6 @@ impl Reading {
         literal: &Literal,
         reason: &Reason,
     ) -> Result<Option<Refusal>, NoMemory>
-        requires size { subject.now.study.now.size ≡ K.size subject.now.kind.now }
         requires read { IsRead subject.now.study.now self.old }
         requires literal { IsTrue (is_literal subject.now.study.now.size literal.now) }
         ensures { (s : Standing) (wanted : StoryReason) → Stands subject.now.study.now self.old s → IsInStory s.place →
@@ -97,7 +95,6 @@ impl Reading {
         subject: &Subject<K>,
         reason: &Reason,
     ) -> Result<Option<Refusal>, NoMemory>
-        requires size { subject.now.study.now.size ≡ K.size subject.now.kind.now }
         requires read { IsRead subject.now.study.now self.old }
         ensures { (s : Standing) (wanted : StoryReason) → Stands subject.now.study.now self.old s → IsInStory s.place →
             reason.now ≡ held_reason wanted → Takes subject.now.study.now s (Clash wanted) self.new result }

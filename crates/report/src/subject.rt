@@ -1,13 +1,19 @@
 //! What a report is checked against.
 
+ghost use Rattle.std.specs.Prelude.{◌≡◌, ◌≤◌};
+
+use outcomes::OutcomeKind;
 use std::alloc::Global;
 use vocab::Study;
 
-/// A study, the kind of its rules, and the number of workers, from 1 to 16, among whom the axioms of a rule are checked.
+/// A study, the kind of its rules, and the number of workers among whom the axioms of a rule are checked.
 #[derive(Drop)]
-pub struct Subject<'a, K> {
+pub struct Subject<'a, K: OutcomeKind> {
     pub(crate) alloc: Global,
     pub(crate) kind: &'a K,
     pub(crate) study: &'a Study,
     pub(crate) workers: u8,
+    ghost some: { 1 ≤ workers },
+    ghost few: { workers ≤ 16 },
+    ghost size: { study.now.size ≡ K.size kind.now },
 }

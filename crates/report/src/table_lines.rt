@@ -15,6 +15,7 @@ ghost use Rattle.report.specs.Taken.{Takes, TakesTable};
 
 use crate::readings::Reading;
 use crate::subject::Subject;
+use crew::Crew;
 use edge::Gate;
 use lists::{Items, NoMemory};
 use outcomes::OutcomeKind;
@@ -52,41 +53,28 @@ fn without(alloc: Global, core: &[u32], left_out: u32) -> Result<Vec<u32>, NoMem
 
 /// The first of the axioms at some places that a table does not satisfy.
 fn check<R: Threads + Sync, G: Gate, K: OutcomeKind>(
-    rt: &R,
-    gate: &G,
+    crew: &Crew<R, G>,
     subject: &Subject<K>,
     table: &Table,
     places: &[u32],
 ) -> Result<Option<Refusal>, NoMemory>
-    requires some { 1 ≤ subject.now.workers }
-    requires few { subject.now.workers ≤ 16 }
-    requires size { subject.now.study.now.size ≡ K.size subject.now.kind.now }
     requires rule { IsTrue (is_rule subject.now.study.now.size table.now) }
     requires places { IsTrue (list_all (λ k. nat_lt k (length subject.now.study.now.axioms)) places.now) }
     ensures { IfOk result (λ fault. fault ≡ table_fault subject.now.study.now table.now places.now) }
 {
-    let Subject {
-        alloc,
-        kind,
-        study,
-        workers,
-    } = subject;
-    check_rule(rt, *alloc, gate, *workers, *kind, study, table, places)
+    let (kind, study) = (subject.kind, subject.study);
+    check_rule(subject.alloc, crew, kind, study, table, places)
 }
 
 impl Reading {
     /// Takes a row, and the whole table where it is the last one.
     pub(crate) fn take_row<R: Threads + Sync, G: Gate, K: OutcomeKind>(
         &mut self,
-        rt: &R,
-        gate: &G,
+        crew: &Crew<R, G>,
         subject: &Subject<K>,
         profile: u32,
         outcome: u8,
     ) -> Result<Option<Refusal>, NoMemory>
-        requires some { 1 ≤ subject.now.workers }
-        requires few { subject.now.workers ≤ 16 }
-        requires size { subject.now.study.now.size ≡ K.size subject.now.kind.now }
         requires rows { IsTrue (list_all (λ o. nat_lt o (outcome_count subject.now.study.now.size.kind subject.now.study.now.size.alternatives)) self.old.rows) }
         requires more { length self.old.rows < sort_count subject.now.study.now.size Profile }
         requires outcome { outcome < outcome_count subject.now.study.now.size.kind subject.now.study.now.size.alternatives }
@@ -99,7 +87,7 @@ impl Reading {
         }
         self.rows.push(outcome)?;
         if self.rows.len() == subject.kind.space().count() as usize {
-            self.take_table(rt, gate, subject)
+            self.take_table(crew, subject)
         } else {
             Ok(None)
         }
@@ -108,40 +96,32 @@ impl Reading {
     /// Takes a table, whose last row is read.
     fn take_table<R: Threads + Sync, G: Gate, K: OutcomeKind>(
         &mut self,
-        rt: &R,
-        gate: &G,
+        crew: &Crew<R, G>,
         subject: &Subject<K>,
     ) -> Result<Option<Refusal>, NoMemory>
-        requires some { 1 ≤ subject.now.workers }
-        requires few { subject.now.workers ≤ 16 }
-        requires size { subject.now.study.now.size ≡ K.size subject.now.kind.now }
         requires rule { IsTrue (is_rule subject.now.study.now.size self.old.rows) }
         requires core { IsTrue (list_all (λ k. nat_lt k (length subject.now.study.now.axioms)) self.old.core) }
         requires next { self.old.place ≡ held_place AtWitnessRow → self.old.witnesses < length self.old.core }
         ensures { (s : Standing) → Stands subject.now.study.now self.old s → TakesTable subject.now.study.now s self.new result }
     {
         match self.place {
-            Place::AtWitnessRow => self.take_witness(rt, gate, subject),
-            _ => self.take_rule(rt, gate, subject),
+            Place::AtWitnessRow => self.take_witness(crew, subject),
+            _ => self.take_rule(crew, subject),
         }
     }
 
     /// Takes the table of a rule, which has to satisfy all axioms.
     fn take_rule<R: Threads + Sync, G: Gate, K: OutcomeKind>(
         &mut self,
-        rt: &R,
-        gate: &G,
+        crew: &Crew<R, G>,
         subject: &Subject<K>,
     ) -> Result<Option<Refusal>, NoMemory>
-        requires some { 1 ≤ subject.now.workers }
-        requires few { subject.now.workers ≤ 16 }
-        requires size { subject.now.study.now.size ≡ K.size subject.now.kind.now }
         requires rule { IsTrue (is_rule subject.now.study.now.size self.old.rows) }
         requires place { self.old.place ≡ held_place AtWitnessRow → ⊥ }
         ensures { (s : Standing) → Stands subject.now.study.now self.old s → TakesTable subject.now.study.now s self.new result }
     {
         let places = all_places(subject.alloc, subject.study.axioms().len())?;
-        let fault = check(rt, gate, subject, &self.rows, places.as_slice())?;
+        let fault = check(crew, subject, &self.rows, places.as_slice())?;
         if fault.is_none() {
             self.place = Place::AtEnd(Confirmed::Possible);
         }
@@ -151,13 +131,9 @@ impl Reading {
     /// Takes the table of a witness, which has to satisfy the other axioms of the core.
     fn take_witness<R: Threads + Sync, G: Gate, K: OutcomeKind>(
         &mut self,
-        rt: &R,
-        gate: &G,
+        crew: &Crew<R, G>,
         subject: &Subject<K>,
     ) -> Result<Option<Refusal>, NoMemory>
-        requires some { 1 ≤ subject.now.workers }
-        requires few { subject.now.workers ≤ 16 }
-        requires size { subject.now.study.now.size ≡ K.size subject.now.kind.now }
         requires rule { IsTrue (is_rule subject.now.study.now.size self.old.rows) }
         requires core { IsTrue (list_all (λ k. nat_lt k (length subject.now.study.now.axioms)) self.old.core) }
         requires place { self.old.place ≡ held_place AtWitnessRow }
@@ -168,7 +144,7 @@ impl Reading {
             return Ok(Some(Refusal::Core));
         };
         let places = without(subject.alloc, self.core.as_slice(), next)?;
-        match check(rt, gate, subject, &self.rows, places.as_slice())? {
+        match check(crew, subject, &self.rows, places.as_slice())? {
             Some(refusal) => Ok(Some(refusal)),
             None => {
                 self.rows = Items::new(subject.alloc);

@@ -12,6 +12,7 @@ ghost use Rattle.report.specs.Taken.{Takes, IsLine};
 use crate::faults::ReportFault;
 use crate::readings::Reading;
 use crate::subject::Subject;
+use crew::Crew;
 use edge::Gate;
 use lists::NoMemory;
 use outcomes::OutcomeKind;
@@ -33,15 +34,11 @@ impl Reading {
     /// Reads the next line, which has this number, at the place, and takes it: None where it has no fault.
     pub(crate) fn judge<R: Threads + Sync, G: Gate, K: OutcomeKind>(
         &mut self,
-        rt: &R,
-        gate: &G,
+        crew: &Crew<R, G>,
         subject: &Subject<K>,
         line: u32,
         text: &[u8],
     ) -> Option<ReportFault>
-        requires some { 1 ≤ subject.now.workers }
-        requires few { subject.now.workers ≤ 16 }
-        requires size { subject.now.study.now.size ≡ K.size subject.now.kind.now }
         requires read { IsRead subject.now.study.now self.old }
         ensures { (s : Standing) → Stands subject.now.study.now self.old s → result ≢ Some ReportFault.NoMemory →
             StandsAs subject.now.study.now result self.new
@@ -54,7 +51,7 @@ impl Reading {
                 refusal: Refusal::Form,
             });
         };
-        match self.take(rt, gate, subject, &said, text) {
+        match self.take(crew, subject, &said, text) {
             Ok(fault) => at_line(line, fault),
             Err(NoMemory) => Some(ReportFault::NoMemory),
         }
@@ -64,15 +61,11 @@ impl Reading {
     /// what was held.
     pub(crate) fn take<R: Threads + Sync, G: Gate, K: OutcomeKind>(
         &mut self,
-        rt: &R,
-        gate: &G,
+        crew: &Crew<R, G>,
         subject: &Subject<K>,
         line: &Line,
         text: &[u8],
     ) -> Result<Option<Refusal>, NoMemory>
-        requires some { 1 ≤ subject.now.workers }
-        requires few { subject.now.workers ≤ 16 }
-        requires size { subject.now.study.now.size ≡ K.size subject.now.kind.now }
         requires read { IsRead subject.now.study.now self.old }
         requires line { (s : Standing) → Stands subject.now.study.now self.old s → IsLine subject.now.study.now s text.now line.now }
         ensures { (s : Standing) (wanted : WantedLine) → Stands subject.now.study.now self.old s →
@@ -90,7 +83,7 @@ impl Reading {
             Line::SaysUndecided => Ok(self.take_undecided()),
             Line::LimitIs(_) => Ok(self.take_limit()),
             Line::RuleOf(count) => Ok(self.take_rule_of(subject, *count)),
-            Line::Row(profile, outcome) => self.take_row(rt, gate, subject, *profile, *outcome),
+            Line::Row(profile, outcome) => self.take_row(crew, subject, *profile, *outcome),
             Line::CoreIs(right) => self.take_core(subject, *right, text),
             Line::LemmasAre(count) => Ok(self.take_lemmas(*count)),
             Line::Heading(_) => Ok(self.take_heading()),

@@ -47,7 +47,6 @@ impl Reading {
         name: &Name,
         count: u64,
     ) -> Option<Refusal>
-        requires size { subject.now.study.now.size ≡ K.size subject.now.kind.now }
         requires read { IsRead subject.now.study.now self.old }
         ensures { (s : Standing) (n : ℕ) → Stands subject.now.study.now self.old s → s.place ≡ AtWitness → count ≡ held_number n →
             Took subject.now.study.now s (WithRule name.now n) self.new result }
@@ -69,7 +68,6 @@ impl Reading {
         name: &Name,
         limit: u64,
     ) -> Option<Refusal>
-        requires size { subject.now.study.now.size ≡ K.size subject.now.kind.now }
         requires read { IsRead subject.now.study.now self.old }
         ensures { (s : Standing) (n : ℕ) → Stands subject.now.study.now self.old s → s.place ≡ AtWitness → limit ≡ held_number n →
             Took subject.now.study.now s (WithOpen name.now n) self.new result }
@@ -86,7 +84,7 @@ impl Reading {
     }
 
     /// Whether the axiom whose witness comes next has the name.
-    fn is_next<K>(&self, subject: &Subject<K>, name: &Name) -> bool
+    fn is_next<K: OutcomeKind>(&self, subject: &Subject<K>, name: &Name) -> bool
         requires { IsRead subject.now.study.now self.now }
         ensures fault { (s : Standing) → Stands subject.now.study.now self.now s →
             name_fault subject.now.study.now (next_core s) name.now ≡ unless_so result Fault.Core }

@@ -30,9 +30,7 @@ pub(crate) fn read_title(text: &[u8]) -> Option<Line>
 pub(crate) fn read_kind(text: &[u8]) -> Option<Line>
     ensures { (study : Question) (number : ℕ) → result ≡ held_wanted study Place.AtKind number (words_of text.now) }
 {
-    let Some(word) = first_keyed(text, b"kind") else {
-        return None;
-    };
+    let word = first_keyed(text, b"kind")?;
     if is_same(word, b"choice") {
         Some(Line::KindIs(Kind::Choice))
     } else if is_same(word, b"ranking") {
@@ -46,30 +44,21 @@ pub(crate) fn read_kind(text: &[u8]) -> Option<Line>
 pub(crate) fn read_count(text: &[u8], key: &[u8]) -> Option<u64>
     ensures { result ≡ option_map held_number (keyed key.now (one_word read_number) (words_of text.now)) }
 {
-    let Some(word) = first_keyed(text, key) else {
-        return None;
-    };
-    read_number(word)
+    read_number(first_keyed(text, key)?)
 }
 
 /// The line of how many voters there are.
 pub(crate) fn read_voters(text: &[u8]) -> Option<Line>
     ensures { (study : Question) (number : ℕ) → result ≡ held_wanted study Place.AtVoters number (words_of text.now) }
 {
-    match read_count(text, b"voters") {
-        Some(count) => Some(Line::VotersAre(count)),
-        None => None,
-    }
+    read_count(text, b"voters").map(Line::VotersAre)
 }
 
 /// The line of how many alternatives there are.
 pub(crate) fn read_alternatives(text: &[u8]) -> Option<Line>
     ensures { (study : Question) (number : ℕ) → result ≡ held_wanted study Place.AtAlternatives number (words_of text.now) }
 {
-    match read_count(text, b"alternatives") {
-        Some(count) => Some(Line::AlternativesAre(count)),
-        None => None,
-    }
+    Some(Line::AlternativesAre(read_count(text, b"alternatives")?))
 }
 
 /// The line of the axioms' names.
@@ -108,10 +97,7 @@ pub(crate) fn read_verdict(text: &[u8]) -> Option<Line>
 pub(crate) fn read_limit(text: &[u8]) -> Option<Line>
     ensures { (study : Question) (number : ℕ) → result ≡ held_wanted study Place.AtLimit number (words_of text.now) }
 {
-    match read_count(text, b"conflicts") {
-        Some(limit) => Some(Line::LimitIs(limit)),
-        None => None,
-    }
+    read_count(text, b"conflicts").map(|limit| Line::LimitIs(limit))
 }
 
 /// The line of the core.

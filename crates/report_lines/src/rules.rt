@@ -33,25 +33,15 @@ pub(crate) fn read_row<K: OutcomeKind>(kind: &K, text: &[u8]) -> Option<Line>
     ensures { (study : Question) (number : ℕ) → study.size ≡ K.size kind.now → result ≡ held_wanted study Place.AtRow number (words_of text.now) }
 {
     let (word, rest) = cut_word(text);
-    let Some(profile) = read_profile(kind.space(), word) else {
-        return None;
-    };
-    let Some(text) = only_word(rest) else {
-        return None;
-    };
-    match read_outcome(kind, text) {
-        Some(outcome) => Some(Line::Row(profile, outcome)),
-        None => None,
-    }
+    let profile = read_profile(kind.space(), word)?;
+    let outcome = read_outcome(kind, only_word(rest)?)?;
+    Some(Line::Row(profile, outcome))
 }
 
 fn read_next_count(rest: &[u8], key: &[u8]) -> Option<u64>
     ensures { result ≡ option_map held_number (keyed key.now (one_word read_number) (words_after rest.now)) }
 {
-    let Some(word) = next_keyed(rest, key) else {
-        return None;
-    };
-    read_number(word)
+    read_number(next_keyed(rest, key)?)
 }
 
 /// The first line of a witness: the name of an axiom, and a rule or an open mark.

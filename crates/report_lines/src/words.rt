@@ -48,9 +48,7 @@ pub(crate) fn next_word(rest: &[u8]) -> Option<(&[u8], &[u8])>
         (words_after rest.now ≡ [])
         (λ cut. (words_after rest.now ≡ cut.0.now ∷ words_after cut.1.now) × (length cut.1.now < length rest.now)) }
 {
-    let Some((_, text)) = rest.split_first() else {
-        return None;
-    };
+    let (_, text) = rest.split_first()?;
     Some(cut_word(text))
 }
 
@@ -70,9 +68,7 @@ pub(crate) fn after_key<'a>(rest: &'a [u8], key: &[u8]) -> Option<&'a [u8]>
         (keyed key.now Some (words_after rest.now) ≡ None)
         (λ more. keyed key.now Some (words_after rest.now) ≡ Some (words_after more.now)) }
 {
-    let Some((word, more)) = next_word(rest) else {
-        return None;
-    };
+    let (word, more) = next_word(rest)?;
     if is_same(word, key) { Some(more) } else { None }
 }
 
@@ -82,9 +78,7 @@ pub(crate) fn only_word(rest: &[u8]) -> Option<&[u8]>
         (one_word Some (words_after rest.now) ≡ None)
         (λ word. one_word Some (words_after rest.now) ≡ Some word.now) }
 {
-    let Some((word, more)) = next_word(rest) else {
-        return None;
-    };
+    let (word, more) = next_word(rest)?;
     if more.is_empty() { Some(word) } else { None }
 }
 
@@ -94,10 +88,7 @@ pub(crate) fn first_keyed<'a>(text: &'a [u8], key: &[u8]) -> Option<&'a [u8]>
         (keyed key.now (one_word Some) (words_of text.now) ≡ None)
         (λ word. keyed key.now (one_word Some) (words_of text.now) ≡ Some word.now) }
 {
-    let Some(rest) = after_first(text, key) else {
-        return None;
-    };
-    only_word(rest)
+    only_word(after_first(text, key)?)
 }
 
 /// The word after the key, where these two words are left.
@@ -106,10 +97,7 @@ pub(crate) fn next_keyed<'a>(rest: &'a [u8], key: &[u8]) -> Option<&'a [u8]>
         (keyed key.now (one_word Some) (words_after rest.now) ≡ None)
         (λ word. keyed key.now (one_word Some) (words_after rest.now) ≡ Some word.now) }
 {
-    let Some(more) = after_key(rest, key) else {
-        return None;
-    };
-    only_word(more)
+    only_word(after_key(rest, key)?)
 }
 
 fn is_name_text(word: &[u8]) -> bool

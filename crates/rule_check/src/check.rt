@@ -9,6 +9,7 @@ ghost use Rattle.verdicts.specs.Faults.{table_fault};
 ghost use Rattle.rule_check.specs.Pieces.{IsLeastFalse};
 
 use crate::pieces::{ROUND, Round, round_failure};
+use crew::Crew;
 use edge::Gate;
 use lists::NoMemory;
 use outcomes::OutcomeKind;
@@ -20,16 +21,12 @@ use worlds::instance_count;
 
 /// The least instance of the axiom that is false of the rule, of round after round.
 fn axiom_failure<R: Threads + Sync, K: OutcomeKind, G: Gate>(
-    rt: &R,
     alloc: Global,
-    gate: &G,
-    workers: u8,
+    crew: &Crew<R, G>,
     kind: &K,
     table: &Table,
     named: &Axiom,
 ) -> Result<Option<u64>, NoMemory>
-    requires some { 1 ≤ workers }
-    requires few { workers ≤ 16 }
     requires rule { IsTrue (is_rule (K.size kind.now) table.now) }
     requires sentence { IsTrue (is_sentence (K.size kind.now) named.now) }
     requires limit { instance_count (K.size kind.now) named.now.sentence ≤ 20000000 }
@@ -46,7 +43,7 @@ fn axiom_failure<R: Threads + Sync, K: OutcomeKind, G: Gate>(
             from,
             to,
         };
-        if let Some(instance) = round_failure(rt, alloc, gate, workers, &round)? {
+        if let Some(instance) = round_failure(alloc, crew, &round)? {
             return Ok(Some(instance));
         }
         from = to;
@@ -58,17 +55,13 @@ fn axiom_failure<R: Threads + Sync, K: OutcomeKind, G: Gate>(
 /// None where it satisfies them all. Instances are tried in pieces of 4,096, with up to 256 pieces in a round, which are
 /// shared among the workers, from 1 to 16. The answer is the same for every number of workers.
 pub fn check_rule<R: Threads + Sync, K: OutcomeKind, G: Gate>(
-    rt: &R,
     alloc: Global,
-    gate: &G,
-    workers: u8,
+    crew: &Crew<R, G>,
     kind: &K,
     study: &Study,
     table: &Table,
     places: &[u32],
 ) -> Result<Option<Refusal>, NoMemory>
-    requires some { 1 ≤ workers }
-    requires few { workers ≤ 16 }
     requires size { study.now.size ≡ K.size kind.now }
     requires rule { IsTrue (is_rule study.now.size table.now) }
     requires places { IsTrue (list_all (λ k. nat_lt k (length study.now.axioms)) places.now) }
@@ -77,7 +70,7 @@ pub fn check_rule<R: Threads + Sync, K: OutcomeKind, G: Gate>(
     let axioms = study.axioms();
     for place in places {
         let axiom = axioms.get(*place as usize);
-        if let Some(instance) = axiom_failure(rt, alloc, gate, workers, kind, table, axiom)? {
+        if let Some(instance) = axiom_failure(alloc, crew, kind, table, axiom)? {
             let name = axiom.name();
             return Ok(Some(Refusal::Fails { name, instance }));
         }

@@ -4,7 +4,7 @@ ghost use Rattle.std.specs.Prelude.{◌≤◌, ◌+◌, IfOk, length};
 ghost use Rattle.crew.specs.Right.{AreRight};
 ghost use Rattle.rule_check.specs.Pieces.{CanBeTried, IsLeastFalse, IsLeastOfPiece, start_of, end_of};
 
-use crew::{Job, Parts, map_pieces};
+use crew::{Crew, Job, Parts, map_pieces};
 use edge::Gate;
 use lists::NoMemory;
 use outcomes::OutcomeKind;
@@ -68,14 +68,10 @@ fn first_found<K: OutcomeKind>(round: &Round<K>, parts: &Parts<Option<u64>>) -> 
 
 /// The least instance of a round that is false of the rule.
 pub(crate) fn round_failure<R: Threads + Sync, K: OutcomeKind, G: Gate>(
-    rt: &R,
     alloc: Global,
-    gate: &G,
-    workers: u8,
+    crew: &Crew<R, G>,
     round: &Round<K>,
 ) -> Result<Option<u64>, NoMemory>
-    requires some { 1 ≤ workers }
-    requires few { workers ≤ 16 }
     requires can { CanBeTried (K.size round.now.kind.now) round.now.table.now round.now.named.now round.now.to }
     requires rising { round.now.from ≤ round.now.to }
     requires short { round.now.to ≤ round.now.from + 1048576 }
@@ -92,6 +88,6 @@ pub(crate) fn round_failure<R: Threads + Sync, K: OutcomeKind, G: Gate>(
         to,
     };
     let count = (to - from).div_ceil(PIECE) as u32;
-    let parts = map_pieces(rt, alloc, &pieces, count, workers, gate)?;
+    let parts = map_pieces(crew.rt, alloc, &pieces, count, crew.workers, crew.gate)?;
     Ok(first_found(round, &parts))
 }

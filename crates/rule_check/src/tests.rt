@@ -7,6 +7,7 @@ ghost use Rattle.vocab.specs.Tree.{All, Leaf, Equal, WinsAt, Const, Var};
 ghost use Rattle.meaning.specs.Truth.{is_rule};
 
 use crate::check_rule;
+use crew::Crew;
 use edge::{Gate, Open};
 use lists::Items;
 use outcomes::ChoiceKind;
@@ -85,7 +86,8 @@ fn fault<R: Threads + Sync, G: Gate>(
     let study = two_axioms(alloc)?;
     let kind = ChoiceKind::new(Space::new(study.size()));
     let table = rule(alloc)?;
-    Ok(check_rule(rt, alloc, gate, workers, &kind, &study, &table, places)?)
+    let crew = Crew { rt, gate, workers };
+    Ok(check_rule(alloc, &crew, &kind, &study, &table, places)?)
 }
 
 /// The axiom `first` at its least false instance, where the first variable is profile 30.

@@ -16,11 +16,11 @@ returns-then-count-room-clause-read g c =
     let name = c.args.name.now in
     let chunk = c.read.new.into in
     let room = c.loop-chunk.room in
-    let taken : HasTaken study old.checker.lines new.checker.lines old.checker.fault new.checker.fault old.checker.reading new.checker.reading old.held.items new.held.items (take room chunk) =
+    let taken : HasTaken study old.checker.progress new.checker.progress old.held.items new.held.items (take room chunk) =
     rw inv.subject at c.in_ok-piece.ensures.taken in (
       inv.bytes ++ take room chunk,
       consumes_too_many (g.S.Shelf.left c.args.shelf.now name) (g.S.Shelf.left c.loop-chunk.shelf name) (g.S.Shelf.left c.read.new.self name) inv.bytes chunk c.in_ok-count.count room c.if-count-room.true c.in_ok-count.ensures.bound.0 inv.read.count inv.read.consumed c.in_ok-count.ensures.bytes.0,
-      taken_more study first.checker.lines old.checker.lines new.checker.lines first.checker.fault old.checker.fault new.checker.fault first.checker.reading old.checker.reading new.checker.reading first.held.items old.held.items new.held.items inv.bytes (take room chunk) inv.taken taken,
+      taken_more study first.checker.progress old.checker.progress new.checker.progress first.held.items old.held.items new.held.items inv.bytes (take room chunk) inv.taken taken,
     )
 
 -- src/files.rt:98:5
@@ -35,12 +35,12 @@ loop-chunk-preserved g c =
     let chunk = c.read.new.into in
     let count = c.in_ok-count.count in
     let fits : count ≤ c.loop-chunk.room = search rules in
-    let taken : HasTaken study old.checker.lines new.checker.lines old.checker.fault new.checker.fault old.checker.reading new.checker.reading old.held.items new.held.items (take count chunk) =
+    let taken : HasTaken study old.checker.progress new.checker.progress old.held.items new.held.items (take count chunk) =
     rw inv.subject at c.in_ok-piece-2.ensures.taken in
     record {
       subject = c.piece-in-loop-chunk.ensures.subject ∙ inv.subject;
       bytes = inv.bytes ++ take count chunk;
-      lines = more_lines new.checker.lines old.checker.lines inv.bytes (take count chunk) inv.lines c.in_ok-piece-2.ensures.lines;
+      lines = more_lines new.checker.progress.lines old.checker.progress.lines inv.bytes (take count chunk) inv.lines c.in_ok-piece-2.ensures.lines;
       ready = rw inv.subject at c.in_ok-piece-2.ensures.ready;
       held = c.in_ok-piece-2.ensures.held;
       read = record {
@@ -50,6 +50,6 @@ loop-chunk-preserved g c =
         others = λ other differs. c.read.ensures.others other differs ∙ inv.read.others other differs;
         none_fell = λ other. let one : g.S.Shelf.faults c.args.shelf.now other ≤ g.S.Shelf.faults c.loop-chunk.shelf other = inv.read.none_fell other in let two : g.S.Shelf.faults c.loop-chunk.shelf other ≤ g.S.Shelf.faults c.read.new.self other = c.read.ensures.none_fell other in omega (arith, one, two);
       };
-      taken = taken_more study first.checker.lines old.checker.lines new.checker.lines first.checker.fault old.checker.fault new.checker.fault first.checker.reading old.checker.reading new.checker.reading first.held.items old.held.items new.held.items inv.bytes (take count chunk) inv.taken taken;
+      taken = taken_more study first.checker.progress old.checker.progress new.checker.progress first.held.items old.held.items new.held.items inv.bytes (take count chunk) inv.taken taken;
       chunk = search rules;
     }

@@ -11,7 +11,7 @@ use Rattle.report.proofs.files.worth_at.Goals as goal
 pub returns-in-Ok : goal.returns-in-Ok
 returns-in-Ok g c = λ known left bytes held ended k stands.
     let checker = c.args.reader.now.checker in
-    whole_worth checker.subject.study.now checker.lines checker.fault checker.reading c.args.reader.now.held.items c.args.ending known left bytes held (Ok c.in-Ok.confirmed) (worth.Confirmed c.in-Ok.confirmed)
+    whole_worth checker.subject.study.now checker.progress c.args.reader.now.held.items c.args.ending known left bytes held (Ok c.in-Ok.confirmed) (worth.Confirmed c.in-Ok.confirmed)
     c.in-Whole.is ended k (subst (λ r. Concludes (answer checker.subject.study.now bytes) r) c.in-Ok.is (c.end.ensures bytes stands)) (λ a h. concludes_ok a c.in-Ok.confirmed h)
 
 -- src/files.rt:118:1
@@ -20,17 +20,17 @@ returns-in-Err-Line g c = λ known left bytes held ended k stands.
     let checker = c.args.reader.now.checker in
     let line = c.in-Err-Line.line in
     let word = c.in-Err-Line.refusal in
-    whole_worth checker.subject.study.now checker.lines checker.fault checker.reading c.args.reader.now.held.items c.args.ending known left bytes held (Err (AtLine line word)) (worth.Faulty line word)
+    whole_worth checker.subject.study.now checker.progress c.args.reader.now.held.items c.args.ending known left bytes held (Err (AtLine line word)) (worth.Faulty line word)
     c.in-Whole.is ended k (subst (λ r. Concludes (answer checker.subject.study.now bytes) r) (c.in-Err-Line.is ∙ ap Err c.in-Err-Line.field-0-is) (c.end.ensures bytes stands)) (λ a h. concludes_line a line word h)
 
 -- src/files.rt:118:1
 pub returns-in-None : goal.returns-in-None
 returns-in-None g c = λ known left bytes held ended k stands.
     let checker = c.args.reader.now.checker in
-    long_worth checker.subject.study.now checker.lines checker.fault checker.reading c.args.reader.now.held.items c.args.ending known left bytes held (sym c.fault.ensures ∙ c.in-None.is) c.in_default.not-Whole ended k stands
+    long_worth checker.subject.study.now checker.progress c.args.reader.now.held.items c.args.ending known left bytes held (sym c.fault.ensures ∙ c.in-None.is) c.in_default.not-Whole ended k stands
 
 -- src/files.rt:118:1
 pub returns-in-Some-Line : goal.returns-in-Some-Line
 returns-in-Some-Line g c = λ known left bytes held ended k stands.
     let checker = c.args.reader.now.checker in
-    faulty_worth checker.subject.study.now checker.lines checker.fault checker.reading c.args.reader.now.held.items c.args.ending known left bytes held c.in-Some-Line.line c.in-Some-Line.refusal (sym c.fault.ensures ∙ (c.in-Some-Line.is ∙ ap Some c.in-Some-Line.field-0-is)) ended k stands
+    faulty_worth checker.subject.study.now checker.progress c.args.reader.now.held.items c.args.ending known left bytes held c.in-Some-Line.line c.in-Some-Line.refusal (sym c.fault.ensures ∙ (c.in-Some-Line.is ∙ ap Some c.in-Some-Line.field-0-is)) ended k stands

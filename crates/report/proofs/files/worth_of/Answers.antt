@@ -14,8 +14,8 @@ returns-in-Ok-worth_at-clause-worth g c =
     let new = c.read_pieces.new.reader in
     let study = old.checker.subject.study.now in
     let read = c.in_ok-ending.ensures.read in
-    let taken : StandsForText study new.checker.lines new.checker.fault new.checker.reading new.held.items read.0 = read.2 [] c.requires.unread in
-    let stands : StandsForText new.checker.subject.study.now new.checker.lines new.checker.fault new.checker.reading new.held.items read.0 = rw (sym c.read_pieces.ensures.subject) at taken in
+    let taken : StandsForText study new.checker.progress new.held.items read.0 = read.2 [] c.requires.unread in
+    let stands : StandsForText new.checker.subject.study.now new.checker.progress new.held.items read.0 = rw (sym c.read_pieces.ensures.subject) at taken in
     let same : new.checker.subject.study.now ≡ study = ap (λ s. s.study.now) c.read_pieces.ensures.subject in
     let worth : IfSome (g.S.Shelf.files c.args.shelf.now) (λ files. IsWorthOf study files c.args.name.now c.in-Ok-worth_at.worth) =
     file_worth (g.S.Shelf.files c.args.shelf.now) study c.args.name.now (g.S.Shelf.left c.rewind.new.self c.args.name.now) c.in-Ok-worth_at.worth c.in-Ok.ensures.held c.in-Ok.ensures.start

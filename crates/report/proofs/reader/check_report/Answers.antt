@@ -10,11 +10,11 @@ pub returns-in-Ok-piece : goal.returns-in-Ok-piece
 returns-in-Ok-piece g c =
     let before = c.in-Ok.reader in
     let after = c.piece.new.self in
-    let first : StandsForText before.checker.subject.study.now before.checker.lines before.checker.fault before.checker.reading before.held.items [] =
+    let first : StandsForText before.checker.subject.study.now before.checker.progress before.held.items [] =
     rw (sym c.in-Ok.ensures.study) at c.in-Ok.ensures.stands in
-    let read : StandsForText before.checker.subject.study.now after.checker.lines after.checker.fault after.checker.reading after.held.items c.args.text.now =
+    let read : StandsForText before.checker.subject.study.now after.checker.progress after.held.items c.args.text.now =
     c.in-Ok-piece.ensures.taken [] first in
-    let whole : StandsForText after.checker.subject.study.now after.checker.lines after.checker.fault after.checker.reading after.held.items c.args.text.now =
+    let whole : StandsForText after.checker.subject.study.now after.checker.progress after.held.items c.args.text.now =
     rw (sym c.piece.ensures.subject) at read in
     let study : after.checker.subject.study.now ≡ c.args.study.now = ap (λ s. s.study.now) c.piece.ensures.subject ∙ c.in-Ok.ensures.study in
     inr (subst (λ (q : Question). Concludes (answer q c.args.text.now) c.end.result) study (c.end.ensures c.args.text.now whole))

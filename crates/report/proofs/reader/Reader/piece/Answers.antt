@@ -15,7 +15,7 @@ loop-line-init g c =
       held = c.requires.held;
       read = [];
       cut = refl;
-      taken = λ text stands. subst (λ (t : List ℕ). StandsForText checker.subject.study.now checker.lines checker.fault checker.reading c.args.self.now.held.items t) (sym (append-nil text)) stands;
+      taken = λ text stands. subst (λ (t : List ℕ). StandsForText checker.subject.study.now checker.progress c.args.self.now.held.items t) (sym (append-nil text)) stands;
     }
 
 -- src/reader.rt:146:9
@@ -34,7 +34,7 @@ loop-line-preserved g c =
     let line = c.in-Some.line.now in
     let after = c.in-Some.after.now in
     let longer : length c.loop-line.rest.now ≡ length line + (1 + length after) = cut_shorter c.loop-line.rest.now line after c.in-Some.ensures.0 in
-    let taken : (lines : List (List ℕ)) (rest : List ℕ) → StandsFor first.subject.study.now old.lines old.fault old.reading lines → c.loop-line.self.held.items ≡ head_of rest → StandsFor first.subject.study.now new.lines new.fault new.reading (lines ++ (rest ++ line) ∷ []) =
+    let taken : (lines : List (List ℕ)) (rest : List ℕ) → StandsFor first.subject.study.now old.progress lines → c.loop-line.self.held.items ≡ head_of rest → StandsFor first.subject.study.now new.progress (lines ++ (rest ++ line) ∷ []) =
     rw inv.subject at c.in_ok-end_line.ensures.taken in
     record {
       subject = c.end_line.ensures.subject ∙ inv.subject;
@@ -43,7 +43,7 @@ loop-line-preserved g c =
       held = let none : length c.end_line.new.self.held.items ≡ 0 = ap length c.in_ok-end_line.ensures.ended in omega (arith, none);
       read = inv.read ++ (line ++ 10 ∷ []);
       cut = cut_more c.args.bytes.now inv.read c.loop-line.rest.now line after inv.cut c.in-Some.ensures.0;
-      taken = λ text stands. piece_line first.subject.study.now old.lines new.lines old.fault new.fault old.reading new.reading text inv.read line c.loop-line.self.held.items c.end_line.new.self.held.items c.in-Some.ensures.1 taken c.in_ok-end_line.ensures.ended (inv.taken text stands);
+      taken = λ text stands. piece_line first.subject.study.now old.progress new.progress text inv.read line c.loop-line.self.held.items c.end_line.new.self.held.items c.in-Some.ensures.1 taken c.in_ok-end_line.ensures.ended (inv.taken text stands);
     }
 
 -- src/reader.rt:125:5
@@ -54,8 +54,8 @@ returns-clause-taken g c =
     let old = c.loop-line.self.checker in
     let new = c.hold.new.self.checker in
     on_ok c.hold.result c.hold.ensures.held (λ held text stands.
-    let now : StandsForText first.subject.study.now old.lines old.fault old.reading c.hold.new.self.held.items (text ++ c.args.bytes.now) =
-    piece_rest first.subject.study.now old.lines old.fault old.reading text c.args.bytes.now inv.read c.loop-line.rest.now c.loop-line.self.held.items c.hold.new.self.held.items c.in_default.ensures inv.cut held (inv.taken text stands) in
+    let now : StandsForText first.subject.study.now old.progress c.hold.new.self.held.items (text ++ c.args.bytes.now) =
+    piece_rest first.subject.study.now old.progress text c.args.bytes.now inv.read c.loop-line.rest.now c.loop-line.self.held.items c.hold.new.self.held.items c.in_default.ensures inv.cut held (inv.taken text stands) in
     rw (sym c.hold.ensures.checker) at now)
 
 -- src/reader.rt:125:5

@@ -13,7 +13,7 @@ refutes-requires-clause-core g c κs within = in_range c.args.subject.now.study.
 
 pub refutes-requires-clause-earlier : goal.refutes-requires-clause-earlier
 refutes-requires-clause-earlier g c κs within =
-    earlier_there c.args.subject.now.study.now c.args.self.now c.requires.read (g.K.OutcomeKind.size c.args.subject.now.kind.now) c.as_slice.result.now c.requires.size c.as_slice.ensures
+    earlier_there c.args.subject.now.study.now c.args.self.now c.requires.read (g.K.OutcomeKind.size c.args.subject.now.kind.now) c.as_slice.result.now c.args.subject.now.size c.as_slice.ensures
 
 pub returns-in-Err : goal.returns-in-Err
 returns-in-Err g c = λ s wanted h at held.
@@ -21,7 +21,7 @@ returns-in-Err g c = λ s wanted h at held.
     let study = c.args.subject.now.study.now in
     let r = c.args.self.now in
     let es = c.as_slice.result.now in
-    let same = clash_fault_is study r s h c.args.reason.now wanted size es held c.requires.size c.as_slice.ensures in (
+    let same = clash_fault_is study r s h c.args.reason.now wanted size es held c.args.subject.now.size c.as_slice.ensures in (
       refused (reason_fault size study.axioms r.core es r.board.literals c.args.reason.now) (fault_of study s (Clash wanted)) same c.in-Err.fault c.refusal_of.result c.in-Err.ensures c.refusal_of.ensures,
       λ none. absurd (none-some _ (sym none)),
     )
@@ -32,7 +32,7 @@ returns g c = λ s wanted h at held.
     let study = c.args.subject.now.study.now in
     let r = c.args.self.now in
     let es = c.as_slice.result.now in
-    let same = clash_fault_is study r s h c.args.reason.now wanted size es held c.requires.size c.as_slice.ensures in (
+    let same = clash_fault_is study r s h c.args.reason.now wanted size es held c.args.subject.now.size c.as_slice.ensures in (
       accepted (reason_fault size study.axioms r.core es r.board.literals c.args.reason.now) (fault_of study s (Clash wanted)) same c.in-Ok.ensures,
       λ _. c.after_lemma.ensures (told s wanted) study (c.in_ok-end_lemma.ensures s study wanted h),
     )
