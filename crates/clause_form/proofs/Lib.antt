@@ -1,0 +1,10 @@
+pub mod SourceLaws
+pub mod RestLaws
+pub mod OverLaws
+pub mod KnownLaws
+pub mod CountLaws
+pub mod WeightLaws
+pub mod SomeLaws
+pub mod WideLaws
+pub mod RowLaws
+pub mod FormLaws
