@@ -73,6 +73,7 @@ fn cite(alloc: Global, clauses: &Clauses, variables: u32, k: u32) -> Result<Deri
     ensures accepted { IfOk result (IsAccepted clauses.now.clauses) }
     ensures over { IfOk result (AreOver variables) }
     ensures numbered { IfOk result AreNumbered }
+    ensures few { IfOk result (λ lines. length lines ≤ 1000000) }
 {
     let _variables = variables;
     let id = clauses.len() as u64 + 1;
@@ -198,6 +199,7 @@ fn refute(
     ensures accepted { OnOk result (IsAccepted clauses.now.clauses lines.new) }
     ensures over { OnOk result (AreOver variables lines.new) }
     ensures numbered { OnOk result (AreNumbered lines.new) }
+    ensures few { OnOk result (length lines.new ≤ 1000000) }
 {
     let _variables = variables;
     let number = lines.len() as u32 + 1;
