@@ -1,16 +1,21 @@
 //! The search.
 
-ghost use Rattle.std.specs.Prelude.{◌≡◌, ◌≢◌, ℕ, ◌+◌, ◌<◌, ◌≤◌, ◌^◌, [], length, false, All, IfOk, OnOk, IfSome, IfNone, IsTrue, None, slice_index_or, unwrap_or};
+ghost use Rattle.std.specs.Prelude.{◌≡◌, ◌≢◌, ℕ, ◌+◌, ◌-◌, ◌<◌, ◌≤◌, ◌^◌, [], length, false, All, IfOk, OnOk, IfSome, IfNone, IsTrue, None, slice_index_or, unwrap_or};
 ghost use Rattle.cnf.specs.Sat.{is_falsified};
 ghost use Rattle.cnf.specs.Derived.{IsAccepted};
+ghost use Rattle.propagate.specs.Entries.{up_to};
 ghost use Rattle.propagate.specs.Values.{value_in, StaysWithin};
 ghost use Rattle.propagate.specs.TrailState.{IsTrail, IsClosed, known, clause_at};
 ghost use Rattle.cdcl.specs.Hints.{FollowsBy};
+ghost use Rattle.cdcl.specs.Lesson.{cut_to};
+ghost use Rattle.cdcl.specs.Order.{HasAll, IsChosen, IsHeld};
 ghost use Rattle.cdcl.specs.Search.{RestsBelow, Descends, IsComplete, IsSearching, AreNumbered};
 ghost use Rattle.cdcl.specs.Answer.{Answers, IsConclusive, IsFirstEmpty, citing, AreOver};
 
 use crate::analysis::analyze;
 use crate::lines::line;
+use crate::order::Order;
+use crate::restarts::Restarts;
 use cnf::{Bits, Clauses, Derivation, Lit};
 use lists::{Items, NoMemory};
 use propagate::{Outcome, Trail};
@@ -27,8 +32,9 @@ pub enum Search {
 
 /// Searches for an assignment of the variables that satisfies the clauses, and learns a clause from each conflict, up to a
 /// limit of at most 1,000,000. No variable of a clause is above the number of variables, which is at most 2,147,483,647. It
-/// decides the least variable without a value, false first, and goes back to the assertion level of the clause of the first
-/// unique implication point (Marques-Silva and Sakallah, 1999).
+/// decides the variable without a value that has the greatest activity, and of those the least, with the sign that it last had, false at
+/// first, and goes back to the assertion level of the clause of the first unique implication point (Marques-Silva and
+/// Sakallah, 1999), or to level 0 when a restart is due.
 ///
 /// `Found` has exactly these variables and satisfies each clause. `Refuted` is accepted. `Spent` has as many lines as the limit
 /// allows, each of which learns a clause that follows by its hints and is fresh; it never comes where the limit is at least 3
@@ -98,42 +104,108 @@ fn search_clauses(
     ensures { IfOk result (Answers clauses.now.clauses variables limit) }
 {
     let mut trail = Trail::new(alloc, clauses, variables)?;
+    let mut order = Order::new(alloc, variables)?;
+    let mut restarts = Restarts::new();
     let mut lines = Items::new(alloc);
     for _ in 0..limit {
-        match descend(&mut trail, variables) {
+        match descend(&mut trail, &mut order, variables) {
             None => return Ok(Search::Found(values(alloc, &trail, variables)?)),
             Some(conflict) => {
                 if trail.level() == 0 {
                     refute(alloc, clauses, &trail, variables, conflict, &mut lines)?;
                     return Ok(Search::Refuted(lines));
                 }
-                learn(alloc, clauses, &mut trail, variables, conflict, &mut lines)?;
+                learn(
+                    alloc, clauses, &mut trail, &mut order, variables, conflict, &mut lines,
+                )?;
+                if restarts.is_due() {
+                    go_back(&mut trail, &mut order, variables, 0);
+                }
             }
         }
     }
     Ok(Search::Spent(lines))
 }
 
-/// The least variable without a value.
-fn least_unassigned(trail: &Trail, variables: u32) -> Option<u32>
-    requires { variables < 2 ^ 31 }
+/// The first variable of the order without a value.
+fn choose(trail: &Trail, order: &mut Order, variables: u32) -> Option<u32>
+    requires all { HasAll trail.now order.old variables }
+    ensures variables { length order.new.places ≡ variables }
     ensures some { IfSome result (λ v. (1 ≤ v) × (v ≤ variables) × (value_in (known trail.now) v ≡ None)) }
+    ensures first { IfSome result (λ v. IsChosen trail.now order.old variables (v - 1)) }
+    ensures others { IfSome result (λ v. (w : ℕ) → w < variables → w ≢ v - 1 → value_in (known trail.now) (w + 1) ≡ None → IsHeld order.new w) }
     ensures none { IfNone result (IsComplete trail.now variables) }
 {
-    for v in 1..variables + 1 {
-        if trail.value(v).is_none() {
-            return Some(v);
+    let _ = variables;
+    'choosing: loop {
+        match order.pop() {
+            None => return None,
+            Some(v) => {
+                if trail.value(v).is_none() {
+                    return Some(v);
+                }
+            }
         }
     }
-    None
+}
+
+/// Goes back to a level, and puts the variables that lose their value back into the order.
+fn go_back(trail: &mut Trail, order: &mut Order, variables: u32, level: u32)
+    requires form { IsTrail trail.old }
+    requires variables { variables ≡ trail.old.variables }
+    requires all { HasAll trail.old order.old variables }
+    requires level { level ≤ trail.old.level }
+    ensures all { HasAll trail.new order.new variables }
+    ensures form { IsTrail trail.new }
+    ensures state { trail.new ≡ record trail.old { entries = up_to level trail.old.entries; level = level; settled = false } }
+{
+    put_back(trail, order, variables, level);
+    trail.back_to(level);
+}
+
+/// Puts the variables whose level is above this one back into the order.
+fn put_back(trail: &Trail, order: &mut Order, variables: u32, level: u32)
+    requires form { IsTrail trail.now }
+    requires variables { variables ≡ trail.now.variables }
+    requires all { HasAll trail.now order.old variables }
+    ensures { HasAll (cut_to trail.now level) order.new variables }
+{
+    let _ = variables;
+    let mut place = trail.len();
+    'undoing: while place > 0 {
+        let lit = trail.at(place - 1);
+        let Some(own) = trail.level_of(lit.variable()) else {
+            return;
+        };
+        if own <= level {
+            return;
+        }
+        order.put_back(lit.variable(), lit.positive());
+        place -= 1;
+    }
+}
+
+/// Raises the activity of each variable of a clause.
+fn raise_all(order: &mut Order, clause: &[Lit], variables: u32)
+    requires order { length order.old.places ≡ variables }
+    requires variables { StaysWithin variables clause.now }
+    ensures variables { length order.new.places ≡ variables }
+    ensures held { (w : ℕ) → IsHeld order.old w → IsHeld order.new w }
+{
+    let _ = variables;
+    for lit in clause {
+        order.raise(lit.variable());
+    }
 }
 
 /// Decides and propagates, until a clause is falsified or every variable has a value.
-fn descend(trail: &mut Trail, variables: u32) -> Option<u32>
+fn descend(trail: &mut Trail, order: &mut Order, variables: u32) -> Option<u32>
+    requires all { HasAll trail.old order.old variables }
     requires variables { variables ≡ trail.old.variables }
     requires few { variables < 2 ^ 31 }
     requires form { IsTrail trail.old }
     requires rests { RestsBelow trail.old }
+    ensures all { IfSome result (λ k. HasAll trail.new order.new variables) }
     ensures descends { Descends trail.old trail.new }
     ensures conflict { IfSome result (λ k. (k < length trail.new.clauses) × IsTrue (is_falsified (known trail.new) (clause_at trail.new k))) }
     ensures closed { IfNone result (IsClosed trail.new) }
@@ -142,9 +214,9 @@ fn descend(trail: &mut Trail, variables: u32) -> Option<u32>
     'descending: loop {
         match trail.propagate() {
             Outcome::Conflict(k) => return Some(k),
-            Outcome::Closed => match least_unassigned(trail, variables) {
+            Outcome::Closed => match choose(trail, order, variables) {
                 None => return None,
-                Some(v) => trail.decide(Lit::new(v, false)),
+                Some(v) => trail.decide(Lit::new(v, order.phase(v))),
             },
         }
     }
@@ -215,6 +287,7 @@ fn learn(
     alloc: Global,
     clauses: &Clauses,
     trail: &mut Trail,
+    order: &mut Order,
     variables: u32,
     conflict: u32,
     lines: &mut Derivation,
@@ -224,13 +297,16 @@ fn learn(
     requires conflict { conflict < length trail.old.clauses }
     requires falsified { IsTrue (is_falsified (known trail.old) (clause_at trail.old conflict)) }
     requires room { length lines.old < 1000000 }
+    requires all { HasAll trail.old order.old variables }
+    ensures all { OnOk result (HasAll trail.new order.new variables) }
     ensures searching { OnOk result (IsSearching clauses.now.clauses variables trail.new lines.new) }
     ensures one_more { OnOk result (length lines.new ≡ length lines.old + 1) }
 {
     let number = lines.len() as u32 + 1;
     let id = clauses.len() as u64 + number as u64;
     let lesson = analyze(alloc, trail, variables, conflict)?;
-    trail.back_to(lesson.level);
+    raise_all(order, lesson.clause.as_slice(), variables);
+    go_back(trail, order, variables, lesson.level);
     trail.learn(lesson.clause.as_slice())?;
     let mut clause = Items::with_room(alloc, lesson.clause.as_slice().len())?;
     clause.append(lesson.clause.as_slice())?;
