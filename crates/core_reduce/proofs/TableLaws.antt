@@ -1,0 +1,99 @@
+-- The rule of bits that satisfy the clauses of some axioms satisfies these.
+use Rattle.std.proofs.Common.{◌≡◌, ◌≢◌, sym, ◌∙◌, ap, subst, ℕ, zero, suc, ◌+◌, ◌*◌, ◌<◌, ◌≤◌, Bool, true, ◌&&◌, List, [], ◌∷◌, ◌++◌, length, arith, eqb-true, mul-le-mul_right, length-append, ◌⊎◌, inl, inr}
+use Rattle.std.specs.Prelude.{◌==◌, nat_lt, slice_get, slice_index}
+use Rattle.std.specs.List.{list_all, flat_map}
+use Rattle.std.proofs.lemmas.Bool.{and_parts}
+use Rattle.std.proofs.Math.Seq.{get_or-append_seam}
+use Rattle.std.proofs.lemmas.List.{ext_get_or, get_or_append_left}
+use Rattle.std.proofs.lemmas.List.Folds.{list_all-map, list_all-append}
+use Rattle.vocab.specs.declared.kinds.Kind.{Kind}
+use Rattle.vocab.specs.declared.kinds.Kind.TheVariants.{Choice, Ranking, Sets}
+use Rattle.vocab.specs.declared.kinds.Sort.TheVariants.{Profile}
+use Rattle.vocab.specs.Size.{Extent, sort_count, outcome_count}
+use Rattle.vocab.specs.Study.{is_sentence}
+use Rattle.vocab.specs.Titled.{Titled}
+use Rattle.cnf.specs.Sat.{Clause, is_clause_true, is_satisfied}
+use Rattle.cnf.specs.Signed.{Signed}
+use Rattle.meaning.specs.declared.clauses.Origin.TheVariants.{Frame}
+use Rattle.meaning.specs.Laws.{clauses_for, AreBitsOf}
+use Rattle.meaning.specs.Space.{below}
+use Rattle.meaning.specs.StudyClauses.{Sourced, clauses_of, frame_of, from_axiom, from_frame, study_clauses}
+use Rattle.meaning.specs.Truth.{holds_of, is_axiom_true, is_rule, satisfies}
+use Rattle.meaning.specs.Variables.{bits, literal_of, variable_count}
+use Rattle.meaning.proofs.RuleLaws.{are_rules}
+use Rattle.meaning.proofs.SpaceLaws.{all_at}
+use Rattle.meaning.proofs.StoryLaws.{outcome_in_range}
+use Rattle.meaning.proofs.TestLaws.{list_all-flat_map}
+use Rattle.meaning.proofs.VariableLaws.{are_variables}
+use Rattle.outcomes.specs.Frames.{frame_clauses}
+use Rattle.outcomes.specs.OutcomeBits.{AreBitsAt}
+use Rattle.outcomes.proofs.BitLaws.{variable_in, says_one_outcome}
+use Rattle.profiles.proofs.TableLemmas.{factorial_small}
+use Rattle.core_reduce.specs.Tables.{IsTableOf}
+
+pub few_outcomes : (kind : Kind) (m : ℕ) → m ≤ 5 → outcome_count kind m ≤ 120
+few_outcomes Choice m h = omega arith
+few_outcomes Ranking m h = factorial_small m h
+few_outcomes Sets m h = omega arith
+
+-- the variables of a profile are among all
+pub variables_in : (p count n : ℕ) → p < count → (p + 1) * n ≤ count * n
+variables_in p count n h = let next : p + 1 ≤ count = omega (arith, h) in mul-le-mul_right n next
+
+module _ (size : Extent) (axioms : List Titled) (chosen : List ℕ) (v : ℕ → Bool) where
+  -- what satisfies the clauses of a study satisfies each frame
+  pub frames_satisfied : is_satisfied v (clauses_for size axioms chosen) ≡ true → (p : ℕ) → p < sort_count size Profile → is_satisfied v (frame_clauses size p) ≡ true
+  frames_satisfied h p lt =
+      let t : Sourced → Bool = λ s. is_clause_true v s.clause in
+      let frames = flat_map (from_frame size) (below (sort_count size Profile)) in
+      let rest = flat_map (λ (place : ℕ). from_axiom size place (slice_get axioms place)) chosen in
+      let all : list_all t (frames ++ rest) ≡ true = sym (list_all-map (is_clause_true v) (λ (s : Sourced). s.clause) (study_clauses size axioms chosen)) ∙ h in
+      let both : (list_all t frames && list_all t rest) ≡ true = sym (list_all-append t frames rest) ∙ all in
+      let each : list_all (λ q. list_all t (from_frame size q)) (below (sort_count size Profile)) ≡ true = sym (list_all-flat_map t (from_frame size) (below (sort_count size Profile))) ∙ (and_parts (list_all t frames) (list_all t rest) both).0 in
+      sym (list_all-map t (λ (c : Clause). record { clause = c; origin = Frame p }) (clauses_of size (frame_of size size.kind p)))
+      ∙ all_at (λ q. list_all t (from_frame size q)) (sort_count size Profile) 0 p each (omega arith) (omega (arith, lt))
+
+module _ (size : Extent) (known_kind : size.kind ≢ Sets) (v : ℕ → Bool) where
+  -- the bits of a rule at a profile are those of its outcome
+  bits_at : (table : List ℕ) → AreBitsOf size table v → (p : ℕ) → p < sort_count size Profile → AreBitsAt size p (slice_index table p) v
+  bits_at table same p lt i low high =
+      let s : Signed = record { variable = i; positive = true } in
+      let some : 1 ≤ i = omega (arith, low) in
+      let all : i ≤ variable_count size = variable_in p (sort_count size Profile) (bits size.kind size.alternatives) i lt high in
+      same i some all ∙ ap (λ (q : ℕ). holds_of size (slice_index table q) (literal_of size s)) ((are_variables size known_kind).to_profile p s low high)
+
+  pub table_satisfies : (axioms : List Titled) → list_all (is_sentence size) axioms ≡ true → (chosen : List ℕ) → list_all (λ k. nat_lt k (length axioms)) chosen ≡ true →
+      is_satisfied v (clauses_for size axioms chosen) ≡ true → (table : List ℕ) → IsTableOf size v (sort_count size Profile) table → satisfies size axioms chosen table ≡ true
+  table_satisfies axioms h chosen in_range sat table of =
+      let found = (are_rules size known_kind axioms h chosen in_range v).0 sat in
+      let rule : is_rule size found.0 ≡ true = (and_parts (is_rule size found.0) (list_all (λ k. is_axiom_true size found.0 (slice_get axioms k)) chosen) found.1).0 in
+      let count : length found.0 ≡ sort_count size Profile = eqb-true (length found.0) (sort_count size Profile) (and_parts (length found.0 == sort_count size Profile) (list_all (λ o. nat_lt o (outcome_count size.kind size.alternatives)) found.0) rule).0 in
+      let same : table ≡ found.0 = ext_get_or 0 table found.0 (of.count ∙ sym count) (λ p lt.
+      let in_p : p < sort_count size Profile = omega (arith, lt, of.count) in
+      (says_one_outcome size known_kind p in_p).one v (slice_index table p) (slice_index found.0 p) (of.in_range p in_p) (outcome_in_range size found.0 rule (let some : 0 < sort_count size Profile = omega (arith, in_p) in some) p) (of.bits p in_p) (bits_at found.0 found.2 p in_p)) in
+      subst (λ (t : List ℕ). satisfies size axioms chosen t ≡ true) (sym same) found.1
+
+-- one profile more
+pub table_more : (size : Extent) (v : ℕ → Bool) (p o : ℕ) (table : List ℕ) → IsTableOf size v p table → o < outcome_count size.kind size.alternatives → AreBitsAt size p o v → IsTableOf size v (p + 1) (table ++ o ∷ [])
+table_more size v p o table h in_o at = record {
+  count = length-append table (o ∷ []) ∙ omega (arith, h.count);
+  in_range = λ q lt. elim (entry q lt) [
+    | inl a ↦ let Small : ℕ → Type 0 = λ x. x < outcome_count size.kind size.alternatives in subst Small (sym a.1) (h.in_range q a.0)
+    | inr a ↦ let Small : ℕ → Type 0 = λ x. x < outcome_count size.kind size.alternatives in subst Small (sym a.1) in_o
+  ];
+  bits = λ q lt. elim (entry q lt) [
+    | inl a ↦ let Here : ℕ → Type 0 = λ x. AreBitsAt size q x v in subst Here (sym a.1) (h.bits q a.0)
+    | inr a ↦ let Here : ℕ → Type 0 = λ x. AreBitsAt size q x v in let There : ℕ → Type 0 = λ y. AreBitsAt size y o v in subst Here (sym a.1) (subst There (sym a.0) at)
+  ];
+}
+  where
+    le_or : (n m : ℕ) → (n < m) ⊎ (m ≤ n)
+    le_or n zero = inr (omega arith)
+    le_or zero (suc m) = inl (omega arith)
+    le_or (suc n) (suc m) = elim (le_or n m) [ inl a ↦ inl (omega (arith, a)) | inr a ↦ inr (omega (arith, a)) ]
+
+    entry : (q : ℕ) → q < p + 1 → ((q < p) × (slice_index (table ++ o ∷ []) q ≡ slice_index table q)) ⊎ ((q ≡ p) × (slice_index (table ++ o ∷ []) q ≡ o))
+    entry q lt = elim (le_or q p) [
+      | inl a ↦ inl (a, get_or_append_left table (o ∷ []) 0 q (omega (arith, a, h.count)))
+      | inr a ↦ let same : q ≡ p = omega (arith, lt, a) in let here : q ≡ length table = omega (arith, same, h.count) in inr (same, ap (slice_index (table ++ o ∷ [])) here ∙ get_or-append_seam table o [] 0)
+    ]

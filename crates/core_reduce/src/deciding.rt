@@ -1,0 +1,178 @@
+//! The decision of a study, and the reduction of a given proof.
+
+ghost use Rattle.std.specs.Prelude.{◌≡◌, ◌≢◌, ◌<◌, ◌≤◌, ◌-◌, ◌^◌, length, IfOk, IsTrue};
+ghost use Rattle.vocab.specs.declared.kinds.Kind.TheVariants.{Sets};
+ghost use Rattle.cnf.specs.Derived.{IsAccepted};
+ghost use Rattle.cdcl.specs.Answer.{AreOver};
+ghost use Rattle.meaning.specs.Cores.{is_core_from};
+ghost use Rattle.meaning.specs.Laws.{clauses_for};
+ghost use Rattle.meaning.specs.Space.{below};
+ghost use Rattle.meaning.specs.StudyClauses.{study_clauses};
+ghost use Rattle.meaning.specs.Variables.{variable_count};
+ghost use Rattle.std.specs.List.{AllByRecursion};
+ghost use Rattle.core_reduce.specs.Answers.{all_places, IsAnswer, IsReduced, IsRefutation, IsSpentLog};
+ghost use Rattle.core_reduce.specs.Reducing.{IsReducing, IsFrom};
+
+use crate::answers::{Answer, Finding, Reduced, Refutation, SearchLog, Witnesses};
+use crate::leaving::places_kept;
+use crate::needs::{Focus, focus_on};
+use crate::reduction::{Reduction, search, step};
+use crate::tables::rule_of;
+use cdcl::Search;
+use clause_form::Ground;
+use cnf::Derivation;
+use lists::{Items, NoMemory};
+use meaning::Witness;
+use outcomes::{OutcomeKind, laws};
+use std::alloc::Global;
+use vocab::{Places, Study};
+
+/// The places of as many axioms.
+fn places_to(alloc: Global, count: usize) -> Result<Places, NoMemory>
+    requires { count ≤ 40 }
+    ensures { IfOk result (λ places. places ≡ below count) }
+{
+    let mut places = Items::new(alloc);
+    for k in 0..count {
+        places.push(k as u32)?;
+    }
+    Ok(places)
+}
+
+/// A list of the witnesses.
+fn listed(alloc: Global, witnesses: Vec<Witness>) -> Result<Witnesses, NoMemory>
+    ensures { IfOk result (λ list. list ≡ witnesses.items) }
+{
+    let mut list = Items::new(alloc);
+    for witness in witnesses {
+        list.push(witness)?;
+    }
+    Ok(list)
+}
+
+/// The axioms that a proof needs, before any search.
+fn start(
+    alloc: Global,
+    study: &Study,
+    chosen: &Places,
+    clauses: &Ground,
+    proof: &Derivation,
+) -> Result<Reduction, NoMemory>
+    requires chosen { IsTrue (is_core_from 0 (length study.now.axioms) chosen.now) }
+    requires clauses { clauses.now ≡ study_clauses study.now.size study.now.axioms chosen.now }
+    requires accepted { IsAccepted (clauses_for study.now.size study.now.axioms chosen.now) proof.now }
+    requires over { AreOver (variable_count study.now.size) proof.now }
+    requires few { length proof.now < 2 ^ 32 - 1 }
+    ensures reducing { IfOk result (IsReducing study.now) }
+    ensures taken { IfOk result (λ r. IsFrom study.now chosen.now proof.now r.core) }
+{
+    let Focus {
+        gone,
+        clauses: left,
+        proof: needed,
+    } = focus_on(alloc, clauses, proof, study.axioms().len())?;
+    let core = places_kept(alloc, chosen.as_slice(), gone.as_slice())?;
+    Ok(Reduction {
+        core,
+        clauses: left,
+        proof: needed,
+        witnesses: Vec::new(alloc),
+        logs: Items::new(alloc),
+    })
+}
+
+/// The refutation of a reduction that has a witness for each axiom of its core.
+fn finish(alloc: Global, study: &Study, reduction: Reduction) -> Result<Reduced, NoMemory>
+    requires reducing { IsReducing study.now reduction }
+    requires whole { length reduction.core ≤ length reduction.witnesses.items }
+    requires known { study.now.size.kind ≢ Sets }
+    ensures refutation { IfOk result (λ r. IsRefutation study.now r.logs r.refutation) }
+    ensures logs { IfOk result (λ r. AllByRecursion (IsSpentLog study.now) r.logs) }
+    ensures core { IfOk result (λ r. r.refutation.core ≡ reduction.core) }
+{
+    let _axioms = study.axioms();
+    let Reduction {
+        core,
+        clauses,
+        proof,
+        witnesses,
+        logs,
+    } = reduction;
+    let list = listed(alloc, witnesses)?;
+    Ok(Reduced {
+        refutation: Refutation {
+            core,
+            clauses,
+            proof,
+            witnesses: list,
+        },
+        logs,
+    })
+}
+
+/// Reduces an accepted proof over the clauses of the chosen axioms to a core: each axiom of it is one of the chosen, and a hint of
+/// the given proof names a clause of it. One axiom after the other is left out, in the order of the study, and a search goes over
+/// the clauses of the rest.
+pub(crate) fn reduce<K: OutcomeKind>(
+    alloc: Global,
+    kind: &K,
+    study: &Study,
+    chosen: &Places,
+    clauses: Ground,
+    proof: &Derivation,
+) -> Result<Reduced, NoMemory>
+    requires size { study.now.size ≡ K.size kind.now }
+    requires chosen { IsTrue (is_core_from 0 (length study.now.axioms) chosen.now) }
+    requires clauses { clauses ≡ study_clauses study.now.size study.now.axioms chosen.now }
+    requires accepted { IsAccepted (clauses_for study.now.size study.now.axioms chosen.now) proof.now }
+    requires over { AreOver (variable_count study.now.size) proof.now }
+    requires few { length proof.now < 2 ^ 32 - 1 }
+    ensures { IfOk result (IsReduced study.now chosen.now proof.now) }
+{
+    laws::kinds_have_sizes(kind);
+    let mut reduction = start(alloc, study, chosen, &clauses, proof)?;
+    while reduction.witnesses.as_slice().len() < reduction.core.as_slice().len() {
+        reduction = step(alloc, kind, study, reduction)?;
+    }
+    let reduced = finish(alloc, study, reduction)?;
+    Ok(reduced)
+}
+
+/// Decides a study over its clauses: a rule that satisfies all axioms, a core that none satisfies, or nothing where the search spent
+/// its limit.
+pub fn decide<K: OutcomeKind>(
+    alloc: Global,
+    kind: &K,
+    study: &Study,
+    clauses: Ground,
+) -> Result<Answer, NoMemory>
+    requires size { study.now.size ≡ K.size kind.now }
+    requires clauses { clauses ≡ study_clauses study.now.size study.now.axioms (all_places study.now) }
+    ensures { IfOk result (IsAnswer study.now) }
+{
+    let all = places_to(alloc, study.axioms().len())?;
+    match search(alloc, kind, study, &all, &clauses)? {
+        Search::Found(bits) => {
+            let table = rule_of(alloc, kind, study, &all, &bits)?;
+            Ok(Answer {
+                finding: Finding::Possible(table),
+                logs: Items::new(alloc),
+            })
+        }
+        Search::Refuted(lines) => {
+            let Reduced { refutation, logs } = reduce(alloc, kind, study, &all, clauses, &lines)?;
+            Ok(Answer {
+                finding: Finding::Impossible(refutation),
+                logs,
+            })
+        }
+        Search::Spent(lines) => {
+            let mut logs = Items::new(alloc);
+            logs.push(SearchLog { chosen: all, lines })?;
+            Ok(Answer {
+                finding: Finding::Undecided,
+                logs,
+            })
+        }
+    }
+}
