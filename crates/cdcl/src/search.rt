@@ -10,7 +10,7 @@ ghost use Rattle.cdcl.specs.Hints.{FollowsBy};
 ghost use Rattle.cdcl.specs.Lesson.{cut_to};
 ghost use Rattle.cdcl.specs.Order.{HasAll, IsChosen, IsHeld};
 ghost use Rattle.cdcl.specs.Search.{RestsBelow, Descends, IsComplete, IsSearching, AreNumbered};
-ghost use Rattle.cdcl.specs.Answer.{Answers, IsConclusive, IsFirstEmpty, citing, AreOver};
+ghost use Rattle.cdcl.specs.Answer.{Answers, IsConclusive, IsFirstEmpty, citing};
 
 use crate::analysis::analyze;
 use crate::lines::line;

@@ -9,8 +9,7 @@ use Rattle.cnf.specs.declared.derivations.Step.{Step}
 use Rattle.cnf.specs.declared.derivations.Step.TheVariants.{Add, Drop}
 use Rattle.cnf.specs.Sat.{Clause}
 use Rattle.cnf.specs.Fresh.{added_by}
-use Rattle.cnf.specs.Trimmed.{is_cited_by, is_trimmed}
-use Rattle.lrat_check.specs.Cited.{is_cited_in}
+use Rattle.cnf.specs.Trimmed.{is_cited_by, is_cited_in, is_trimmed}
 use Rattle.meaning.specs.declared.clauses.Origin.{Origin}
 use Rattle.meaning.specs.declared.clauses.Origin.TheVariants.{Frame, Instance}
 use Rattle.meaning.specs.StudyClauses.{Sourced}

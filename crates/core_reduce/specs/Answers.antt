@@ -3,10 +3,9 @@ use Rattle.std.specs.Prelude.{◌≡◌, ℕ, ◌<◌, ◌-◌, ◌^◌, Bool, �
 use Rattle.std.specs.List.{list_all, list_any, AllByRecursion}
 use Rattle.vocab.specs.Study.{Question}
 use Rattle.cnf.specs.declared.derivations.Line.{Line}
-use Rattle.cnf.specs.Fresh.{IsSpent}
+use Rattle.cnf.specs.Fresh.{AreOver, IsSpent}
 use Rattle.cnf.specs.Derived.{IsAccepted}
 use Rattle.cnf.specs.Trimmed.{is_trimmed}
-use Rattle.cdcl.specs.Answer.{AreOver}
 use Rattle.meaning.specs.declared.cores.Witness.{Witness}
 use Rattle.meaning.specs.declared.cores.Witness.TheVariants.{Rule, Open}
 use Rattle.meaning.specs.Cores.{is_core_from, is_core_right}

@@ -4,10 +4,9 @@ use Rattle.std.specs.List.{list_all, AllByRecursion}
 use Rattle.vocab.specs.Study.{Question}
 use Rattle.cnf.specs.declared.derivations.Line.{Line}
 use Rattle.cnf.specs.ClauseList.{ClauseList}
-use Rattle.cnf.specs.Fresh.{added_by}
+use Rattle.cnf.specs.Fresh.{AreOver, added_by}
 use Rattle.cnf.specs.Sat.{Clause}
 use Rattle.cnf.specs.Trimmed.{is_trimmed}
-use Rattle.cdcl.specs.Answer.{AreOver}
 use Rattle.meaning.specs.declared.cores.Witness.{Witness}
 use Rattle.meaning.specs.Cores.{is_core_from, is_witness}
 use Rattle.meaning.specs.StudyClauses.{Sourced, study_clauses}

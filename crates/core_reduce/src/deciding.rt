@@ -3,7 +3,7 @@
 ghost use Rattle.std.specs.Prelude.{◌≡◌, ◌≢◌, ◌<◌, ◌≤◌, ◌-◌, ◌^◌, length, IfOk, IsTrue};
 ghost use Rattle.vocab.specs.declared.kinds.Kind.TheVariants.{Sets};
 ghost use Rattle.cnf.specs.Derived.{IsAccepted};
-ghost use Rattle.cdcl.specs.Answer.{AreOver};
+ghost use Rattle.cnf.specs.Fresh.{AreOver};
 ghost use Rattle.meaning.specs.Cores.{is_core_from};
 ghost use Rattle.meaning.specs.Laws.{clauses_for};
 ghost use Rattle.meaning.specs.Space.{below};

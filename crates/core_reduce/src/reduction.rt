@@ -2,8 +2,8 @@
 
 ghost use Rattle.std.specs.Prelude.{◌≡◌, ◌<◌, ◌-◌, ◌^◌, length, IfOk, IsTrue};
 ghost use Rattle.cnf.specs.Derived.{IsAccepted};
-ghost use Rattle.cnf.specs.Fresh.{IsSpent};
-ghost use Rattle.cdcl.specs.Answer.{Answers, AreOver};
+ghost use Rattle.cnf.specs.Fresh.{AreOver, IsSpent};
+ghost use Rattle.cdcl.specs.Answer.{Answers};
 ghost use Rattle.meaning.specs.Laws.{clauses_for};
 ghost use Rattle.meaning.specs.StudyClauses.{study_clauses};
 ghost use Rattle.meaning.specs.Truth.{satisfies};

@@ -7,8 +7,7 @@ use Rattle.cnf.specs.declared.derivations.Step.{Step}
 use Rattle.cnf.specs.declared.derivations.Step.TheVariants.{Add, Drop}
 use Rattle.cnf.specs.Derived.{IsAccepted}
 use Rattle.cnf.specs.Fresh.{added_by}
-use Rattle.cnf.specs.Trimmed.{is_trimmed}
-use Rattle.lrat_check.specs.Cited.{is_cited_in}
+use Rattle.cnf.specs.Trimmed.{is_cited_in, is_trimmed}
 use Rattle.lrat_check.specs.Trim.{trimmed}
 
 -- the trimmed derivation of an accepted one has_lit the form of a trimmed one

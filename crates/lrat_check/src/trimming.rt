@@ -4,11 +4,10 @@ ghost use Rattle.std.specs.Prelude.{◌≡◌, ◌<◌, ◌≤◌, ◌+◌, ◌-
 ghost use Rattle.std.specs.List.{list_all};
 ghost use Rattle.cnf.specs.Sat.{Clause};
 ghost use Rattle.cnf.specs.Derived.{IsAccepted};
-ghost use Rattle.cnf.specs.Trimmed.{is_trimmed};
+ghost use Rattle.cnf.specs.Trimmed.{is_cited_in, is_trimmed};
 ghost use Rattle.lrat_check.specs.Trim.{trimmed};
 ghost use Rattle.cnf.specs.declared.derivations.Line.{Line};
 ghost use Rattle.cnf.specs.Fresh.{added_by};
-ghost use Rattle.lrat_check.specs.Cited.{is_cited_in};
 ghost use Rattle.lrat_check.specs.Ranges.{has_next};
 
 use crate::collect::collect;

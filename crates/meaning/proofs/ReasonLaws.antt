@@ -134,10 +134,10 @@ module _ (size : Extent) where
 
 module _ (size : Extent) (p : ℕ) (in_p : p < sort_count size Profile) where
   -- a literal of the kind at the profile
-  abbrev is_here : Kind → Literal → Bool
+  abbrev pub is_here : Kind → Literal → Bool
   is_here k l = is_literal_of size k l && (profile_of l == p)
 
-  frame_here : (k : Kind) → list_all (list_all (is_here k)) (frame_of size k p) ≡ true
+  pub frame_here : (k : Kind) → list_all (list_all (is_here k)) (frame_of size k p) ≡ true
   frame_here Choice =
       and_from _ _
       (list_all-map (is_here Choice) (λ (x : ℕ). Wins x p) (below size.alternatives) ∙ all_from (λ x. is_here Choice (Wins x p)) size.alternatives 0 (λ x low high. let in_x : x < size.alternatives = omega arith in here x in_x))
@@ -163,7 +163,7 @@ module _ (size : Extent) (p : ℕ) (in_p : p < sort_count size Profile) where
       here x y in_x in_y ne = and_from _ _ (ranking_literal size x y p in_x in_y ne in_p) (eq-eqb p p refl)
   frame_here Sets = refl
 
-  right_here : (rows : List Disjunction) → list_all (list_all (is_here size.kind)) rows ≡ true → list_all (list_all (is_literal size)) rows ≡ true
+  pub right_here : (rows : List Disjunction) → list_all (list_all (is_here size.kind)) rows ≡ true → list_all (list_all (is_literal size)) rows ≡ true
   right_here [] h = refl
   right_here (row ∷ rows) h = let e = and_parts (list_all (is_here size.kind) row) (list_all (list_all (is_here size.kind)) rows) h in and_from _ _ (right_row row e.0) (right_here rows e.1)
     where
@@ -213,7 +213,7 @@ module _ (size : Extent) (p : ℕ) (in_p : p < sort_count size Profile) where
 
 -- ---- the clauses of a study
 
-All-firsts : (P : Sourced → Type 0) (seen : List Clause) (ss : List Sourced) → AllByRecursion P ss → AllByRecursion P (firsts seen ss)
+pub All-firsts : (P : Sourced → Type 0) (seen : List Clause) (ss : List Sourced) → AllByRecursion P ss → AllByRecursion P (firsts seen ss)
 All-firsts P seen [] h = tt
 All-firsts P seen (s ∷ ss) h =
     elim (list_any (pointwise same_lit s.clause) seen) as (λ b. AllByRecursion P (cond b (firsts seen ss) (s ∷ firsts (s.clause ∷ seen) ss))) [ true ↦ All-firsts P seen ss h.1 | false ↦ (h.0, All-firsts P (s.clause ∷ seen) ss h.1) ]

@@ -2,7 +2,7 @@
 
 ghost use Rattle.std.specs.Prelude.{◌≡◌, ◌<◌, ◌≤◌, ◌-◌, ◌^◌, [], length, map, IfOk, IsTrue, IsFalse};
 ghost use Rattle.std.specs.List.{list_all};
-ghost use Rattle.cnf.specs.Fresh.{is_over, added_by};
+ghost use Rattle.cnf.specs.Fresh.{AreOver, is_over, added_by};
 ghost use Rattle.cnf.specs.Sat.{opposite_lit, is_tautology};
 ghost use Rattle.cnf.specs.Trimmed.{are_hints_trimmed, is_trimmed};
 ghost use Rattle.meaning.specs.Laws.{clauses_for};
@@ -11,7 +11,6 @@ ghost use Rattle.meaning.specs.StudyClauses.{study_clauses};
 ghost use Rattle.meaning.specs.Tidy.{is_tidy};
 ghost use Rattle.meaning.specs.Variables.{variable_count};
 ghost use Rattle.retell.specs.Cited.{HaveInstances};
-ghost use Rattle.retell.specs.Laws.{AreOver};
 ghost use Rattle.retell.specs.Marked.{IsMarking, AreStampsUpTo};
 ghost use Rattle.retell.specs.Retold.{cited_clauses, standing_of, hints_by, suppose_of, lemma_of, story_of};
 

@@ -3,7 +3,7 @@ use Rattle.std.specs.List.{list_all}
 use Rattle.cnf.specs.declared.derivations.Line.{Line}
 use Rattle.cnf.specs.Fresh.{added_by}
 use Rattle.cnf.specs.Sat.{Clause}
-use Rattle.lrat_check.specs.Cited.{is_cited_in}
+use Rattle.cnf.specs.Trimmed.{is_cited_in}
 use Rattle.lrat_check.specs.Ranges.{has_next}
 use Rattle.lrat_check.specs.Trim.{trimmed}
 use Rattle.lrat_check.proofs.TrimmingLaws.{if_ok, trimmed_added, trimmed_length, trimmed_next, trimmed_numbered}
