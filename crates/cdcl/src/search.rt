@@ -3,6 +3,7 @@
 ghost use Rattle.std.specs.Prelude.{◌≡◌, ◌≢◌, ℕ, ◌+◌, ◌-◌, ◌<◌, ◌≤◌, ◌^◌, [], length, false, All, IfOk, OnOk, IfSome, IfNone, IsTrue, None, slice_index_or, unwrap_or};
 ghost use Rattle.cnf.specs.Sat.{is_falsified};
 ghost use Rattle.cnf.specs.Derived.{IsAccepted};
+ghost use Rattle.cnf.specs.Fresh.{AreOver};
 ghost use Rattle.propagate.specs.Entries.{up_to};
 ghost use Rattle.propagate.specs.Values.{value_in, StaysWithin};
 ghost use Rattle.propagate.specs.TrailState.{IsTrail, IsClosed, known, clause_at};
