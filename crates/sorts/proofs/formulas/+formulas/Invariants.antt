@@ -4,7 +4,10 @@ use Rattle.vocab.specs.NamedView.{named_tree}
 use Rattle.sorts.proofs.formulas.+formulas.Given as goal
 
 abbrev pub decreases-formula : goal.decreases-formula
-decreases-formula l = 2 * depth (named_tree l.named.now)
+decreases-formula l = 3 * depth (named_tree l.named.now)
 
 abbrev pub decreases-two_formulas : goal.decreases-two_formulas
-decreases-two_formulas l = 2 * max (depth (named_tree l.left.now)) (depth (named_tree l.right.now)) + 1
+decreases-two_formulas l = 3 * max (depth (named_tree l.left.now)) (depth (named_tree l.right.now)) + 2
+
+abbrev pub decreases-boxed_formula : goal.decreases-boxed_formula
+decreases-boxed_formula l = 3 * depth (named_tree l.named.now) + 1
