@@ -146,7 +146,7 @@ fn all_ballots_are_the_default(rt: HostRuntime) {
     }
 }
 
-// Each row after the first has the faults that come later too, or is on the edge of its own.
+// The upper rows have a later fault too; the lower ones are on the edge of their own.
 #[test]
 fn domains_have_faults_in_order(rt: HostRuntime) {
     for (voters, alternatives, ballots, absent, fault) in [
