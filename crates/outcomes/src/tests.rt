@@ -251,6 +251,18 @@ fn texts_of_rankings(rt: HostRuntime) {
     }
 }
 
+// Where ba alone may be cast, a rule can still give ab, and outcomes keep their places among all rankings.
+#[test]
+fn a_rule_gives_what_nobody_may_cast(rt: HostRuntime) {
+    let size = Size::with_domain(Kind::Ranking, 2, 2, 2, true).expect(&rt, "a size");
+    let space = Space::new(size);
+    assert!(rt; space.size().kind() == Kind::Ranking);
+    let kind = RankingKind::new(space);
+    assert_eq!(rt; kind.outcomes(), 2);
+    assert!(rt; has_text(&rt, &kind, 0, b"ab"));
+    assert!(rt; has_text(&rt, &kind, 1, b"ba"));
+}
+
 /// Variables up to those of profile p, of which these have the truth values of an outcome.
 fn bits_of<K: OutcomeKind>(kind: &K, outcome: u32, p: u32, alloc: Global) -> Result<Bits, NoMemory>
     requires outcome { outcome < outcome_count (K.size kind.now).kind (K.size kind.now).alternatives }

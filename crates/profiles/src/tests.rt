@@ -1,4 +1,4 @@
-use crate::{NotAProfile, Space};
+use crate::{NotAProfile, Space, is_above, place_of, ranking_count, ranking_text};
 use std::process::Abort;
 use vocab::{Kind, Size};
 
@@ -262,4 +262,180 @@ fn votes_with_an_absent_voter(rt: HostRuntime) {
     assert!(rt; !space.prefers(1, 1, 0, 2));
     assert!(rt; space.majority(0, 1, 2));
     assert!(rt; !space.casts(1, 1, 2));
+}
+
+// Where ba alone may be cast, it is ballot 0, though it has place 1 among all rankings.
+#[test]
+fn one_ballot(rt: HostRuntime) {
+    let space = domain(&rt, 2, 2, 2, false);
+    assert!(rt; space.count() == 1);
+    assert!(rt; space.ballots() == 1);
+    assert!(rt; space.size().alternatives() == 2);
+    assert_eq!(rt; space.ballot_text(0).bytes(), b"ba".as_slice());
+    assert_eq!(rt; space.read_ballot(b"ba"), Some(0));
+    assert_eq!(rt; space.read_ballot(b"ab"), None);
+    assert_eq!(rt; space.profile_text(0).bytes(), b"ba|ba".as_slice());
+    assert_eq!(rt; space.read_profile(b"ba|ba"), Ok(0));
+    assert!(rt; space.better(0, 1, 0));
+    assert!(rt; !space.better(0, 0, 1));
+    assert!(rt; space.majority(1, 0, 0));
+}
+
+// Two voters, one ballot and absence: ab|ab, ab|- and -|ab.
+#[test]
+fn one_ballot_and_absence(rt: HostRuntime) {
+    let space = domain(&rt, 2, 2, 1, true);
+    assert!(rt; space.count() == 3);
+    let texts: [&[u8]; 3] = [b"ab|ab", b"ab|-", b"-|ab"];
+    each_text_has_its_number(&rt, &space, &texts);
+}
+
+#[test]
+fn both_ballots_and_absence(rt: HostRuntime) {
+    let space = domain(&rt, 2, 2, 3, true);
+    assert!(rt; space.count() == 8);
+    let texts: [&[u8]; 8] = [
+        b"ab|ab", b"ab|ba", b"ab|-", b"ba|ab", b"ba|ba", b"ba|-", b"-|ab", b"-|ba",
+    ];
+    each_text_has_its_number(&rt, &space, &texts);
+}
+
+/// The texts are those of the profiles 0, 1, 2 and so on.
+fn each_text_has_its_number(rt: &impl Abort, space: &Space, texts: &[&[u8]]) {
+    let mut p = 0;
+    for text in texts {
+        assert!(rt; p < space.count());
+        assert_eq!(rt; space.profile_text(p).bytes(), *text, "profile {p}");
+        assert_eq!(rt; space.read_profile(text), Ok(p), "profile {p}");
+        p += 1;
+    }
+}
+
+#[test]
+fn refusals_of_a_domain(rt: HostRuntime) {
+    // The ballots (1: ab, 3: ab and ba), whether voters may be absent, and the text of no profile of two voters.
+    let rows: [(u128, bool, &[u8]); 14] = [
+        (3, true, b"-|-"),
+        (1, true, b"-|-"),
+        (3, true, b"--"),
+        (3, true, b"-"),
+        (3, true, b"ab|"),
+        (3, true, b"-|"),
+        (3, true, b"|-"),
+        (3, true, b"-|ab|-"),
+        (3, true, b"-ab|ab"),
+        (3, true, b"ab|-ab"),
+        (1, true, b"ba|-"),
+        (1, false, b"ab|ba"),
+        (3, false, b"ab|-"),
+        (1, false, b"-|ab"),
+    ];
+    for (ballots, absent, text) in rows {
+        let space = domain(&rt, 2, 2, ballots, absent);
+        assert_eq!(rt; space.read_profile(text), Err(NotAProfile));
+    }
+}
+
+#[test]
+fn every_number_of_a_domain_is_that_of_its_text(rt: HostRuntime) {
+    // 4 of 6 rankings, 2 of 6, 26 of 120, and all of one alternative
+    for (voters, alternatives, ballots, absent) in [
+        (3, 3, 45, false),
+        (3, 3, 45, true),
+        (2, 3, 18, true),
+        (2, 5, 0x3ff_ffff, true),
+        (8, 1, 1, true),
+    ] {
+        let space = domain(&rt, voters, alternatives, ballots, absent);
+        for p in 0..space.count() {
+            let text = space.profile_text(p);
+            assert_eq!(rt; space.read_profile(text.bytes()), Ok(p), "profile {p}");
+        }
+        for b in 0..space.ballots() {
+            let text = space.ballot_text(b);
+            assert_eq!(rt; space.read_ballot(text.bytes()), Some(b), "ballot {b}");
+        }
+    }
+}
+
+/// Three voters who cast abc, bac, bca or cba, or are absent.
+fn four_ballots_and_absence(rt: &impl Abort) -> Space {
+    domain(rt, 3, 3, 45, true)
+}
+
+// At profile 73 voter 1 casts bca, voter 2 is absent, and voter 3 casts cba: 73 = 2 * 25 + 4 * 5 + 3.
+#[test]
+fn votes_around_an_absent_voter(rt: HostRuntime) {
+    let space = four_ballots_and_absence(&rt);
+    assert!(rt; space.count() == 124);
+    assert!(rt; space.size().voters() == 3);
+    assert!(rt; space.size().alternatives() == 3);
+    assert_eq!(rt; space.profile_text(73).bytes(), b"bca|-|cba".as_slice());
+    // x, y, whether voter 1, voter 2, voter 3 and the majority have x above y
+    let rows = [
+        (0, 1, false, false, false),
+        (1, 0, true, true, true),
+        (1, 2, true, false, false),
+        (2, 1, false, true, false),
+        (2, 0, true, true, true),
+        (0, 0, false, false, false),
+    ];
+    for (x, y, first, third, most) in rows {
+        assert!(rt; x < 3);
+        assert!(rt; y < 3);
+        assert_eq!(rt; space.prefers(0, x, y, 73), first, "{x} above {y}");
+        assert!(rt; !space.prefers(1, x, y, 73), "{x} above {y}");
+        assert_eq!(rt; space.prefers(2, x, y, 73), third, "{x} above {y}");
+        assert_eq!(rt; space.majority(x, y, 73), most, "{x} above {y}");
+    }
+}
+
+#[test]
+fn casts_around_an_absent_voter(rt: HostRuntime) {
+    let space = four_ballots_and_absence(&rt);
+    assert!(rt; space.count() == 124);
+    assert!(rt; space.size().voters() == 3);
+    assert!(rt; space.ballots() == 4);
+    assert!(rt; space.casts(0, 2, 73));
+    assert!(rt; space.casts(2, 3, 73));
+    for b in 0..4 {
+        assert!(rt; !space.casts(1, b, 73), "ballot {b}");
+    }
+    assert_eq!(rt; space.ballot_of(73, 1), 4, "absent");
+    assert_eq!(rt; space.with(73, 1, 0), 53, "bca|abc|cba");
+    assert_eq!(rt; space.with(73, 2, 1), 71, "bca|-|bac");
+    assert_eq!(rt; space.swap_voters(73, 0, 1), 113, "-|bca|cba");
+    assert_eq!(rt; space.swap_voters(73, 2, 0), 97, "cba|-|bca");
+}
+
+// At abc|-|- the one voter who is there is a majority, and two absent voters exchange nothing.
+#[test]
+fn one_voter_of_three_is_there(rt: HostRuntime) {
+    let space = four_ballots_and_absence(&rt);
+    assert!(rt; space.count() == 124);
+    assert!(rt; space.size().voters() == 3);
+    assert!(rt; space.size().alternatives() == 3);
+    assert_eq!(rt; space.profile_text(24).bytes(), b"abc|-|-".as_slice());
+    assert!(rt; space.majority(0, 2, 24));
+    assert!(rt; !space.majority(2, 0, 24));
+    assert_eq!(rt; space.swap_voters(24, 1, 2), 24);
+    assert_eq!(rt; space.swap_voters(24, 0, 2), 120, "-|-|abc");
+}
+
+// Whatever a size's ballots are: among all rankings acb has place 1 and cab place 4.
+#[test]
+fn rankings_by_place(rt: HostRuntime) {
+    for (alternatives, count) in [(0, 1), (1, 1), (2, 2), (3, 6), (4, 24), (5, 120)] {
+        assert!(rt; alternatives <= 5);
+        assert_eq!(rt; ranking_count(alternatives), count);
+    }
+    assert_eq!(rt; place_of(3, b"acb"), Some(1));
+    assert_eq!(rt; place_of(3, b"cab"), Some(4));
+    assert_eq!(rt; place_of(3, b"caa"), None);
+    assert_eq!(rt; place_of(4, b"cab"), None);
+    assert_eq!(rt; ranking_text(3, 4).bytes(), b"cab".as_slice());
+    assert_eq!(rt; ranking_text(4, 6).bytes(), b"bacd".as_slice());
+    assert!(rt; is_above(3, 4, 2, 0));
+    assert!(rt; !is_above(3, 4, 1, 0));
+    assert!(rt; !is_above(3, 4, 0, 0));
 }

@@ -1,4 +1,4 @@
-//! Equalities under two quantifiers, each resolved for two voters and two alternatives.
+//! Equalities, each resolved for two voters and two alternatives.
 
 use crate::{SortFault, resolve};
 use profiles::Space;
@@ -36,5 +36,40 @@ fn an_inner_variable_hides_an_outer_one(rt: HostRuntime) -> Result<(), Fail> {
 fn an_unbound_variable_is_named(rt: HostRuntime) -> Result<(), Fail> {
     let fault = equality(rt.alloc(), b"y")?.err();
     assert_eq!(rt; fault, Some(SortFault::Unbound(word(b"y")?)));
+    Ok(())
+}
+
+/// What `LETTERS = LETTERS` resolves to where the ballots of some places may be cast, or its fault.
+fn ballot(
+    alloc: Global,
+    letters: &[u8],
+    ballots: u128,
+) -> Result<Result<Formula, SortFault>, Fail> {
+    let size = Size::with_domain(Kind::Choice, 2, 2, ballots, false)?;
+    let letters = word(letters)?;
+    let sentence = Named::Equal(NamedTerm::Ballot(letters), NamedTerm::Ballot(letters));
+    Ok(resolve(alloc, &sentence, &Space::new(size)))
+}
+
+// A ballot constant is its number among the ballots that may be cast: ba is ballot 1 of ab and ba, and ballot 0 where it
+// stands alone.
+#[test]
+fn ballots_are_those_that_may_be_cast(rt: HostRuntime) -> Result<(), Fail> {
+    let both = ballot(rt.alloc(), b"ba", 3)??;
+    assert!(rt;
+        matches!(
+            both,
+            Formula::Leaf(Atom::Equal(Term::Const(1), Term::Const(1)))
+        )
+    );
+    let alone = ballot(rt.alloc(), b"ba", 2)??;
+    assert!(rt;
+        matches!(
+            alone,
+            Formula::Leaf(Atom::Equal(Term::Const(0), Term::Const(0)))
+        )
+    );
+    let none = ballot(rt.alloc(), b"ab", 2)?;
+    assert!(rt; matches!(none, Err(SortFault::Constant(_))));
     Ok(())
 }

@@ -1,12 +1,13 @@
 //! Documents, and the study or the fault that each of them gives.
 
 use crate::faults::StudyFault;
+use crate::limits::opened;
 use crate::reading::read_study;
 use sorts::SortFault;
 use std::alloc::{AllocError, Global};
 use std::test::Fail;
 use syntax::SyntaxFault;
-use vocab::{Name, SizeFault, Study};
+use vocab::{Atom, Axiom, Formula, Kind, Name, Size, SizeFault, Study, Term};
 
 const PLAIN: &str = "kind = 'choice'\nvoters = 2\nalternatives = 3\naxioms = ['pareto']\n";
 
@@ -321,6 +322,37 @@ fn studies_have_few_axioms(rt: HostRuntime) -> Result<(), Fail> {
         let text = repeated(alloc, count)?;
         let found = answer(alloc, text.as_bytes())?;
         assert_eq!(rt; found.as_str(), want);
+    }
+    Ok(())
+}
+
+/// An axiom on profile 0 with a and b exchanged.
+fn exchange(alloc: Global) -> Result<Axiom, Fail> {
+    let (x, y) = (
+        Box::new(alloc, Term::Const(0))?,
+        Box::new(alloc, Term::Const(1))?,
+    );
+    let moved = Term::SwapAlts(Box::new(alloc, Term::Const(0))?, x, y);
+    let sentence = Formula::Leaf(Atom::Wins(Term::Const(0), moved));
+    Ok(Axiom::new(Name::new(b"moved").ok_or("a name")?, sentence))
+}
+
+#[test]
+fn alternatives_are_exchanged_where_all_rankings_may_be_cast(rt: HostRuntime) -> Result<(), Fail> {
+    let axioms = [exchange(rt.alloc())?];
+    let moved = axioms[0].name();
+    for (ballots, absent, is_open) in [
+        (1, false, true),
+        (2, true, true),
+        (3, false, false),
+        (3, true, false),
+    ] {
+        let size = Size::with_domain(Kind::Choice, 2, 2, ballots, absent)?;
+        let answer = opened(size, &axioms);
+        let named = matches!(answer, Err(StudyFault::Open(name)) if name == moved);
+        assert_eq!(rt; named, is_open);
+        assert_eq!(rt; answer.is_ok(), !is_open);
+        assert!(rt; opened(size, &[]).is_ok());
     }
     Ok(())
 }

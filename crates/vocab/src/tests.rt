@@ -77,38 +77,101 @@ fn sorts_have_their_lengths(rt: HostRuntime) -> Result<(), Fail> {
     Ok(())
 }
 
+/// The size of these numbers, or its fault, which the prover need not compute.
+fn domain(voters: i64, alternatives: i64, ballots: u128, absent: bool) -> Result<Size, SizeFault> {
+    Size::with_domain(Kind::Choice, voters, alternatives, ballots, absent)
+}
+
+// Digit j of the ballots stands for the j-th ranking: 1 is ab of two alternatives, 3 is ab and ba, and 45 is abc, bac, bca
+// and cba of three. With absence there are (B + 1)^n - 1 profiles, since some voter is there.
 #[test]
-fn sizes_have_domains(rt: HostRuntime) -> Result<(), Fail> {
-    let peaks = Size::with_domain(Kind::Choice, 3, 3, 45, false)
-        .ok()
-        .ok_or("a size")?;
-    assert_eq!(rt; peaks.sort_len(Sort::Ballot), 4);
-    assert_eq!(rt; peaks.sort_len(Sort::Profile), 64);
-    assert_eq!(rt; peaks.ballots(), 45);
-    assert!(rt; !peaks.has_all_ballots() && !peaks.full() && !peaks.absent());
-    let absent = Size::with_domain(Kind::Ranking, 2, 2, 3, true)
-        .ok()
-        .ok_or("a size")?;
-    assert_eq!(rt; absent.sort_len(Sort::Profile), 8);
-    assert!(rt; absent.has_all_ballots() && !absent.full() && absent.absent());
-    let all = (1 << 120) - 1;
-    assert!(rt;
-        Size::with_domain(Kind::Choice, 2, 5, all, false) == Size::check(Kind::Choice, 2, 5)
-    );
-    for (voters, alternatives, ballots, absent, fault) in [
-        (0, 0, 0, false, SizeFault::Voters(0)),
-        (1, 6, 0, false, SizeFault::Alternatives(6)),
-        (8, 5, 0, true, SizeFault::Domain),
-        (1, 2, 4, false, SizeFault::Domain),
-        (2, 5, 1 << 120, false, SizeFault::Domain),
-        (8, 5, all, true, SizeFault::Profiles(45_949_729_863_572_160)),
+fn domains_have_their_lengths(rt: HostRuntime) -> Result<(), Fail> {
+    for (voters, alternatives, ballots, absent, count, profiles) in [
+        (1, 2, 1, false, 1, 1),
+        (3, 2, 2, false, 1, 1),
+        (1, 2, 1, true, 1, 1),
+        (3, 2, 1, true, 1, 7),
+        (2, 2, 3, false, 2, 4),
+        (2, 2, 3, true, 2, 8),
+        (8, 1, 1, true, 1, 255),
+        (3, 3, 45, false, 4, 64),
+        (3, 3, 45, true, 4, 124),
+        (3, 5, 0x3ff_ffff, true, 26, 19_682),
+        (2, 5, (1 << 120) - 1, true, 120, 14_640),
     ] {
-        assert!(rt;
-            Size::with_domain(Kind::Choice, voters, alternatives, ballots, absent) == Err(fault),
-            "{voters} {alternatives}"
-        );
+        let size = domain(voters, alternatives, ballots, absent)
+            .ok()
+            .ok_or("a size")?;
+        assert_eq!(rt; size.sort_len(Sort::Ballot), count);
+        assert_eq!(rt; size.sort_len(Sort::Profile), profiles);
+        assert_eq!(rt; size.ballots(), ballots);
+        assert_eq!(rt; size.absent(), absent);
     }
     Ok(())
+}
+
+#[test]
+fn domains_are_full_or_not(rt: HostRuntime) -> Result<(), Fail> {
+    for (alternatives, ballots, absent, all, full) in [
+        (1, 1, false, true, true),
+        (1, 1, true, true, false),
+        (2, 1, false, false, false),
+        (2, 3, false, true, true),
+        (2, 3, true, true, false),
+        (3, 45, false, false, false),
+        (3, 45, true, false, false),
+        (3, 63, false, true, true),
+    ] {
+        let size = domain(2, alternatives, ballots, absent)
+            .ok()
+            .ok_or("a size")?;
+        assert_eq!(rt; size.has_all_ballots(), all);
+        assert_eq!(rt; size.full(), full);
+    }
+    Ok(())
+}
+
+#[test]
+fn all_ballots_are_the_default(rt: HostRuntime) {
+    for (voters, alternatives, ballots) in [
+        (8, 1, 1),
+        (8, 2, 3),
+        (5, 3, 63),
+        (2, 5, (1 << 120) - 1),
+    ] {
+        assert!(rt;
+            domain(voters, alternatives, ballots, false)
+                == Size::check(Kind::Choice, voters, alternatives)
+        );
+    }
+}
+
+// The upper rows have a later fault too; the lower ones are on the edge of their own.
+#[test]
+fn domains_have_faults_in_order(rt: HostRuntime) {
+    for (voters, alternatives, ballots, absent, fault) in [
+        (0, 0, 0, false, SizeFault::Voters(0)),
+        (9, 6, u128::MAX, true, SizeFault::Voters(9)),
+        (8, 0, 0, true, SizeFault::Alternatives(0)),
+        (8, 6, u128::MAX, true, SizeFault::Alternatives(6)),
+        (8, 5, u128::MAX, true, SizeFault::Domain),
+        (8, 5, 0, true, SizeFault::Domain),
+        (1, 2, 0, false, SizeFault::Domain),
+        (1, 2, 4, false, SizeFault::Domain),
+        (1, 2, 7, false, SizeFault::Domain),
+        (2, 5, 1 << 120, false, SizeFault::Domain),
+        (3, 5, 0x7ff_ffff, true, SizeFault::Profiles(21_951)),
+        (4, 4, 0x7ff, true, SizeFault::Profiles(20_735)),
+        (
+            8,
+            5,
+            (1 << 120) - 1,
+            true,
+            SizeFault::Profiles(45_949_729_863_572_160),
+        ),
+    ] {
+        assert!(rt; domain(voters, alternatives, ballots, absent) == Err(fault));
+    }
 }
 
 #[test]

@@ -1,4 +1,4 @@
-//! Rules of one voter and one alternative.
+//! Rules of one alternative.
 
 use crate::{Board, excludes, partial, truth};
 use lists::Items;
@@ -31,5 +31,19 @@ fn what_is_on_the_board_is_known(rt: HostRuntime) -> Result<(), Fail> {
     assert!(rt; excludes(&kind, &board, 0));
     board.remove(&Literal::Loses(0, 0));
     assert!(rt; !excludes(&kind, &board, 0));
+    Ok(())
+}
+
+// Of two voters with the one ballot a, who may be absent, the second is absent at profile 1, a|-.
+#[test]
+fn an_absent_voter_casts_nothing(rt: HostRuntime) -> Result<(), Fail> {
+    let size = Size::with_domain(Kind::Choice, 2, 1, 1, true)?;
+    let kind = ChoiceKind::new(Space::new(size));
+    let mut table = Items::new(rt.alloc());
+    table.append(&[0, 0, 0])?;
+    let first = Formula::Leaf(Atom::Casts(Term::Const(0), Term::Const(0), Term::Const(1)));
+    assert!(rt; truth(&kind, &table, &first, &Env::none()));
+    let second = Formula::Leaf(Atom::Casts(Term::Const(1), Term::Const(0), Term::Const(1)));
+    assert!(rt; !truth(&kind, &table, &second, &Env::none()));
     Ok(())
 }
