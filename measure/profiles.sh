@@ -3,7 +3,8 @@
 # Each call goes over all profiles of four sizes and all other arguments, 20 times; each program runs 5 times, and the
 # shortest run counts. `ballots` is `ballot_of` and `casts`, `texts` writes the text of a profile and reads it back, and so does
 # `ballot_texts` that of a ballot. The answers are compared too. The last size has about a million calls of most.
-# The calls of the crate are made by a program that is proved and built in a copy of the repository.
+# The calls of the crate are made by a program that is proved and built in a copy of the repository (over what an earlier
+# check of these crates left, if anything).
 # The last line is `ratio R`: the time of all calls by that of plain Rust.
 set -eu
 root=$(cd -- "$(dirname -- "$(readlink -f -- "${BASH_SOURCE[0]}")")/.." && pwd)
@@ -12,19 +13,41 @@ trap 'rm -rf "$work"' EXIT
 mkdir -p "$work/copy/crates"
 for name in lists vocab cnf meaning profiles; do
     mkdir "$work/copy/crates/$name"
-    cp -r "$root/crates/$name/src" "$root/crates/$name/specs" "$root/crates/$name/proofs" "$work/copy/crates/$name/" 2>/dev/null || true
+    cp -r "$root/crates/$name/src" "$root/crates/$name/specs" "$root/crates/$name/proofs" "$root/crates/$name/out" "$work/copy/crates/$name/" 2>/dev/null || true
     grep -E "^$name( .*)?:" "$root/crates.txt" >>"$work/copy/crates.txt"
 done
 echo "profile_calls: vocab profiles" >>"$work/copy/crates.txt"
-mkdir -p "$work/copy/crates/profile_calls/src"
+mkdir -p "$work/copy/crates/profile_calls/src" "$work/copy/crates/profile_calls/proofs/voted"
+cat >"$work/copy/crates/profile_calls/proofs/voted/Answers.antt" <<'ANTT'
+use Rattle.std.proofs.Common.{◌<◌, ◌+◌, ◌≡◌, cond, subst, Bool, ℕ}
+use Rattle.vocab.specs.Size.{ballot_count}
+use Rattle.profile_calls.proofs.voted.Goals as goal
+
+pub returns : goal.returns
+returns c = subst (λ (absent : Bool). c.ballot_of.result < cond absent (ballot_count c.args.space.now + 1) (ballot_count c.args.space.now)) c.requires.present c.ballot_of.ensures.in_range
+ANTT
 cat >"$work/copy/crates/profile_calls/src/main.rt" <<'RT'
 // Nanoseconds for calls of a space.
 #![tactic(auto)]
+
+ghost use Rattle.std.specs.Prelude.{◌≡◌, ◌<◌, false};
+ghost use Rattle.vocab.specs.declared.kinds.Sort.TheVariants.{Ballot, Profile};
+ghost use Rattle.vocab.specs.Size.{sort_count};
 
 use profiles::Space;
 use std::io;
 use std::time::Instant;
 use vocab::{Kind, Size};
+
+// The ballot of a voter, where nobody may be absent.
+fn voted(space: &Space, p: u32, i: u32) -> u32
+    requires present { space.now.absent ≡ false }
+    requires profile { p < sort_count space.now Profile }
+    requires voter { i < space.now.voters }
+    ensures { result < sort_count space.now Ballot }
+{
+    space.ballot_of(p, i)
+}
 
 fn prefers(space: &Space) -> u32 {
     let voters = space.size().voters() as u32;
@@ -56,6 +79,9 @@ fn majority(space: &Space) -> u32 {
 }
 
 fn swap_alts(space: &Space) -> u32 {
+    if !space.size().has_all_ballots() {
+        return 0;
+    }
     let alternatives = space.size().alternatives() as u32;
     let mut sum: u32 = 0;
     for x in 0..alternatives {
@@ -82,12 +108,15 @@ fn swap_voters(space: &Space) -> u32 {
 }
 
 fn ballots(space: &Space) -> u32 {
+    if space.size().absent() {
+        return 0;
+    }
     let voters = space.size().voters() as u32;
     let mut sum: u32 = 0;
     for i in 0..voters {
         for j in 0..voters {
             for p in 0..space.count() {
-                let ballot = space.ballot_of(p, i);
+                let ballot = voted(space, p, i);
                 let cast = ballot.wrapping_add(space.casts(j, ballot, p) as u32);
                 sum = sum.wrapping_mul(31).wrapping_add(cast);
             }
@@ -97,6 +126,9 @@ fn ballots(space: &Space) -> u32 {
 }
 
 fn better(space: &Space) -> u32 {
+    if space.size().absent() {
+        return 0;
+    }
     let voters = space.size().voters() as u32;
     let alternatives = space.size().alternatives() as u32;
     let mut sum: u32 = 0;
@@ -104,7 +136,7 @@ fn better(space: &Space) -> u32 {
         for y in 0..alternatives {
             for i in 0..voters.min(1) {
                 for p in 0..space.count() {
-                    let ballot = space.ballot_of(p, i);
+                    let ballot = voted(space, p, i);
                     sum = sum.wrapping_mul(31).wrapping_add(space.better(ballot, x, y) as u32);
                 }
             }
@@ -114,12 +146,15 @@ fn better(space: &Space) -> u32 {
 }
 
 fn with(space: &Space) -> u32 {
+    if space.size().absent() {
+        return 0;
+    }
     let voters = space.size().voters() as u32;
     let mut sum: u32 = 0;
     for i in 0..voters {
         for j in 0..voters {
             for p in 0..space.count() {
-                let ballot = space.ballot_of(p, i);
+                let ballot = voted(space, p, i);
                 sum = sum.wrapping_mul(31).wrapping_add(space.with(p, j, ballot));
             }
         }
@@ -143,11 +178,14 @@ fn swap(space: &Space) -> u32 {
 }
 
 fn ballot_texts(space: &Space) -> u32 {
+    if space.size().absent() {
+        return 0;
+    }
     let voters = space.size().voters() as u32;
     let mut sum: u32 = 0;
     for i in 0..voters.min(1) {
         for p in 0..space.count() {
-            let text = space.ballot_text(space.ballot_of(p, i));
+            let text = space.ballot_text(voted(space, p, i));
             let read = match space.read_ballot(text.bytes()) {
                 Some(ballot) => ballot,
                 None => 1,

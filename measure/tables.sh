@@ -12,7 +12,7 @@ trap 'rm -rf "$work"' EXIT
 mkdir -p "$work/copy/crates"
 for name in lists vocab cnf meaning profiles outcomes worlds; do
     mkdir "$work/copy/crates/$name"
-    cp -r "$root/crates/$name/src" "$root/crates/$name/specs" "$root/crates/$name/proofs" "$work/copy/crates/$name/" 2>/dev/null || true
+    cp -r "$root/crates/$name/src" "$root/crates/$name/specs" "$root/crates/$name/proofs" "$root/crates/$name/out" "$work/copy/crates/$name/" 2>/dev/null || true
     grep -E "^$name( .*)?:" "$root/crates.txt" >>"$work/copy/crates.txt"
 done
 echo "failure_calls: lists vocab profiles outcomes worlds" >>"$work/copy/crates.txt"
