@@ -4,7 +4,7 @@ ghost use Rattle.std.specs.Prelude.{◌≡◌, ℕ, ◌+◌, ◌<◌, ◌≤◌,
 ghost use Rattle.std.specs.Option.{option_map};
 ghost use Rattle.propagate.specs.Values.{value_in, IsUnassigned, AllFail, IsLastLeft, StaysWithin, StartsAtOne};
 ghost use Rattle.propagate.specs.Entries.{entry_of, up_to};
-ghost use Rattle.propagate.specs.TrailState.{TrailState, IsTrail, known, clause_at, IsLearnable};
+ghost use Rattle.propagate.specs.TrailState.{TrailState, IsTrail, known, clause_at, IsLearnable, empty_over, learned, decided, forced_by, cut_to};
 ghost use Rattle.propagate.specs.Scan.{Stands};
 ghost use Rattle.propagate.specs.Outcome.{Ends};
 
@@ -43,7 +43,7 @@ impl Assignment {
     pub fn new(alloc: Global, clauses: &Clauses, variables: u32) -> Result<Assignment, NoMemory>
         requires { All (StaysWithin variables) clauses.now.clauses }
         ensures form { IfOk result IsTrail }
-        ensures state { IfOk result (λ t. t ≡ record { clauses = clauses.now.clauses; variables = variables; entries = []; level = 0; settled = false; watches = [] }) }
+        ensures state { IfOk result (λ t. t ≡ empty_over clauses.now.clauses variables) }
     {
         let _count = clauses.len();
         let store = copied(alloc, clauses)?;
@@ -66,7 +66,7 @@ impl Assignment {
         requires learnable { IsLearnable self.old clause.now }
         ensures form { IsTrail self.new }
         ensures number { IfOk result (λ k. k ≡ length self.old.clauses) }
-        ensures state { OnOk result (self.new ≡ record self.old { clauses = self.old.clauses ++ clause.now ∷ []; settled = false }) }
+        ensures state { OnOk result (self.new ≡ learned self.old clause.now) }
         ensures err { OnErr result (self.new ≡ self.old) }
     {
         read(clause);
@@ -82,7 +82,7 @@ impl Assignment {
         requires unassigned { IsUnassigned (known self.old) lit }
         requires settled { self.old.settled ≡ true }
         ensures form { IsTrail self.new }
-        ensures state { self.new ≡ record self.old { entries = self.old.entries ++ record { literal = lit; level = self.old.level + 1; reason = None } ∷ []; level = self.old.level + 1; settled = false } }
+        ensures state { self.new ≡ decided self.old lit }
     {
         let _variable = lit.variable();
         let level = self.level + 1;
@@ -100,7 +100,7 @@ impl Assignment {
     pub fn back_to(&mut self, level: u32)
         requires { level ≤ self.old.level }
         ensures form { IsTrail self.new }
-        ensures state { self.new ≡ record self.old { entries = up_to level self.old.entries; level = level; settled = false } }
+        ensures state { self.new ≡ cut_to self.old level }
         ensures front { up_to level self.old.entries ≡ take (length (up_to level self.old.entries)) self.old.entries }
     {
         marks::cut_back(&mut self.marks, &mut self.entries, level);
@@ -242,7 +242,7 @@ impl Assignment {
         requires clause { k < length self.old.clauses }
         requires unit { IsLastLeft (known self.old) (clause_at self.old k) lit }
         ensures form { IsTrail self.new }
-        ensures state { self.new ≡ record self.old { entries = self.old.entries ++ record { literal = lit; level = self.old.level; reason = Some k } ∷ []; settled = false } }
+        ensures state { self.new ≡ forced_by self.old lit k }
     {
         let _variable = lit.variable();
         let e = Entry {
