@@ -1,6 +1,6 @@
-// The search of crate `cdcl` in plain Rust, the same algorithm step by step: scanning propagation, the clause of the first
-// unique implication point, a jump to its assertion level, the least variable first, false first. Prints the answer and the
-// nanoseconds of the search.
+// A search for an assignment in plain Rust, by the textbook: scanning propagation, the clause of the first unique implication
+// point, a jump to its assertion level, the least variable first, false first. Crate `cdcl` once ran it step by step; now it is
+// the fixed baseline of measure/search.sh. Prints the answer and the nanoseconds of the search.
 use std::time::Instant;
 
 #[derive(Clone, Copy, PartialEq, Eq)]

@@ -6,9 +6,8 @@ ghost use Rattle.cnf.specs.Derived.{IsAccepted};
 ghost use Rattle.cnf.specs.Fresh.{AreOver};
 ghost use Rattle.propagate.specs.Entries.{up_to};
 ghost use Rattle.propagate.specs.Values.{value_in, StaysWithin};
-ghost use Rattle.propagate.specs.TrailState.{IsTrail, IsClosed, known, clause_at};
+ghost use Rattle.propagate.specs.TrailState.{IsTrail, IsClosed, cut_to, known, clause_at};
 ghost use Rattle.cdcl.specs.Hints.{FollowsBy};
-ghost use Rattle.cdcl.specs.Lesson.{cut_to};
 ghost use Rattle.cdcl.specs.Order.{HasAll, IsChosen, IsHeld};
 ghost use Rattle.cdcl.specs.Search.{RestsBelow, Descends, IsComplete, IsSearching, AreNumbered};
 ghost use Rattle.cdcl.specs.Answer.{Answers, IsConclusive, IsFirstEmpty, citing};
@@ -158,7 +157,7 @@ fn go_back(trail: &mut Trail, order: &mut Order, variables: u32, level: u32)
     requires level { level ≤ trail.old.level }
     ensures all { HasAll trail.new order.new variables }
     ensures form { IsTrail trail.new }
-    ensures state { trail.new ≡ record trail.old { entries = up_to level trail.old.entries; level = level; settled = false } }
+    ensures state { trail.new ≡ cut_to trail.old level }
 {
     put_back(trail, order, variables, level);
     trail.back_to(level);

@@ -13,7 +13,8 @@ use Rattle.cnf.specs.Trimmed.{are_hints_trimmed, is_cited_by, is_empty_clause, i
 use Rattle.lrat_check.specs.Trim.{needed_hints, hints_of, Kept, cites_id, keep_line, keep_step, kept_lines, number_in, renumbered, trimmed}
 use Rattle.lrat_check.specs.Laws.{is_each_added}
 use Rattle.lrat_check.proofs.NeededLaws.{cites, needed_trimmed}
-use Rattle.lrat_check.proofs.Kept.{some_same, under_without, hints_more, line_plain, IsAdded, added_from}
+use Rattle.lrat_check.proofs.LiteralLaws.{some_same}
+use Rattle.lrat_check.proofs.Kept.{under_without, hints_more, line_plain, IsAdded, added_from}
 
 -- the standing clauses with one more, under an id that is not its own
 under_other : (k id : ℕ) (d : Clause) (standing : Standing) → (k == id) ≡ false → (c : Clause) → clause_under ((k, d) ∷ standing) id ≡ Some c → clause_under standing id ≡ Some c

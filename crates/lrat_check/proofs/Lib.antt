@@ -1,4 +1,4 @@
-pub mod HintLaws
+pub mod LiteralLaws
 pub mod NeededLaws
 pub mod Kept
 pub mod KeptLines
