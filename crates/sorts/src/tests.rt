@@ -14,15 +14,19 @@ fn word(text: &[u8]) -> Result<Name, Fail> {
 fn equality(alloc: Global, name: &[u8]) -> Result<Result<Formula, SortFault>, Fail> {
     let size = Size::check(Kind::Choice, 2, 2)?;
     let (left, right) = (word(name)?, word(b"x")?);
-    let part = Named::Equal(NamedTerm::Var(left), NamedTerm::Var(right));
-    let inner = Named::All(word(b"x")?, Sort::Profile, Box::new(alloc, part)?);
-    let sentence = Named::All(word(b"x")?, Sort::Alt, Box::new(alloc, inner)?);
+    let (inside, outside) = (word(b"x")?, word(b"x")?);
+    let part = Box::new(
+        alloc,
+        Named::Equal(NamedTerm::Var(left), NamedTerm::Var(right)),
+    )?;
+    let inner = Box::new(alloc, Named::All(inside, Sort::Profile, part))?;
+    let sentence = Box::new(alloc, Named::All(outside, Sort::Alt, inner))?;
     Ok(resolve(alloc, &sentence, &Space::new(size)))
 }
 
 #[test]
 fn an_inner_variable_hides_an_outer_one(rt: HostRuntime) -> Result<(), Fail> {
-    let formula = equality(rt.alloc(), b"x")??;
+    let formula = Box::new(rt.alloc(), equality(rt.alloc(), b"x")??)?;
     assert!(rt;
         matches!(
             formula.body(),
