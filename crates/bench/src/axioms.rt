@@ -1,8 +1,8 @@
-//! The text of the library of axioms.
+//! The command `axioms`: the text of the library.
 
 ghost use Rattle.std.specs.Prelude.{◌≡◌, ◌++◌, ◌<◌, length, OnOk, IfOk, IsSomeAnd, slice_get};
 ghost use Rattle.axiom_library.specs.Library.{library};
-ghost use Rattle.bench.specs.LibraryText.{entry_line, library_text};
+ghost use Rattle.answers.specs.Axioms.{entry_line, library_text};
 
 use axiom_library::{count, name_at, text_at};
 use edge::Bytes;
