@@ -1,5 +1,5 @@
 -- From the answer of a command to the promises of a call.
-use Rattle.std.proofs.Common.{◌≡◌, ◌≢◌, ◌∙◌, sym, refl, subst, ap, ℕ, ◌≤◌, ◌⊎◌, inl, inr, cond, Bool, true, false, ◌||◌, List, [], ◌∷◌, ◌++◌, length, take, take_all, le_refl, Option, None, Some, Result, Ok, Err, OnErr, IsSomeAnd, arith, true≢false}
+use Rattle.std.proofs.Common.{◌≡◌, ◌≢◌, ◌∙◌, sym, refl, subst, ap, ℕ, ◌≤◌, inl, inr, cond, Bool, true, false, ◌||◌, List, [], ◌∷◌, ◌++◌, length, take, take_all, le_refl, Option, None, Some, Result, Ok, Err, OnErr, IsSomeAnd, arith}
 use Rattle.std.specs.Prelude.{◌==◌, IsTrue, IsFalse}
 use Rattle.std.specs.List.{list_any}
 use Rattle.std.specs.Str.{bytes_eq}

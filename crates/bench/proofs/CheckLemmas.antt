@@ -1,5 +1,5 @@
 -- `check`, from what each part promises to what the command does.
-use Rattle.std.proofs.Common.{◌≡◌, ◌≢◌, ◌∙◌, sym, refl, subst, ℕ, ◌≤◌, true, false, ◌||◌, true≢false, List, [], ◌∷◌, Option, None, Some, IfSome, Result, Ok, Err, IfOk, IsErrOf, arith, eq-eqb, zero, suc}
+use Rattle.std.proofs.Common.{◌≡◌, ◌≢◌, ◌∙◌, sym, refl, subst, ℕ, ◌≤◌, true, false, true≢false, List, [], ◌∷◌, Option, None, Some, IfSome, Result, Ok, Err, IfOk, IsErrOf, arith, eq-eqb, zero, suc}
 use Rattle.std.specs.Prelude.{◌==◌}
 use Rattle.std.specs.List.{list_any}
 use Rattle.std.specs.Str.{bytes_eq}

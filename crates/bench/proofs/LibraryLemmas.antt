@@ -1,5 +1,5 @@
 -- Lines for the axioms of a library, one after another.
-use Rattle.std.proofs.Common.{◌≡◌, sym, ap, subst, ◌∙◌, ℕ, zero, suc, ◌+◌, List, [], ◌∷◌, ◌++◌, take, slice_get, Option, Some, IsSomeAnd, append-nil, append_assoc, arith}
+use Rattle.std.proofs.Common.{◌≡◌, sym, ap, ◌∙◌, ℕ, zero, suc, ◌+◌, List, [], ◌∷◌, ◌++◌, take, slice_get, Some, IsSomeAnd, append-nil, append_assoc, arith}
 use Rattle.std.specs.List.{flat_map}
 use Rattle.bench.proofs.AnswerLemmas.{some_and}
 

@@ -1,8 +1,7 @@
 -- A study that was read, or refused.
-use Rattle.std.proofs.Common.{◌≡◌, ◌≢◌, ◌∙◌, sym, refl, subst, ℕ, ◌<◌, ◌≤◌, List, length, codes, Option, None, Some, IfSome, IsSomeAnd, Result, Ok, Err, IfOk, IsErrOf}
+use Rattle.std.proofs.Common.{◌≡◌, subst, ℕ, ◌<◌, ◌≤◌, List, length, codes, Option, Some, IfSome, IsSomeAnd, Err}
 use Rattle.edge.specs.Shelf.{Files}
 use Rattle.study.specs.declared.faults.StudyFault.{StudyFault}
-use Rattle.study.specs.declared.faults.StudyFault.TheVariants.{NoMemory as OutOfMemory}
 use Rattle.study.specs.Reading.{IsStudyOf}
 use Rattle.answers.specs.Held.{most_study_bytes}
 use Rattle.answers.specs.StudyLines.{study_line}

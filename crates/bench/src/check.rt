@@ -34,7 +34,8 @@ fn check_by_kind<R: Threads + Sync, S: Shelf, G: Gate>(
     requires few { workers ≤ 16 }
     requires known { study.now.size.kind ≢ Sets }
     ensures worth { IfSome (S.files shelf.old) (λ files. IfOk result (IsWorthOf study.now files report.now)) }
-    ensures failed { IsErrOf result FileFault.Failed → Rose (S.faults shelf.old report.now) (S.faults shelf.new report.now) }
+    ensures failed { IsErrOf result FileFault.Failed →
+        Rose (S.faults shelf.old report.now) (S.faults shelf.new report.now) }
     ensures others { OthersStay (S.left shelf.old) (S.left shelf.new) report.now }
 {
     let space = Space::new(study.size());
@@ -67,7 +68,8 @@ fn judge_report<R: Threads + Sync, S: Shelf, G: Gate>(
     ensures judged { IfOk result (λ answer. (files : Files) → S.files shelf.old ≡ Some files →
         IsJudged files report.now study.now (run_of answer) (text_of answer)) }
     ensures status { IfOk result (λ answer. status_of answer ≤ 1) }
-    ensures fault { IsErrOf result Stop.ReadFault → Rose (S.faults shelf.old report.now) (S.faults shelf.new report.now) }
+    ensures fault { IsErrOf result Stop.ReadFault →
+        Rose (S.faults shelf.old report.now) (S.faults shelf.new report.now) }
     ensures others { OthersStay (S.left shelf.old) (S.left shelf.new) report.now }
 {
     match check_by_kind(rt, alloc, gate, workers, shelf, study, report) {

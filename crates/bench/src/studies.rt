@@ -24,7 +24,8 @@ pub enum Opened {
 /// Reads the study of a file.
 pub fn open_study<S: Shelf>(alloc: Global, shelf: &mut S, name: &str) -> Result<Opened, Stop>
     ensures opened { IfOk result (IsOpened (S.files shelf.old) name.now) }
-    ensures fault { IsErrOf result Stop.ReadFault → Rose (S.faults shelf.old name.now) (S.faults shelf.new name.now) }
+    ensures fault { IsErrOf result Stop.ReadFault →
+        Rose (S.faults shelf.old name.now) (S.faults shelf.new name.now) }
     ensures same { S.files shelf.new ≡ S.files shelf.old }
     ensures others { OthersStay (S.left shelf.old) (S.left shelf.new) name.now }
     ensures none_fell { NoneFell (S.faults shelf.old) (S.faults shelf.new) }

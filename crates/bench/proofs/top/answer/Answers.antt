@@ -1,6 +1,6 @@
 use Rattle.std.proofs.Common.{sym}
 use Rattle.words.specs.Words.{texts, request_of}
-use Rattle.bench.proofs.AnswerLemmas.{library_answer, usage_answer}
+use Rattle.bench.proofs.AnswerLemmas.{library_answer}
 use Rattle.bench.proofs.top.answer.Goals as goal
 
 pub returns-in-Ok-Some-Axioms : goal.returns-in-Ok-Some-Axioms
