@@ -1,54 +1,177 @@
--- From `check` to the answer, and what was written.
-use Rattle.std.proofs.Common.{◌≡◌, ℕ, ◌≤◌, List, length, take, take_all, Option, None, Some, IfSome, Result, Ok, Err, IfOk, OnErr, le_refl, subst, ◌∙◌}
+-- From the answer of a command to the promises of a call.
+use Rattle.std.proofs.Common.{◌≡◌, ◌≢◌, ◌∙◌, sym, refl, subst, ap, ℕ, ◌≤◌, inl, inr, cond, Bool, true, false, ◌||◌, List, [], ◌∷◌, ◌++◌, length, take, take_all, le_refl, Option, None, Some, Result, Ok, Err, OnErr, IsSomeAnd, arith}
+use Rattle.std.specs.Prelude.{◌==◌, IsTrue, IsFalse}
+use Rattle.std.specs.List.{list_any}
+use Rattle.std.specs.Str.{bytes_eq}
 use Rattle.std.specs.Io.KnownBytes.{Appends, Keeps}
 use Rattle.edge.specs.Shelf.{Files}
+use Rattle.edge.specs.Faults.{Rose}
 use Rattle.edge.specs.Told.{AppendsPrefix}
-use Rattle.bench.specs.declared.answers.Answer.{Answer}
-use Rattle.bench.specs.declared.answers.Stop.{Stop}
 use Rattle.vocab.specs.declared.kinds.Kind.{Kind}
-use Rattle.bench.specs.LibraryText.{library_text}
-use Rattle.bench.specs.Words.{Axioms, request_of, IsCheck}
-use Rattle.bench.specs.CheckTable.{Checked}
-use Rattle.bench.specs.Lawful.{Lawful, check, listed}
-use Rattle.bench.specs.TopCall.{Answered, AnsweredInPart, Says}
+use Rattle.words.specs.Words.{Request, Check, Axioms, request_of}
+use Rattle.answers.specs.declared.runs.Run.{Run}
+use Rattle.answers.specs.Runs.{IsBare, with_status}
+use Rattle.answers.specs.Lawful.{IsAnswer}
+use Rattle.answers.specs.Devices.{Devices}
+use Rattle.answers.specs.Call.{IsCall, HasReadCause, files_of, statuses_of, touched_at}
+use Rattle.bench.specs.declared.answer.Answer.{Answer}
+use Rattle.bench.specs.declared.answer.Answer.TheVariants.{Usage, Library}
+use Rattle.bench.specs.declared.answer.Stop.{Stop}
+use Rattle.bench.specs.declared.answer.Stop.TheVariants as stop
+use Rattle.bench.specs.Answers.{run_of, status_of, text_of}
+use Rattle.bench.specs.Answered.{Answers}
 
-pub check_row : (told : Option Files) (words : List (List ℕ)) (study report : List ℕ) (result : Result Answer Stop) → IsCheck words study report
-    → IfSome told (λ files. IfOk result (λ answer. Checked files study report answer.status answer.text))
-    → IfSome told (λ files. IfOk result (λ answer. Lawful words files answer.status answer.text))
-check_row None words study report result asked given = tt
-check_row (Some files) words study report (Err e) asked given = tt
-check_row (Some files) words study report (Ok answer) asked given = check study report asked given
+pub some_and : {A : Type 0} (r : Option A) (P : A → Type 0) → IsSomeAnd r P → (x : A) × (r ≡ Some x) × P x
+some_and None P h = absurd h
+some_and (Some x) P h = (x, refl, h)
 
--- the library, whatever the files
-pub listed_row : (told : Option Files) (words : List (List ℕ)) (kind : Kind) (status : ℕ) (text : List ℕ) → request_of words ≡ Some (Axioms kind) → status ≡ 0 → text ≡ library_text kind
-    → IfSome told (λ files. Lawful words files status text)
-listed_row None words kind status text asked a e = tt
-listed_row (Some files) words kind status text asked a e = listed kind asked a e
+-- ---- commands
 
--- what is written of the library
-pub listed_clause : (words : List (List ℕ)) (kind : Kind) (status : ℕ) (text : List ℕ) (a b : Option (List ℕ)) → (status ≡ 0) × (text ≡ library_text kind) → Appends a b text → Says status a b 0 (library_text kind)
-listed_clause words kind status text a b is written = (is.0, subst (λ (t : List ℕ). Appends a b t) is.1 written)
+-- each command may want memory, and its text may be cut short
+pub may_want_memory : (request : Option Request) → IsTrue (list_any (λ n. n == 7) (statuses_of request))
+may_want_memory None = refl
+may_want_memory (Some (Check study report workers)) = refl
+may_want_memory (Some (Axioms kind)) = refl
 
-pub listed_in_part : (text wanted : List ℕ) (a b : Option (List ℕ)) → text ≡ wanted → AppendsPrefix a b text → AppendsPrefix a b wanted
-listed_in_part text wanted a b is written = subst (λ (t : List ℕ). AppendsPrefix a b t) is written
+pub may_be_cut : (request : Option Request) → IsTrue (list_any (λ n. n == 6) (statuses_of request))
+may_be_cut None = refl
+may_be_cut (Some (Check study report workers)) = refl
+may_be_cut (Some (Axioms kind)) = refl
 
+module _ (request : Option Request) (told : Option Files) (left : Files) (faults : List ℕ → ℕ) where
+  -- want of memory, where the shelf is as it was
+  pub no_memory : Answers request told left left faults faults (Err stop.NoMemory)
+  no_memory = record {
+    lawful = λ files h. tt;
+    status = may_want_memory request;
+    low = tt;
+    read_fault = λ e. absurd (cc);
+    untouched = λ name free. refl;
+    uncounted = λ none name. refl;
+  }
+
+  -- an answer that read no file
+  pub bare_answer : (answer : Answer) → status_of answer ≤ 4 → IsTrue (list_any (λ s. s == status_of answer) (statuses_of request))
+      → ((files : Files) → IsAnswer request files (run_of answer) (text_of answer)) → Answers request told left left faults faults (Ok answer)
+  bare_answer answer low one lawful = record {
+    lawful = λ files h. lawful files;
+    status = one;
+    low = low;
+    read_fault = λ e. absurd (cc);
+    untouched = λ name free. refl;
+    uncounted = λ none name. refl;
+  }
+
+module _ (request : Option Request) (told : Option Files) (left : Files) (faults : List ℕ → ℕ) where
+  -- the library, for the words that ask for it
+  pub library_answer : (kind : Kind) → request ≡ Some (Axioms kind) → Answers request told left left faults faults (Ok (Library kind))
+  library_answer kind asked =
+      subst (λ (r : Option Request). Answers r told left left faults faults (Ok (Library kind))) (sym asked)
+      (bare_answer (Some (Axioms kind)) told left faults (Library kind) (omega arith) refl (λ files. (record { ends = refl; no_verdict = refl; no_logs = refl }, refl)))
+
+  -- the usage line, for words that are no command
+  pub usage_answer : request ≡ None → Answers request told left left faults faults (Ok Usage)
+  usage_answer asked =
+      subst (λ (r : Option Request). Answers r told left left faults faults (Ok Usage)) (sym asked)
+      (bare_answer None told left faults Usage (omega arith) refl (λ files. (record { ends = refl; no_verdict = refl; no_logs = refl }, refl)))
+
+-- ---- writing
+
+-- the whole of a piece is a front of it
 kept_all : (a b c : Option (List ℕ)) (p : List ℕ) → Appends a b p → Keeps b c → Appends a c (take (length p) p)
 kept_all None b c p h k = tt
-kept_all (Some a) None c p h k = absurd h
-kept_all (Some a) (Some b) None p h k = absurd k
-kept_all (Some a) (Some b) (Some c) p h k = rw (take_all (length p) p (le_refl (length p))) (k ∙ h)
+kept_all (Some xs) None c p h k = absurd h
+kept_all (Some xs) (Some ys) None p h k = absurd k
+kept_all (Some xs) (Some ys) (Some zs) p h k = k ∙ h ∙ ap (λ (t : List ℕ). xs ++ t) (sym (take_all (length p) p (le_refl (length p))))
 
 -- where a flush fails, the whole text was written
 pub flushed : {T E : Type 0} (r : Result T E) (a b c : Option (List ℕ)) (p : List ℕ) → Appends a b p → Keeps b c → OnErr r (AppendsPrefix a c p)
 flushed (Ok x) a b c p h k = tt
 flushed (Err e) a b c p h k = (length p, kept_all a b c p h k)
 
-pub answered : (told : Option Files) (words : List (List ℕ)) (s : ℕ) (t : List ℕ) (a b : Option (List ℕ)) → IfSome told (λ files. Lawful words files s t) → Appends a b t
-    → IfSome told (λ files. s ≤ 4 → Answered words files s a b)
-answered None words s t a b h k = tt
-answered (Some files) words s t a b h k = λ low. (t, h, k)
+-- ---- calls
 
-pub in_part : (told : Option Files) (words : List (List ℕ)) (s : ℕ) (t : List ℕ) (a b : Option (List ℕ)) → IfSome told (λ files. Lawful words files s t) → AppendsPrefix a b t
-    → IfSome told (λ files. AnsweredInPart words files a b)
-in_part None words s t a b h k = tt
-in_part (Some files) words s t a b h k = (s, t, h, k)
+not_in_front : (test : List ℕ → Bool) (s : ℕ) (names : List (List ℕ)) → list_any test names ≡ false → list_any test (touched_at s names) ≡ false
+not_in_front test s names free = by_status (s == 3) names free
+  where
+    first_alone : (names : List (List ℕ)) → list_any test names ≡ false → list_any test (take 1 names) ≡ false
+    first_alone [] free = refl
+    first_alone (name ∷ names) free = one (test name) (list_any test names) free
+      where
+        one : (a b : Bool) → (a || b) ≡ false → (a || false) ≡ false
+        one true b e = e
+        one false b e = refl
+
+    by_status : (b : Bool) (names : List (List ℕ)) → list_any test names ≡ false → list_any test (cond b (take 1 names) names) ≡ false
+    by_status true names free = first_alone names free
+    by_status false names free = free
+
+keeps : (o : Option (List ℕ)) → Keeps o o
+keeps None = tt
+keeps (Some xs) = refl
+
+module _ (words : List (List ℕ)) (d : Devices) where
+  abbrev Held : Result Answer Stop → Type 0
+  Held result = Answers (request_of words) d.told d.left_before d.left_now d.faults_before d.faults_now result
+
+  -- the text was written
+  pub written : (answer : Answer) → Held (Ok answer) → Appends d.taken_before d.taken_now (text_of answer) → IsCall words d (run_of answer)
+  written answer a bytes = record {
+    status = a.status;
+    lawful = λ files h low. (text_of answer, a.lawful files h, bytes);
+    cut_short = λ files h six. absurd (omega (arith, six, a.low));
+    silent = λ e. elim e [ inl five ↦ absurd (omega (arith, five, a.low)) | inr seven ↦ absurd (omega (arith, seven, a.low)) ];
+    read_fault = λ five. absurd (omega (arith, five, a.low));
+    write_fault = λ six. absurd (omega (arith, six, a.low));
+    untouched = a.untouched;
+    uncounted = a.uncounted;
+  }
+
+  -- the front of it was
+  pub cut : (answer : Answer) → Held (Ok answer) → AppendsPrefix d.taken_before d.taken_now (text_of answer) → Rose d.sink_faults_before d.sink_faults_now
+      → IsCall words d (with_status 6 (run_of answer))
+  cut answer a bytes rose = record {
+    status = may_be_cut (request_of words);
+    lawful = λ files h low. absurd (omega (arith, low));
+    cut_short = λ files h six. (status_of answer, text_of answer, a.lawful files h, bytes);
+    silent = λ e. elim e [ inl five ↦ absurd (omega (arith, five)) | inr seven ↦ absurd (omega (arith, seven)) ];
+    read_fault = λ five. absurd (omega (arith, five));
+    write_fault = λ six. rose;
+    untouched = λ name free. a.untouched name (not_in_front (bytes_eq name) (status_of answer) (files_of (request_of words)) free);
+    uncounted = a.uncounted;
+  }
+
+  -- the same of a text that is the answer's
+  pub cut_text : (answer : Answer) (text : List ℕ) → Held (Ok answer) → text ≡ text_of answer → AppendsPrefix d.taken_before d.taken_now text → Rose d.sink_faults_before d.sink_faults_now
+      → IsCall words d (with_status 6 (run_of answer))
+  cut_text answer text a same bytes rose = cut answer a (subst (λ (t : List ℕ). AppendsPrefix d.taken_before d.taken_now t) same bytes) rose
+
+  -- nothing was
+  silent_call : (run : Run) (s : ℕ) → IsBare run s → 5 ≤ s → s ≢ 6 → d.taken_now ≡ d.taken_before → IsTrue (list_any (λ n. n == s) (statuses_of (request_of words)))
+      → (s ≡ 5 → HasReadCause (request_of words) d.told d.faults_before d.faults_now (files_of (request_of words)))
+      → ((name : List ℕ) → IsFalse (list_any (bytes_eq name) (touched_at s (files_of (request_of words)))) → d.left_now name ≡ d.left_before name)
+      → (files_of (request_of words) ≡ [] → (name : List ℕ) → d.faults_now name ≡ d.faults_before name) → IsCall words d run
+  silent_call run s bare high other same one cause untouched uncounted = record {
+    status = subst (λ (n : ℕ). IsTrue (list_any (λ m. m == n) (statuses_of (request_of words)))) (sym bare.ends) one;
+    lawful = λ files h low. let e = bare.ends in absurd (omega (arith, low, e, high));
+    cut_short = λ files h six. absurd (other (sym bare.ends ∙ six));
+    silent = λ e. record { kept = subst (λ (o : Option (List ℕ)). Keeps d.taken_before o) (sym same) (keeps d.taken_before); no_verdict = bare.no_verdict; no_logs = bare.no_logs };
+    read_fault = λ five. cause (sym bare.ends ∙ five);
+    write_fault = λ six. absurd (other (sym bare.ends ∙ six));
+    untouched = λ name free. untouched name (subst (λ (n : ℕ). IsFalse (list_any (bytes_eq name) (touched_at n (files_of (request_of words))))) bare.ends free);
+    uncounted = uncounted;
+  }
+
+  -- a file could not be read
+  pub unread : (run : Run) → IsBare run 5 → d.taken_now ≡ d.taken_before → Held (Err stop.ReadFault) → IsCall words d run
+  unread run bare same a = silent_call run 5 bare (omega arith) (λ e. absurd (omega (arith, e))) same a.status (λ e. a.read_fault refl) a.untouched a.uncounted
+
+  -- there was no memory for the answer
+  pub wanted : (run : Run) → IsBare run 7 → d.taken_now ≡ d.taken_before → Held (Err stop.NoMemory) → IsCall words d run
+  wanted run bare same a = silent_call run 7 bare (omega arith) (λ e. absurd (omega (arith, e))) same a.status (λ e. absurd (omega (arith, e))) a.untouched a.uncounted
+
+  -- or for its text
+  pub text_wanted : (run : Run) (answer : Answer) → IsBare run 7 → d.taken_now ≡ d.taken_before → Held (Ok answer) → IsCall words d run
+  text_wanted run answer bare same a =
+      silent_call run 7 bare (omega arith) (λ e. absurd (omega (arith, e))) same (may_want_memory (request_of words)) (λ e. absurd (omega (arith, e)))
+      (λ name free. a.untouched name (not_in_front (bytes_eq name) (status_of answer) (files_of (request_of words)) free)) a.uncounted

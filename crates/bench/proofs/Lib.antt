@@ -1,6 +1,5 @@
-pub mod Verdicts
-pub mod OneAnswer
-pub mod CheckLemmas
-pub mod AnswerLemmas
-pub mod RowLemmas
-pub mod LibraryLemmas
+-- In proof order.
+mod AnswerLemmas
+mod LibraryLemmas
+mod OpenLemmas
+mod CheckLemmas

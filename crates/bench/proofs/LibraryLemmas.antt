@@ -1,7 +1,7 @@
 -- Lines for the axioms of a library, one after another.
-use Rattle.std.proofs.Common.{◌≡◌, sym, ap, subst, ◌∙◌, ℕ, zero, suc, ◌+◌, List, [], ◌∷◌, ◌++◌, take, slice_get, Option, Some, IsSomeAnd, append-nil, append_assoc, arith}
+use Rattle.std.proofs.Common.{◌≡◌, sym, ap, ◌∙◌, ℕ, zero, suc, ◌+◌, List, [], ◌∷◌, ◌++◌, take, slice_get, Some, IsSomeAnd, append-nil, append_assoc, arith}
 use Rattle.std.specs.List.{flat_map}
-use Rattle.bench.proofs.CheckLemmas.{some_and}
+use Rattle.bench.proofs.AnswerLemmas.{some_and}
 
 -- the lines of one item more
 lines_more : {A : Type 0} (f : A → List ℕ) (xs : List A) (k : ℕ) (y : A) → slice_get xs k ≡ Some y → flat_map f (take (suc k) xs) ≡ flat_map f (take k xs) ++ f y

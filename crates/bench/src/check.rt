@@ -1,30 +1,24 @@
 //! The command `check`: reads a study, and then a report over it.
 
-ghost use Rattle.std.specs.Prelude.{◌≡◌, ◌≢◌, ◌≤◌, List, ℕ, Some, Err, IfSome, IfOk, IsErrOf};
+ghost use Rattle.std.specs.Prelude.{◌≡◌, ◌≢◌, ◌≤◌, Some, IfSome, IfOk, IsErrOf};
 ghost use Rattle.edge.specs.Faults.{Rose};
-ghost use Rattle.edge.specs.Shelf.{NoneFell, OthersStay};
+ghost use Rattle.edge.specs.Shelf.{Files, NoneFell, OthersStay};
 ghost use Rattle.vocab.specs.declared.kinds.Kind.TheVariants.{Sets};
 ghost use Rattle.report.specs.Files.{IsWorthOf};
-ghost use Rattle.bench.specs.CheckTable.{Judged, Checked};
-ghost use Rattle.bench.specs.Refusals.{study_line};
-ghost use Rattle.bench.specs.Said.{IsSaid};
-ghost use Rattle.bench.specs.TopCall.{HasReadCause, IsCheckStatus};
+ghost use Rattle.words.specs.Words.{Check};
+ghost use Rattle.answers.specs.Check.{IsJudged};
+ghost use Rattle.bench.specs.Answers.{run_of, status_of, text_of};
+ghost use Rattle.bench.specs.Answered.{Answers};
 
-use crate::answers::{Answer, Stop, say};
-use crate::refusals::study_line;
-use crate::worth::say_worth;
-use edge::{Gate, ReadFault, Shelf, read_all};
-use lists::NoMemory;
+use crate::answer::{Answer, Stop};
+use crate::studies::{Opened, open_study};
+use edge::{Gate, Shelf};
 use outcomes::{ChoiceKind, RankingKind};
 use profiles::Space;
 use report::{FileFault, Worth, check_file};
 use std::alloc::Global;
 use std::thread::Threads;
-use study::{StudyFault, read_study};
 use vocab::{Kind, Study};
-
-/// The most bytes of a study.
-const MOST_STUDY_BYTES: u32 = 1_048_576;
 
 /// What a report is worth over a study, by the study's kind.
 fn check_by_kind<R: Threads + Sync, S: Shelf, G: Gate>(
@@ -40,8 +34,9 @@ fn check_by_kind<R: Threads + Sync, S: Shelf, G: Gate>(
     requires few { workers ≤ 16 }
     requires known { study.now.size.kind ≢ Sets }
     ensures worth { IfSome (S.files shelf.old) (λ files. IfOk result (IsWorthOf study.now files report.now)) }
-    ensures failed { IsErrOf result FileFault.Failed → Rose (S.faults shelf.old report.now) (S.faults shelf.new report.now) }
-    ensures none_fell { NoneFell (S.faults shelf.old) (S.faults shelf.new) }
+    ensures failed { IsErrOf result FileFault.Failed →
+        Rose (S.faults shelf.old report.now) (S.faults shelf.new report.now) }
+    ensures others { OthersStay (S.left shelf.old) (S.left shelf.new) report.now }
 {
     let space = Space::new(study.size());
     match study.size().kind() {
@@ -57,33 +52,8 @@ fn check_by_kind<R: Threads + Sync, S: Shelf, G: Gate>(
     }
 }
 
-/// What is said of a study that is refused, where it is not for want of memory.
-fn refuse(alloc: Global, fault: &StudyFault) -> Result<Answer, Stop>
-    ensures told { IfOk result (λ _. fault.now ≢ StudyFault.NoMemory) }
-    ensures status { IfOk result (λ answer. answer.status ≡ 3) }
-    ensures text { IfOk result (λ answer. answer.text ≡ study_line fault.now) }
-    ensures no_read_fault { result ≢ Err Stop.ReadFault }
-{
-    match fault {
-        StudyFault::NoMemory => Err(Stop::NoMemory),
-        _ => {
-            let text = study_line(alloc, fault)?;
-            Ok(Answer { status: 3, text })
-        }
-    }
-}
-
-/// What is said of a report.
-fn answer(alloc: Global, worth: &Worth) -> Result<Answer, Stop>
-    ensures said { IfOk result (λ answer. IsSaid worth.now answer.status answer.text) }
-    ensures status { IfOk result (λ answer. answer.status ≤ 1) }
-    ensures no_read_fault { result ≢ Err Stop.ReadFault }
-{
-    Ok(say_worth(alloc, worth)?)
-}
-
 /// Reads the report and judges it.
-fn check_report<R: Threads + Sync, S: Shelf, G: Gate>(
+fn judge_report<R: Threads + Sync, S: Shelf, G: Gate>(
     rt: &R,
     alloc: Global,
     gate: &G,
@@ -95,20 +65,22 @@ fn check_report<R: Threads + Sync, S: Shelf, G: Gate>(
     requires some { 1 ≤ workers }
     requires few { workers ≤ 16 }
     requires known { study.now.size.kind ≢ Sets }
-    ensures lawful { IfSome (S.files shelf.old) (λ files. IfOk result (λ answer.
-        (held : List ℕ) × (files report.now ≡ Some held) × Judged study.now held answer.status answer.text)) }
-    ensures fault { IsErrOf result Stop.ReadFault → Rose (S.faults shelf.old report.now) (S.faults shelf.new report.now) }
-    ensures none_fell { NoneFell (S.faults shelf.old) (S.faults shelf.new) }
-    ensures status { IfOk result (λ answer. answer.status ≤ 1) }
+    ensures judged { IfOk result (λ answer. (files : Files) → S.files shelf.old ≡ Some files →
+        IsJudged files report.now study.now (run_of answer) (text_of answer)) }
+    ensures status { IfOk result (λ answer. status_of answer ≤ 1) }
+    ensures fault { IsErrOf result Stop.ReadFault →
+        Rose (S.faults shelf.old report.now) (S.faults shelf.new report.now) }
+    ensures others { OthersStay (S.left shelf.old) (S.left shelf.new) report.now }
 {
     match check_by_kind(rt, alloc, gate, workers, shelf, study, report) {
-        Ok(worth) => answer(alloc, &worth),
+        Ok(worth) => Ok(Answer::Judged(worth)),
         Err(FileFault::Failed) => Err(Stop::ReadFault),
         Err(FileFault::NoMemory) => Err(Stop::NoMemory),
     }
 }
 
-/// Reads the study, and then the report over it. A study that is refused leaves the report unopened.
+/// Reads the study, and then the report over it. A study that is refused leaves the report unopened. The axioms of a
+/// rule are checked among so many workers, which changes no answer; the gate is told of each piece of that work.
 pub fn check<R: Threads + Sync, S: Shelf, G: Gate>(
     rt: &R,
     alloc: Global,
@@ -120,20 +92,14 @@ pub fn check<R: Threads + Sync, S: Shelf, G: Gate>(
 ) -> Result<Answer, Stop>
     requires some { 1 ≤ workers }
     requires few { workers ≤ 16 }
-    ensures lawful { IfSome (S.files shelf.old) (λ files. IfOk result (λ answer.
-        Checked files study.now report.now answer.status answer.text)) }
-    ensures fault { IsErrOf result Stop.ReadFault → HasReadCause (S.files shelf.old) (S.faults shelf.old) (S.faults shelf.new) study.now report.now }
-    ensures unopened { IfOk result (λ answer. answer.status ≡ 3 → OthersStay (S.left shelf.old) (S.left shelf.new) study.now) }
-    ensures status { IfOk result (λ answer. IsCheckStatus answer.status) }
+    ensures { Answers (Some (Check study.now report.now workers)) (S.files shelf.old)
+        (S.left shelf.old) (S.left shelf.new) (S.faults shelf.old) (S.faults shelf.new) result }
 {
-    let bytes = match read_all(alloc, shelf, study, MOST_STUDY_BYTES) {
-        Ok(bytes) => bytes,
-        Err(ReadFault::TooLong) => return Ok(say(alloc, 3, b"study: too long\n")?),
-        Err(ReadFault::Failed) => return Err(Stop::ReadFault),
-        Err(ReadFault::NoMemory) => return Err(Stop::NoMemory),
-    };
-    match read_study(alloc, bytes.as_slice()) {
-        Ok(study) => check_report(rt, alloc, gate, workers, shelf, &study, report),
-        Err(fault) => refuse(alloc, &fault),
+    match open_study(alloc, shelf, study) {
+        Ok(Opened::Study(question)) => judge_report(
+            rt, alloc, gate, workers, shelf, &question, report,
+        ),
+        Ok(Opened::Refused(answer)) => Ok(answer),
+        Err(stop) => Err(stop),
     }
 }

@@ -1,13 +1,12 @@
 //! A theorem bench for social choice: checks reports that a rule satisfies axioms, or that none does.
 #![tactic(auto)]
 
-mod answers;
+mod answer;
+mod axioms;
 mod check;
-pub mod laws;
-mod library;
 mod refusals;
+mod studies;
 mod top;
-mod words;
 mod worth;
 
 use edge::{FileShelf, Open, StdSink};
@@ -37,7 +36,7 @@ fn main(rt: HostRuntime) -> ExitCode {
     };
     let mut shelf = FileShelf::new(&rt);
     let mut out = StdSink::new(&rt);
-    let run = bench(&rt, rt.alloc(), 1, &words, &mut shelf, &mut out, &Open);
+    let run = bench(&rt, rt.alloc(), &words, &mut shelf, &mut out, &Open);
     ExitCode::from(run.status)
 }
 

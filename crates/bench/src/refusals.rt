@@ -2,7 +2,7 @@
 
 ghost use Rattle.std.specs.Prelude.{◌≡◌, ◌++◌, ◌∷◌, [], codes, IfOk, OnOk};
 ghost use Rattle.std.specs.Fmt.{decimal, signed_decimal};
-ghost use Rattle.bench.specs.Refusals.{size_text, syntax_text, sort_text, of_axiom, fault_text, study_line};
+ghost use Rattle.answers.specs.StudyLines.{size_text, syntax_text, sort_text, of_axiom, fault_text, study_line};
 
 use edge::Bytes;
 use itoa::Buffer;

@@ -1,8 +1,6 @@
 //! Reports that are confirmed, and changes of them, each refused at the line that was changed, with one worker and with
 //! sixteen.
 
-ghost use Rattle.std.specs.Prelude.{◌≤◌};
-
 use crate::tests::words_of;
 use crate::top::bench;
 use edge::{Gate, MemoryShelf, MemorySink, Open};
@@ -31,24 +29,21 @@ const LIBERAL: &str =
 const LIBERAL_STORY: &str =
     "bench report 1\nkind choice\nvoters 2\nalternatives 3\naxioms pareto right_one right_two\nverdict impossible\ncore pareto right_one right_two\nlemmas 1\nlemma 1\nso !b@cab|bca by axiom right_one cab|bca\nso !c@cab|bca by axiom right_two cab|bca\nso !a@cab|bca by axiom pareto cab|bca c a\nclash by outcome cab|bca\nwithout pareto open 1000\nwithout right_one open 1000\nwithout right_two open 1000\nend\n";
 
-/// The status and the bytes of `check` with so many workers.
+/// The status and the bytes of `check` with this word for the workers.
 fn check<R: Threads + Sync, G: Gate>(
     rt: &R,
     alloc: Global,
-    workers: u8,
+    workers: &str,
     gate: &G,
     study: &str,
     report: &str,
-) -> Result<(u8, Vec<u8>), Fail>
-    requires some { 1 ≤ workers }
-    requires few { workers ≤ 16 }
-{
+) -> Result<(u8, Vec<u8>), Fail> {
     let mut shelf = MemoryShelf::new(alloc, &[])?;
     shelf.hold("study", study.as_bytes())?;
     shelf.hold("report", report.as_bytes())?;
-    let words = words_of(alloc, &["check", "study", "report"])?;
+    let words = words_of(alloc, &["check", workers, "study", "report"])?;
     let mut out = MemorySink::new(alloc, 1000, &[])?;
-    let run = bench(rt, alloc, workers, &words, &mut shelf, &mut out, gate);
+    let run = bench(rt, alloc, &words, &mut shelf, &mut out, gate);
     Ok((run.status, out.bytes().to_vec(alloc)?))
 }
 
@@ -62,8 +57,8 @@ fn is_answered<R: Threads + Sync>(
     text: &str,
 ) -> Result<bool, Fail> {
     let status = if text.starts_with("confirmed") { 0 } else { 1 };
-    let (one, by_one) = check(rt, alloc, 1, &Open, study, report)?;
-    let (many, by_many) = check(rt, alloc, 16, &Open, study, report)?;
+    let (one, by_one) = check(rt, alloc, "--workers=1", &Open, study, report)?;
+    let (many, by_many) = check(rt, alloc, "--workers=16", &Open, study, report)?;
     let line = format!(in alloc; "{text}\n")?;
     Ok(
         one == status
@@ -314,7 +309,7 @@ fn two_workers_share_the_check_of_a_rule(rt: HostRuntime) -> Result<(), Fail> {
         second: AtomicU64::new(0),
         met: AtomicU64::new(0),
     };
-    let (status, bytes) = check(&rt, alloc, 2, &gate, study, report.as_str())?;
+    let (status, bytes) = check(&rt, alloc, "--workers=2", &gate, study, report.as_str())?;
     assert_eq!(rt; status, 0);
     assert_eq!(rt; bytes.as_slice(), b"confirmed possible\n".as_slice());
     assert_eq!(rt; gate.met.load(Ordering::SeqCst), 1);

@@ -1,7 +1,5 @@
 //! The worked examples of `check`, over devices in memory, with one worker and with sixteen.
 
-ghost use Rattle.std.specs.Prelude.{◌≤◌};
-
 use crate::top::bench;
 use edge::{CalmShelf, CalmSink, MemoryShelf, MemorySink, Open};
 use lists::NoMemory;
@@ -23,24 +21,21 @@ pub fn words_of(alloc: Global, words: &[&str]) -> Result<Vec<String>, AllocError
     Ok(list)
 }
 
-/// The status and the bytes of `check` with so many workers, where these calls of the shelf fail.
+/// The status and the bytes of `check` with this word for the workers, where these calls of the shelf fail.
 fn check_among<R: Threads + Sync>(
     rt: &R,
     alloc: Global,
-    workers: u8,
+    workers: &str,
     study: &str,
     report: &str,
     failing: &[u32],
-) -> Result<(u8, Vec<u8>), NoMemory>
-    requires some { 1 ≤ workers }
-    requires few { workers ≤ 16 }
-{
+) -> Result<(u8, Vec<u8>), NoMemory> {
     let mut shelf = MemoryShelf::new(alloc, failing)?;
     shelf.hold("study", study.as_bytes())?;
     shelf.hold("report", report.as_bytes())?;
-    let words = words_of(alloc, &["check", "study", "report"])?;
+    let words = words_of(alloc, &["check", "study", workers, "report"])?;
     let mut out = MemorySink::new(alloc, 1000, &[])?;
-    let run = bench(rt, alloc, workers, &words, &mut shelf, &mut out, &Open);
+    let run = bench(rt, alloc, &words, &mut shelf, &mut out, &Open);
     Ok((run.status, out.bytes().to_vec(alloc)?))
 }
 
@@ -52,8 +47,8 @@ fn check<R: Threads + Sync>(
     report: &str,
     failing: &[u32],
 ) -> Result<(u8, Vec<u8>), NoMemory> {
-    let (status, bytes) = check_among(rt, alloc, 1, study, report, failing)?;
-    let (other, others) = check_among(rt, alloc, 16, study, report, failing)?;
+    let (status, bytes) = check_among(rt, alloc, "--workers=1", study, report, failing)?;
+    let (other, others) = check_among(rt, alloc, "--workers=16", study, report, failing)?;
     if status == other && bytes.as_slice() == others.as_slice() {
         Ok((status, bytes))
     } else {
@@ -89,6 +84,16 @@ fn reports_are_judged(rt: HostRuntime) -> Result<(), Fail> {
         let (found, bytes) = check(&rt, rt.alloc(), STUDY, report.as_str(), &[])?;
         assert_eq!(rt; found, status, "at {table:?}");
         assert_eq!(rt; bytes.as_slice(), text.as_bytes());
+    }
+    Ok(())
+}
+
+#[test]
+fn any_number_of_workers_answers_the_same(rt: HostRuntime) -> Result<(), Fail> {
+    for workers in ["--workers=1", "--workers=2", "--workers=16"] {
+        let (status, bytes) = check_among(&rt, rt.alloc(), workers, STUDY, REPORT, &[])?;
+        assert_eq!(rt; status, 0, "at {workers}");
+        assert_eq!(rt; bytes.as_slice(), b"confirmed possible\n".as_slice());
     }
     Ok(())
 }
@@ -412,7 +417,7 @@ fn library_of<R: Threads + Sync>(rt: &R, alloc: Global, kind: &str) -> Result<Ve
     let mut shelf = MemoryShelf::new(alloc, &[])?;
     let mut out = MemorySink::new(alloc, 10_000, &[])?;
     let words = words_of(alloc, &["axioms", kind])?;
-    let run = bench(rt, alloc, 1, &words, &mut shelf, &mut out, &Open);
+    let run = bench(rt, alloc, &words, &mut shelf, &mut out, &Open);
     if run.status != 0 {
         return Err(Fail::from(NoMemory));
     }
@@ -453,7 +458,7 @@ fn a_report_that_is_not_held_writes_nothing(rt: HostRuntime) -> Result<(), Fail>
     shelf.hold("study", STUDY.as_bytes())?;
     let words = words_of(alloc, &["check", "study", "report"])?;
     let mut out = MemorySink::new(alloc, 1000, &[])?;
-    let run = bench(&rt, alloc, 1, &words, &mut shelf, &mut out, &Open);
+    let run = bench(&rt, alloc, &words, &mut shelf, &mut out, &Open);
     assert_eq!(rt; run.status, 5);
     assert!(rt; out.bytes().is_empty());
     Ok(())
@@ -462,8 +467,12 @@ fn a_report_that_is_not_held_writes_nothing(rt: HostRuntime) -> Result<(), Fail>
 #[test]
 fn words_that_are_no_command_get_the_usage_line(rt: HostRuntime) -> Result<(), Fail> {
     let alloc = rt.alloc();
-    let cases: [&[&str]; 8] = [
+    let cases: [&[&str]; 12] = [
         &[],
+        &["help"],
+        &["--workers", "2", "check", "a", "b"],
+        &["check", "a", "b", "--workers", "17"],
+        &["axioms", "choice", "--workers", "2"],
         &["axioms"],
         &["axioms", "sets"],
         &["axioms", "choice", "ranking"],
@@ -478,7 +487,6 @@ fn words_that_are_no_command_get_the_usage_line(rt: HostRuntime) -> Result<(), F
         let run = bench(
             &rt,
             alloc,
-            1,
             &words_of(alloc, words)?,
             &mut shelf,
             &mut out,
@@ -489,7 +497,6 @@ fn words_that_are_no_command_get_the_usage_line(rt: HostRuntime) -> Result<(), F
         let run = bench(
             &rt,
             alloc,
-            1,
             &words_of(alloc, words)?,
             &mut shelf,
             &mut CalmSink::new(),
@@ -505,27 +512,11 @@ fn calm_devices_never_fail(rt: HostRuntime) -> Result<(), Fail> {
     let alloc = rt.alloc();
     let mut shelf = CalmShelf::new(alloc);
     let words = words_of(alloc, &["check", "study", "report"])?;
-    let run = bench(
-        &rt,
-        alloc,
-        1,
-        &words,
-        &mut shelf,
-        &mut CalmSink::new(),
-        &Open,
-    );
+    let run = bench(&rt, alloc, &words, &mut shelf, &mut CalmSink::new(), &Open);
     assert_eq!(rt; run.status, 3);
     shelf.hold("study", STUDY.as_bytes())?;
     shelf.hold("report", REPORT.as_bytes())?;
-    let run = bench(
-        &rt,
-        alloc,
-        1,
-        &words,
-        &mut shelf,
-        &mut CalmSink::new(),
-        &Open,
-    );
+    let run = bench(&rt, alloc, &words, &mut shelf, &mut CalmSink::new(), &Open);
     assert_eq!(rt; run.status, 0);
     Ok(())
 }
@@ -539,7 +530,7 @@ fn a_failed_flush_comes_after_the_whole_text(rt: HostRuntime) -> Result<(), Fail
     let words = words_of(alloc, &["check", "study", "report"])?;
     // The sink's calls are: 0 writes the line, 1 flushes it.
     let mut out = MemorySink::new(alloc, 1000, &[1])?;
-    let run = bench(&rt, alloc, 1, &words, &mut shelf, &mut out, &Open);
+    let run = bench(&rt, alloc, &words, &mut shelf, &mut out, &Open);
     assert_eq!(rt; run.status, 6);
     assert_eq!(rt; out.bytes(), b"confirmed possible\n".as_slice());
     Ok(())

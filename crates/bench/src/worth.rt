@@ -1,11 +1,11 @@
 //! What is said of a report.
 
-ghost use Rattle.std.specs.Prelude.{◌≡◌, ◌≤◌, ◌++◌, ◌∷◌, [], codes, IfOk, OnOk};
+ghost use Rattle.std.specs.Prelude.{◌≡◌, ◌++◌, IfOk, OnOk};
 ghost use Rattle.verdicts.specs.Numbers.{number_text};
 ghost use Rattle.verdicts.specs.Words.{refusal_text};
-ghost use Rattle.bench.specs.Said.{IsSaid};
+ghost use Rattle.bench.specs.Answers.{refused_line, worth_text};
 
-use crate::answers::{Answer, say};
+use crate::answer::text_from;
 use crate::refusals::{add_count, add_words};
 use edge::Bytes;
 use lists::NoMemory;
@@ -45,7 +45,7 @@ fn add_refusal(text: &mut Bytes, refusal: &Refusal) -> Result<(), NoMemory>
 
 /// The line of a report that is refused at a line.
 fn refused_line(alloc: Global, line: u32, refusal: &Refusal) -> Result<Bytes, NoMemory>
-    ensures { IfOk result (λ text. text ≡ codes "refused line " ++ (number_text line ++ codes ": " ++ refusal_text refusal.now ++ 10 ∷ [])) }
+    ensures { IfOk result (λ text. text ≡ refused_line line refusal.now) }
 {
     let mut text = Bytes::new(alloc);
     add_number(&mut text, b"refused line ", u64::from(line))?;
@@ -55,18 +55,14 @@ fn refused_line(alloc: Global, line: u32, refusal: &Refusal) -> Result<Bytes, No
     Ok(text)
 }
 
-/// The answer for what a report is worth.
-pub fn say_worth(alloc: Global, worth: &Worth) -> Result<Answer, NoMemory>
-    ensures said { IfOk result (λ answer. IsSaid worth.now answer.status answer.text) }
-    ensures status { IfOk result (λ answer. answer.status ≤ 1) }
+/// The line for what a report is worth.
+pub fn worth_line(alloc: Global, worth: &Worth) -> Result<Bytes, NoMemory>
+    ensures { IfOk result (λ text. text ≡ worth_text worth.now) }
 {
     match worth {
-        Worth::Confirmed(Confirmed::Possible) => say(alloc, 0, b"confirmed possible\n"),
-        Worth::Confirmed(Confirmed::Impossible) => say(alloc, 0, b"confirmed impossible\n"),
-        Worth::Faulty { line, refusal } => {
-            let text = refused_line(alloc, *line, refusal)?;
-            Ok(Answer { status: 1, text })
-        }
-        Worth::TooLong => say(alloc, 1, b"refused: too long\n"),
+        Worth::Confirmed(Confirmed::Possible) => text_from(alloc, b"confirmed possible\n"),
+        Worth::Confirmed(Confirmed::Impossible) => text_from(alloc, b"confirmed impossible\n"),
+        Worth::Faulty { line, refusal } => refused_line(alloc, *line, refusal),
+        Worth::TooLong => text_from(alloc, b"refused: too long\n"),
     }
 }

@@ -1,0 +1,195 @@
+-- What a call says and touches, by the devices.
+use Rattle.std.proofs.Common.{◌≡◌, ◌∙◌, ◌≢◌, refl, sym, ap, ap₂, subst, ℕ, ◌≤◌, Bool, true, false, cond, true≢false, eqb-true, List, [], ◌∷◌, take, length, Option, None, Some, arith}
+use Rattle.std.specs.Prelude.{◌==◌}
+use Rattle.std.specs.List.{list_any}
+use Rattle.std.specs.Str.{bytes_eq}
+use Rattle.std.specs.Io.KnownBytes.{Appends}
+use Rattle.std.proofs.lemmas.Bool.{and_parts}
+use Rattle.edge.specs.Shelf.{Files}
+use Rattle.edge.specs.Told.{AppendsPrefix}
+use Rattle.vocab.specs.declared.kinds.Kind.{Kind}
+use Rattle.vocab.specs.Study.{Question}
+use Rattle.verdicts.specs.declared.verdicts.Verdict.{Verdict}
+use Rattle.verdicts.specs.Judge.{Answer, Confirmed}
+use Rattle.verdicts.specs.Report.{IsReport}
+use Rattle.verdicts.specs.Words.{answer_text}
+use Rattle.words.specs.Words.{Request, Check, Axioms, request_of}
+use Rattle.answers.specs.declared.runs.Run.{Run}
+use Rattle.answers.specs.Runs.{with_status}
+use Rattle.answers.specs.Held.{most_report_bytes}
+use Rattle.answers.specs.Studies.{GivesStudy, RefusesStudy, OverStudy, study_refused, study_given}
+use Rattle.answers.specs.Usage.{usage_line}
+use Rattle.answers.specs.Check.{IsJudged, judgement, status_of}
+use Rattle.answers.specs.Axioms.{library_text}
+use Rattle.answers.specs.Lawful.{IsAnswer}
+use Rattle.answers.specs.Devices.{Devices}
+use Rattle.answers.specs.Call.{IsCall, AreFiles, are_told, none_read, files_of, statuses_of, touched_at}
+use Rattle.answers.specs.Laws.{Says, IsConfirmedRight, ConfirmedHolds, ChecksAreAnswered, UsageIsExact, LibraryIsWritten, IsFirstAloneTouched, RefusedLeavesUnopened, OtherWordsTouchNone}
+use Rattle.answers.proofs.FitLemmas.{right_judged}
+use Rattle.answers.proofs.OneAnswer.{one_refusal}
+use Rattle.answers.proofs.ReportLaws.{reportable, zero_confirms, confirmed_report, confirmed_claims}
+use Rattle.answers.proofs.RowLemmas.{some_same, row_of, over_study, not_refused}
+
+module _ (words : List (List ℕ)) (d : Devices) (run : Run) (call : IsCall words d run) (request : Option Request) (asked : request_of words ≡ request) where
+  -- the row of what was asked, and what was written of it
+  written_at : (files : Files) → AreFiles d.told (files_of request) files → run.status ≤ 4 → (text : List ℕ) × IsAnswer request files run text × Appends d.taken_before d.taken_now text
+  written_at files are low =
+      let a = call.lawful files (subst (λ (r : Option Request). AreFiles d.told (files_of r) files) (sym asked) are) low in
+      (a.0, row_of words files run a.0 request asked a.1, a.2)
+
+  front_at : (files : Files) → AreFiles d.told (files_of request) files → run.status ≡ 6
+      → (status : ℕ) × (text : List ℕ) × IsAnswer request files (with_status status run) text × AppendsPrefix d.taken_before d.taken_now text
+  front_at files are six =
+      let a = call.cut_short files (subst (λ (r : Option Request). AreFiles d.told (files_of r) files) (sym asked) are) six in
+      (a.0, a.1, row_of words files (with_status a.0 run) a.1 request asked a.2, a.3)
+
+-- ---- words without files
+
+nowhere : Files
+nowhere name = None
+
+usage_written : (words : List (List ℕ)) (d : Devices) (run : Run) → IsCall words d run → request_of words ≡ None → run.status ≤ 4 → Says d run 2 usage_line
+usage_written words d run call asked low =
+    let a = written_at words d run call None asked nowhere (none_read refl) low in
+    (a.1.0.ends, subst (λ (t : List ℕ). Appends d.taken_before d.taken_now t) a.1.1 a.2)
+
+usage_front : (words : List (List ℕ)) (d : Devices) (run : Run) → IsCall words d run → request_of words ≡ None → run.status ≡ 6 → AppendsPrefix d.taken_before d.taken_now usage_line
+usage_front words d run call asked six =
+    let a = front_at words d run call None asked nowhere (none_read refl) six in
+    subst (λ (t : List ℕ). AppendsPrefix d.taken_before d.taken_now t) a.2.1 a.3
+
+-- no command has status 2
+no_command : (request : Option Request) → list_any (λ s. s == 2) (statuses_of request) ≡ true → request ≡ None
+no_command None e = refl
+no_command (Some (Check study report workers)) e = absurd (true≢false (sym e))
+no_command (Some (Axioms kind)) e = absurd (true≢false (sym e))
+
+pub usage_exact : UsageIsExact
+usage_exact words d run call = record {
+  only = λ two. no_command (request_of words) (subst (λ (n : ℕ). list_any (λ s. s == n) (statuses_of (request_of words)) ≡ true) two call.status);
+  written = usage_written words d run call;
+  cut_short = usage_front words d run call;
+}
+
+library_says : (words : List (List ℕ)) (d : Devices) (run : Run) (kind : Kind) → IsCall words d run → request_of words ≡ Some (Axioms kind) → run.status ≤ 4 → Says d run 0 (library_text kind)
+library_says words d run kind call asked low =
+    let a = written_at words d run call (Some (Axioms kind)) asked nowhere (none_read refl) low in
+    (a.1.0.ends, subst (λ (t : List ℕ). Appends d.taken_before d.taken_now t) a.1.1 a.2)
+
+library_front : (words : List (List ℕ)) (d : Devices) (run : Run) (kind : Kind) → IsCall words d run → request_of words ≡ Some (Axioms kind) → run.status ≡ 6
+    → AppendsPrefix d.taken_before d.taken_now (library_text kind)
+library_front words d run kind call asked six =
+    let a = front_at words d run call (Some (Axioms kind)) asked nowhere (none_read refl) six in
+    subst (λ (t : List ℕ). AppendsPrefix d.taken_before d.taken_now t) a.2.1 a.3
+
+pub library_written : LibraryIsWritten
+library_written words d run kind call asked = record {
+  written = library_says words d run kind call asked;
+  cut_short = library_front words d run kind call asked;
+}
+
+-- ---- `check`
+
+refused_row : (files : Files) (name : List ℕ) (run : Run) (text line : List ℕ) (P : Question → Type 0) → RefusesStudy files name line → OverStudy files name run text P
+    → (run.status ≡ 3) × (text ≡ line)
+refused_row files name run text line P refuses (study_refused r b) = (b.ends, one_refusal files name text line r refuses)
+refused_row files name run text line P refuses (study_given study g p) = absurd (not_refused files name study line g refuses)
+
+module _ (words : List (List ℕ)) (d : Devices) (run : Run) (files : Files) (name report : List ℕ) (workers : ℕ) (call : IsCall words d run) (told : d.told ≡ Some files)
+    (asked : request_of words ≡ Some (Check name report workers)) where
+  refused_says : run.status ≤ 4 → (text : List ℕ) → RefusesStudy files name text → Says d run 3 text
+  refused_says low text refuses =
+      let a = written_at words d run call (Some (Check name report workers)) asked files (are_told told) low in
+      let row = refused_row files name run a.0 text _ refuses a.1 in
+      (row.0, subst (λ (t : List ℕ). Appends d.taken_before d.taken_now t) row.1 a.2)
+
+  judged_says : run.status ≤ 4 → (study : Question) (bytes : List ℕ) → GivesStudy files name study → files report ≡ Some bytes
+      → Says d run (status_of (judgement study bytes)) (answer_text (judgement study bytes))
+  judged_says low study bytes g held =
+      let a = written_at words d run call (Some (Check name report workers)) asked files (are_told told) low in
+      let j : IsJudged files report study run a.0 = over_study files name run a.0 _ study g a.1 in
+      let same : j.bytes ≡ bytes = some_same (files report) j.bytes bytes j.held held in (
+        j.ends.ends ∙ ap (λ b. status_of (judgement study b)) same,
+        subst (λ (t : List ℕ). Appends d.taken_before d.taken_now t) (j.is ∙ ap (λ b. answer_text (judgement study b)) same) a.2,
+      )
+
+  right_says : run.status ≤ 4 → (study : Question) (bytes : List ℕ) (verdict : Verdict) → GivesStudy files name study → files report ≡ Some bytes → IsReport study verdict bytes
+      → length bytes ≤ most_report_bytes → Says d run 0 (answer_text (Confirmed verdict))
+  right_says low study bytes verdict g held right fits =
+      subst (λ (a : Answer). Says d run (status_of a) (answer_text a)) (right_judged study bytes verdict (reportable files name study g) right fits) (judged_says low study bytes g held)
+
+  confirmed_row : (text : List ℕ) → run.status ≡ 0 → Appends d.taken_before d.taken_now text → OverStudy files name run text (λ study. IsJudged files report study run text)
+      → IsConfirmedRight d files name report
+  confirmed_row text zero_is written (study_refused r b) = let three : 0 ≡ 3 = sym zero_is ∙ b.ends in absurd (omega (arith, three))
+  confirmed_row text zero_is written (study_given study g j) =
+      let c = zero_confirms (judgement study j.bytes) (sym j.ends.ends ∙ zero_is) in
+      let right = confirmed_report study j.bytes c.0 c.1 in
+      record {
+        study = study;
+        bytes = j.bytes;
+        verdict = c.0;
+        given = g;
+        held = j.held;
+        right = right.0;
+        fits = right.1;
+        holds = confirmed_claims study j.bytes (reportable files name study g).size c.0 c.1;
+        written = subst (λ (t : List ℕ). Appends d.taken_before d.taken_now t) (j.is ∙ ap answer_text c.1) written;
+      }
+
+  confirmed : run.status ≡ 0 → IsConfirmedRight d files name report
+  confirmed zero_is =
+      let a = written_at words d run call (Some (Check name report workers)) asked files (are_told told) (omega (arith, zero_is)) in
+      confirmed_row a.0 zero_is a.2 a.1
+
+pub confirmed_hold : ConfirmedHolds
+confirmed_hold words d run files name report workers call told asked zero_is = confirmed words d run files name report workers call told asked zero_is
+
+pub checks_answered : ChecksAreAnswered
+checks_answered words d run files name report workers call told asked low = record {
+  refused = refused_says words d run files name report workers call told asked low;
+  judged = judged_says words d run files name report workers call told asked low;
+  right = right_says words d run files name report workers call told asked low;
+}
+
+-- ---- files that are not opened
+
+same_from_test : (name other : List ℕ) → bytes_eq name other ≡ true → name ≡ other
+same_from_test [] [] e = refl
+same_from_test [] (c ∷ other) e = absurd (true≢false (sym e))
+same_from_test (c ∷ name) [] e = absurd (true≢false (sym e))
+same_from_test (c ∷ name) (b ∷ other) e =
+    let p = and_parts (c == b) (bytes_eq name other) e in
+    ap₂ (λ (x : ℕ) (xs : List ℕ). x ∷ xs) (eqb-true c b p.0) (same_from_test name other p.1)
+
+other_name : (name other : List ℕ) (b : Bool) → bytes_eq name other ≡ b → name ≢ other → list_any (bytes_eq name) (other ∷ []) ≡ false
+other_name name other true e ne = absurd (ne (same_from_test name other e))
+other_name name other false e ne = rw e refl
+
+module _ (d : Devices) where
+  -- where status 3 is one of a command, only its first file is touched
+  first_alone : (request : Option Request) → list_any (λ s. s == 3) (statuses_of request) ≡ true
+      → ((name : List ℕ) → list_any (bytes_eq name) (touched_at 3 (files_of request)) ≡ false → d.left_now name ≡ d.left_before name) → IsFirstAloneTouched (files_of request) d
+  first_alone None e untouched = absurd (true≢false (sym e))
+  first_alone (Some (Check study report workers)) e untouched = record {
+    first = study;
+    others = report ∷ [];
+    named = refl;
+    stay = λ other ne. untouched other (other_name other study _ refl ne);
+  }
+  first_alone (Some (Axioms kind)) e untouched = absurd (true≢false (sym e))
+
+pub left_unopened : RefusedLeavesUnopened
+left_unopened words d run call three =
+    first_alone d (request_of words)
+    (subst (λ (n : ℕ). list_any (λ s. s == n) (statuses_of (request_of words)) ≡ true) three call.status)
+    (λ name free. call.untouched name (subst (λ (n : ℕ). list_any (bytes_eq name) (touched_at n (files_of (request_of words))) ≡ false) (sym three) free))
+
+none_of_none : (name : List ℕ) (b : Bool) → list_any (bytes_eq name) (cond b (take 1 []) []) ≡ false
+none_of_none name true = refl
+none_of_none name false = refl
+
+pub none_touched : OtherWordsTouchNone
+none_touched words d run call none name = (
+  call.untouched name (subst (λ (names : List (List ℕ)). list_any (bytes_eq name) (touched_at run.status names) ≡ false) (sym none) (none_of_none name (run.status == 3))),
+  call.uncounted none name,
+)

@@ -1,0 +1,68 @@
+-- The rows of the table exclude one another.
+use Rattle.std.proofs.Common.{◌≡◌, ◌∙◌, sym, refl, subst, ap, ℕ, List, length, Option, None, Some, Err, arith}
+use Rattle.edge.specs.Shelf.{Files}
+use Rattle.vocab.specs.Study.{Question}
+use Rattle.verdicts.specs.Words.{answer_text}
+use Rattle.words.specs.Words.{Request, Check, Axioms, request_of}
+use Rattle.answers.specs.declared.runs.Run.{Run}
+use Rattle.answers.specs.Runs.{IsBare}
+use Rattle.answers.specs.Held.{Holds, HoldsTooMany, most_study_bytes}
+use Rattle.answers.specs.StudyLines.{study_line}
+use Rattle.answers.specs.Studies.{RefusesStudy, too_long, no_study, OverStudy, study_refused, study_given}
+use Rattle.answers.specs.Check.{IsJudged, judgement, status_of}
+use Rattle.answers.specs.Lawful.{IsAnswer}
+use Rattle.answers.specs.Laws.{AnswersAreOne}
+use Rattle.answers.proofs.RowLemmas.{some_same, same_reading, one_study, not_refused}
+
+abbrev One : Run → Run → List ℕ → List ℕ → Type 0
+One run run' text text' = (run ≡ run') × (text ≡ text')
+
+-- two runs that tell of no search are one, where their statuses are
+one_run : (run run' : Run) (s s' : ℕ) → IsBare run s → IsBare run' s' → s ≡ s' → run ≡ run'
+one_run run run' s s' b b' e =
+    let ends : run.status ≡ run'.status = b.ends ∙ e ∙ sym b'.ends in
+    let verdicts : run.verdict ≡ run'.verdict = b.no_verdict ∙ sym b'.no_verdict in
+    let logs : run.logs ≡ run'.logs = b.no_logs ∙ sym b'.no_logs in
+    λ i. record { status = ends i; verdict = verdicts i; logs = logs i }
+
+module _ (files : Files) (name : List ℕ) where
+  long_or_not : (limit : ℕ) (h : HoldsTooMany files limit name) (bytes : List ℕ) → Holds files limit name bytes → ⊥
+  long_or_not limit h bytes h' =
+      let same : h.bytes ≡ bytes = some_same (files name) h.bytes bytes h.held h'.held in
+      let l : length h.bytes ≡ length bytes = ap length same in
+      let long = h.long in
+      let fits = h'.fits in
+      omega (arith, l, long, fits)
+
+  pub one_refusal : (text text' : List ℕ) → RefusesStudy files name text → RefusesStudy files name text' → text ≡ text'
+  one_refusal text text' (too_long h t) (too_long h' t') = t ∙ sym t'
+  one_refusal text text' (too_long h t) (no_study bytes fault h' read t') = absurd (long_or_not most_study_bytes h bytes h')
+  one_refusal text text' (no_study bytes fault h read t) (too_long h' t') = absurd (long_or_not most_study_bytes h' bytes h)
+  one_refusal text text' (no_study bytes fault h read t) (no_study bytes' fault' h' read' t') =
+      let same = same_reading files name bytes bytes' (Err fault) (Err fault') h h' read read' in
+      let faults : fault ≡ fault' = cc in
+      t ∙ ap study_line faults ∙ sym t'
+
+  -- commands over a study have one answer, where the rest has
+  one_over : (run run' : Run) (text text' : List ℕ) (P P' : Question → Type 0) → ((study : Question) → P study → P' study → One run run' text text')
+      → OverStudy files name run text P → OverStudy files name run' text' P' → One run run' text text'
+  one_over run run' text text' P P' rest (study_refused r b) (study_refused r' b') = (one_run run run' 3 3 b b' refl, one_refusal text text' r r')
+  one_over run run' text text' P P' rest (study_refused r b) (study_given s g p) = absurd (not_refused files name s text g r)
+  one_over run run' text text' P P' rest (study_given s g p) (study_refused r b) = absurd (not_refused files name s text' g r)
+  one_over run run' text text' P P' rest (study_given s g p) (study_given s' g' p') = rest s' (subst P (one_study files name s s' g g') p) p'
+
+module _ (files : Files) (run run' : Run) (text text' : List ℕ) where
+  one_judged : (report : List ℕ) (study : Question) → IsJudged files report study run text → IsJudged files report study run' text' → One run run' text text'
+  one_judged report study j j' =
+      let same : j.bytes ≡ j'.bytes = some_same (files report) j.bytes j'.bytes j.held j'.held in (
+        one_run run run' _ _ j.ends j'.ends (ap (λ b. status_of (judgement study b)) same),
+        j.is ∙ ap (λ b. answer_text (judgement study b)) same ∙ sym j'.is,
+      )
+
+  one_row : (request : Option Request) → IsAnswer request files run text → IsAnswer request files run' text' → One run run' text text'
+  one_row None a a' = (one_run run run' 2 2 a.0 a'.0 refl, a.1 ∙ sym a'.1)
+  one_row (Some (Check study report workers)) a a' = one_over files study run run' text text' _ _ (one_judged report) a a'
+  one_row (Some (Axioms kind)) a a' = (one_run run run' 0 0 a.0 a'.0 refl, a.1 ∙ sym a'.1)
+
+pub one_answer : AnswersAreOne
+one_answer words files run run' text text' a a' = one_row files run run' text text' (request_of words) a a'

@@ -1,0 +1,73 @@
+-- `check` confirms exactly the reports of right verdicts, and what they claim holds.
+use Rattle.std.proofs.Common.{◌≡◌, ◌∙◌, ◌↔◌, refl, sym, subst, ap, true≢false, ℕ, ◌≤◌, List, length, Some, arith}
+use Rattle.edge.specs.Shelf.{Files}
+use Rattle.vocab.specs.Size.{IsSize}
+use Rattle.vocab.specs.Study.{Question}
+use Rattle.verdicts.specs.declared.verdicts.Verdict.{Verdict}
+use Rattle.verdicts.specs.declared.verdicts.Verdict.TheVariants.{Possible, Impossible, Undecided}
+use Rattle.verdicts.specs.Judge.{Answer, Confirmed, Faulty, TooLong}
+use Rattle.verdicts.specs.Laws.{IsReportable}
+use Rattle.verdicts.specs.Report.{IsConfirmed, IsReport}
+use Rattle.verdicts.proofs.ClaimLaws.{claims_hold, within_limit}
+use Rattle.verdicts.proofs.JudgeLaws.{judge_sound}
+use Rattle.study.proofs.StudyKinds.{kinds_known}
+use Rattle.study.proofs.WholeStudies.{studies_whole}
+use Rattle.words.specs.Words.{Check}
+use Rattle.answers.specs.declared.runs.Run.{Run}
+use Rattle.answers.specs.Held.{most_report_bytes}
+use Rattle.answers.specs.Studies.{GivesStudy}
+use Rattle.answers.specs.Check.{IsJudged, judgement, status_of}
+use Rattle.answers.specs.Laws.{CheckedAreRight, Claims}
+use Rattle.answers.proofs.FitLemmas.{right_judged}
+use Rattle.answers.proofs.RowLemmas.{some_same, row_of, over_study}
+
+-- a study that was read is one whose reports the laws speak of
+pub reportable : (files : Files) (name : List ℕ) (study : Question) → GivesStudy files name study → IsReportable study
+reportable files name study g =
+    let whole = studies_whole g.bytes study g.read in
+    record { taken = whole.0; size = whole.1; kind = kinds_known g.bytes study g.read; names = whole.2 }
+
+-- status 0 says that the answer is a confirmation
+pub zero_confirms : (a : Answer) → status_of a ≡ 0 → (verdict : Verdict) × (a ≡ Confirmed verdict)
+zero_confirms (Confirmed verdict) e = (verdict, refl)
+zero_confirms (Faulty line word) e = absurd (omega (arith, e))
+zero_confirms TooLong e = absurd (omega (arith, e))
+
+module _ (study : Question) (bytes : List ℕ) where
+  -- a verdict that is confirmed is right, within its limit
+  pub confirmed_report : (verdict : Verdict) → judgement study bytes ≡ Confirmed verdict → IsReport study verdict bytes × (length bytes ≤ most_report_bytes)
+  confirmed_report verdict e =
+      let within = (within_limit most_report_bytes study bytes verdict).0 e in
+      (judge_sound study bytes verdict within.1, within.0)
+
+  -- what it claims holds
+  pub confirmed_claims : IsSize study.size → (verdict : Verdict) → judgement study bytes ≡ Confirmed verdict → Claims study verdict
+  confirmed_claims size (Possible table) e =
+      (claims_hold study size bytes).0 table ((within_limit most_report_bytes study bytes (Possible table)).0 e).1
+  confirmed_claims size (Impossible core story witnesses) e =
+      let within = (within_limit most_report_bytes study bytes (Impossible core story witnesses)).0 e in
+      λ table. (((claims_hold study size bytes).1 core story witnesses).0 within.1 table).0
+  confirmed_claims size Undecided e = true≢false (sym (confirmed_report Undecided e).0.claims_some)
+
+  by_status : status_of (judgement study bytes) ≡ 0 → IsConfirmed study bytes × (length bytes ≤ most_report_bytes)
+  by_status e =
+      let c = zero_confirms (judgement study bytes) e in
+      let right = confirmed_report c.0 c.1 in
+      ((c.0, right.0), right.1)
+
+  by_report : IsReportable study → IsConfirmed study bytes → length bytes ≤ most_report_bytes → status_of (judgement study bytes) ≡ 0
+  by_report whole c fits = ap status_of (right_judged study bytes c.0 whole c.1 fits)
+
+checked_row : (files : Files) (name report : List ℕ) (run : Run) (text : List ℕ) (study : Question) (bytes : List ℕ) → GivesStudy files name study → files report ≡ Some bytes
+    → IsJudged files report study run text → (run.status ≡ 0) ↔ (IsConfirmed study bytes × (length bytes ≤ most_report_bytes))
+checked_row files name report run text study bytes g held j =
+    let same : j.bytes ≡ bytes = some_same (files report) j.bytes bytes j.held held in
+    let status : run.status ≡ status_of (judgement study bytes) = subst (λ (x : List ℕ). run.status ≡ status_of (judgement study x)) same j.ends.ends in (
+      λ e. by_status study bytes (sym status ∙ e),
+      λ c. status ∙ by_report study bytes (reportable files name study g) c.0 c.1,
+    )
+
+pub checked_right : CheckedAreRight
+checked_right words files run text name report bytes workers study lawful asked g held =
+    checked_row files name report run text study bytes g held
+    (over_study files name run text _ study g (row_of words files run text (Some (Check name report workers)) asked lawful))

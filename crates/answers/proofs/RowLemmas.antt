@@ -1,0 +1,41 @@
+-- A file gives one study, and is not refused where it gives one.
+use Rattle.std.proofs.Common.{◌≡◌, ap, subst, ℕ, ◌<◌, ◌≤◌, List, length, Option, Some, Result, Ok, Err, arith}
+use Rattle.edge.specs.Shelf.{Files}
+use Rattle.vocab.specs.Study.{Question}
+use Rattle.study.specs.declared.faults.StudyFault.{StudyFault}
+use Rattle.study.specs.Reading.{IsStudyOf}
+use Rattle.study.proofs.OneAnswer.{studies_once}
+use Rattle.words.specs.Words.{Request, request_of}
+use Rattle.answers.specs.declared.runs.Run.{Run}
+use Rattle.answers.specs.Held.{most_study_bytes, Holds}
+use Rattle.answers.specs.Studies.{GivesStudy, RefusesStudy, too_long, no_study, OverStudy, study_refused, study_given}
+use Rattle.answers.specs.Lawful.{IsAnswer, Lawful}
+
+pub some_same : {A : Type 0} (o : Option A) (x y : A) → o ≡ Some x → o ≡ Some y → x ≡ y
+some_same o x y h k = cc
+
+-- the row of a request
+pub row_of : (words : List (List ℕ)) (files : Files) (run : Run) (text : List ℕ) (request : Option Request) → request_of words ≡ request → Lawful words files run text
+    → IsAnswer request files run text
+row_of words files run text request e lawful = subst (λ (r : Option Request). IsAnswer r files run text) e lawful
+
+not_long : (b b' : List ℕ) → b ≡ b' → most_study_bytes < length b → length b' ≤ most_study_bytes → ⊥
+not_long b b' same long fits = let l : length b ≡ length b' = ap length same in omega arith
+
+module _ (files : Files) (name : List ℕ) where
+  -- the bytes of a study give one answer
+  pub same_reading : (b b' : List ℕ) (r r' : Result Question StudyFault) → Holds files most_study_bytes name b → Holds files most_study_bytes name b' → IsStudyOf b r → IsStudyOf b' r' → r ≡ r'
+  same_reading b b' r r' h h' read read' =
+      studies_once b' r r' (subst (λ (x : List ℕ). IsStudyOf x r) (some_same (files name) b b' h.held h'.held) read) read'
+
+  pub one_study : (s s' : Question) → GivesStudy files name s → GivesStudy files name s' → s ≡ s'
+  one_study s s' g g' = let same = same_reading g.bytes g'.bytes (Ok s) (Ok s') g.holds g'.holds g.read g'.read in cc
+
+  pub not_refused : (s : Question) (text : List ℕ) → GivesStudy files name s → RefusesStudy files name text → ⊥
+  not_refused s text g (too_long h e) = not_long h.bytes g.bytes (some_same (files name) h.bytes g.bytes h.held g.holds.held) h.long g.holds.fits
+  not_refused s text g (no_study bytes fault h read e) = let same = same_reading g.bytes bytes (Ok s) (Err fault) g.holds h g.read read in absurd (cc)
+
+  -- where the file gives a study, the rest holds of it
+  pub over_study : (run : Run) (text : List ℕ) (P : Question → Type 0) (study : Question) → GivesStudy files name study → OverStudy files name run text P → P study
+  over_study run text P study g (study_refused r bare) = absurd (not_refused study text g r)
+  over_study run text P study g (study_given s h p) = subst P (one_study s study h g) p

@@ -1,0 +1,13 @@
+-- Runs, as the table speaks of them.
+use Rattle.std.specs.Prelude.{◌≡◌, ℕ, [], None}
+use Rattle.answers.specs.declared.runs.Run.{Run}
+
+-- the run has this status, and tells of no search
+pub record IsBare (run : Run) (status : ℕ) : Type 0 where
+  pub ends : run.status ≡ status
+  pub no_verdict : run.verdict ≡ None
+  pub no_logs : run.logs ≡ []
+
+-- the same run with another status
+abbrev pub with_status : ℕ → Run → Run
+with_status status run = record run { status = status }

@@ -1,0 +1,48 @@
+//! What follows from the table of answers. Each law is the contract of a function that does nothing.
+
+ghost use Rattle.answers.specs.Laws.{CheckedAreRight, ConfirmedHolds, ChecksAreAnswered, AnswersAreOne, UsageIsExact, LibraryIsWritten, RefusedLeavesUnopened, OtherWordsTouchNone, CallsAreComplete};
+
+/// `check` confirms exactly the reports of right verdicts that claim something, within its limit.
+pub fn checked_are_right()
+    ensures { CheckedAreRight }
+{}
+
+/// What a confirmed report claims of rules holds.
+pub fn confirmed_holds()
+    ensures { ConfirmedHolds }
+{}
+
+/// Each row of `check` is what is answered where it applies.
+pub fn checks_are_answered()
+    ensures { ChecksAreAnswered }
+{}
+
+/// Over some files words have one answer: the rows of the table exclude one another.
+pub fn answers_are_one()
+    ensures { AnswersAreOne }
+{}
+
+/// Status 2 comes exactly where the words are no command, whatever the shelf tells.
+pub fn usage_is_exact()
+    ensures { UsageIsExact }
+{}
+
+/// `axioms` writes the library, whatever the shelf tells.
+pub fn library_is_written()
+    ensures { LibraryIsWritten }
+{}
+
+/// Where the study of a command is refused, no other file was opened.
+pub fn refused_leaves_unopened()
+    ensures { RefusedLeavesUnopened }
+{}
+
+/// Words that name no file touch none.
+pub fn other_words_touch_none()
+    ensures { OtherWordsTouchNone }
+{}
+
+/// Where no fault is counted and nothing is refused, the answer is the one that was asked for, or want of memory.
+pub fn calls_are_complete()
+    ensures { CallsAreComplete }
+{}

@@ -1,0 +1,44 @@
+//! What a call of the bench answers.
+
+ghost use Rattle.answers.specs.Runs.{IsBare};
+
+use cnf::Derivation;
+use lists::Items;
+use std::alloc::Global;
+use verdicts::Verdict;
+use vocab::Places;
+
+/// A search that spent its limit: the axioms whose clauses it had, by their places, and the clauses that it learned.
+#[derive(Drop)]
+pub struct SearchLog {
+    pub chosen: Places,
+    pub lines: Derivation,
+}
+
+/// Searches, in their order.
+pub type Logs = Items<SearchLog>;
+
+/// How a call of the bench ended.
+#[derive(Drop)]
+pub struct Run {
+    /// 0 done, 1 the report is refused, 2 the words are no command, 3 the study is refused, 5 a file could not be
+    /// read, 6 the text could not be written, 7 no memory was found.
+    pub status: u8,
+    /// What a search found, where the command made one.
+    pub verdict: Option<Verdict>,
+    /// The searches that spent their limit.
+    pub logs: Logs,
+}
+
+impl Run {
+    /// The run of a status that tells of no search.
+    pub fn bare(alloc: Global, status: u8) -> Run
+        ensures { IsBare result status }
+    {
+        Run {
+            status,
+            verdict: None,
+            logs: Items::new(alloc),
+        }
+    }
+}

@@ -1,0 +1,88 @@
+-- What the words are, by computation.
+use Rattle.std.proofs.Common.{◌≡◌, refl, [], ◌∷◌, ◌++◌, codes, Some, option_map}
+use Rattle.clap.specs.Words.{Text}
+use Rattle.clap.proofs.OnLiterals.{clap_on_literals}
+use Rattle.words.specs.Values.{number_within, kind_of}
+use Rattle.words.specs.Words.{Check, Axioms, request_of}
+use Rattle.words.specs.Laws.{IsPlain, OddWords, PlainWords, WorkersWords}
+
+pub odd : OddWords
+unfolding clap_on_literals request_of
+odd = record {
+  nothing = refl;
+  empty_word = refl;
+  help_flag = refl;
+  long_help_flag = refl;
+  version_flag = refl;
+  help = refl;
+  help_of_command = refl;
+  file_help = refl;
+  file_of_a_command = refl;
+  front_of_a_command = refl;
+  command_to_come = refl;
+  option_before_the_command = refl;
+  option_in_one_word = refl;
+  option_twice = refl;
+  option_without_value = refl;
+  option_with_empty_value = refl;
+  front_of_the_option = refl;
+  no_workers = refl;
+  most_workers = refl;
+  many_workers = refl;
+  leading_zero = refl;
+  file_with_hyphen = refl;
+  file_with_hyphen_after_two = refl;
+  file_hyphen = refl;
+  file_without_name = refl;
+  option_after_two = refl;
+  workers_of_axioms = refl;
+  one_word_less = refl;
+  one_word_more = refl;
+  sets = refl;
+}
+
+axioms_read : (word : Text) → IsPlain word → request_of (codes "axioms" ∷ word ∷ []) ≡ option_map Axioms (kind_of word)
+unfolding clap_on_literals request_of
+axioms_read [] e = refl
+axioms_read (c ∷ cs) e = rw (e, e) refl
+
+check_read : (a b : Text) → IsPlain a → IsPlain b → request_of (codes "check" ∷ a ∷ b ∷ []) ≡ Some (Check a b 1)
+unfolding clap_on_literals request_of
+check_read [] [] e f = refl
+check_read [] (d ∷ ds) e f = rw (f, f) refl
+check_read (c ∷ cs) [] e f = rw (e, e) refl
+check_read (c ∷ cs) (d ∷ ds) e f = rw (e, e, f, f) refl
+
+before_read : (a b : Text) → IsPlain a → IsPlain b → request_of (codes "check" ∷ codes "--workers" ∷ b ∷ codes "s" ∷ a ∷ []) ≡ option_map (Check (codes "s") a) (number_within 1 16 b)
+unfolding clap_on_literals request_of
+before_read [] [] e f = refl
+before_read [] (d ∷ ds) e f = rw (f, f) refl
+before_read (c ∷ cs) [] e f = rw (e, e) refl
+before_read (c ∷ cs) (d ∷ ds) e f = rw (f, f, e, e) refl
+
+between_read : (a b : Text) → IsPlain a → IsPlain b → request_of (codes "check" ∷ a ∷ codes "--workers" ∷ b ∷ codes "r" ∷ []) ≡ option_map (Check a (codes "r")) (number_within 1 16 b)
+unfolding clap_on_literals request_of
+between_read [] [] e f = refl
+between_read [] (d ∷ ds) e f = rw (f, f) refl
+between_read (c ∷ cs) [] e f = rw (e, e) refl
+between_read (c ∷ cs) (d ∷ ds) e f = rw (e, e, f, f) refl
+
+after_read : (a b : Text) → IsPlain a → IsPlain b → request_of (codes "check" ∷ a ∷ codes "r" ∷ codes "--workers" ∷ b ∷ []) ≡ option_map (Check a (codes "r")) (number_within 1 16 b)
+unfolding clap_on_literals request_of
+after_read [] [] e f = refl
+after_read [] (d ∷ ds) e f = rw (f, f) refl
+after_read (c ∷ cs) [] e f = rw (e, e) refl
+after_read (c ∷ cs) (d ∷ ds) e f = rw (e, e, f, f) refl
+
+joined_read : (a b n : Text) → IsPlain a → IsPlain b → request_of (codes "check" ∷ a ∷ b ∷ (codes "--workers=" ++ n) ∷ []) ≡ option_map (Check a b) (number_within 1 16 n)
+unfolding clap_on_literals request_of
+joined_read [] [] n e f = refl
+joined_read [] (d ∷ ds) n e f = rw (f, f) refl
+joined_read (c ∷ cs) [] n e f = rw (e, e) refl
+joined_read (c ∷ cs) (d ∷ ds) n e f = rw (e, e, f, f) refl
+
+pub plain : PlainWords
+plain = record { check = check_read; axioms = axioms_read }
+
+pub workers : WorkersWords
+workers = record { before = before_read; between = between_read; after = after_read; joined = joined_read }

@@ -1,0 +1,61 @@
+-- A request has from 1 to 16 workers.
+use Rattle.std.proofs.Common.{◌≡◌, sym, refl, subst, ℕ, ◌≤◌, Bool, true, false, ◌&&◌, cond, List, Option, None, Some, IfSome, option_map}
+use Rattle.std.specs.Prelude.{nat_le, option_and_then, codes}
+use Rattle.std.specs.Str.{bytes_eq}
+use Rattle.std.proofs.lemmas.Bool.{and_parts, leb-true}
+use Rattle.verdicts.specs.Numbers.{read_number}
+use Rattle.clap.specs.Words.{Row, Text, first_of}
+use Rattle.words.specs.declared.commands.Command.{Command}
+use Rattle.words.specs.Values.{number_within, workers_in, kind_in}
+use Rattle.words.specs.Words.{Request, Check, Axioms, HasWorkers, asked, over_study, request_under}
+
+abbrev Good : Option Request → Type 0
+Good o = IfSome o HasWorkers
+
+abbrev IsFew : ℕ → Type 0
+IsFew n = (1 ≤ n) × (n ≤ 16)
+
+either : (b : Bool) (x y : Option Request) → Good x → Good y → Good (cond b x y)
+either true x y g h = g
+either false x y g h = h
+
+few_if : (n : ℕ) (b : Bool) → (nat_le 1 n && nat_le n 16) ≡ b → IfSome (cond b (Some n) None) IsFew
+few_if n true e = let p = and_parts (nat_le 1 n) (nat_le n 16) e in (leb-true 1 n p.0, leb-true n 16 p.1)
+few_if n false e = tt
+
+few_within : (o : Option ℕ) → IfSome (option_and_then (λ n. cond (nat_le 1 n && nat_le n 16) (Some n) None) o) IsFew
+few_within None = tt
+few_within (Some n) = few_if n _ refl
+
+few_in : (o : Option Text) → IfSome (option_and_then (number_within 1 16) o) IsFew
+few_in None = tt
+few_in (Some text) = few_within (read_number text)
+
+-- a request that is made of a study and such a number
+made : (make : Text → ℕ → Request) → ((study : Text) (n : ℕ) → IsFew n → HasWorkers (make study n)) → (s : Option Text) (w : Option ℕ) → IfSome w IsFew
+    → Good (option_and_then (λ study. option_map (make study) w) s)
+made make good None w few = tt
+made make good (Some study) None few = tt
+made make good (Some study) (Some n) few = good study n few
+
+module _ (rows : List Row) where
+  over : (make : Text → ℕ → Request) → ((study : Text) (n : ℕ) → IsFew n → HasWorkers (make study n)) → Good (over_study make rows)
+  over make good = made make good (first_of (codes "study") rows) (workers_in rows) (few_in (first_of (codes "workers") rows))
+
+  checks : (o : Option Text) → Good (option_and_then (λ report. over_study (λ study workers. Check study report workers) rows) o)
+  checks None = tt
+  checks (Some report) = over (λ study workers. Check study report workers) (λ study n few. few)
+
+  mapped : {A : Type 0} (make : A → Request) → ((a : A) → HasWorkers (make a)) → (o : Option A) → Good (option_map make o)
+  mapped make good None = tt
+  mapped make good (Some a) = good a
+
+  under : (name : Text) → Good (request_under name rows)
+  under name =
+      either (bytes_eq name (codes "check")) _ _ (checks (first_of (codes "report") rows))
+      (either (bytes_eq name (codes "axioms")) _ _ (mapped Axioms (λ kind. tt) (kind_in rows)) tt)
+
+-- so has each command that was found
+pub found : (command : Option Command) (name : Text) (rows : List Row) → option_map asked command ≡ request_under name rows → IfSome command (λ it. HasWorkers (asked it))
+found None name rows e = tt
+found (Some command) name rows e = subst Good (sym e) (under rows name)

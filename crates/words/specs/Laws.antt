@@ -1,0 +1,61 @@
+-- Which words are which request, where it can be told at a glance.
+use Rattle.std.specs.Prelude.{◌≡◌, ◌==◌, Bool, false, [], ◌∷◌, ◌++◌, codes, None, Some, option_map}
+use Rattle.clap.specs.Words.{Text}
+use Rattle.words.specs.Values.{number_within, kind_of}
+use Rattle.words.specs.Words.{Check, Axioms, request_of}
+
+abbrev pub begins_with_hyphen : Text → Bool
+begins_with_hyphen [] = false
+begins_with_hyphen (c ∷ cs) = c == 45
+
+abbrev pub IsPlain : Text → Type 0
+IsPlain word = begins_with_hyphen word ≡ false
+
+-- a command takes its words in their order, whatever they are, as long as none begins with a hyphen
+pub record PlainWords : Type 0 where
+  pub check : (study report : Text) → IsPlain study → IsPlain report → request_of (codes "check" ∷ study ∷ report ∷ []) ≡ Some (Check study report 1)
+  pub axioms : (kind : Text) → IsPlain kind → request_of (codes "axioms" ∷ kind ∷ []) ≡ option_map Axioms (kind_of kind)
+
+-- `--workers` may stand before, between and after them, in one word or in two
+pub record WorkersWords : Type 0 where
+  pub before : (report count : Text) → IsPlain report → IsPlain count
+      → request_of (codes "check" ∷ codes "--workers" ∷ count ∷ codes "s" ∷ report ∷ []) ≡ option_map (Check (codes "s") report) (number_within 1 16 count)
+  pub between : (study count : Text) → IsPlain study → IsPlain count
+      → request_of (codes "check" ∷ study ∷ codes "--workers" ∷ count ∷ codes "r" ∷ []) ≡ option_map (Check study (codes "r")) (number_within 1 16 count)
+  pub after : (study count : Text) → IsPlain study → IsPlain count
+      → request_of (codes "check" ∷ study ∷ codes "r" ∷ codes "--workers" ∷ count ∷ []) ≡ option_map (Check study (codes "r")) (number_within 1 16 count)
+  pub joined : (study report count : Text) → IsPlain study → IsPlain report
+      → request_of (codes "check" ∷ study ∷ report ∷ (codes "--workers=" ++ count) ∷ []) ≡ option_map (Check study report) (number_within 1 16 count)
+
+-- words that a reader may wonder about
+pub record OddWords : Type 0 where
+  pub nothing : request_of [] ≡ None
+  pub empty_word : request_of ([] ∷ []) ≡ None
+  pub help_flag : request_of (codes "-h" ∷ []) ≡ None
+  pub long_help_flag : request_of (codes "--help" ∷ []) ≡ None
+  pub version_flag : request_of (codes "-V" ∷ []) ≡ None
+  pub help : request_of (codes "help" ∷ []) ≡ None
+  pub help_of_command : request_of (codes "check" ∷ codes "s" ∷ codes "r" ∷ codes "--help" ∷ []) ≡ None
+  pub file_help : request_of (codes "check" ∷ codes "help" ∷ codes "r" ∷ []) ≡ Some (Check (codes "help") (codes "r") 1)
+  pub file_of_a_command : request_of (codes "check" ∷ codes "axioms" ∷ codes "check" ∷ []) ≡ Some (Check (codes "axioms") (codes "check") 1)
+  pub front_of_a_command : request_of (codes "che" ∷ codes "s" ∷ codes "r" ∷ []) ≡ None
+  pub command_to_come : request_of (codes "decide" ∷ codes "s" ∷ []) ≡ None
+  pub option_before_the_command : request_of (codes "--workers" ∷ codes "4" ∷ codes "check" ∷ codes "s" ∷ codes "r" ∷ []) ≡ None
+  pub option_in_one_word : request_of (codes "check" ∷ codes "s" ∷ codes "r" ∷ codes "--workers=4" ∷ []) ≡ Some (Check (codes "s") (codes "r") 4)
+  pub option_twice : request_of (codes "check" ∷ codes "s" ∷ codes "r" ∷ codes "--workers" ∷ codes "4" ∷ codes "--workers" ∷ codes "4" ∷ []) ≡ None
+  pub option_without_value : request_of (codes "check" ∷ codes "s" ∷ codes "r" ∷ codes "--workers" ∷ []) ≡ None
+  pub option_with_empty_value : request_of (codes "check" ∷ codes "s" ∷ codes "r" ∷ codes "--workers=" ∷ []) ≡ None
+  pub front_of_the_option : request_of (codes "check" ∷ codes "s" ∷ codes "r" ∷ codes "--worker" ∷ codes "4" ∷ []) ≡ None
+  pub no_workers : request_of (codes "check" ∷ codes "s" ∷ codes "r" ∷ codes "--workers" ∷ codes "0" ∷ []) ≡ None
+  pub most_workers : request_of (codes "check" ∷ codes "s" ∷ codes "r" ∷ codes "--workers" ∷ codes "16" ∷ []) ≡ Some (Check (codes "s") (codes "r") 16)
+  pub many_workers : request_of (codes "check" ∷ codes "s" ∷ codes "r" ∷ codes "--workers" ∷ codes "17" ∷ []) ≡ None
+  pub leading_zero : request_of (codes "check" ∷ codes "s" ∷ codes "r" ∷ codes "--workers" ∷ codes "04" ∷ []) ≡ None
+  pub file_with_hyphen : request_of (codes "check" ∷ codes "-s" ∷ codes "r" ∷ []) ≡ None
+  pub file_with_hyphen_after_two : request_of (codes "check" ∷ codes "--" ∷ codes "-s" ∷ codes "--workers" ∷ []) ≡ Some (Check (codes "-s") (codes "--workers") 1)
+  pub file_hyphen : request_of (codes "check" ∷ codes "-" ∷ codes "r" ∷ []) ≡ Some (Check (codes "-") (codes "r") 1)
+  pub file_without_name : request_of (codes "check" ∷ [] ∷ codes "r" ∷ []) ≡ Some (Check [] (codes "r") 1)
+  pub option_after_two : request_of (codes "check" ∷ codes "s" ∷ codes "r" ∷ codes "--" ∷ codes "--workers" ∷ codes "4" ∷ []) ≡ None
+  pub workers_of_axioms : request_of (codes "axioms" ∷ codes "choice" ∷ codes "--workers" ∷ codes "4" ∷ []) ≡ None
+  pub one_word_less : request_of (codes "check" ∷ codes "s" ∷ []) ≡ None
+  pub one_word_more : request_of (codes "check" ∷ codes "s" ∷ codes "r" ∷ codes "t" ∷ []) ≡ None
+  pub sets : request_of (codes "axioms" ∷ codes "sets" ∷ []) ≡ None

@@ -1,0 +1,123 @@
+//! The command that the words are.
+
+ghost use Rattle.std.specs.Prelude.{◌≡◌, ℕ, IfOk, IfSome, option_map};
+ghost use Rattle.clap.specs.Words.{Text, first_of, found_of, rows_of, subcommand_rows_of};
+ghost use Rattle.words.specs.Values.{kind_of, number_within, workers_in, kind_in};
+ghost use Rattle.words.specs.Words.{Request, Check, Axioms, HasWorkers, texts, asked, over_study, check_in, request_under, request_in, request_of};
+
+use crate::commands::Command;
+use crate::grammar::bench_command;
+use crate::numbers::number_within;
+use clap::ArgMatches;
+use clap::error::ErrorKind;
+use lists::NoMemory;
+use std::alloc::Global;
+use vocab::Kind;
+
+/// The kind that a word names.
+fn kind_of(word: &str) -> Option<Kind>
+    ensures { result ≡ kind_of word.now }
+{
+    match word {
+        "choice" => Some(Kind::Choice),
+        "ranking" => Some(Kind::Ranking),
+        _ => None,
+    }
+}
+
+/// The value of an id.
+fn value_at<'a>(matches: &ArgMatches<'a>, id: &str) -> Option<&'a str>
+    ensures { option_map (λ value. value.now) result ≡ first_of id.now (rows_of (found_of matches.now)) }
+{
+    matches.get_str(id)
+}
+
+/// A number of workers.
+fn workers_of(word: &str) -> Option<u8>
+    ensures { result ≡ number_within 1 16 word.now }
+{
+    number_within(word.as_bytes(), 1, 16).map(|workers| workers as u8)
+}
+
+/// The number of workers that was found, or 1.
+fn workers_in(matches: &ArgMatches<'_>) -> Option<u8>
+    ensures { result ≡ workers_in (rows_of (found_of matches.now)) }
+{
+    workers_of(value_at(matches, "workers")?)
+}
+
+/// The kind that was found.
+fn kind_in(matches: &ArgMatches<'_>) -> Option<Kind>
+    ensures { result ≡ kind_in (rows_of (found_of matches.now)) }
+{
+    kind_of(value_at(matches, "kind")?)
+}
+
+/// The study and the number of workers.
+fn over_study<'a>(matches: &ArgMatches<'a>) -> Option<(&'a str, u8)>
+    ensures { (make : Text → ℕ → Request) →
+        option_map (λ found. make found.0.now found.1) result ≡ over_study make (rows_of (found_of matches.now)) }
+{
+    let study = value_at(matches, "study")?;
+    let workers = workers_in(matches)?;
+    Some((study, workers))
+}
+
+/// `check STUDY REPORT`.
+fn check_in<'a>(matches: &ArgMatches<'a>) -> Option<Command<'a>>
+    ensures { option_map asked result ≡ check_in (rows_of (found_of matches.now)) }
+{
+    let report = value_at(matches, "report")?;
+    let (study, workers) = over_study(matches)?;
+    Some(Command::Check {
+        study,
+        report,
+        workers,
+    })
+}
+
+/// `axioms KIND`.
+fn axioms_in<'a>(matches: &ArgMatches<'a>) -> Option<Command<'a>>
+    ensures { option_map asked result ≡ option_map Axioms (kind_in (rows_of (found_of matches.now))) }
+{
+    let kind = kind_in(matches)?;
+    Some(Command::Axioms { kind })
+}
+
+/// The command of a name, with the values that were found.
+fn command_under<'a>(name: &str, matches: &ArgMatches<'a>) -> Option<Command<'a>>
+    ensures { option_map asked result ≡ request_under name.now (rows_of (found_of matches.now)) }
+{
+    match name {
+        "check" => check_in(matches),
+        "axioms" => axioms_in(matches),
+        _ => None,
+    }
+}
+
+/// The command that was found.
+fn command_in<'a>(matches: &ArgMatches<'a>) -> Option<Command<'a>>
+    ensures workers { IfSome result (λ it. HasWorkers (asked it)) }
+    ensures command { option_map asked result ≡ request_in (subcommand_rows_of matches.now) }
+{
+    let (name, inner) = matches.subcommand()?;
+    command_under(name, inner)
+}
+
+/// The command that the words are. A request for help is none.
+pub fn command_of<'a>(alloc: Global, words: &'a [String]) -> Result<Option<Command<'a>>, NoMemory>
+    ensures command { IfOk result (λ command. option_map asked command ≡ request_of (texts words.now)) }
+    ensures workers { IfOk result (λ command. IfSome command (λ it. HasWorkers (asked it))) }
+{
+    let bench = bench_command(alloc)?;
+    match bench.try_get_matches_from(words) {
+        Ok(matches) => Ok(command_in(&matches)),
+        Err(error) => {
+            if error.kind() == ErrorKind::OutOfMemory {
+                Err(NoMemory)
+            } else {
+                Ok(None)
+            }
+        }
+    }
+}

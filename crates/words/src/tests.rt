@@ -1,0 +1,110 @@
+use crate::{Command, command_of};
+use std::alloc::Global;
+use std::process::Abort;
+use std::test::Fail;
+
+/// What the words of a line, cut at each blank, are; of an empty line there are none.
+fn told(alloc: Global, line: &str) -> Result<String, Fail> {
+    let mut words: Vec<String> = Vec::new(alloc);
+    if line != "" {
+        for word in line.split(' ') {
+            words.push(String::from_str(alloc, word)?)?;
+        }
+    }
+    match command_of(alloc, words.as_slice()) {
+        Ok(
+            Some(
+                Command::Check {
+                    study,
+                    report,
+                    workers,
+                },
+            ),
+        ) => Ok(format!(in alloc; "check [{study}] [{report}] {workers}")?),
+        Ok(Some(Command::Axioms { kind })) => Ok(format!(in alloc; "axioms {kind:?}")?),
+        Ok(None) => Ok(format!(in alloc; "none")?),
+        Err(_) => Ok(format!(in alloc; "no memory")?),
+    }
+}
+
+fn same(rt: &impl Abort, alloc: Global, line: &str, wanted: &str) -> Result<(), Fail> {
+    let answer = told(alloc, line)?;
+    assert!(rt; answer.as_str() == wanted, "{line}: {answer}");
+    Ok(())
+}
+
+#[test]
+fn commands(rt: HostRuntime) -> Result<(), Fail> {
+    same(&rt, rt.alloc(), "check s r", "check [s] [r] 1")?;
+    same(&rt, rt.alloc(), "check --workers 4 s r", "check [s] [r] 4")?;
+    same(&rt, rt.alloc(), "check s --workers 4 r", "check [s] [r] 4")?;
+    same(&rt, rt.alloc(), "check s r --workers 4", "check [s] [r] 4")?;
+    same(
+        &rt,
+        rt.alloc(),
+        "check s --workers=16 r",
+        "check [s] [r] 16",
+    )?;
+    same(&rt, rt.alloc(), "check -- s r", "check [s] [r] 1")?;
+    same(&rt, rt.alloc(), "check s -- -r", "check [s] [-r] 1")?;
+    same(
+        &rt,
+        rt.alloc(),
+        "check --workers 2 -- --workers -",
+        "check [--workers] [-] 2",
+    )?;
+    same(&rt, rt.alloc(), "check  r", "check [] [r] 1")?;
+    same(
+        &rt,
+        rt.alloc(),
+        "check help axioms",
+        "check [help] [axioms] 1",
+    )?;
+    same(&rt, rt.alloc(), "axioms choice", "axioms Choice")?;
+    same(&rt, rt.alloc(), "axioms -- ranking", "axioms Ranking")
+}
+
+#[test]
+fn workers_that_are_none(rt: HostRuntime) -> Result<(), Fail> {
+    same(&rt, rt.alloc(), "--workers 4 check s r", "none")?;
+    same(&rt, rt.alloc(), "check s r --workers 4 --workers 4", "none")?;
+    same(&rt, rt.alloc(), "check s r --workers 0", "none")?;
+    same(&rt, rt.alloc(), "check s r --workers 17", "none")?;
+    same(&rt, rt.alloc(), "check s r --workers 04", "none")?;
+    same(
+        &rt,
+        rt.alloc(),
+        "check s r --workers 18446744073709551617",
+        "none",
+    )?;
+    same(&rt, rt.alloc(), "check s r --workers", "none")?;
+    same(&rt, rt.alloc(), "check s r --workers ", "none")?;
+    same(&rt, rt.alloc(), "check s r --workers=", "none")?;
+    same(&rt, rt.alloc(), "check s r -- --workers 4", "none")?;
+    same(&rt, rt.alloc(), "check s r -w 4", "none")?;
+    same(&rt, rt.alloc(), "check s r --work=4", "none")?;
+    same(&rt, rt.alloc(), "axioms choice --workers 4", "none")
+}
+
+#[test]
+fn words_that_are_none(rt: HostRuntime) -> Result<(), Fail> {
+    same(&rt, rt.alloc(), "", "none")?;
+    same(&rt, rt.alloc(), " ", "none")?;
+    same(&rt, rt.alloc(), "-h", "none")?;
+    same(&rt, rt.alloc(), "--help", "none")?;
+    same(&rt, rt.alloc(), "help", "none")?;
+    same(&rt, rt.alloc(), "help check", "none")?;
+    same(&rt, rt.alloc(), "check s r -h", "none")?;
+    same(&rt, rt.alloc(), "-V", "none")?;
+    same(&rt, rt.alloc(), "--version", "none")?;
+    same(&rt, rt.alloc(), "che s r", "none")?;
+    same(&rt, rt.alloc(), "Check s r", "none")?;
+    same(&rt, rt.alloc(), "check -s r", "none")?;
+    same(&rt, rt.alloc(), "check s", "none")?;
+    same(&rt, rt.alloc(), "check s r t", "none")?;
+    same(&rt, rt.alloc(), "axioms", "none")?;
+    same(&rt, rt.alloc(), "axioms sets", "none")?;
+    same(&rt, rt.alloc(), "axioms Choice", "none")?;
+    same(&rt, rt.alloc(), "axioms choice ranking", "none")?;
+    same(&rt, rt.alloc(), "decide s", "none")
+}
