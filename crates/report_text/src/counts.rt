@@ -15,14 +15,16 @@ pub(crate) fn pour_place<O: Sink>(
     page: &mut Page,
     out: &mut O,
 ) -> Result<(), Failed>
-    ensures { Pours (O.taken out.old) (O.taken out.new) page.old page.new (O.faults out.old) (O.faults out.new) result (words.now ++ number_text (place + 1)) }
+    ensures { Pours (O.taken out.old) (O.taken out.new) page.old page.new
+        (O.faults out.old) (O.faults out.new) result (words.now ++ number_text (place + 1)) }
 {
     Two(Raw(words), Number(u64::from(place) + 1)).pour(page, out)
 }
 
 /// Adds a line of a key, which ends with a blank, and a number.
 fn pour_count<O: Sink>(key: &[u8], count: u64, page: &mut Page, out: &mut O) -> Result<(), Failed>
-    ensures { Pours (O.taken out.old) (O.taken out.new) page.old page.new (O.faults out.old) (O.faults out.new) result (count_text key.now count) }
+    ensures { Pours (O.taken out.old) (O.taken out.new) page.old page.new
+        (O.faults out.old) (O.faults out.new) result (count_text key.now count) }
 {
     Two(Raw(key), Two(Number(count), Raw(b"\n"))).pour(page, out)
 }

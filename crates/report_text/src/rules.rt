@@ -52,7 +52,9 @@ fn pour_witness<K: OutcomeKind, O: Sink>(
     requires size { study.now.size ≡ K.size kind.now }
     requires place { place < length study.now.axioms }
     requires can { IsTrue (is_witness_text study.now place witness.now) }
-    ensures { Pours (O.taken out.old) (O.taken out.new) page.old page.new (O.faults out.old) (O.faults out.new) result (lines_text study.now (witness_lines study.now place witness.now)) }
+    ensures { Pours (O.taken out.old) (O.taken out.new) page.old page.new
+        (O.faults out.old) (O.faults out.new) result
+        (lines_text study.now (witness_lines study.now place witness.now)) }
 {
     let name = study.axioms().get(place as usize).name();
     match witness {
@@ -86,7 +88,9 @@ pub(crate) fn pour_witnesses<K: OutcomeKind, O: Sink>(
     requires size { study.now.size ≡ K.size kind.now }
     requires core { IsTrue (list_all (λ k. nat_lt k (length study.now.axioms)) core.now) }
     requires can { IsTrue (pointwise (is_witness_text study.now) core.now witnesses.now) }
-    ensures { Pours (O.taken out.old) (O.taken out.new) page.old page.new (O.faults out.old) (O.faults out.new) result (lines_text study.now (all_witness_lines study.now core.now witnesses.now)) }
+    ensures { Pours (O.taken out.old) (O.taken out.new) page.old page.new
+        (O.faults out.old) (O.faults out.new) result
+        (lines_text study.now (all_witness_lines study.now core.now witnesses.now)) }
 {
     for place in 0..witnesses.len() {
         pour_witness(kind, study, core[place], &witnesses[place], page, out)?;

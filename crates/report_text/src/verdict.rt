@@ -33,7 +33,9 @@ fn pour_impossible<'a, K: OutcomeKind, O: Sink>(
 ) -> Result<(), Failed>
     requires size { study.now.size ≡ K.size kind.now }
     requires has_text { IsTrue (has_text study.now (Impossible core.now story.now witnesses.now)) }
-    ensures { Pours (O.taken out.old) (O.taken out.new) page.old page.new (O.faults out.old) (O.faults out.new) result (report_text study.now (Impossible core.now story.now witnesses.now)) }
+    ensures { Pours (O.taken out.old) (O.taken out.new) page.old page.new
+        (O.faults out.old) (O.faults out.new) result
+        (report_text study.now (Impossible core.now story.now witnesses.now)) }
 {
     let names = CoreNames {
         study,
@@ -74,7 +76,8 @@ fn pour_verdict<K: OutcomeKind, O: Sink>(
 ) -> Result<(), Failed>
     requires size { study.now.size ≡ K.size kind.now }
     requires has_text { IsTrue (has_text study.now verdict.now) }
-    ensures { Pours (O.taken out.old) (O.taken out.new) page.old page.new (O.faults out.old) (O.faults out.new) result (report_text study.now verdict.now) }
+    ensures { Pours (O.taken out.old) (O.taken out.new) page.old page.new
+        (O.faults out.old) (O.faults out.new) result (report_text study.now verdict.now) }
 {
     match verdict {
         Verdict::Possible(table) => {

@@ -48,7 +48,8 @@ fn pour_at<O: Sink>(
     out: &mut O,
 ) -> Result<(), Failed>
     requires { p < sort_count space.now Profile }
-    ensures { Pours (O.taken out.old) (O.taken out.new) page.old page.new (O.faults out.old) (O.faults out.new) result (front.now ++ profile_text space.now p) }
+    ensures { Pours (O.taken out.old) (O.taken out.new) page.old page.new
+        (O.faults out.old) (O.faults out.new) result (front.now ++ profile_text space.now p) }
 {
     let profile = space.profile_text(p);
     Two(Raw(front), Raw(profile.bytes())).pour(page, out)
@@ -118,7 +119,8 @@ fn pour_values<O: Sink>(
     out: &mut O,
 ) -> Result<(), Failed>
     requires { IsTrue (pointwise nat_lt (drop level values.now) (map (sort_count of.now.study.now.size) (prefix_of (tree_of formula.now)))) }
-    ensures { Pours (O.taken out.old) (O.taken out.new) page.old page.new (O.faults out.old) (O.faults out.new) result
+    ensures { Pours (O.taken out.old) (O.taken out.new) page.old page.new
+        (O.faults out.old) (O.faults out.new) result
         (spaced (value_words of.now.study.now (prefix_of (tree_of formula.now)) (drop level values.now))) }
 {
     if level >= values.len() {
@@ -165,7 +167,8 @@ fn pour_axiom_reason<O: Sink>(
     out: &mut O,
 ) -> Result<(), Failed>
     requires { IsTrue (is_reason of.now.study.now (ByAxiom place values)) }
-    ensures { Pours (O.taken out.old) (O.taken out.new) page.old page.new (O.faults out.old) (O.faults out.new) result
+    ensures { Pours (O.taken out.old) (O.taken out.new) page.old page.new
+        (O.faults out.old) (O.faults out.new) result
         (reason_text of.now.study.now (ByAxiom place values)) }
 {
     let named = of.study.axioms().get(place as usize);

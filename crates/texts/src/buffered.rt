@@ -11,8 +11,8 @@ ghost use Rattle.edge.specs.Told.{TellsAsBefore};
 use crate::page::Page;
 use edge::{Failed, Sink};
 
-/// Holds up to 4,096 bytes of what it takes, in place, before it hands them on. It has taken what the sink behind it
-/// took and then what it holds; `flush` hands on all. What it holds when it is dropped is lost.
+/// Holds up to 4,096 bytes of what it takes, in place, before it hands them on. It has taken what the sink behind it took
+/// and then what it holds, and `flush` hands on all. What it holds when it is dropped is lost.
 #[derive(Drop)]
 pub struct Buffered<'a, K: Sink> {
     out: &'a mut K,
@@ -41,8 +41,10 @@ impl<K: Sink> Sink for Buffered<'_, K> {
     fn write(&mut self, piece: &[u8]) -> Result<usize, Failed>
         ensures bound { WritesAtMost result piece.now }
         ensures some { TakesSome result piece.now }
-        ensures bytes { WriteAppends (append_known (K.taken self.old.out.now) self.old.page) (append_known (K.taken self.new.out.now) self.new.page) result piece.now }
-        ensures tells { TellsAsBefore (append_known (K.taken self.old.out.now) self.old.page) (append_known (K.taken self.new.out.now) self.new.page) }
+        ensures bytes { WriteAppends (append_known (K.taken self.old.out.now) self.old.page)
+            (append_known (K.taken self.new.out.now) self.new.page) result piece.now }
+        ensures tells { TellsAsBefore (append_known (K.taken self.old.out.now) self.old.page)
+            (append_known (K.taken self.new.out.now) self.new.page) }
         ensures cause { HasCause (K.faults self.old.out.now) (K.faults self.new.out.now) result }
 
         // The sink behind it is the same, and only takes more.
@@ -53,8 +55,10 @@ impl<K: Sink> Sink for Buffered<'_, K> {
     }
 
     fn flush(&mut self) -> Result<(), Failed>
-        ensures bytes { Keeps (append_known (K.taken self.old.out.now) self.old.page) (append_known (K.taken self.new.out.now) self.new.page) }
-        ensures tells { TellsAsBefore (append_known (K.taken self.old.out.now) self.old.page) (append_known (K.taken self.new.out.now) self.new.page) }
+        ensures bytes { Keeps (append_known (K.taken self.old.out.now) self.old.page)
+            (append_known (K.taken self.new.out.now) self.new.page) }
+        ensures tells { TellsAsBefore (append_known (K.taken self.old.out.now) self.old.page)
+            (append_known (K.taken self.new.out.now) self.new.page) }
         ensures cause { HasCause (K.faults self.old.out.now) (K.faults self.new.out.now) result }
 
         // It hands on all.

@@ -21,7 +21,8 @@ fn drain<K: Sink>(out: &mut K, bytes: &[u8], from: &mut usize) -> Result<(), Fai
     ensures ok { OnOk result (from.new ≡ length bytes.now) }
     ensures order { from.old ≤ from.new }
     ensures within { from.new ≤ length bytes.now }
-    ensures bytes { Keeps (append_known (K.taken out.old) (drop from.old bytes.now)) (append_known (K.taken out.new) (drop from.new bytes.now)) }
+    ensures bytes { Keeps (append_known (K.taken out.old) (drop from.old bytes.now))
+        (append_known (K.taken out.new) (drop from.new bytes.now)) }
     ensures grown { Grows (K.taken out.old) (K.taken out.new) }
     ensures tells { TellsAsBefore (K.taken out.old) (K.taken out.new) }
     ensures cause { HasCause (K.faults out.old) (K.faults out.new) result }
@@ -87,7 +88,8 @@ impl Page {
     /// Hands on all that the page holds. Where that fails, the page keeps what the sink did not take.
     pub fn hand_on<K: Sink>(&mut self, out: &mut K) -> Result<(), Failed>
         ensures ok { OnOk result (self.new ≡ []) }
-        ensures bytes { Keeps (append_known (K.taken out.old) self.old) (append_known (K.taken out.new) self.new) }
+        ensures bytes { Keeps (append_known (K.taken out.old) self.old)
+            (append_known (K.taken out.new) self.new) }
         ensures grown { Grows (K.taken out.old) (K.taken out.new) }
         ensures tells { TellsAsBefore (K.taken out.old) (K.taken out.new) }
         ensures cause { HasCause (K.faults out.old) (K.faults out.new) result }
@@ -98,13 +100,14 @@ impl Page {
         Ok(())
     }
 
+    /// Takes a prefix of the piece, and some of a piece that has bytes. Where there is no room, what the page holds is
+    /// handed on first, and where that fails nothing of the piece was taken.
     #[tactic(auto, using(crate::proofs::PageLemmas::grows_more))]
-    /// Takes a prefix of the piece, and some of a piece that has bytes; where there is no room, what the page holds
-    /// is handed on first. Where that fails, nothing of the piece was taken.
     pub fn write<K: Sink>(&mut self, out: &mut K, piece: &[u8]) -> Result<usize, Failed>
         ensures bound { WritesAtMost result piece.now }
         ensures some { TakesSome result piece.now }
-        ensures bytes { WriteAppends (append_known (K.taken out.old) self.old) (append_known (K.taken out.new) self.new) result piece.now }
+        ensures bytes { WriteAppends (append_known (K.taken out.old) self.old)
+            (append_known (K.taken out.new) self.new) result piece.now }
         ensures grown { Grows (K.taken out.old) (K.taken out.new) }
         ensures tells { TellsAsBefore (K.taken out.old) (K.taken out.new) }
         ensures cause { HasCause (K.faults out.old) (K.faults out.new) result }
@@ -133,10 +136,11 @@ impl Page {
         count
     }
 
-    #[tactic(auto, using(edge::proofs::Known::appends_take, crate::proofs::PageLemmas::grows_more))]
     /// Takes the whole piece. Where it fails, a prefix of the piece was taken.
+    #[tactic(auto, using(edge::proofs::Known::appends_take, crate::proofs::PageLemmas::grows_more))]
     pub fn put<K: Sink>(&mut self, out: &mut K, piece: &[u8]) -> Result<(), Failed>
-        ensures { Pours (K.taken out.old) (K.taken out.new) self.old self.new (K.faults out.old) (K.faults out.new) result piece.now }
+        ensures { Pours (K.taken out.old) (K.taken out.new) self.old self.new
+            (K.faults out.old) (K.faults out.new) result piece.now }
     {
         let mut done = 0;
         while done < piece.len() {

@@ -19,7 +19,8 @@ pub trait Text {
     /// Adds the text to what the sink took and the page holds. Where that fails, a prefix of it was added.
     fn pour<O: Sink>(&self, page: &mut Page, out: &mut O) -> Result<(), Failed>
         requires { can self.now }
-        ensures { Pours (O.taken out.old) (O.taken out.new) page.old page.new (O.faults out.old) (O.faults out.new) result (text self.now) };
+        ensures { Pours (O.taken out.old) (O.taken out.new) page.old page.new
+            (O.faults out.old) (O.faults out.new) result (text self.now) };
 }
 
 /// Bytes as they are.
