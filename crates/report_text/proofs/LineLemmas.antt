@@ -10,7 +10,8 @@ use Rattle.meaning.specs.declared.stories.StoryStep.{StoryStep}
 use Rattle.verdicts.specs.Lines.{Line, Heading, Suppose, So, Clash, reason_words}
 use Rattle.verdicts.specs.Report.{step_line, lemma_lines}
 use Rattle.verdicts.specs.Texts.{joined, literal_text}
-use Rattle.report_text.specs.Pieces.{count_text, ended, lines_text, reason_text, spelled}
+use Rattle.report_text.specs.Pieces.{count_text, ended, lines_text, reason_text}
+use Rattle.texts.specs.Spelled.{spelled}
 
 -- the word `by` and a reason
 by_reason : (study : Question) (r : Reason) → joined (codes "by" ∷ reason_words study r) ≡ codes "by " ++ reason_text study r

@@ -20,7 +20,8 @@ use Rattle.verdicts.specs.declared.verdicts.Verdict.TheVariants.{Possible, Impos
 use Rattle.verdicts.specs.Lines.{AxiomsAre, End, name_at, title_of}
 use Rattle.verdicts.specs.Numbers.{number_text}
 use Rattle.verdicts.specs.Report.{row_lines, lemma_lines, story_lines, head_lines, witness_lines, all_witness_lines, verdict_lines, report_text}
-use Rattle.report_text.specs.Pieces.{count_text, ended, lines_text, spaced, spelled}
+use Rattle.report_text.specs.Pieces.{count_text, ended, lines_text, spaced}
+use Rattle.texts.specs.Spelled.{spelled}
 use Rattle.report_text.proofs.WordLemmas.{joined_spaced}
 
 -- the item at a place

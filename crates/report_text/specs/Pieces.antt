@@ -1,5 +1,5 @@
 -- The pieces in which a report is written.
-use Rattle.std.specs.Prelude.{ℕ, ◌+◌, List, [], ◌∷◌, ◌++◌}
+use Rattle.std.specs.Prelude.{ℕ, List, [], ◌∷◌, ◌++◌}
 use Rattle.std.specs.List.{flat_map}
 use Rattle.vocab.specs.Study.{Question}
 use Rattle.meaning.specs.declared.stories.Reason.{Reason}
@@ -10,11 +10,6 @@ use Rattle.verdicts.specs.Texts.{joined}
 -- words, each with a blank before it
 abbrev pub spaced : List (List ℕ) → List ℕ
 spaced words = flat_map (λ word. 32 ∷ word) words
-
--- the texts of items one after another, each by its number, from a number on
-abbrev pub spelled : {X : Type 0} → (ℕ → X → List ℕ) → ℕ → List X → List ℕ
-spelled text n [] = []
-spelled text n (x ∷ xs) = text n x ++ spelled text (n + 1) xs
 
 -- a line of a key, which ends with a blank, and a number
 abbrev pub count_text : List ℕ → ℕ → List ℕ

@@ -5,10 +5,12 @@ ghost use Rattle.std.specs.List.{list_all};
 ghost use Rattle.meaning.specs.Texts.{kind_text};
 ghost use Rattle.verdicts.specs.Lines.{name_at};
 ghost use Rattle.verdicts.specs.Report.{head_lines};
-ghost use Rattle.report_text.specs.Pieces.{lines_text, spelled};
+ghost use Rattle.report_text.specs.Pieces.{lines_text};
+ghost use Rattle.texts.specs.Spelled.{spelled};
 
-use crate::texts::{Count, Raw, Text, Two};
+use crate::counts::Count;
 use edge::{Failed, Sink};
+use texts::{Page, Raw, Text, Two};
 use vocab::{Axiom, Kind, Study};
 
 /// The names of axioms, each with a blank before it.
@@ -22,10 +24,10 @@ impl Text for Names<'_> {
 
     ghost text = { λ names. spelled (λ _ a. 32 ∷ a.name) 0 names.axioms.now };
 
-    fn write<O: Sink>(&self, out: &mut O) -> Result<(), Failed> {
+    fn pour<O: Sink>(&self, page: &mut Page, out: &mut O) -> Result<(), Failed> {
         for axiom in self.axioms {
             let name = axiom.name();
-            Two(Raw(b" "), Raw(name.bytes())).write(out)?;
+            Two(Raw(b" "), Raw(name.bytes())).pour(page, out)?;
         }
         Ok(())
     }
@@ -43,10 +45,10 @@ impl Text for CoreNames<'_> {
 
     ghost text = { λ names. spelled (λ _ k. 32 ∷ name_at names.study.now.axioms k) 0 names.core.now };
 
-    fn write<O: Sink>(&self, out: &mut O) -> Result<(), Failed> {
+    fn pour<O: Sink>(&self, page: &mut Page, out: &mut O) -> Result<(), Failed> {
         for place in self.core {
             let name = self.study.axioms().get(*place as usize).name();
-            Two(Raw(b" "), Raw(name.bytes())).write(out)?;
+            Two(Raw(b" "), Raw(name.bytes())).pour(page, out)?;
         }
         Ok(())
     }
@@ -74,7 +76,7 @@ impl Text for Head<'_> {
 
     ghost text = { λ head. lines_text head.study.now (head_lines head.study.now) };
 
-    fn write<O: Sink>(&self, out: &mut O) -> Result<(), Failed> {
+    fn pour<O: Sink>(&self, page: &mut Page, out: &mut O) -> Result<(), Failed> {
         let size = self.study.size();
         let voters = Count {
             key: b"voters ",
@@ -90,6 +92,6 @@ impl Text for Head<'_> {
         let axioms = Two(Raw(b"axioms"), Two(names, Raw(b"\n")));
         let kind = Two(Raw(kind_word(size.kind())), Raw(b"\n"));
         let title = Two(Raw(b"bench report 1\nkind "), kind);
-        Two(title, Two(voters, Two(alternatives, axioms))).write(out)
+        Two(title, Two(voters, Two(alternatives, axioms))).pour(page, out)
     }
 }

@@ -1,12 +1,12 @@
 //! Writes the text of a verdict.
 #![tactic(auto)]
 
+mod counts;
 mod head;
 mod lines;
 mod rules;
 #[cfg(test)]
 mod tests;
-mod texts;
 mod verdict;
 mod words;
 

@@ -5,12 +5,14 @@ ghost use Rattle.std.specs.List.{list_all};
 ghost use Rattle.meaning.specs.Literals.{is_literal};
 ghost use Rattle.verdicts.specs.Lines.{Suppose};
 ghost use Rattle.verdicts.specs.Report.{is_lemma_text, is_reason, lemma_lines, step_line};
-ghost use Rattle.report_text.specs.Pieces.{ended, lines_text, spelled};
+ghost use Rattle.report_text.specs.Pieces.{ended, lines_text};
+ghost use Rattle.texts.specs.Spelled.{spelled};
 
-use crate::texts::{Count, Raw, Text, Two};
+use crate::counts::Count;
 use crate::words::{LiteralWord, ReasonWords, Subject};
 use edge::{Failed, Sink};
 use meaning::{Lemma, StoryStep};
+use texts::{Page, Raw, Text, Two};
 use vocab::Literal;
 
 /// A line for each literal that is supposed.
@@ -25,13 +27,13 @@ impl Text for Supposed<'_> {
 
     ghost text = { λ lines. spelled (λ _ l. ended lines.of.study.now (Suppose l)) 0 lines.literals.now };
 
-    fn write<O: Sink>(&self, out: &mut O) -> Result<(), Failed> {
+    fn pour<O: Sink>(&self, page: &mut Page, out: &mut O) -> Result<(), Failed> {
         for literal in self.literals {
             let word = LiteralWord {
                 space: self.of.space,
                 literal: *literal,
             };
-            Two(Raw(b"suppose "), Two(word, Raw(b"\n"))).write(out)?;
+            Two(Raw(b"suppose "), Two(word, Raw(b"\n"))).pour(page, out)?;
         }
         Ok(())
     }
@@ -49,7 +51,7 @@ impl Text for Steps<'_> {
 
     ghost text = { λ lines. spelled (λ _ step. ended lines.of.study.now (step_line step)) 0 lines.steps.now };
 
-    fn write<O: Sink>(&self, out: &mut O) -> Result<(), Failed> {
+    fn pour<O: Sink>(&self, page: &mut Page, out: &mut O) -> Result<(), Failed> {
         for step in self.steps {
             let word = LiteralWord {
                 space: self.of.space,
@@ -60,7 +62,7 @@ impl Text for Steps<'_> {
                 reason: step.reason,
             };
             let by = Two(Raw(b" by "), Two(reason, Raw(b"\n")));
-            Two(Raw(b"so "), Two(word, by)).write(out)?;
+            Two(Raw(b"so "), Two(word, by)).pour(page, out)?;
         }
         Ok(())
     }
@@ -79,7 +81,7 @@ impl Text for LemmaLines<'_> {
 
     ghost text = { λ lines. lines_text lines.of.study.now (lemma_lines lines.number lines.lemma.now) };
 
-    fn write<O: Sink>(&self, out: &mut O) -> Result<(), Failed> {
+    fn pour<O: Sink>(&self, page: &mut Page, out: &mut O) -> Result<(), Failed> {
         let heading = Count {
             key: b"lemma ",
             count: self.number,
@@ -97,7 +99,7 @@ impl Text for LemmaLines<'_> {
             reason: self.lemma.last,
         };
         let clash = Two(Raw(b"clash by "), Two(last, Raw(b"\n")));
-        Two(heading, Two(supposed, Two(steps, clash))).write(out)
+        Two(heading, Two(supposed, Two(steps, clash))).pour(page, out)
     }
 }
 
@@ -113,14 +115,14 @@ impl Text for StoryLines<'_> {
 
     ghost text = { λ lines. spelled (λ number lemma. lines_text lines.of.study.now (lemma_lines number lemma)) 1 lines.lemmas.now };
 
-    fn write<O: Sink>(&self, out: &mut O) -> Result<(), Failed> {
+    fn pour<O: Sink>(&self, page: &mut Page, out: &mut O) -> Result<(), Failed> {
         for place in 0..self.lemmas.len() {
             let lines = LemmaLines {
                 of: self.of,
                 number: place as u64 + 1,
                 lemma: &self.lemmas[place],
             };
-            lines.write(out)?;
+            lines.pour(page, out)?;
         }
         Ok(())
     }

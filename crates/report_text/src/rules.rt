@@ -6,13 +6,15 @@ ghost use Rattle.std.specs.Cmp.Lexicographic.{pointwise};
 ghost use Rattle.meaning.specs.Texts.{outcome_text, profile_text};
 ghost use Rattle.meaning.specs.Truth.{is_rule};
 ghost use Rattle.verdicts.specs.Report.{all_witness_lines, is_witness_text, witness_lines};
-ghost use Rattle.report_text.specs.Pieces.{lines_text, spelled};
-ghost use Rattle.report_text.specs.Writes.{Writes};
+ghost use Rattle.report_text.specs.Pieces.{lines_text};
+ghost use Rattle.texts.specs.Spelled.{spelled};
+ghost use Rattle.texts.specs.Page.{Pours};
 
-use crate::texts::{Count, Raw, Text, Two};
+use crate::counts::Count;
 use edge::{Failed, Sink};
 use meaning::Witness;
 use outcomes::OutcomeKind;
+use texts::{Page, Raw, Text, Two};
 use vocab::{Study, Table};
 
 /// The rows of a rule.
@@ -27,29 +29,32 @@ impl<K: OutcomeKind> Text for Rows<'_, K> {
 
     ghost text = { λ rows. spelled (λ p o. profile_text (K.size rows.kind.now) p ++ (32 ∷ (outcome_text (K.size rows.kind.now) o ++ 10 ∷ []))) 0 rows.table.now };
 
-    fn write<O: Sink>(&self, out: &mut O) -> Result<(), Failed> {
+    fn pour<O: Sink>(&self, page: &mut Page, out: &mut O) -> Result<(), Failed> {
         for p in 0..self.table.len() {
             let profile = self.kind.space().profile_text(p as u32);
             let outcome = self.kind.text(u32::from(*self.table.get(p)));
             let end = Two(Raw(outcome.bytes()), Raw(b"\n"));
-            Two(Raw(profile.bytes()), Two(Raw(b" "), end)).write(out)?;
+            Two(Raw(profile.bytes()), Two(Raw(b" "), end)).pour(page, out)?;
         }
         Ok(())
     }
 }
 
 /// The witness of the axiom at a place: a rule with its rows, or an open mark.
-fn write_witness<K: OutcomeKind, O: Sink>(
-    out: &mut O,
+fn pour_witness<K: OutcomeKind, O: Sink>(
     kind: &K,
     study: &Study,
     place: u32,
     witness: &Witness,
+    page: &mut Page,
+    out: &mut O,
 ) -> Result<(), Failed>
     requires size { study.now.size ≡ K.size kind.now }
     requires place { place < length study.now.axioms }
     requires can { IsTrue (is_witness_text study.now place witness.now) }
-    ensures { Writes (O.taken out.old) (O.taken out.new) (O.faults out.old) (O.faults out.new) result (lines_text study.now (witness_lines study.now place witness.now)) }
+    ensures { Pours (O.taken out.old) (O.taken out.new) page.old page.new
+        (O.faults out.old) (O.faults out.new) result
+        (lines_text study.now (witness_lines study.now place witness.now)) }
 {
     let name = study.axioms().get(place as usize).name();
     match witness {
@@ -59,33 +64,36 @@ fn write_witness<K: OutcomeKind, O: Sink>(
                 count: u64::from(kind.space().count()),
             };
             let rows = Two(count, Rows { kind, table });
-            Two(Raw(b"without "), Two(Raw(name.bytes()), rows)).write(out)
+            Two(Raw(b"without "), Two(Raw(name.bytes()), rows)).pour(page, out)
         }
         Witness::Open(limit) => {
             let open = Count {
                 key: b" open ",
                 count: u64::from(*limit),
             };
-            Two(Raw(b"without "), Two(Raw(name.bytes()), open)).write(out)
+            Two(Raw(b"without "), Two(Raw(name.bytes()), open)).pour(page, out)
         }
     }
 }
 
 /// A witness for each axiom of a core.
-pub(crate) fn write_witnesses<K: OutcomeKind, O: Sink>(
-    out: &mut O,
+pub(crate) fn pour_witnesses<K: OutcomeKind, O: Sink>(
     kind: &K,
     study: &Study,
     core: &[u32],
     witnesses: &[Witness],
+    page: &mut Page,
+    out: &mut O,
 ) -> Result<(), Failed>
     requires size { study.now.size ≡ K.size kind.now }
     requires core { IsTrue (list_all (λ k. nat_lt k (length study.now.axioms)) core.now) }
     requires can { IsTrue (pointwise (is_witness_text study.now) core.now witnesses.now) }
-    ensures { Writes (O.taken out.old) (O.taken out.new) (O.faults out.old) (O.faults out.new) result (lines_text study.now (all_witness_lines study.now core.now witnesses.now)) }
+    ensures { Pours (O.taken out.old) (O.taken out.new) page.old page.new
+        (O.faults out.old) (O.faults out.new) result
+        (lines_text study.now (all_witness_lines study.now core.now witnesses.now)) }
 {
     for place in 0..witnesses.len() {
-        write_witness(out, kind, study, core[place], &witnesses[place])?;
+        pour_witness(kind, study, core[place], &witnesses[place], page, out)?;
     }
     Ok(())
 }

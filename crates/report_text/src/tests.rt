@@ -1,16 +1,18 @@
 //! Reports of a study of one voter and two alternatives, and sinks that fail.
 
 ghost use Rattle.std.specs.Prelude.{◌≡◌, [], ◌∷◌, codes, IfOk, IsTrue};
+ghost use Rattle.meaning.specs.Truth.{is_rule};
 ghost use Rattle.vocab.specs.Size.{full_size};
 ghost use Rattle.vocab.specs.Tree.{All, Leaf, Equal, Var};
 ghost use Rattle.verdicts.specs.Report.{has_text};
 
 use crate::print;
-use edge::{Failed, MemorySink};
+use edge::{Failed, MemorySink, Sink};
 use lists::Items;
 use meaning::{Lemma, Reason, StoryStep, Witness};
 use outcomes::ChoiceKind;
 use profiles::Space;
+use profiles::laws::spaces_have_sizes;
 use std::alloc::Global;
 use std::test::Fail;
 use verdicts::Verdict;
@@ -138,5 +140,68 @@ fn front_is_written_where_there_is_no_room(rt: HostRuntime) -> Result<(), Fail> 
         assert!(rt; IMPOSSIBLE.as_bytes().starts_with(text.as_slice()));
         assert!(rt; done.is_err());
     }
+    Ok(())
+}
+
+/// Takes all and counts its writes and the bytes. Both stay at their greatest once they are there.
+#[derive(Drop)]
+struct CountingSink {
+    writes: u64,
+    bytes: u64,
+}
+
+impl Sink for CountingSink {
+    ghost use Rattle.std.specs.Prelude.{None};
+
+    ghost taken = { λ _. None };
+
+    ghost faults = { λ _. 0 };
+
+    fn write(&mut self, piece: &[u8]) -> Result<usize, Failed> {
+        self.writes = self.writes.saturating_add(1);
+        self.bytes = self.bytes.saturating_add(piece.len() as u64);
+        Ok(piece.len())
+    }
+
+    fn flush(&mut self) -> Result<(), Failed> {
+        Ok(())
+    }
+}
+
+/// The rule that gives the first alternative at each profile.
+fn first_alternative(alloc: Global, space: &Space) -> Result<Table, Fail>
+    requires { space.now.kind ≡ Kind.Choice }
+    ensures { IfOk result (λ table. IsTrue (is_rule space.now table)) }
+{
+    spaces_have_sizes(space);
+    let count = space.count() as usize;
+    let mut table = Items::new(alloc);
+    while table.len() < count {
+        table.push(0)?;
+    }
+    Ok(table)
+}
+
+/// Prints the report of that rule for two voters and five alternatives.
+fn print_large(alloc: Global, out: &mut CountingSink) -> Result<(), Fail> {
+    let size = Size::check(Kind::Choice, 2, 5).ok().ok_or("size")?;
+    let study = Study::new(size, 100, Items::new(alloc));
+    let space = Space::new(size);
+    let verdict = Verdict::Possible(first_alternative(alloc, &space)?);
+    let kind = ChoiceKind::new(space);
+    print(&kind, &study, &verdict, out).ok().ok_or("print")?;
+    Ok(())
+}
+
+#[test]
+fn large_report_takes_few_writes(rt: HostRuntime) -> Result<(), Fail> {
+    let mut out = CountingSink {
+        writes: 0,
+        bytes: 0,
+    };
+    print_large(rt.alloc(), &mut out)?;
+    // The lines but for the rows have 90 bytes, and each of the 14,400 rows has 14.
+    assert_eq!(rt; out.bytes, 201_690);
+    assert!(rt; out.writes <= 201_690 / 4096 + 2);
     Ok(())
 }

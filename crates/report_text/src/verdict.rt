@@ -6,32 +6,36 @@ ghost use Rattle.edge.specs.Faults.{HasCause};
 ghost use Rattle.edge.specs.Told.{AppendsPrefix, TellsAsBefore};
 ghost use Rattle.verdicts.specs.declared.verdicts.Verdict.TheVariants.{Impossible};
 ghost use Rattle.verdicts.specs.Report.{has_text, report_text};
-ghost use Rattle.report_text.specs.Writes.{Writes};
+ghost use Rattle.texts.specs.Page.{Pours};
 
+use crate::counts::Count;
 use crate::head::{CoreNames, Head};
 use crate::lines::StoryLines;
-use crate::rules::{Rows, write_witnesses};
-use crate::texts::{Count, Raw, Text, Two};
+use crate::rules::{Rows, pour_witnesses};
 use crate::words::Subject;
 use edge::{Failed, Sink};
 use lists::Items;
 use meaning::{Lemma, Witness};
 use outcomes::OutcomeKind;
+use texts::{Page, Raw, Text, Two};
 use verdicts::Verdict;
 use vocab::{Places, Study};
 
-/// Writes the text of an impossibility.
-fn write_impossible<'a, K: OutcomeKind, O: Sink>(
-    out: &mut O,
+/// Adds the text of an impossibility.
+fn pour_impossible<'a, K: OutcomeKind, O: Sink>(
     kind: &'a K,
     study: &'a Study,
     core: &'a Places,
     story: &'a Items<Lemma>,
     witnesses: &Items<Witness>,
+    page: &mut Page,
+    out: &mut O,
 ) -> Result<(), Failed>
     requires size { study.now.size ≡ K.size kind.now }
     requires has_text { IsTrue (has_text study.now (Impossible core.now story.now witnesses.now)) }
-    ensures { Writes (O.taken out.old) (O.taken out.new) (O.faults out.old) (O.faults out.new) result (report_text study.now (Impossible core.now story.now witnesses.now)) }
+    ensures { Pours (O.taken out.old) (O.taken out.new) page.old page.new
+        (O.faults out.old) (O.faults out.new) result
+        (report_text study.now (Impossible core.now story.now witnesses.now)) }
 {
     let names = CoreNames {
         study,
@@ -50,21 +54,30 @@ fn write_impossible<'a, K: OutcomeKind, O: Sink>(
         lemmas: story.as_slice(),
     };
     let claim = Two(Raw(b"verdict impossible\ncore"), names);
-    Two(Head { study }, Two(claim, Two(lemmas, lines))).write(out)?;
-    write_witnesses(out, kind, study, core.as_slice(), witnesses.as_slice())?;
-    Raw(b"end\n").write(out)
+    Two(Head { study }, Two(claim, Two(lemmas, lines))).pour(page, out)?;
+    pour_witnesses(
+        kind,
+        study,
+        core.as_slice(),
+        witnesses.as_slice(),
+        page,
+        out,
+    )?;
+    Raw(b"end\n").pour(page, out)
 }
 
-/// Writes the text of a verdict.
-fn write_verdict<K: OutcomeKind, O: Sink>(
-    out: &mut O,
+/// Adds the text of a verdict.
+fn pour_verdict<K: OutcomeKind, O: Sink>(
     kind: &K,
     study: &Study,
     verdict: &Verdict,
+    page: &mut Page,
+    out: &mut O,
 ) -> Result<(), Failed>
     requires size { study.now.size ≡ K.size kind.now }
     requires has_text { IsTrue (has_text study.now verdict.now) }
-    ensures { Writes (O.taken out.old) (O.taken out.new) (O.faults out.old) (O.faults out.new) result (report_text study.now verdict.now) }
+    ensures { Pours (O.taken out.old) (O.taken out.new) page.old page.new
+        (O.faults out.old) (O.faults out.new) result (report_text study.now verdict.now) }
 {
     match verdict {
         Verdict::Possible(table) => {
@@ -73,19 +86,19 @@ fn write_verdict<K: OutcomeKind, O: Sink>(
                 count: u64::from(kind.space().count()),
             };
             let rows = Two(Rows { kind, table }, Raw(b"end\n"));
-            Two(Head { study }, Two(count, rows)).write(out)
+            Two(Head { study }, Two(count, rows)).pour(page, out)
         }
         Verdict::Impossible {
             core,
             story,
             witnesses,
-        } => write_impossible(out, kind, study, core, story, witnesses),
+        } => pour_impossible(kind, study, core, story, witnesses, page, out),
         Verdict::Undecided => {
             let limit = Count {
                 key: b"verdict undecided\nconflicts ",
                 count: u64::from(study.conflicts()),
             };
-            Two(Head { study }, Two(limit, Raw(b"end\n"))).write(out)
+            Two(Head { study }, Two(limit, Raw(b"end\n"))).pour(page, out)
         }
     }
 }
@@ -105,5 +118,7 @@ pub fn print<K: OutcomeKind, O: Sink>(
     ensures tells { TellsAsBefore (O.taken out.old) (O.taken out.new) }
     ensures cause { HasCause (O.faults out.old) (O.faults out.new) result }
 {
-    write_verdict(out, kind, study, verdict)
+    let mut page = Page::new();
+    pour_verdict(kind, study, verdict, &mut page, out)?;
+    page.hand_on(out)
 }

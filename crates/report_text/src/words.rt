@@ -13,13 +13,14 @@ ghost use Rattle.verdicts.specs.Lines.{value_words};
 ghost use Rattle.verdicts.specs.Report.{is_reason};
 ghost use Rattle.verdicts.specs.Texts.{literal_text, value_text};
 ghost use Rattle.report_text.specs.Pieces.{spaced, reason_text};
-ghost use Rattle.report_text.specs.Writes.{Writes};
+ghost use Rattle.texts.specs.Page.{Pours};
 
-use crate::texts::{Number, Raw, Text, Two};
+use crate::counts::pour_place;
 use edge::{Failed, Sink};
 use meaning::Reason;
 use profiles::Space;
 use profiles::laws::spaces_have_sizes;
+use texts::{Page, Raw, Text, Two};
 use vocab::{Env, Formula, Literal, Sort, Study};
 
 /// A study, and the profiles of its size.
@@ -39,12 +40,19 @@ fn letter(x: u8) -> u8
 }
 
 /// What stands before the profile of a literal, and the profile.
-fn write_at<O: Sink>(out: &mut O, space: &Space, front: &[u8], p: u32) -> Result<(), Failed>
+fn pour_at<O: Sink>(
+    space: &Space,
+    front: &[u8],
+    p: u32,
+    page: &mut Page,
+    out: &mut O,
+) -> Result<(), Failed>
     requires { p < sort_count space.now Profile }
-    ensures { Writes (O.taken out.old) (O.taken out.new) (O.faults out.old) (O.faults out.new) result (front.now ++ profile_text space.now p) }
+    ensures { Pours (O.taken out.old) (O.taken out.new) page.old page.new
+        (O.faults out.old) (O.faults out.new) result (front.now ++ profile_text space.now p) }
 {
     let profile = space.profile_text(p);
-    Two(Raw(front), Raw(profile.bytes())).write(out)
+    Two(Raw(front), Raw(profile.bytes())).pour(page, out)
 }
 
 /// A literal.
@@ -59,13 +67,19 @@ impl Text for LiteralWord<'_> {
 
     ghost text = { λ word. literal_text word.space.now word.literal };
 
-    fn write<O: Sink>(&self, out: &mut O) -> Result<(), Failed> {
+    fn pour<O: Sink>(&self, page: &mut Page, out: &mut O) -> Result<(), Failed> {
         spaces_have_sizes(self.space);
         match self.literal {
-            Literal::Wins(x, p) => write_at(out, self.space, &[letter(x), b'@'], p),
-            Literal::Loses(x, p) => write_at(out, self.space, &[b'!', letter(x), b'@'], p),
+            Literal::Wins(x, p) => pour_at(self.space, &[letter(x), b'@'], p, page, out),
+            Literal::Loses(x, p) => pour_at(self.space, &[b'!', letter(x), b'@'], p, page, out),
             Literal::Above(x, y, p) => {
-                write_at(out, self.space, &[letter(x), b'>', letter(y), b'@'], p)
+                pour_at(
+                    self.space,
+                    &[letter(x), b'>', letter(y), b'@'],
+                    p,
+                    page,
+                    out,
+                )
             }
         }
     }
@@ -84,27 +98,29 @@ impl Text for Value<'_> {
 
     ghost text = { λ word. value_text word.space.now word.sort word.value };
 
-    fn write<O: Sink>(&self, out: &mut O) -> Result<(), Failed> {
+    fn pour<O: Sink>(&self, page: &mut Page, out: &mut O) -> Result<(), Failed> {
         spaces_have_sizes(self.space);
         match self.sort {
-            Sort::Voter => Number(u64::from(self.value) + 1).write(out),
-            Sort::Alt => Raw(&[letter(self.value as u8)]).write(out),
-            Sort::Ballot => Raw(self.space.ballot_text(self.value).bytes()).write(out),
-            Sort::Profile => Raw(self.space.profile_text(self.value).bytes()).write(out),
+            Sort::Voter => pour_place(b"", self.value, page, out),
+            Sort::Alt => Raw(&[letter(self.value as u8)]).pour(page, out),
+            Sort::Ballot => Raw(self.space.ballot_text(self.value).bytes()).pour(page, out),
+            Sort::Profile => Raw(self.space.profile_text(self.value).bytes()).pour(page, out),
         }
     }
 }
 
 /// The values of the leading universals of a formula, from those of a level on, each with a blank before it.
-fn write_values<O: Sink>(
-    out: &mut O,
+fn pour_values<O: Sink>(
     of: &Subject,
     formula: &Formula,
     values: &Env,
     level: u8,
+    page: &mut Page,
+    out: &mut O,
 ) -> Result<(), Failed>
     requires { IsTrue (pointwise nat_lt (drop level values.now) (map (sort_count of.now.study.now.size) (prefix_of (tree_of formula.now)))) }
-    ensures { Writes (O.taken out.old) (O.taken out.new) (O.faults out.old) (O.faults out.new) result
+    ensures { Pours (O.taken out.old) (O.taken out.new) page.old page.new
+        (O.faults out.old) (O.faults out.new) result
         (spaced (value_words of.now.study.now (prefix_of (tree_of formula.now)) (drop level values.now))) }
 {
     if level >= values.len() {
@@ -117,8 +133,8 @@ fn write_values<O: Sink>(
                 sort: *sort,
                 value: values.get(level),
             };
-            Two(Raw(b" "), value).write(out)?;
-            write_values(out, of, inner, values, level + 1)
+            Two(Raw(b" "), value).pour(page, out)?;
+            pour_values(of, inner, values, level + 1, page, out)
         }
         _ => Ok(()),
     }
@@ -137,20 +153,22 @@ impl Text for Values<'_> {
 
     ghost text = { λ words. spaced (value_words words.of.study.now (prefix_of (tree_of words.sentence.now)) words.values) };
 
-    fn write<O: Sink>(&self, out: &mut O) -> Result<(), Failed> {
-        write_values(out, &self.of, self.sentence, &self.values, 0)
+    fn pour<O: Sink>(&self, page: &mut Page, out: &mut O) -> Result<(), Failed> {
+        pour_values(&self.of, self.sentence, &self.values, 0, page, out)
     }
 }
 
 /// An instance of an axiom, as a reason.
-fn write_axiom_reason<O: Sink>(
-    out: &mut O,
+fn pour_axiom_reason<O: Sink>(
     of: &Subject,
     place: u32,
     values: Env,
+    page: &mut Page,
+    out: &mut O,
 ) -> Result<(), Failed>
     requires { IsTrue (is_reason of.now.study.now (ByAxiom place values)) }
-    ensures { Writes (O.taken out.old) (O.taken out.new) (O.faults out.old) (O.faults out.new) result
+    ensures { Pours (O.taken out.old) (O.taken out.new) page.old page.new
+        (O.faults out.old) (O.faults out.new) result
         (reason_text of.now.study.now (ByAxiom place values)) }
 {
     let named = of.study.axioms().get(place as usize);
@@ -160,7 +178,7 @@ fn write_axiom_reason<O: Sink>(
         sentence: named.sentence(),
         values,
     };
-    Two(Raw(b"axiom "), Two(Raw(name.bytes()), values)).write(out)
+    Two(Raw(b"axiom "), Two(Raw(name.bytes()), values)).pour(page, out)
 }
 
 /// A reason.
@@ -175,14 +193,14 @@ impl Text for ReasonWords<'_> {
 
     ghost text = { λ words. reason_text words.of.study.now words.reason };
 
-    fn write<O: Sink>(&self, out: &mut O) -> Result<(), Failed> {
+    fn pour<O: Sink>(&self, page: &mut Page, out: &mut O) -> Result<(), Failed> {
         match self.reason {
-            Reason::Axiom(place, values) => write_axiom_reason(out, &self.of, place, values),
+            Reason::Axiom(place, values) => pour_axiom_reason(&self.of, place, values, page, out),
             Reason::Outcome(p) => {
                 let profile = self.of.space.profile_text(p);
-                Two(Raw(b"outcome "), Raw(profile.bytes())).write(out)
+                Two(Raw(b"outcome "), Raw(profile.bytes())).pour(page, out)
             }
-            Reason::Lemma(lemma) => { Two(Raw(b"lemma "), Number(u64::from(lemma) + 1)).write(out) }
+            Reason::Lemma(lemma) => pour_place(b"lemma ", lemma, page, out),
         }
     }
 }

@@ -1,0 +1,2 @@
+-- The lines of a library, and those of answers.
+pub mod LineLemmas

@@ -1,0 +1,173 @@
+//! The lines of answers by example, from docs/FORMATS.md.
+
+use crate::{LibraryLines, StudyLine, WorthLine, laws};
+use edge::{Failed, MemorySink, Sink};
+use lists::Items;
+use report::{Confirmed, Worth};
+use sorts::SortFault;
+use std::alloc::Global;
+use std::test::Fail;
+use study::StudyFault;
+use syntax::SyntaxFault;
+use texts::{Text, write_text};
+use verdicts::Refusal;
+use vocab::{Kind, Name, SizeFault};
+
+fn written<T: Text>(text: &T, alloc: Global) -> Result<Vec<u8>, Fail>
+    requires { T.can text.now }
+{
+    let mut out = MemorySink::new(alloc, 2000, &[])?;
+    write_text(text, &mut out).ok().ok_or("no room")?;
+    Ok(out.bytes().to_vec(alloc)?)
+}
+
+fn string(alloc: Global, bytes: &[u8]) -> Result<Items<u8>, Fail> {
+    let mut string = Items::new(alloc);
+    string.append(bytes)?;
+    Ok(string)
+}
+
+/// The faults of a study that name no axiom, each with its line.
+fn plain_faults(alloc: Global) -> Result<[(StudyFault, &'static str); 8], Fail> {
+    let fair = Name::new(b"fair").ok_or("name")?;
+    Ok([
+        (StudyFault::Toml, "study: not toml\n"),
+        (
+            StudyFault::Key(string(alloc, b"kind")?),
+            "study: key kind\n",
+        ),
+        (
+            StudyFault::Size(SizeFault::Voters(-1)),
+            "study: voters -1\n",
+        ),
+        (
+            StudyFault::Size(SizeFault::Profiles(1_728_000)),
+            "study: profiles 1728000\n",
+        ),
+        (StudyFault::Conflicts(0), "study: conflicts 0\n"),
+        (StudyFault::Many(41), "study: axioms 41\n"),
+        (
+            StudyFault::Unknown(string(alloc, b"Fair")?),
+            "study: unknown axiom Fair\n",
+        ),
+        (StudyFault::Twice(fair), "study: twice fair\n"),
+    ])
+}
+
+/// The faults of an axiom, each with its line.
+fn axiom_faults() -> Result<[(StudyFault, &'static str); 8], Fail> {
+    let fair = Name::new(b"fair").ok_or("name")?;
+    let unbound = Name::new(b"x").ok_or("name")?;
+    Ok([
+        (
+            StudyFault::Syntax(fair, SyntaxFault::Lexeme(7)),
+            "study: fair: lexeme 7\n",
+        ),
+        (
+            StudyFault::Syntax(fair, SyntaxFault::NoReading),
+            "study: fair: no reading\n",
+        ),
+        (
+            StudyFault::Syntax(fair, SyntaxFault::Deep),
+            "study: fair: deep\n",
+        ),
+        (
+            StudyFault::Sort(fair, SortFault::Unbound(unbound)),
+            "study: fair: unbound x\n",
+        ),
+        (StudyFault::Open(fair), "study: fair: open\n"),
+        (
+            StudyFault::Instances(fair, 20_000_001),
+            "study: fair: instances 20000001\n",
+        ),
+        (
+            StudyFault::Body(fair, 1_000_001),
+            "study: fair: body 1000001\n",
+        ),
+        (
+            StudyFault::Work(fair, 18_446_744_073_709_551_615),
+            "study: fair: work 18446744073709551615\n",
+        ),
+    ])
+}
+
+#[test]
+fn studies_are_refused(rt: HostRuntime) -> Result<(), Fail> {
+    let alloc = rt.alloc();
+    for (fault, wanted) in plain_faults(alloc)? {
+        let line = written(&StudyLine(&fault), alloc)?;
+        assert_eq!(rt; line.as_slice(), wanted.as_bytes());
+    }
+    for (fault, wanted) in axiom_faults()? {
+        let line = written(&StudyLine(&fault), alloc)?;
+        assert_eq!(rt; line.as_slice(), wanted.as_bytes());
+    }
+    Ok(())
+}
+
+#[test]
+fn reports_are_judged(rt: HostRuntime) -> Result<(), Fail> {
+    let alloc = rt.alloc();
+    laws::lines_are_of_answers();
+    let name = Name::new(b"unanimity").ok_or("name")?;
+    let fails = Refusal::Fails { name, instance: 3 };
+    let cases = [
+        (
+            Worth::Confirmed(Confirmed::Possible),
+            "confirmed possible\n",
+        ),
+        (
+            Worth::Confirmed(Confirmed::Impossible),
+            "confirmed impossible\n",
+        ),
+        (Worth::TooLong, "refused: too long\n"),
+        (
+            Worth::Faulty {
+                line: 1,
+                refusal: Refusal::Form,
+            },
+            "refused line 1: form\n",
+        ),
+        (
+            Worth::Faulty {
+                line: 11,
+                refusal: Refusal::NotInCore,
+            },
+            "refused line 11: not_in_core\n",
+        ),
+        (
+            Worth::Faulty {
+                line: 20,
+                refusal: Refusal::OpenMark,
+            },
+            "refused line 20: open\n",
+        ),
+        (
+            Worth::Faulty {
+                line: 9,
+                refusal: fails,
+            },
+            "refused line 9: fails unanimity 3\n",
+        ),
+    ];
+    for (worth, wanted) in cases {
+        let line = written(&WorthLine(&worth), alloc)?;
+        assert_eq!(rt; line.as_slice(), wanted.as_bytes());
+    }
+    Ok(())
+}
+
+#[test]
+fn libraries_have_a_line_an_axiom(rt: HostRuntime) -> Result<(), Fail> {
+    let alloc = rt.alloc();
+    for (kind, first, lines) in [
+        (Kind::Choice, "unanimity: all p: profile. ", 9),
+        (Kind::Ranking, "pareto: all p: profile. ", 5),
+        (Kind::Sets, "", 0),
+    ] {
+        let text = written(&LibraryLines(kind), alloc)?;
+        assert!(rt; text.starts_with(first.as_bytes()));
+        assert_eq!(rt; text.iter().filter(|c| **c == b'\n').count(), lines);
+    }
+    Ok(())
+}

@@ -1,9 +1,0 @@
-use Rattle.std.proofs.Common.{take}
-use Rattle.verdicts.specs.Lines.{Suppose}
-use Rattle.report_text.specs.Pieces.{ended, spelled}
-use Rattle.report_text.proofs.WriteLemmas.{Wrote}
-use Rattle.report_text.proofs.lines.SupposedText.write.Given as goal
-
--- the lines so far were written
-abbrev pub invariant-loop-literal : goal.invariant-loop-literal
-invariant-loop-literal g l = Wrote (g.O.Sink.taken l.initial.out) (g.O.Sink.taken l.out) (g.O.Sink.faults l.initial.out) (g.O.Sink.faults l.out) (spelled (λ _ x. ended l.self.of.study.now (Suppose x)) 0 (take l.literal-index l.self.literals.now))

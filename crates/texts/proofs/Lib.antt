@@ -1,0 +1,4 @@
+pub mod PageLemmas
+pub mod PourLemmas
+pub mod LoopLemmas
+pub mod FinishLemmas
