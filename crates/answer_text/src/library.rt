@@ -3,7 +3,7 @@
 ghost use Rattle.std.specs.Prelude.{◌≡◌, ◌<◌, length, IsSomeAnd, slice_get};
 ghost use Rattle.axiom_library.specs.Library.{library};
 ghost use Rattle.texts.specs.Page.{Pours};
-ghost use Rattle.answer_text.specs.LibraryText.{entry_line, library_text};
+ghost use Rattle.answers.specs.Axioms.{entry_line, library_text};
 
 use axiom_library::{count, name_at, text_at};
 use edge::{Failed, Sink};

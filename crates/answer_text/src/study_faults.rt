@@ -1,7 +1,7 @@
 //! The line of a study that is refused.
 
 ghost use Rattle.std.specs.Prelude.{◌++◌, codes};
-ghost use Rattle.answer_text.specs.Refusals.{size_text, syntax_text, sort_text, of_axiom, fault_text, study_line};
+ghost use Rattle.answers.specs.StudyLines.{size_text, syntax_text, sort_text, of_axiom, fault_text, study_line};
 
 use edge::{Failed, Sink};
 use sorts::SortFault;

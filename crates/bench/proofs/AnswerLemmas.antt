@@ -1,5 +1,5 @@
 -- From the answer of a command to the promises of a call.
-use Rattle.std.proofs.Common.{◌≡◌, ◌≢◌, ◌∙◌, sym, refl, subst, ap, ℕ, ◌≤◌, inl, inr, cond, Bool, true, false, ◌||◌, List, [], ◌∷◌, ◌++◌, length, take, take_all, le_refl, Option, None, Some, Result, Ok, Err, OnErr, IsSomeAnd, arith}
+use Rattle.std.proofs.Common.{◌≡◌, ◌≢◌, ◌∙◌, sym, refl, subst, ℕ, ◌≤◌, inl, inr, cond, Bool, true, false, ◌||◌, List, [], ◌∷◌, take, Option, None, Some, Result, Ok, Err, IsSomeAnd, arith}
 use Rattle.std.specs.Prelude.{◌==◌, IsTrue, IsFalse}
 use Rattle.std.specs.List.{list_any}
 use Rattle.std.specs.Str.{bytes_eq}
@@ -75,20 +75,6 @@ module _ (request : Option Request) (told : Option Files) (left : Files) (faults
       subst (λ (r : Option Request). Answers r told left left faults faults (Ok Usage)) (sym asked)
       (bare_answer None told left faults Usage (omega arith) refl (λ files. (record { ends = refl; no_verdict = refl; no_logs = refl }, refl)))
 
--- ---- writing
-
--- the whole of a piece is a front of it
-kept_all : (a b c : Option (List ℕ)) (p : List ℕ) → Appends a b p → Keeps b c → Appends a c (take (length p) p)
-kept_all None b c p h k = tt
-kept_all (Some xs) None c p h k = absurd h
-kept_all (Some xs) (Some ys) None p h k = absurd k
-kept_all (Some xs) (Some ys) (Some zs) p h k = k ∙ h ∙ ap (λ (t : List ℕ). xs ++ t) (sym (take_all (length p) p (le_refl (length p))))
-
--- where a flush fails, the whole text was written
-pub flushed : {T E : Type 0} (r : Result T E) (a b c : Option (List ℕ)) (p : List ℕ) → Appends a b p → Keeps b c → OnErr r (AppendsPrefix a c p)
-flushed (Ok x) a b c p h k = tt
-flushed (Err e) a b c p h k = (length p, kept_all a b c p h k)
-
 -- ---- calls
 
 not_in_front : (test : List ℕ → Bool) (s : ℕ) (names : List (List ℕ)) → list_any test names ≡ false → list_any test (touched_at s names) ≡ false
@@ -141,11 +127,6 @@ module _ (words : List (List ℕ)) (d : Devices) where
     uncounted = a.uncounted;
   }
 
-  -- the same of a text that is the answer's
-  pub cut_text : (answer : Answer) (text : List ℕ) → Held (Ok answer) → text ≡ text_of answer → AppendsPrefix d.taken_before d.taken_now text → Rose d.sink_faults_before d.sink_faults_now
-      → IsCall words d (with_status 6 (run_of answer))
-  cut_text answer text a same bytes rose = cut answer a (subst (λ (t : List ℕ). AppendsPrefix d.taken_before d.taken_now t) same bytes) rose
-
   -- nothing was
   silent_call : (run : Run) (s : ℕ) → IsBare run s → 5 ≤ s → s ≢ 6 → d.taken_now ≡ d.taken_before → IsTrue (list_any (λ n. n == s) (statuses_of (request_of words)))
       → (s ≡ 5 → HasReadCause (request_of words) d.told d.faults_before d.faults_now (files_of (request_of words)))
@@ -169,9 +150,3 @@ module _ (words : List (List ℕ)) (d : Devices) where
   -- there was no memory for the answer
   pub wanted : (run : Run) → IsBare run 7 → d.taken_now ≡ d.taken_before → Held (Err stop.NoMemory) → IsCall words d run
   wanted run bare same a = silent_call run 7 bare (omega arith) (λ e. absurd (omega (arith, e))) same a.status (λ e. absurd (omega (arith, e))) a.untouched a.uncounted
-
-  -- or for its text
-  pub text_wanted : (run : Run) (answer : Answer) → IsBare run 7 → d.taken_now ≡ d.taken_before → Held (Ok answer) → IsCall words d run
-  text_wanted run answer bare same a =
-      silent_call run 7 bare (omega arith) (λ e. absurd (omega (arith, e))) same (may_want_memory (request_of words)) (λ e. absurd (omega (arith, e)))
-      (λ name free. a.untouched name (not_in_front (bytes_eq name) (status_of answer) (files_of (request_of words)) free)) a.uncounted

@@ -25,7 +25,8 @@ use Rattle.bench.specs.declared.answer.Answer.TheVariants.{Judged}
 use Rattle.bench.specs.declared.answer.Stop.{Stop}
 use Rattle.bench.specs.declared.answer.Stop.TheVariants as stop
 use Rattle.bench.specs.declared.studies.Opened.{Opened}
-use Rattle.bench.specs.Answers.{run_of, status_of, text_of, worth_status, worth_text}
+use Rattle.answer_text.specs.Said.{worth_text}
+use Rattle.bench.specs.Answers.{run_of, status_of, text_of, worth_status}
 use Rattle.bench.specs.Answered.{Answers}
 use Rattle.bench.specs.Opened.{IsRead}
 use Rattle.bench.proofs.OpenLemmas.{if_some}

@@ -1,5 +1,4 @@
 -- In proof order.
 mod AnswerLemmas
-mod LibraryLemmas
 mod OpenLemmas
 mod CheckLemmas

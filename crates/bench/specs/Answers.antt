@@ -1,12 +1,9 @@
 -- What is said with an answer: its status and its text.
-use Rattle.std.specs.Prelude.{ℕ, List, [], ◌∷◌, ◌++◌, codes, None}
-use Rattle.verdicts.specs.Numbers.{number_text}
-use Rattle.verdicts.specs.Words.{refusal_text}
-use Rattle.verdicts.specs.declared.refusals.Refusal.{Refusal}
-use Rattle.report_lines.specs.declared.places.Confirmed.TheVariants.{Possible, Impossible}
+use Rattle.std.specs.Prelude.{ℕ, List, [], codes, None}
 use Rattle.report.specs.declared.files.Worth.{Worth}
 use Rattle.report.specs.declared.files.Worth.TheVariants as worth
 use Rattle.answers.specs.declared.runs.Run.{Run}
+use Rattle.answer_text.specs.Said.{worth_text}
 use Rattle.answers.specs.StudyLines.{study_line}
 use Rattle.answers.specs.Usage.{usage_line}
 use Rattle.answers.specs.Axioms.{library_text}
@@ -19,15 +16,6 @@ abbrev pub worth_status : Worth → ℕ
 worth_status (worth.Confirmed claim) = 0
 worth_status (worth.Faulty line word) = 1
 worth_status worth.TooLong = 1
-
-abbrev pub refused_line : ℕ → Refusal → List ℕ
-refused_line line word = codes "refused line " ++ (number_text line ++ codes ": " ++ refusal_text word ++ 10 ∷ [])
-
-abbrev pub worth_text : Worth → List ℕ
-worth_text (worth.Confirmed Possible) = codes "confirmed possible\n"
-worth_text (worth.Confirmed Impossible) = codes "confirmed impossible\n"
-worth_text (worth.Faulty line word) = refused_line line word
-worth_text worth.TooLong = codes "refused: too long\n"
 
 -- ---- answers
 

@@ -1,17 +1,16 @@
 //! Answers, a variant for each row of the table, and why there may be none.
 
-ghost use Rattle.std.specs.Prelude.{◌≡◌, IfOk};
+ghost use Rattle.std.specs.Prelude.{◌≡◌};
 ghost use Rattle.bench.specs.Answers.{run_of, status_of, text_of};
 
-use crate::axioms::library_text;
-use crate::refusals::study_line;
-use crate::worth::worth_line;
+use answer_text::{LibraryLines, StudyLine, WorthLine};
 use answers::Run;
-use edge::Bytes;
-use lists::{Items, NoMemory};
+use edge::{Failed, Sink};
+use lists::Items;
 use report::Worth;
 use std::alloc::Global;
 use study::StudyFault;
+use texts::{Page, Text};
 use vocab::Kind;
 
 /// What is said to words that are no command.
@@ -54,19 +53,6 @@ impl Answer {
         }
     }
 
-    /// The text.
-    pub fn text(&self, alloc: Global) -> Result<Bytes, NoMemory>
-        ensures { IfOk result (λ text. text ≡ text_of self.now) }
-    {
-        match self {
-            Answer::Usage => text_from(alloc, USAGE),
-            Answer::LongStudy => text_from(alloc, b"study: too long\n"),
-            Answer::NoStudy(fault) => study_line(alloc, fault),
-            Answer::Judged(worth) => worth_line(alloc, worth),
-            Answer::Library(kind) => library_text(alloc, *kind),
-        }
-    }
-
     /// The run, where the text is written.
     pub fn run(&self, alloc: Global) -> Run
         ensures { result ≡ run_of self.now }
@@ -79,18 +65,25 @@ impl Answer {
     }
 }
 
+impl Text for Answer {
+    ghost can = { λ _. Unit {0} };
+
+    ghost text = { λ answer. text_of answer };
+
+    fn pour<O: Sink>(&self, page: &mut Page, out: &mut O) -> Result<(), Failed> {
+        match self {
+            Answer::Usage => page.put(out, USAGE),
+            Answer::LongStudy => page.put(out, b"study: too long\n"),
+            Answer::NoStudy(fault) => StudyLine(fault).pour(page, out),
+            Answer::Judged(worth) => WorthLine(worth).pour(page, out),
+            Answer::Library(kind) => LibraryLines(*kind).pour(page, out),
+        }
+    }
+}
+
 /// Why there is no answer: a file could not be read, or no memory was found.
 #[derive(Clone, Copy, Debug, PartialEq, Eq)]
 pub enum Stop {
     ReadFault,
     NoMemory,
-}
-
-/// The text of these words.
-pub fn text_from(alloc: Global, words: &[u8]) -> Result<Bytes, NoMemory>
-    ensures { IfOk result (λ text. text ≡ words.now) }
-{
-    let mut text = Bytes::new(alloc);
-    text.append(words)?;
-    Ok(text)
 }

@@ -2,12 +2,9 @@
 #![tactic(auto)]
 
 mod answer;
-mod axioms;
 mod check;
-mod refusals;
 mod studies;
 mod top;
-mod worth;
 
 use edge::{FileShelf, Open, StdSink};
 use std::env;

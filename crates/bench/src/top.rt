@@ -1,9 +1,5 @@
 //! The top call: from words and files to a run and bytes.
 
-ghost use Rattle.std.specs.Prelude.{◌≡◌, OnOk, OnErr};
-ghost use Rattle.std.specs.Io.KnownBytes.{Appends};
-ghost use Rattle.edge.specs.Faults.{HasCause};
-ghost use Rattle.edge.specs.Told.{AppendsPrefix};
 ghost use Rattle.words.specs.Words.{texts, request_of};
 ghost use Rattle.answers.specs.Call.{IsCall};
 ghost use Rattle.bench.specs.Answered.{Answers};
@@ -11,9 +7,10 @@ ghost use Rattle.bench.specs.Answered.{Answers};
 use crate::answer::{Answer, Stop};
 use crate::check::check;
 use answers::Run;
-use edge::{Failed, Gate, Shelf, Sink, put_all};
+use edge::{Failed, Gate, Shelf, Sink};
 use std::alloc::Global;
 use std::thread::Threads;
+use texts::write_text;
 use words::{Command, command_of};
 
 /// The answer to the words, over the files of the shelf.
@@ -43,16 +40,6 @@ fn answer<R: Threads + Sync, S: Shelf, G: Gate>(
     }
 }
 
-/// Writes the text and flushes the sink. At `Err` the front of the text was written.
-fn write_text<K: Sink>(out: &mut K, text: &[u8]) -> Result<(), Failed>
-    ensures ok { OnOk result (Appends (K.taken out.old) (K.taken out.new) text.now) }
-    ensures err { OnErr result (AppendsPrefix (K.taken out.old) (K.taken out.new) text.now) }
-    ensures cause { HasCause (K.faults out.old) (K.faults out.new) result }
-{
-    put_all(out, text)?;
-    out.flush()
-}
-
 /// All that the program does: answers the words, over the files of the shelf, into the sink.
 pub fn bench<R: Threads + Sync, S: Shelf, K: Sink, G: Gate>(
     rt: &R,
@@ -79,11 +66,8 @@ pub fn bench<R: Threads + Sync, S: Shelf, K: Sink, G: Gate>(
         Err(Stop::ReadFault) => return Run::bare(alloc, 5),
         Err(Stop::NoMemory) => return Run::bare(alloc, 7),
     };
-    let Ok(text) = answer.text(alloc) else {
-        return Run::bare(alloc, 7);
-    };
     let mut run = answer.run(alloc);
-    match write_text(out, text.as_slice()) {
+    match write_text(&answer, out) {
         Ok(()) => run,
         Err(Failed) => {
             run.status = 6;

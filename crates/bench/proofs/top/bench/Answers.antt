@@ -1,6 +1,6 @@
 use Rattle.std.proofs.Common.{refl}
 use Rattle.words.specs.Words.{texts}
-use Rattle.bench.proofs.AnswerLemmas.{unread, cut_text}
+use Rattle.bench.proofs.AnswerLemmas.{unread, cut}
 use Rattle.bench.proofs.top.bench.Goals as goal
 
 pub returns-in-Err-ReadFault : goal.returns-in-Err-ReadFault
@@ -8,5 +8,4 @@ returns-in-Err-ReadFault g c = unread (texts c.args.words.now) _ c.bare.result c
 
 pub returns : goal.returns
 returns g c =
-    rw c.run-run.ensures
-    (cut_text (texts c.args.words.now) _ c.in-Ok.answer c.in-Ok-text.text c.in-Ok.ensures c.in-Ok-text.ensures (rw c.as_slice.ensures at c.in-Err.ensures.err) c.in-Err.ensures.cause.failed)
+    rw c.run-run.ensures (cut (texts c.args.words.now) _ c.in-Ok.answer c.in-Ok.ensures c.in-Err.ensures.err c.in-Err.ensures.cause.failed)

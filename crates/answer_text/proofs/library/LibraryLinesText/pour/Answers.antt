@@ -1,6 +1,6 @@
 use Rattle.std.proofs.Common.{◌<◌, length, refl, [], arith}
 use Rattle.axiom_library.specs.Library.{Entry, library}
-use Rattle.answer_text.specs.LibraryText.{entry_line}
+use Rattle.answers.specs.Axioms.{entry_line}
 use Rattle.texts.proofs.LoopLemmas.{loop_stops, loop_goes_on}
 use Rattle.answer_text.proofs.LineLemmas.{at_place}
 use Rattle.answer_text.proofs.library.LibraryLinesText.pour.Goals as goal

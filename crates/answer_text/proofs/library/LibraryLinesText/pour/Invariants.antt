@@ -2,7 +2,7 @@ use Rattle.std.proofs.Common.{take}
 use Rattle.std.specs.List.{flat_map}
 use Rattle.axiom_library.specs.Library.{library}
 use Rattle.texts.proofs.PourLemmas.{Added}
-use Rattle.answer_text.specs.LibraryText.{entry_line}
+use Rattle.answers.specs.Axioms.{entry_line}
 use Rattle.answer_text.proofs.library.LibraryLinesText.pour.Given as goal
 
 -- the lines so far were added
