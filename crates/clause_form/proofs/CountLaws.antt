@@ -1,13 +1,11 @@
 -- Counts of clauses, which end at the largest number.
-use Rattle.std.proofs.Common.{◌*◌, ◌+◌, ◌++◌, ◌≤◌, ◌≡◌, List, add-mul, ap, ap₂, arith, inl, inr, length, length-append, map, min, mul-suc, mul-zero, refl, suc, suc-mul, sum_by, sym, zero, zero-mul, ℕ, ◌∙◌, ◌∷◌, []}
+use Rattle.std.proofs.Common.{◌*◌, ◌+◌, ◌≤◌, ◌≡◌, List, ap, ap₂, arith, inl, inr, length, min, refl, suc, sum_by, sym, zero, ℕ, ◌∙◌}
 use Rattle.std.proofs.Math.Nat.{mul-le-mul_left}
 use Rattle.std.proofs.lemmas.Bool.{cases_lt}
-use Rattle.std.proofs.lemmas.List.{length-map}
-use Rattle.std.proofs.lemmas.List.Sums.{sum_by-append, sum_by-cons}
-use Rattle.vocab.specs.declared.literals.Literal.{Literal}
 use Rattle.meaning.specs.Clauses.{Disjunction, joined}
 use Rattle.meaning.specs.declared.clauses.Counts.{Counts}
 use Rattle.meaning.specs.Measure.{largest}
+use Rattle.meaning.proofs.MeasureLaws.{counts, length-joined, literals-joined}
 use Rattle.clause_form.specs.Wide.{capped_counts}
 
 -- ---- arithmetic that ends at m
@@ -35,29 +33,7 @@ min-product m a b = elim (cases_lt m a) [
 min-sum : (m a b : ℕ) → min (min a m + min b m) m ≡ min (a + b) m
 min-sum m a b = omega arith
 
--- ---- lists of clauses
-
--- one clause joined with each of a list
-literals-map : (c : List Literal) (ys : List Disjunction) → sum_by length (map (λ d. c ++ d) ys) ≡ length c * length ys + sum_by length ys
-literals-map c [] = omega (arith, mul-zero (length c))
-literals-map c (d ∷ ys) =
-    omega (arith, sum_by-cons length (c ++ d) (map (λ e. c ++ e) ys), sum_by-cons length d ys, length-append c d, literals-map c ys, mul-suc (length c) (length ys))
-
-pub length-joined : (xs ys : List Disjunction) → length (joined xs ys) ≡ length xs * length ys
-length-joined [] ys = sym (zero-mul (length ys))
-length-joined (c ∷ xs) ys =
-    omega (arith, length-append (map (λ d. c ++ d) ys) (joined xs ys), length-map ys (λ d. c ++ d), length-joined xs ys, suc-mul (length xs) (length ys))
-
-pub literals-joined : (xs ys : List Disjunction) → sum_by length (joined xs ys) ≡ sum_by length xs * length ys + length xs * sum_by length ys
-literals-joined [] ys = omega (arith, zero-mul (length ys), zero-mul (sum_by length ys))
-literals-joined (c ∷ xs) ys =
-    sum_by-append length (map (λ d. c ++ d) ys) (joined xs ys) ∙ ap₂ (λ a b. a + b) (literals-map c ys) (literals-joined xs ys)
-    ∙ omega (arith, sum_by-cons length c xs, add-mul (length c) (sum_by length xs) (length ys), suc-mul (length xs) (sum_by length ys), ap (λ (k : ℕ). k * length ys) (sum_by-cons length c xs))
-
 -- ---- counts that end
-
-counts : (a b c d : ℕ) → a ≡ b → c ≡ d → (let x : Counts = record { clauses = a; literals = c } in x) ≡ record { clauses = b; literals = d }
-counts a b c d p q = λ i. record { clauses = p i; literals = q i }
 
 -- what a product of counts is, from what each step gives
 pub product_counts : (a b : Counts) (left right most lits m : ℕ) (xs ys : List Disjunction) → m ≡ largest → a ≡ capped_counts xs → b ≡ capped_counts ys →

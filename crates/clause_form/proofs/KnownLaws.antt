@@ -6,6 +6,7 @@ use Rattle.meaning.specs.declared.three.Three.TheVariants.{True, False, Unknown}
 use Rattle.meaning.specs.Clauses.{Disjunction, for_falsity, for_truth, joined, known_truth, minus, plus}
 use Rattle.meaning.specs.Kleene.{three_and, three_not, three_or, three_same}
 use Rattle.meaning.specs.Written.{And, Fact, Iff, Known, Neg, Or, Written}
+use Rattle.meaning.proofs.ClauseLaws.{joined-nil}
 
 -- ---- three truth values
 
@@ -87,10 +88,6 @@ joined_one_left ys = append-nil (map (λ d. d) ys) ∙ same ys
 joined_one_right : (xs : List Disjunction) → joined xs ([] ∷ []) ≡ xs
 joined_one_right [] = refl
 joined_one_right (c ∷ xs) = ap₂ (λ d us. d ∷ us) (append-nil c) (joined_one_right xs)
-
-joined_none_right : (xs : List Disjunction) → joined xs [] ≡ []
-joined_none_right [] = refl
-joined_none_right (c ∷ xs) = joined_none_right xs
 
 -- ---- formulas of which the same is known, with the same clauses
 
@@ -179,9 +176,9 @@ iff_true_right x y e =
     let k : known_truth (Iff x y) ≡ known_truth x = ap (λ t. three_same (known_truth x) t) e ∙ same_true (known_truth x) in record {
       known = k;
       plus_same = to_truth (known_truth (Iff x y)) (joined (minus x) (plus y) ++ joined (plus x) (minus y)) x k
-          (ap₂ (λ r s. joined (minus x) r ++ joined (plus x) s) (plus_true y e) (minus_true y e) ∙ ap (λ r. r ++ joined (plus x) ([] ∷ [])) (joined_none_right (minus x)) ∙ joined_one_right (plus x));
+          (ap₂ (λ r s. joined (minus x) r ++ joined (plus x) s) (plus_true y e) (minus_true y e) ∙ ap (λ r. r ++ joined (plus x) ([] ∷ [])) (joined-nil (minus x)) ∙ joined_one_right (plus x));
       minus_same = to_falsity (known_truth (Iff x y)) (joined (minus x) (minus y) ++ joined (plus x) (plus y)) x k
-          (ap₂ (λ r s. joined (minus x) r ++ joined (plus x) s) (minus_true y e) (plus_true y e) ∙ ap₂ (λ r s. r ++ s) (joined_one_right (minus x)) (joined_none_right (plus x)) ∙ append-nil (minus x));
+          (ap₂ (λ r s. joined (minus x) r ++ joined (plus x) s) (minus_true y e) (plus_true y e) ∙ ap₂ (λ r s. r ++ s) (joined_one_right (minus x)) (joined-nil (plus x)) ∙ append-nil (minus x));
     }
 
 pub iff_false_right : (x y : Written) → known_truth y ≡ False → SameForm (Iff x y) (Neg x)
@@ -189,9 +186,9 @@ iff_false_right x y e =
     let k : known_truth (Iff x y) ≡ known_truth (Neg x) = ap (λ t. three_same (known_truth x) t) e ∙ same_false (known_truth x) in record {
       known = k;
       plus_same = to_truth (known_truth (Iff x y)) (joined (minus x) (plus y) ++ joined (plus x) (minus y)) (Neg x) k
-          (ap₂ (λ r s. joined (minus x) r ++ joined (plus x) s) (plus_false y e) (minus_false y e) ∙ ap₂ (λ r s. r ++ s) (joined_one_right (minus x)) (joined_none_right (plus x)) ∙ append-nil (minus x) ∙ sym (plus-neg x));
+          (ap₂ (λ r s. joined (minus x) r ++ joined (plus x) s) (plus_false y e) (minus_false y e) ∙ ap₂ (λ r s. r ++ s) (joined_one_right (minus x)) (joined-nil (plus x)) ∙ append-nil (minus x) ∙ sym (plus-neg x));
       minus_same = to_falsity (known_truth (Iff x y)) (joined (minus x) (minus y) ++ joined (plus x) (plus y)) (Neg x) k
-          (ap₂ (λ r s. joined (minus x) r ++ joined (plus x) s) (minus_false y e) (plus_false y e) ∙ ap (λ r. r ++ joined (plus x) ([] ∷ [])) (joined_none_right (minus x)) ∙ joined_one_right (plus x) ∙ sym (minus-neg x));
+          (ap₂ (λ r s. joined (minus x) r ++ joined (plus x) s) (minus_false y e) (plus_false y e) ∙ ap (λ r. r ++ joined (plus x) ([] ∷ [])) (joined-nil (minus x)) ∙ joined_one_right (plus x) ∙ sym (minus-neg x));
     }
 
 -- ---- where nothing is known of either side

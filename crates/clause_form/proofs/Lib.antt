@@ -6,5 +6,6 @@ pub mod CountLaws
 pub mod WeightLaws
 pub mod SomeLaws
 pub mod WideLaws
+pub mod FactorLaws
 pub mod RowLaws
 pub mod FormLaws

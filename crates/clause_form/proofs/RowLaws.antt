@@ -7,7 +7,7 @@ use Rattle.vocab.specs.declared.literals.Literal.{Literal}
 use Rattle.cnf.specs.Sat.{Clause}
 use Rattle.meaning.specs.Clauses.{Disjunction, joined}
 use Rattle.meaning.specs.Variables.{lit_of}
-use Rattle.clause_form.specs.Rows.{each_joined}
+use Rattle.clause_form.specs.Factors.{each_joined}
 use Rattle.clause_form.specs.Wide.{numbered}
 
 -- ---- numbered literals

@@ -5,7 +5,7 @@ use Rattle.meaning.specs.declared.three.Three.TheVariants.{True, False, Unknown}
 use Rattle.meaning.specs.Clauses.{Disjunction, for_falsity, for_truth, joined, known_truth, minus, plus}
 use Rattle.meaning.specs.Kleene.{three_and, three_not, three_or, three_same}
 use Rattle.meaning.specs.Written.{And, Fact, Iff, Known, Neg, Or, Written}
-use Rattle.clause_form.proofs.CountLaws.{length-joined}
+use Rattle.meaning.proofs.MeasureLaws.{length-joined}
 
 no_true : False ≢ True
 no_true e = let k : ⊥ = cc in k

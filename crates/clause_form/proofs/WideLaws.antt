@@ -3,8 +3,8 @@ use Rattle.std.proofs.Common.{◌≡◌, ℕ, ◌*◌, ◌-◌, ◌^◌, ◌<◌
 use Rattle.std.proofs.Math.Nat.{mul-le-mul_left}
 use Rattle.std.proofs.lemmas.List.Sums.{sum_by-append}
 use Rattle.meaning.specs.Clauses.{Disjunction, joined}
+use Rattle.meaning.proofs.MeasureLaws.{length-joined, literals-joined}
 use Rattle.clause_form.specs.Wide.{capped_counts, is_wide}
-use Rattle.clause_form.proofs.CountLaws.{length-joined, literals-joined}
 
 -- either count passes its limit
 abbrev Passes : List Disjunction → Type 0
