@@ -3,7 +3,7 @@
 ghost use Rattle.std.specs.Prelude.{◌≡◌, ◌≤◌, ◌+◌, ◌∷◌, ◌++◌, length, IfOk};
 ghost use Rattle.vocab.specs.NamedDepth.{quantifiers};
 ghost use Rattle.vocab.specs.NamedView.{named_tree};
-ghost use Rattle.vocab.specs.Tree.{tree_of, Not, Both, Either, Implies, Same, All, Exists};
+ghost use Rattle.vocab.specs.Tree.{tree_of};
 ghost use Rattle.sorts.specs.Faults.{faults};
 ghost use Rattle.sorts.specs.Resolved.{resolved};
 ghost use Rattle.sorts.specs.ScopeView.{scope_of};
