@@ -10,14 +10,14 @@ root=$(cd -- "$(dirname -- "$(readlink -f -- "${BASH_SOURCE[0]}")")/.." && pwd)
 work=$(mktemp -d)
 trap 'rm -rf "$work"' EXIT
 mkdir -p "$work/crates/hostile/src"
-for name in lists vocab edge syntax; do
+for name in lists vocab edge texts syntax; do
     mkdir "$work/crates/$name"
     cp -r "$root/crates/$name/src" "$work/crates/$name/"
     for part in specs proofs; do
         [ ! -d "$root/crates/$name/$part" ] || cp -r "$root/crates/$name/$part" "$work/crates/$name/"
     done
 done
-grep -E '^(lists|vocab|edge|syntax):' "$root/crates.txt" >"$work/crates.txt"
+grep -E '^(lists|vocab|edge|texts|syntax):' "$root/crates.txt" >"$work/crates.txt"
 echo 'hostile: edge syntax' >>"$work/crates.txt"
 cp "$root/HANDLES" "$work/HANDLES"
 cat >"$work/crates/hostile/src/main.rt" <<'RT'

@@ -1,25 +1,41 @@
--- The digits of a number, from the last.
-use Rattle.std.proofs.Common.{◌≡◌, ℕ, zero, suc, ◌+◌, ◌-◌, ◌/◌, ◌%◌, ◌<◌, List, [], ◌∷◌, ◌++◌, refl, sym, subst, arith, Option}
-use Rattle.syntax.specs.Canonical.{digits}
-use Rattle.syntax.specs.Told.{IsWritten, IsPartWritten}
-use Rattle.syntax.proofs.Telling.{nothing_written, goes_on, stops_first, stops_next}
+-- The decimal text of a number, digit by digit.
+use Rattle.std.proofs.Common.{◌≡◌, ◌∙◌, ap, ℕ, suc, ◌+◌, ◌/◌, ◌%◌, ◌^◌, ◌<◌, ◌≤◌, Bool, true, false, List, [], ◌∷◌, ◌++◌, refl, ltb-true, arith}
+use Rattle.std.specs.Prelude.{nat_lt}
+use Rattle.std.specs.Fmt.{decimal as library_decimal}
+use Rattle.std.proofs.lemmas.Bool.{ltb-false}
+use Rattle.std.proofs.lemmas.Fmt.{decimal_digit, decimal_step}
+use Rattle.syntax.specs.Canonical.{digits, decimal}
 
-digits-zero : (places n : ℕ) → places ≡ 0 → digits places n ≡ []
-digits-zero zero n h = refl
-digits-zero (suc places) n h = absurd (omega arith)
+last : (n : ℕ) → n < 10 → n ≡ n % 10
+last n h = omega arith
 
-digits-more : (places n : ℕ) → 0 < places → digits places n ≡ digits (places - 1) (n / 10) ++ (48 + n % 10) ∷ []
-digits-more zero n h = absurd (omega arith)
-digits-more (suc places) n h = let e : suc places - 1 ≡ places = omega arith in rw e refl
+one_place : (n : ℕ) → n < 10 → library_decimal n ≡ digits 1 n
+one_place n h = decimal_digit n h ∙ ap (λ (k : ℕ). (48 + k) ∷ []) (last n h)
 
-pub no_digits : (places n : ℕ) (a : Option (List ℕ)) → places ≡ 0 → IsWritten a a (digits places n)
-no_digits places n a h = subst (λ t. IsWritten a a t) (sym (digits-zero places n h)) (nothing_written a)
+more_places : (places n : ℕ) → 10 ≤ n → n < 100000 → library_decimal (n / 10) ≡ digits places (n / 10) → library_decimal n ≡ digits (suc places) n
+more_places places n low high front =
+    let fits : n < 2 ^ 64 = omega (arith, high) in
+    decimal_step n low fits ∙ ap (λ (ds : List ℕ). ds ++ (48 + n % 10) ∷ []) front
 
-pub more_digits : (places n : ℕ) (a b c : Option (List ℕ)) → 0 < places → IsWritten a b (digits (places - 1) (n / 10)) → IsWritten b c ((48 + n % 10) ∷ []) → IsWritten a c (digits places n)
-more_digits places n a b c h e f = subst (λ t. IsWritten a c t) (sym (digits-more places n h)) (goes_on e f)
+two_places : (n : ℕ) → 10 ≤ n → n < 100 → library_decimal n ≡ digits 2 n
+two_places n low high = more_places 1 n low (omega (arith, high)) (one_place (n / 10) (omega (arith, high)))
 
-pub part_of_digits : (places n : ℕ) (a b : Option (List ℕ)) → 0 < places → IsPartWritten a b (digits (places - 1) (n / 10)) → IsPartWritten a b (digits places n)
-part_of_digits places n a b h p = subst (λ t. IsPartWritten a b t) (sym (digits-more places n h)) (stops_first ((48 + n % 10) ∷ []) p)
+three_places : (n : ℕ) → 100 ≤ n → n < 1000 → library_decimal n ≡ digits 3 n
+three_places n low high = more_places 2 n (omega (arith, low)) (omega (arith, high)) (two_places (n / 10) (omega (arith, low)) (omega (arith, high)))
 
-pub part_of_last : (places n : ℕ) (a b c : Option (List ℕ)) → 0 < places → IsWritten a b (digits (places - 1) (n / 10)) → IsPartWritten b c ((48 + n % 10) ∷ []) → IsPartWritten a c (digits places n)
-part_of_last places n a b c h e p = subst (λ t. IsPartWritten a c t) (sym (digits-more places n h)) (stops_next e p)
+four_places : (n : ℕ) → 1000 ≤ n → n < 10000 → library_decimal n ≡ digits 4 n
+four_places n low high = more_places 3 n (omega (arith, low)) (omega (arith, high)) (three_places (n / 10) (omega (arith, low)) (omega (arith, high)))
+
+five_places : (n : ℕ) → 10000 ≤ n → n < 100000 → library_decimal n ≡ digits 5 n
+five_places n low high = more_places 4 n (omega (arith, low)) high (four_places (n / 10) (omega (arith, low)) (omega (arith, high)))
+
+by_size : (n : ℕ) → n < 100000 → (a b c d : Bool) → nat_lt n 10 ≡ a → nat_lt n 100 ≡ b → nat_lt n 1000 ≡ c → nat_lt n 10000 ≡ d → library_decimal n ≡ decimal n
+by_size n h true b c d s t u v = rw s (one_place n (ltb-true n 10 s))
+by_size n h false true c d s t u v = rw (s, t) (two_places n (ltb-false n 10 s) (ltb-true n 100 t))
+by_size n h false false true d s t u v = rw (s, t, u) (three_places n (ltb-false n 100 t) (ltb-true n 1000 u))
+by_size n h false false false true s t u v = rw (s, t, u, v) (four_places n (ltb-false n 1000 u) (ltb-true n 10000 v))
+by_size n h false false false false s t u v = rw (s, t, u, v) (five_places n (ltb-false n 10000 v) h)
+
+-- below 100,000 both are the same
+pub decimal_is : (n : ℕ) → n < 100000 → library_decimal n ≡ decimal n
+decimal_is n h = by_size n h (nat_lt n 10) (nat_lt n 100) (nat_lt n 1000) (nat_lt n 10000) refl refl refl refl

@@ -5,7 +5,7 @@ pub mod Runs
 pub mod Starting
 pub mod Lexings
 pub mod Depths
-pub mod Telling
+pub mod Pouring
 pub mod Digits
 pub mod Texts
 pub mod RoundTrip

@@ -1,5 +1,5 @@
 -- The text of a list of terms, term by term.
-use Rattle.std.proofs.Common.{◌≡◌, ℕ, zero, suc, ◌+◌, ◌≤◌, List, [], ◌∷◌, ◌++◌, length, drop, map, refl, sym, ap, ◌∙◌, subst, arith, add-one, append_assoc, append-nil, Option, Some, codes}
+use Rattle.std.proofs.Common.{◌≡◌, ℕ, zero, suc, ◌+◌, ◌≤◌, List, [], ◌∷◌, ◌++◌, length, drop, map, refl, sym, ap, ◌∙◌, arith, add-one, append_assoc, append-nil, Option, Some, Result, Ok, Err, codes}
 use Rattle.std.proofs.lemmas.List.{drop_all}
 use Rattle.std.specs.Prelude.{slice_get}
 use Rattle.vocab.specs.Terms.{terms_of}
@@ -8,20 +8,22 @@ use Rattle.vocab.specs.declared.named.NamedTerm.{NamedTerm}
 use Rattle.vocab.specs.declared.named.Terms.{Terms}
 use Rattle.syntax.specs.Canonical.{term_text, list_text, more_text}
 use Rattle.vocab.specs.NamedDepth.{term_depth, terms_depth}
-use Rattle.syntax.specs.Told.{IsWritten, IsPartWritten}
+use Rattle.std.specs.Result.{IsErr}
+use Rattle.texts.specs.Page.{Pours}
+use Rattle.texts.proofs.PourLemmas.{Added, added_nothing, stops, goes_on, ends, renamed}
 use Rattle.syntax.proofs.Views.{named_terms_tree-items}
 use Rattle.syntax.proofs.Depths.{member_depth}
-use Rattle.syntax.proofs.Telling.{goes_on, nothing_written, stops_first, stops_next}
+use Rattle.syntax.proofs.Pouring.{cut}
 
 -- the terms after the first ones, each after a comma
 abbrev pub texts : List NamedTerm → List ℕ
 texts xs = more_text (arguments_of (map named_term_tree xs))
 
--- the terms below the place were written
-pub record AreWritten (terms : Terms) (place : ℕ) (before now : Option (List ℕ)) : Type 0 where
-  pub written : List ℕ
-  pub whole : list_text (named_terms_tree terms) ≡ written ++ texts (drop place (terms_of terms))
-  pub part : IsWritten before now written
+-- the terms below the place were added, and nothing failed
+pub record ArePoured (terms : Terms) (place : ℕ) (t t' : Option (List ℕ)) (h h' : List ℕ) (f f' : ℕ) : Type 0 where
+  pub poured : List ℕ
+  pub whole : list_text (named_terms_tree terms) ≡ poured ++ texts (drop place (terms_of terms))
+  pub part : Added t t' h h' f f' poured
 
 first_of : (xs : List NamedTerm) (x : NamedTerm) → slice_get xs 0 ≡ Some x → list_text (arguments_of (map named_term_tree xs)) ≡ term_text (named_term_tree x) ++ texts (drop 1 xs)
 first_of [] x h = absurd cc
@@ -35,36 +37,53 @@ next_of (y ∷ xs) (suc i) x h = next_of xs i x h
 first_whole : (ts : Terms) (x : NamedTerm) → slice_get (terms_of ts) 0 ≡ Some x → list_text (named_terms_tree ts) ≡ term_text (named_term_tree x) ++ texts (drop 1 (terms_of ts))
 first_whole ts x h = ap list_text (named_terms_tree-items ts) ∙ first_of (terms_of ts) x h
 
--- what was written, the next term, and what follows it
-next_whole : {ts : Terms} {i : ℕ} {a b : Option (List ℕ)} (x : NamedTerm) (w : AreWritten ts i a b) → slice_get (terms_of ts) i ≡ Some x
-    → list_text (named_terms_tree ts) ≡ w.written ++ codes ", " ++ term_text (named_term_tree x) ++ texts (drop (i + 1) (terms_of ts))
-next_whole {ts} {i} x w h =
+-- what was added, the next term, and what follows it
+next_whole : (ts : Terms) (i : ℕ) (x : NamedTerm) (front : List ℕ) → list_text (named_terms_tree ts) ≡ front ++ texts (drop i (terms_of ts)) → slice_get (terms_of ts) i ≡ Some x
+    → list_text (named_terms_tree ts) ≡ front ++ (codes ", " ++ (term_text (named_term_tree x) ++ texts (drop (i + 1) (terms_of ts))))
+next_whole ts i x front whole at =
     let t = term_text (named_term_tree x) in
     let r = texts (drop (suc i) (terms_of ts)) in
-    rw add-one (w.whole ∙ ap (λ l. w.written ++ l) (next_of (terms_of ts) i x h) ∙ sym (append_assoc w.written (codes ", " ++ t) r) ∙ ap (λ l. l ++ r) (sym (append_assoc w.written (codes ", ") t)))
+    rw add-one (whole ∙ ap (λ l. front ++ l) (next_of (terms_of ts) i x at ∙ append_assoc (codes ", ") t r))
 
-pub list_begins : (ts : Terms) (x : NamedTerm) (a b : Option (List ℕ)) → slice_get (terms_of ts) 0 ≡ Some x → IsWritten a b (term_text (named_term_tree x)) → AreWritten ts 1 a b
-list_begins ts x a b h e = record { written = term_text (named_term_tree x); whole = first_whole ts x h; part = e }
+module _ {T E : Type 0} (ts : Terms) (x : NamedTerm) (t t' : Option (List ℕ)) (h h' : List ℕ) (f f' : ℕ) (at : slice_get (terms_of ts) 0 ≡ Some x) where
+  -- the first term was added
+  pub list_begins : (d : T) → Pours {T = T} {E = E} t t' h h' f f' (Ok d) (term_text (named_term_tree x)) → ArePoured ts 1 t t' h h' f f'
+  list_begins d w = record { poured = term_text (named_term_tree x); whole = first_whole ts x at; part = record { bytes = w.ok; grown = w.grown; tells = w.tells; later = w.cause.later } }
 
-pub list_goes_on : (ts : Terms) (i : ℕ) (x : NamedTerm) (a b c d : Option (List ℕ)) → AreWritten ts i a b → slice_get (terms_of ts) i ≡ Some x → IsWritten b c (codes ", ") → IsWritten c d (term_text (named_term_tree x)) → AreWritten ts (i + 1) a d
-list_goes_on ts i x a b c d w h e f = record { written = w.written ++ codes ", " ++ term_text (named_term_tree x); whole = next_whole x w h; part = goes_on (goes_on w.part e) f }
+  -- it failed
+  pub list_stops_first : {T' : Type 0} (e : E) (r : Result T E) → IsErr r → Pours {T = T'} {E = E} t t' h h' f f' (Err e) (term_text (named_term_tree x)) → Pours t t' h h' f f' r (list_text (named_terms_tree ts))
+  list_stops_first e r is w = renamed t t' h h' f f' r _ _ (sym (first_whole ts x at)) (cut r (texts (drop 1 (terms_of ts)) ∷ []) is w)
 
-pub list_ends : (ts : Terms) (n : ℕ) (a b : Option (List ℕ)) → AreWritten ts n a b → length (terms_of ts) ≤ n → IsWritten a b (list_text (named_terms_tree ts))
-list_ends ts n a b w h = subst (λ t. IsWritten a b t) (sym (w.whole ∙ ap (λ l. w.written ++ texts l) (drop_all n (terms_of ts) h) ∙ append-nil w.written)) w.part
+regroup : (a b c d : List ℕ) → a ++ (b ++ (c ++ d)) ≡ ((a ++ b) ++ c) ++ d
+regroup a b c d = simp append_assoc
 
--- a part of the first term
-pub list_stops_first : (ts : Terms) (x : NamedTerm) (a b : Option (List ℕ)) → slice_get (terms_of ts) 0 ≡ Some x → IsPartWritten a b (term_text (named_term_tree x)) → IsPartWritten a b (list_text (named_terms_tree ts))
-list_stops_first ts x a b h p = subst (λ t. IsPartWritten a b t) (sym (first_whole ts x h)) (stops_first (texts (drop 1 (terms_of ts))) p)
+module _ {T E : Type 0} (ts : Terms) (i : ℕ) (x : NamedTerm) (t t' : Option (List ℕ)) (h h' : List ℕ) (f f' : ℕ) (so_far : ArePoured ts i t t' h h' f f') (at : slice_get (terms_of ts) i ≡ Some x) where
+  -- the comma before the next term failed
+  pub list_stops_comma : {T' : Type 0} (t'' : Option (List ℕ)) (h'' : List ℕ) (f'' : ℕ) (e : E) (r : Result T E) → IsErr r → Pours {T = T'} {E = E} t' t'' h' h'' f' f'' (Err e) (codes ", ") → Pours t t'' h h'' f f'' r (list_text (named_terms_tree ts))
+  list_stops_comma t'' h'' f'' e r is w =
+      stops t t' h h' f f' so_far.poured so_far.part t'' h'' f'' e r (codes ", ") (term_text (named_term_tree x) ++ texts (drop (i + 1) (terms_of ts))) (list_text (named_terms_tree ts)) (next_whole ts i x so_far.poured so_far.whole at) is w
 
--- a part of the comma before the next term
-pub list_stops_comma : (ts : Terms) (i : ℕ) (x : NamedTerm) (a b c : Option (List ℕ)) → AreWritten ts i a b → slice_get (terms_of ts) i ≡ Some x → IsPartWritten b c (codes ", ") → IsPartWritten a c (list_text (named_terms_tree ts))
-list_stops_comma ts i x a b c w h p =
-    subst (λ t. IsPartWritten a c t) (sym (next_whole x w h)) (stops_first (texts (drop (i + 1) (terms_of ts))) (stops_first (term_text (named_term_tree x)) (stops_next w.part p)))
+  module _ (t'' : Option (List ℕ)) (h'' : List ℕ) (f'' : ℕ) (d : T) (comma : Pours {T = T} {E = E} t' t'' h' h'' f' f'' (Ok d) (codes ", ")) (u : Option (List ℕ)) (k : List ℕ) (g : ℕ) where
+    after_comma : Added t t'' h h'' f f'' (so_far.poured ++ codes ", ")
+    after_comma = goes_on {T = T} {E = E} t t' h h' f f' so_far.poured so_far.part t'' h'' f'' d (codes ", ") (so_far.poured ++ codes ", ") refl comma
 
--- a part of the next term
-pub list_stops_next : (ts : Terms) (i : ℕ) (x : NamedTerm) (a b c d : Option (List ℕ)) → AreWritten ts i a b → slice_get (terms_of ts) i ≡ Some x → IsWritten b c (codes ", ") → IsPartWritten c d (term_text (named_term_tree x)) → IsPartWritten a d (list_text (named_terms_tree ts))
-list_stops_next ts i x a b c d w h e p =
-    subst (λ t. IsPartWritten a d t) (sym (next_whole x w h)) (stops_first (texts (drop (i + 1) (terms_of ts))) (stops_next (goes_on w.part e) p))
+    -- the next term failed
+    pub list_stops_next : {T' : Type 0} (e : E) (r : Result T E) → IsErr r → Pours {T = T'} {E = E} t'' u h'' k f'' g (Err e) (term_text (named_term_tree x)) → Pours t u h k f g r (list_text (named_terms_tree ts))
+    list_stops_next e r is w =
+        stops t t'' h h'' f f'' (so_far.poured ++ codes ", ") after_comma u k g e r (term_text (named_term_tree x)) (texts (drop (i + 1) (terms_of ts))) (list_text (named_terms_tree ts))
+        (next_whole ts i x so_far.poured so_far.whole at ∙ sym (append_assoc so_far.poured (codes ", ") (term_text (named_term_tree x) ++ texts (drop (i + 1) (terms_of ts))))) is w
+
+    -- both were added
+    pub list_goes_on : (y : T) → Pours {T = T} {E = E} t'' u h'' k f'' g (Ok y) (term_text (named_term_tree x)) → ArePoured ts (i + 1) t u h k f g
+    list_goes_on y w = record {
+      poured = (so_far.poured ++ codes ", ") ++ term_text (named_term_tree x);
+      whole = next_whole ts i x so_far.poured so_far.whole at ∙ regroup so_far.poured (codes ", ") (term_text (named_term_tree x)) (texts (drop (i + 1) (terms_of ts)));
+      part = goes_on {T = T} {E = E} t t'' h h'' f f'' (so_far.poured ++ codes ", ") after_comma u k g y (term_text (named_term_tree x)) ((so_far.poured ++ codes ", ") ++ term_text (named_term_tree x)) refl w;
+    }
+
+-- no term is left
+pub list_ends : {T E : Type 0} (ts : Terms) (n : ℕ) (t t' : Option (List ℕ)) (h h' : List ℕ) (f f' : ℕ) (d : T) → ArePoured ts n t t' h h' f f' → length (terms_of ts) ≤ n → Pours {T = T} {E = E} t t' h h' f f' (Ok d) (list_text (named_terms_tree ts))
+list_ends ts n t t' h h' f f' d w past = ends t t' h h' f f' w.poured w.part d (list_text (named_terms_tree ts)) (sym (w.whole ∙ ap (λ l. w.poured ++ texts l) (drop_all n (terms_of ts) past) ∙ append-nil w.poured))
 
 no_list_text : (ts : Terms) → length (terms_of ts) ≡ 0 → list_text (named_terms_tree ts) ≡ []
 no_list_text ts h = ap list_text (named_terms_tree-items ts) ∙ empty_text (terms_of ts) h
@@ -73,8 +92,8 @@ no_list_text ts h = ap list_text (named_terms_tree-items ts) ∙ empty_text (ter
     empty_text [] h = refl
     empty_text (x ∷ xs) h = absurd (omega arith)
 
-pub empty_list : (ts : Terms) (a : Option (List ℕ)) → length (terms_of ts) ≡ 0 → IsWritten a a (list_text (named_terms_tree ts))
-empty_list ts a h = subst (λ t. IsWritten a a t) (sym (no_list_text ts h)) (nothing_written a)
+pub empty_list : {T E : Type 0} (ts : Terms) (t : Option (List ℕ)) (h : List ℕ) (f : ℕ) (d : T) → length (terms_of ts) ≡ 0 → Pours {T = T} {E = E} t t h h f f (Ok d) (list_text (named_terms_tree ts))
+empty_list ts t h f d none = ends t t h h f f [] (added_nothing t h f) d (list_text (named_terms_tree ts)) (sym (no_list_text ts none))
 
 pub get_depth : (ts : Terms) (i : ℕ) (x : NamedTerm) → slice_get (terms_of ts) i ≡ Some x → term_depth (named_term_tree x) ≤ terms_depth (named_terms_tree ts)
 get_depth ts i x h = rw (named_terms_tree-items ts) (member_depth (terms_of ts) i x h)

@@ -6,5 +6,4 @@ pub mod Scanning
 pub mod Fronts
 pub mod Opening
 pub mod Stops
-pub mod Told
 pub mod Laws

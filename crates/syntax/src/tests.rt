@@ -241,13 +241,13 @@ fn canonical_texts_are_printed(rt: HostRuntime) -> Result<(), Fail> {
         Err(Failed)
     );
     assert_eq!(rt; sink.bytes(), b"(a ".as_slice());
-    // The third write fails.
-    let mut sink = MemorySink::new(rt.alloc(), 100, &[2])?;
+    // The only write fails.
+    let mut sink = MemorySink::new(rt.alloc(), 100, &[0])?;
     assert_eq!(rt;
         print(&read(rt.alloc(), b"(a=a&b=b)")?, &mut sink),
         Err(Failed)
     );
-    assert_eq!(rt; sink.bytes(), b"(a".as_slice());
+    assert_eq!(rt; sink.bytes(), b"".as_slice());
     Ok(())
 }
 
