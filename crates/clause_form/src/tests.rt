@@ -1,5 +1,5 @@
-//! Clauses of formulas for five voters and two alternatives, worked out by hand. At profile 0 the variables 1 and 2 say
-//! that `a` and `b` win, and at profile 1 the variables 3 and 4.
+//! Clauses of formulas, worked out by hand: for five voters and two alternatives, where at profile 0 the variables 1 and 2 say that
+//! `a` and `b` win, and at profile 1 the variables 3 and 4; and of one for one voter and rankings.
 
 ghost use Rattle.std.specs.Prelude.{◌≡◌, ◌≤◌, ◌<◌, [], IfOk, IsTrue, if◌then◌else◌};
 ghost use Rattle.vocab.specs.declared.kinds.Kind.TheVariants.{Choice};

@@ -23,7 +23,7 @@ under_other k id d standing ne c h = sym (ap (λ b. cond b (Some d) (clause_unde
 apart : (a b : ℕ) → a < b → (b == a) ≡ false
 apart a b lt = false_from_ne_true _ (λ e. let same : b ≡ a = eqb-true b a e in absurd (omega (arith, lt, same)))
 
--- ---- a line that a kept line cites has_lit no complementary pair
+-- ---- a line that a kept line cites has no complementary pair
 
 module _ (id : ℕ) (clause : Clause) where
   abbrev Only : Standing → Type 0

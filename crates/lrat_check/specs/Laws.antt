@@ -10,7 +10,7 @@ use Rattle.cnf.specs.Fresh.{added_by}
 use Rattle.cnf.specs.Trimmed.{is_cited_in, is_trimmed}
 use Rattle.lrat_check.specs.Trim.{trimmed}
 
--- the trimmed derivation of an accepted one has_lit the form of a trimmed one
+-- the trimmed derivation of an accepted one has the form of a trimmed one
 abbrev pub IsTrimRight : Type 0
 IsTrimRight = (clauses : List Clause) (lines : List Line) → IsAccepted clauses lines → IsTrue (is_trimmed clauses (trimmed clauses lines))
 
@@ -19,7 +19,7 @@ abbrev pub is_each_added : (Clause → Bool) → Step → Bool
 is_each_added test (Add id clause hints) = test clause
 is_each_added test (Drop ids) = true
 
--- what each added clause passes, each clause of the trimmed derivation passes: so it has_lit no new variable
+-- what each added clause passes, each clause of the trimmed derivation passes: so it has no new variable
 abbrev pub HasNoNewClause : Type 0
 HasNoNewClause = (test : Clause → Bool) (clauses : List Clause) (lines : List Line) → IsTrue (list_all (λ l. is_each_added test l.step) lines) → IsTrue (list_all (λ l. is_each_added test l.step) (trimmed clauses lines))
 

@@ -89,7 +89,7 @@ absent_voters_say_nothing : (prefers may_be_absent 0 0 1 2 ≡ true) × (prefers
 unfolding may_be_absent
 absent_voters_say_nothing = (refl, refl, refl, refl)
 
--- abc, bac, bca and cba: those of 36 places whose bits are 1 + 4 + 8 + 32
+-- abc, bac, bca and cba: the rankings at places 0, 2, 3 and 5 of the six, whose digits make 1 + 4 + 8 + 32
 single_peaked : Extent
 single_peaked = record { kind = Choice; voters = 3; alternatives = 3; ballots = 45; absent = false }
 

@@ -52,7 +52,7 @@ fn suppose<K: OutcomeKind>(
     Ok(suppose)
 }
 
-/// The lemma of an added clause: a step for each hint but the last, which is why not all can be.
+/// The lemma of an added clause: a step for each hint but the last, which gives the last reason.
 fn lemma<K: OutcomeKind>(
     alloc: Global,
     kind: &K,
