@@ -121,13 +121,16 @@ fn few_writes_reach_the_sink(rt: HostRuntime) -> Result<(), Fail> {
 
 #[test]
 fn what_was_not_taken_is_kept(rt: HostRuntime) -> Result<(), Fail> {
-    let mut behind = MemorySink::new(rt.alloc(), 6000, &[1])?;
-    let mut out = Buffered::new(&mut behind);
-    assert_eq!(rt; put_all(&mut out, &[b'x'; 5000]), Ok(()));
-    assert_eq!(rt; out.flush(), Err(Failed));
-    assert_eq!(rt; put_all(&mut out, b"end\n"), Ok(()));
-    assert_eq!(rt; out.flush(), Ok(()));
-    assert_eq!(rt; behind.bytes().len(), 5004);
-    assert!(rt; behind.bytes().ends_with(b"xxend\n"));
+    // A write, one that fails, one of the rest, and a flush.
+    for (failing, wanted) in [(3, Err(Failed)), (4, Ok(()))] {
+        let mut behind = MemorySink::new(rt.alloc(), 6000, &[1, failing])?;
+        let mut out = Buffered::new(&mut behind);
+        assert_eq!(rt; put_all(&mut out, &[b'x'; 5000]), Ok(()));
+        assert_eq!(rt; out.flush(), Err(Failed));
+        assert_eq!(rt; put_all(&mut out, b"end\n"), Ok(()));
+        assert_eq!(rt; out.flush(), wanted, "call {failing}");
+        assert_eq!(rt; behind.bytes().len(), 5004);
+        assert!(rt; behind.bytes().ends_with(b"xxend\n"));
+    }
     Ok(())
 }
