@@ -7,3 +7,6 @@ mod marks;
 mod stories;
 
 pub use stories::retell;
+
+#[cfg(test)]
+mod tests;

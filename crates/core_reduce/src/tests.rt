@@ -1,0 +1,254 @@
+//! Two studies, worked out by hand. Where one voter has one alternative `a`, there is one profile, and
+//! variable 1 says that `a` wins there. Where one voter has two, variables 1 and 2 say that `a` stands above
+//! `b` at the profiles ab and ba.
+
+ghost use Rattle.std.specs.Prelude.{◌≡◌, ◌≤◌, true, false, [], ◌∷◌, codes, IfOk};
+ghost use Rattle.vocab.specs.Size.{full_size};
+ghost use Rattle.vocab.specs.Tree.{tree_of, All, Const, Leaf, Not, Ranks, Same, Var, WinsAt};
+ghost use Rattle.meaning.specs.StudyClauses.{study_clauses};
+ghost use Rattle.clause_form.specs.Sources.{sourced};
+ghost use Rattle.core_reduce.specs.Answers.{all_places};
+
+use crate::{Answer, Finding, decide};
+use clause_form::Ground;
+use cnf::{Clauses, Lit};
+use lists::NoMemory;
+use meaning::Witness;
+use outcomes::{ChoiceKind, RankingKind};
+use profiles::Space;
+use std::alloc::Global;
+use std::test::Fail;
+use vocab::{Atom, Axiom, Axioms, Formula, Kind, Name, Size, Sort, Study, Term};
+
+/// Choices of one voter and one alternative.
+fn one_and_one() -> Result<Size, Fail>
+    ensures { IfOk result (λ size. size ≡ full_size Kind.Choice 1 1) }
+{
+    Ok(Size::check(Kind::Choice, 1, 1).ok().ok_or("size")?)
+}
+
+/// For all profiles p: `a` does not win at p.
+fn none_wins(alloc: Global) -> Result<Formula, NoMemory>
+    ensures { IfOk result (λ f. tree_of f ≡ All Sort.Profile (Not (Leaf (WinsAt (Const 0) (Var 0))))) }
+{
+    let wins = Formula::Leaf(Atom::Wins(Term::Const(0), Term::Var(0)));
+    let loses = Formula::Not(Box::new(alloc, wins)?);
+    Ok(Formula::All(Sort::Profile, Box::new(alloc, loses)?))
+}
+
+/// The study of no axiom.
+fn free(alloc: Global) -> Result<Study, Fail>
+    ensures { IfOk result (λ study. study ≡
+        record { size = full_size Kind.Choice 1 1; conflicts = 1; axioms = [] }) }
+{
+    Ok(Study::new(one_and_one()?, 1, Axioms::new(alloc)))
+}
+
+/// The study of the axiom that `a` does not win.
+fn refuted(alloc: Global) -> Result<Study, Fail>
+    ensures { IfOk result (λ study. study ≡ record {
+      size = full_size Kind.Choice 1 1;
+      conflicts = 1;
+      axioms = record {
+        name = codes "none";
+        sentence = All Sort.Profile (Not (Leaf (WinsAt (Const 0) (Var 0))));
+      } ∷ [];
+    }) }
+{
+    let mut axioms = Axioms::new(alloc);
+    axioms.push(Axiom::new(Name::new(b"none").ok_or("name")?, none_wins(alloc)?))?;
+    Ok(Study::new(one_and_one()?, 1, axioms))
+}
+
+/// That `a` wins, by the frame of profile 0.
+fn frame(alloc: Global) -> Result<Clauses, Fail>
+    ensures { IfOk result (λ list. list ≡
+        record { clauses = (record { variable = 1; positive = true } ∷ []) ∷ []; origins = 0 ∷ [] }) }
+{
+    let mut clauses = Clauses::new(alloc);
+    clauses.push(&[Lit::new(1, true)], 0)?;
+    Ok(clauses)
+}
+
+/// And that it does not, by instance 0 of axiom 0.
+fn contradiction(alloc: Global) -> Result<Clauses, Fail>
+    ensures { IfOk result (λ list. list ≡ record {
+      clauses =
+          (record { variable = 1; positive = true } ∷ [])
+          ∷ (record { variable = 1; positive = false } ∷ []) ∷ [];
+      origins = 0 ∷ 4294967296 ∷ [];
+    }) }
+{
+    let mut clauses = frame(alloc)?;
+    clauses.push(&[Lit::new(1, false)], 4_294_967_296)?;
+    Ok(clauses)
+}
+
+/// What is decided of the study over its clauses.
+fn answer(alloc: Global, study: &Study, clauses: Clauses) -> Result<Box<Answer>, Fail>
+    requires size { study.now.size ≡ full_size Kind.Choice 1 1 }
+    requires clauses { sourced clauses.clauses clauses.origins ≡
+        study_clauses study.now.size study.now.axioms (all_places study.now) }
+{
+    let kind = ChoiceKind::new(Space::new(one_and_one()?));
+    let answer = decide(alloc, &kind, study, Ground::new(clauses))?;
+    Ok(Box::new(alloc, answer)?)
+}
+
+/// Rankings of one voter and two alternatives.
+fn one_and_two() -> Result<Size, Fail>
+    ensures { IfOk result (λ size. size ≡ full_size Kind.Ranking 1 2) }
+{
+    Ok(Size::check(Kind::Ranking, 1, 2).ok().ok_or("size")?)
+}
+
+/// At a profile `a` stands above `b`.
+fn above(alloc: Global, p: u32) -> Result<Box<Formula>, NoMemory>
+    ensures { IfOk result (λ f. tree_of f.value ≡ Leaf (Ranks (Const 0) (Const 1) (Const p))) }
+{
+    let above = Atom::Ranks(Term::Const(0), Term::Const(1), Term::Const(p));
+    Ok(Box::new(alloc, Formula::Leaf(above))?)
+}
+
+/// The outcomes at both profiles agree.
+fn agree(alloc: Global) -> Result<Formula, NoMemory>
+    ensures { IfOk result (λ f. tree_of f ≡
+        Same (Leaf (Ranks (Const 0) (Const 1) (Const 0))) (Leaf (Ranks (Const 0) (Const 1) (Const 1)))) }
+{
+    let left = above(alloc, 0)?;
+    Ok(Formula::Same(left, above(alloc, 1)?))
+}
+
+/// They do not.
+fn differ(alloc: Global) -> Result<Formula, NoMemory>
+    ensures { IfOk result (λ f. tree_of f ≡
+        Not (Same (Leaf (Ranks (Const 0) (Const 1) (Const 0)))
+        (Leaf (Ranks (Const 0) (Const 1) (Const 1))))) }
+{
+    Ok(Formula::Not(Box::new(alloc, agree(alloc)?)?))
+}
+
+/// The study of both axioms.
+fn disputed(alloc: Global, conflicts: u32) -> Result<Study, Fail>
+    requires some { 1 ≤ conflicts }
+    requires few { conflicts ≤ 1000000 }
+    ensures { IfOk result (λ study. study ≡ record {
+      size = full_size Kind.Ranking 1 2;
+      conflicts = conflicts;
+      axioms =
+          record {
+            name = codes "agree";
+            sentence =
+                Same (Leaf (Ranks (Const 0) (Const 1) (Const 0)))
+                (Leaf (Ranks (Const 0) (Const 1) (Const 1)));
+          }
+          ∷ record {
+            name = codes "differ";
+            sentence =
+                Not (Same (Leaf (Ranks (Const 0) (Const 1) (Const 0)))
+                (Leaf (Ranks (Const 0) (Const 1) (Const 1))));
+          }
+          ∷ [];
+    }) }
+{
+    let mut axioms = Axioms::new(alloc);
+    axioms.push(Axiom::new(Name::new(b"agree").ok_or("name")?, agree(alloc)?))?;
+    axioms.push(Axiom::new(Name::new(b"differ").ok_or("name")?, differ(alloc)?))?;
+    Ok(Study::new(one_and_two()?, conflicts, axioms))
+}
+
+/// Both variables agree, by instance 0 of axiom 0, and differ, by instance 0 of axiom 1.
+fn four(alloc: Global) -> Result<Clauses, Fail>
+    ensures { IfOk result (λ list. list ≡ record {
+      clauses =
+          (record { variable = 1; positive = false } ∷ record { variable = 2; positive = true } ∷ [])
+          ∷ (record { variable = 1; positive = true } ∷ record { variable = 2; positive = false } ∷ [])
+          ∷ (record { variable = 1; positive = false } ∷ record { variable = 2; positive = false } ∷ [])
+          ∷ (record { variable = 1; positive = true } ∷ record { variable = 2; positive = true } ∷ []) ∷ [];
+      origins = 4294967296 ∷ 4294967296 ∷ 8589934592 ∷ 8589934592 ∷ [];
+    }) }
+{
+    let mut clauses = Clauses::new(alloc);
+    clauses.push(&[Lit::new(1, false), Lit::new(2, true)], 4_294_967_296)?;
+    clauses.push(&[Lit::new(1, true), Lit::new(2, false)], 4_294_967_296)?;
+    clauses.push(&[Lit::new(1, false), Lit::new(2, false)], 8_589_934_592)?;
+    clauses.push(&[Lit::new(1, true), Lit::new(2, true)], 8_589_934_592)?;
+    Ok(clauses)
+}
+
+/// What is decided of both axioms.
+fn answer_within(alloc: Global, conflicts: u32) -> Result<Box<Answer>, Fail>
+    requires some { 1 ≤ conflicts }
+    requires few { conflicts ≤ 1000000 }
+{
+    let kind = RankingKind::new(Space::new(one_and_two()?));
+    let study = disputed(alloc, conflicts)?;
+    let answer = decide(alloc, &kind, &study, Ground::new(four(alloc)?))?;
+    Ok(Box::new(alloc, answer)?)
+}
+
+/// A rule was found, with these outcomes.
+fn is_rule(answer: &Answer, codes: &[u8]) -> bool {
+    let Finding::Possible(table) = &answer.finding else {
+        return false;
+    };
+    table.as_slice() == codes && answer.logs.is_empty()
+}
+
+/// Each witness is a rule.
+fn are_rules(witnesses: &[Witness]) -> bool {
+    for witness in witnesses {
+        if !matches!(witness, Witness::Rule(_)) {
+            return false;
+        }
+    }
+    true
+}
+
+/// These axioms are refuted in so many lines, each has a rule for the others, and no search spent its limit.
+fn is_refuted(answer: &Answer, core: &[u32], lines: usize) -> bool {
+    let Finding::Impossible(refutation) = &answer.finding else {
+        return false;
+    };
+    let witnesses = refutation.witnesses.as_slice();
+    refutation.core.as_slice() == core
+        && refutation.proof.len() == lines
+        && witnesses.len() == core.len()
+        && are_rules(witnesses)
+        && answer.logs.is_empty()
+}
+
+/// Nothing was found, and one search over these axioms learned so many clauses.
+fn is_spent(answer: &Answer, chosen: &[u32], lines: usize) -> bool {
+    let [log] = answer.logs.as_slice() else {
+        return false;
+    };
+    log.chosen.as_slice() == chosen
+        && log.lines.len() == lines
+        && matches!(&answer.finding, Finding::Undecided)
+}
+
+#[test]
+fn rule_is_found(rt: HostRuntime) -> Result<(), Fail> {
+    let alloc = rt.alloc();
+    let answer = answer(alloc, &free(alloc)?, frame(alloc)?)?;
+    assert!(rt; is_rule(&answer, [0].as_slice()));
+    Ok(())
+}
+
+#[test]
+fn axiom_is_refuted(rt: HostRuntime) -> Result<(), Fail> {
+    let alloc = rt.alloc();
+    let answer = answer(alloc, &refuted(alloc)?, contradiction(alloc)?)?;
+    assert!(rt; is_refuted(&answer, [0].as_slice(), 1));
+    Ok(())
+}
+
+#[test]
+fn axioms_are_refuted_within_their_limit(rt: HostRuntime) -> Result<(), Fail> {
+    let answer = answer_within(rt.alloc(), 100)?;
+    assert!(rt; is_refuted(&answer, [0, 1].as_slice(), 2));
+    let answer = answer_within(rt.alloc(), 1)?;
+    assert!(rt; is_spent(&answer, [0, 1].as_slice(), 1));
+    Ok(())
+}
