@@ -12,11 +12,11 @@ use Rattle.meaning.specs.Cores.{is_core_from, is_witness}
 use Rattle.meaning.specs.StudyClauses.{Sourced, study_clauses}
 use Rattle.meaning.specs.Variables.{variable_count}
 use Rattle.clause_form.specs.Sources.{sourced, clauses_in, is_left}
-use Rattle.core_reduce.specs.declared.answers.SearchLog.{SearchLog}
+use Rattle.search_logs.specs.declared.logs.SearchLog.{SearchLog}
 use Rattle.core_reduce.specs.declared.needs.Focus.{Focus}
 use Rattle.core_reduce.specs.declared.reduction.Reduction.{Reduction}
 use Rattle.core_reduce.specs.declared.rests.Rest.{Rest}
-use Rattle.core_reduce.specs.Answers.{has_place, IsSpentLog, HasEvidence}
+use Rattle.search_logs.specs.Spent.{has_place, IsSpentLog, HasEvidence}
 use Rattle.core_reduce.specs.Cited.{is_axiom_cited, keeps}
 use Rattle.core_reduce.specs.Moved.{place_in}
 

@@ -10,10 +10,11 @@ ghost use Rattle.meaning.specs.Space.{below};
 ghost use Rattle.meaning.specs.StudyClauses.{study_clauses};
 ghost use Rattle.meaning.specs.Variables.{variable_count};
 ghost use Rattle.std.specs.List.{AllByRecursion};
-ghost use Rattle.core_reduce.specs.Answers.{all_places, IsAnswer, IsReduced, IsRefutation, IsSpentLog};
+ghost use Rattle.search_logs.specs.Spent.{all_places, IsSpentLog};
+ghost use Rattle.core_reduce.specs.Answers.{IsAnswer, IsReduced, IsRefutation};
 ghost use Rattle.core_reduce.specs.Reducing.{IsReducing, IsFrom};
 
-use crate::answers::{Answer, Finding, Reduced, Refutation, SearchLog, Witnesses};
+use crate::answers::{Answer, Finding, Reduced, Refutation, Witnesses};
 use crate::leaving::places_kept;
 use crate::needs::{Focus, focus_on};
 use crate::reduction::{Reduction, search, step};
@@ -24,6 +25,7 @@ use cnf::Derivation;
 use lists::{Items, NoMemory};
 use meaning::Witness;
 use outcomes::{OutcomeKind, laws};
+use search_logs::SearchLog;
 use std::alloc::Global;
 use vocab::{Places, Study};
 

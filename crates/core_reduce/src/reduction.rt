@@ -11,7 +11,6 @@ ghost use Rattle.meaning.specs.Variables.{variable_count};
 ghost use Rattle.clause_form.specs.Sources.{clauses_in};
 ghost use Rattle.core_reduce.specs.Reducing.{others, next_open, IsReducing, IsNext};
 
-use crate::answers::{Logs, SearchLog};
 use crate::leaving::{leave_out, marks_kept, places_kept};
 use crate::needs::{Focus, focus_on};
 use crate::rests::rest_of;
@@ -22,6 +21,7 @@ use cnf::Derivation;
 use lists::NoMemory;
 use meaning::Witness;
 use outcomes::OutcomeKind;
+use search_logs::{Logs, SearchLog};
 use std::alloc::Global;
 use vocab::{Places, Study, Table};
 

@@ -7,7 +7,7 @@ ghost use Rattle.vocab.specs.Size.{full_size};
 ghost use Rattle.vocab.specs.Tree.{tree_of, All, Const, Leaf, Not, Ranks, Same, Var, WinsAt};
 ghost use Rattle.meaning.specs.StudyClauses.{study_clauses};
 ghost use Rattle.clause_form.specs.Sources.{sourced};
-ghost use Rattle.core_reduce.specs.Answers.{all_places};
+ghost use Rattle.search_logs.specs.Spent.{all_places};
 
 use crate::{Answer, Finding, decide};
 use clause_form::Ground;

@@ -8,7 +8,7 @@ use Rattle.meaning.specs.declared.cores.Witness.{Witness}
 use Rattle.meaning.specs.Laws.{clauses_for}
 use Rattle.meaning.specs.Cores.{is_core_right}
 use Rattle.clause_form.specs.Sources.{clauses_in}
-use Rattle.core_reduce.specs.Answers.{HaveEvidence}
+use Rattle.search_logs.specs.Spent.{HaveEvidence}
 use Rattle.core_reduce.proofs.FinishLaws.{marked_right, marked_evidence, no_rule_satisfies}
 use Rattle.core_reduce.proofs.deciding.finish.Goals as goal
 

@@ -6,8 +6,8 @@ use Rattle.meaning.specs.declared.cores.Witness.{Witness}
 use Rattle.meaning.specs.declared.cores.Witness.TheVariants.{Open}
 use Rattle.meaning.specs.Cores.{is_core_from}
 use Rattle.meaning.proofs.RankingLaws.{All-append}
-use Rattle.core_reduce.specs.declared.answers.SearchLog.{SearchLog}
-use Rattle.core_reduce.specs.Answers.{has_place, IsSpentLog, IsWithout}
+use Rattle.search_logs.specs.declared.logs.SearchLog.{SearchLog}
+use Rattle.search_logs.specs.Spent.{has_place, IsSpentLog, IsWithout}
 use Rattle.core_reduce.specs.Reducing.{next_open, IsMarked, AreMarked}
 use Rattle.core_reduce.proofs.CoreLaws.{core-filter, marked_more, marked_push, others_lack, others_rest}
 use Rattle.core_reduce.proofs.reduction.with_mark.Goals as goal
