@@ -6,7 +6,6 @@ ghost use Rattle.cnf.specs.Derived.{IsAccepted};
 ghost use Rattle.cnf.specs.Fresh.{AreOver};
 ghost use Rattle.meaning.specs.Cores.{is_core_from};
 ghost use Rattle.meaning.specs.Laws.{clauses_for};
-ghost use Rattle.meaning.specs.Space.{below};
 ghost use Rattle.meaning.specs.StudyClauses.{study_clauses};
 ghost use Rattle.meaning.specs.Variables.{variable_count};
 ghost use Rattle.std.specs.List.{AllByRecursion};
@@ -25,21 +24,9 @@ use cnf::Derivation;
 use lists::{Items, NoMemory};
 use meaning::Witness;
 use outcomes::{OutcomeKind, laws};
-use search_logs::SearchLog;
+use search_logs::{SearchLog, all_places};
 use std::alloc::Global;
 use vocab::{Places, Study};
-
-/// The places of as many axioms.
-fn places_to(alloc: Global, count: usize) -> Result<Places, NoMemory>
-    requires { count ≤ 40 }
-    ensures { IfOk result (λ places. places ≡ below count) }
-{
-    let mut places = Items::new(alloc);
-    for k in 0..count {
-        places.push(k as u32)?;
-    }
-    Ok(places)
-}
 
 /// A list of the witnesses.
 fn listed(alloc: Global, witnesses: Vec<Witness>) -> Result<Witnesses, NoMemory>
@@ -152,7 +139,7 @@ pub fn decide<K: OutcomeKind>(
     requires clauses { clauses ≡ study_clauses study.now.size study.now.axioms (all_places study.now) }
     ensures { IfOk result (IsAnswer study.now) }
 {
-    let all = places_to(alloc, study.axioms().len())?;
+    let all = all_places(alloc, study)?;
     match search(alloc, kind, study, &all, &clauses)? {
         Search::Found(bits) => {
             let table = rule_of(alloc, kind, study, &all, &bits)?;

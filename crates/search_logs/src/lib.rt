@@ -2,5 +2,7 @@
 #![tactic(auto)]
 
 mod logs;
+mod places;
 
 pub use logs::{Logs, SearchLog};
+pub use places::all_places;
