@@ -105,21 +105,40 @@ fn search_clauses(
 {
     let mut trail = Trail::new(alloc, clauses, variables)?;
     let mut order = Order::new(alloc, variables)?;
+    let search = search_from(alloc, clauses, &mut trail, &mut order, variables, limit)?;
+    Ok(search)
+}
+
+/// The search over a trail, where nothing is learned yet.
+fn search_from(
+    alloc: Global,
+    clauses: &Clauses,
+    trail: &mut Trail,
+    order: &mut Order,
+    variables: u32,
+    limit: u32,
+) -> Result<Search, NoMemory>
+    requires searching { IsSearching clauses.now.clauses variables trail.old [] }
+    requires all { HasAll trail.old order.old variables }
+    requires few { variables < 2 ^ 31 }
+    requires limit { limit ≤ 1000000 }
+    ensures { IfOk result (Answers clauses.now.clauses variables limit) }
+{
     let mut restarts = Restarts::new();
     let mut lines = Items::new(alloc);
     for _ in 0..limit {
-        match descend(&mut trail, &mut order, variables) {
-            None => return Ok(Search::Found(values(alloc, &trail, variables)?)),
+        match descend(trail, order, variables) {
+            None => return Ok(Search::Found(values(alloc, trail, variables)?)),
             Some(conflict) => {
                 if trail.level() == 0 {
-                    refute(alloc, clauses, &trail, variables, conflict, &mut lines)?;
+                    refute(alloc, clauses, trail, variables, conflict, &mut lines)?;
                     return Ok(Search::Refuted(lines));
                 }
                 learn(
-                    alloc, clauses, &mut trail, &mut order, variables, conflict, &mut lines,
+                    alloc, clauses, trail, order, variables, conflict, &mut lines,
                 )?;
                 if restarts.is_due() {
-                    go_back(&mut trail, &mut order, variables, 0);
+                    go_back(trail, order, variables, 0);
                 }
             }
         }

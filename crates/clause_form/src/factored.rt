@@ -10,10 +10,19 @@ use std::marker::Model;
 
 /// Clauses that all begin with the same literals: those literals once, from the last to the first, and what is left of
 /// each clause. So literals are put before all clauses by appending them to the former.
-#[derive(Drop)]
 pub(crate) struct Factored {
     prefix: Vec<Lit>,
     rests: Store,
+}
+
+/// Written out, so that letting go of these clauses is one call.
+impl Drop for Factored {
+    fn drop(self) {
+        let Factored {
+            prefix: _,
+            rests: _,
+        } = self;
+    }
 }
 
 impl Model for Factored {

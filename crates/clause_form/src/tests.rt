@@ -173,10 +173,10 @@ fn has_clauses<K: OutcomeKind>(
     let counts = counts_of(want);
     assert_eq!(rt; measure(kind, body, &Env::none()), counts);
     let mut list = ClauseList::new(alloc);
-    assert_eq!(rt; clauses(alloc, kind, body, &Env::none(), &mut list), Ok(()));
+    assert!(rt; clauses(alloc, kind, body, &Env::none(), &mut list) == Ok(()));
     assert!(rt; has_rows(&list, want));
-    assert_eq!(rt; clauses(alloc, kind, body, &Env::none(), &mut list), Ok(()));
-    assert_eq!(rt; list.len() as u64, counts.clauses.saturating_mul(2));
+    assert!(rt; clauses(alloc, kind, body, &Env::none(), &mut list) == Ok(()));
+    assert!(rt; list.len() as u64 == counts.clauses.saturating_mul(2));
     Ok(())
 }
 
@@ -259,6 +259,25 @@ fn what_is_known_is_left_out(rt: HostRuntime) -> Result<(), Fail> {
     gives(&rt, alloc, refuted, &[-4, 0])
 }
 
+fn counts(clauses: u64, literals: u64) -> Counts {
+    Counts { clauses, literals }
+}
+
+/// The clauses and the literals of a list.
+fn counts_in(list: &ClauseList) -> Counts {
+    counts(list.len() as u64, list.literal_count() as u64)
+}
+
+/// Appends the clauses of a sentence.
+fn append(
+    rt: &impl Abort,
+    alloc: Global,
+    sentence: &Sentence,
+    list: &mut ClauseList,
+) -> Result<(), FormFault> {
+    clauses(alloc, &choices(rt), &sentence.formula, &Env::none(), list)
+}
+
 /// Takes a sentence with so many clauses and literals, which is refused as wide once one clause more is asked for.
 fn is_at_limit(
     rt: &impl Abort,
@@ -267,23 +286,15 @@ fn is_at_limit(
     narrow: Counts,
     wide: Counts,
 ) -> Result<(), Fail> {
-    let kind = choices(rt);
     let sentence = made?;
     let mut list = ClauseList::new(alloc);
-    assert_eq!(rt; measure(&kind, &sentence.formula, &Env::none()), narrow);
-    let done = clauses(alloc, &kind, &sentence.formula, &Env::none(), &mut list);
-    assert_eq!(rt; done, Ok(()));
-    assert_eq!(rt; list.len() as u64, narrow.clauses);
-    assert_eq!(rt; list.literal_count() as u64, narrow.literals);
+    assert!(rt; measure(&choices(rt), &sentence.formula, &Env::none()) == narrow);
+    assert!(rt; append(rt, alloc, &sentence, &mut list) == Ok(()));
+    assert!(rt; counts_in(&list) == narrow);
     let more = and(alloc, wins(alloc, 0, 0), Ok(sentence))?;
-    let done = clauses(alloc, &kind, &more.formula, &Env::none(), &mut list);
-    assert_eq!(rt; done, Err(FormFault::Wide(wide)));
-    assert_eq!(rt; list.len() as u64, narrow.clauses);
+    assert!(rt; append(rt, alloc, &more, &mut list) == Err(FormFault::Wide(wide)));
+    assert!(rt; counts_in(&list) == narrow);
     Ok(())
-}
-
-fn counts(clauses: u64, literals: u64) -> Counts {
-    Counts { clauses, literals }
 }
 
 #[test]
@@ -324,11 +335,10 @@ fn what_is_not_asked_for_may_be_wide(rt: HostRuntime) -> Result<(), Fail> {
     for _ in 0..19 {
         pairs = and(alloc, two(alloc, false), pairs);
     }
-    let kind = choices(&rt);
+    let pairs = pairs?;
     let mut list = ClauseList::new(alloc);
-    let done = clauses(alloc, &kind, &pairs?.formula, &Env::none(), &mut list);
-    assert_eq!(rt; done, Ok(()));
-    assert_eq!(rt; (list.len(), list.literal_count()), (20, 40));
+    assert!(rt; append(&rt, alloc, &pairs, &mut list) == Ok(()));
+    assert!(rt; counts_in(&list) == counts(20, 40));
     Ok(())
 }
 
@@ -345,15 +355,21 @@ fn counts_end_at_the_largest_number(rt: HostRuntime) -> Result<(), Fail> {
     gives(&rt, alloc, or(alloc, equal(alloc, 0, 0), Ok(many)), &[])
 }
 
+/// At a profile `b` stands above an alternative.
+fn ranks_b(alloc: Global, x: u32, p: u32) -> Result<Box<Formula>, NoMemory>
+    ensures { IfOk result (λ f. tree_of f.value ≡ Leaf (Ranks (Const 1) (Const x) (Const p))) }
+{
+    let atom = Atom::Ranks(Term::Const(1), Term::Const(x), Term::Const(p));
+    Ok(Box::new(alloc, Formula::Leaf(atom))?)
+}
+
 /// At profile 1 `b` stands above `a`, or at profile 0 above itself.
 fn above(alloc: Global) -> Result<Box<Formula>, NoMemory>
     ensures { IfOk result (λ f. tree_of f.value ≡ Either (Leaf (Ranks (Const 1) (Const 0) (Const 1))) (Leaf (Ranks (Const 1) (Const 1) (Const 0)))) }
 {
-    let above = Atom::Ranks(Term::Const(1), Term::Const(0), Term::Const(1));
-    let itself = Atom::Ranks(Term::Const(1), Term::Const(1), Term::Const(0));
-    let left = Box::new(alloc, Formula::Leaf(above))?;
-    let right = Box::new(alloc, Formula::Leaf(itself))?;
-    Ok(Box::new(alloc, Formula::Either(left, right))?)
+    let above = ranks_b(alloc, 0, 1)?;
+    let itself = ranks_b(alloc, 1, 0)?;
+    Ok(Box::new(alloc, Formula::Either(above, itself))?)
 }
 
 #[test]
@@ -363,44 +379,39 @@ fn rankings_have_clauses(rt: HostRuntime) -> Result<(), Fail> {
     has_clauses(&rt, rt.alloc(), &kind, &body, &[-2, 0])
 }
 
+/// Takes a place whose clause has this number and this origin.
+fn has_origin(rt: &impl Abort, ground: &Ground, k: u32, number: u64, origin: Origin) {
+    assert!(rt; k < ground.clauses().len());
+    assert!(rt; ground.clauses().origin(k) == number);
+    assert!(rt; ground.origin(k) == origin);
+}
+
+/// The clause of one literal under each of these numbers.
+fn numbered(rt: &impl Abort, alloc: Global, numbers: &[u64]) -> Ground {
+    let mut clauses = Clauses::new(alloc);
+    for number in numbers {
+        assert!(rt; clauses.push(&[Lit::new(1, true)], *number) == Ok(()));
+    }
+    Ground::new(clauses)
+}
+
+fn instance(axiom: u32, number: u64) -> Origin {
+    Origin::Instance { axiom, number }
+}
+
 #[test]
-fn origins_are_read(rt: HostRuntime) -> Result<(), Fail> {
-    let rows = [
-        (0, Origin::Frame(0)),
-        (4_294_967_295, Origin::Frame(4_294_967_295)),
-        (
-            4_294_967_296,
-            Origin::Instance {
-                axiom: 0,
-                number: 0,
-            },
-        ),
-        (
-            2 * 4_294_967_296 + 7,
-            Origin::Instance {
-                axiom: 1,
-                number: 7,
-            },
-        ),
-        (
-            40 * 4_294_967_296 + 19_999_999,
-            Origin::Instance {
-                axiom: 39,
-                number: 19_999_999,
-            },
-        ),
+fn origins_are_read(rt: HostRuntime) {
+    let numbers = [
+        0,
+        4_294_967_295,
+        4_294_967_296,
+        2 * 4_294_967_296 + 7,
+        40 * 4_294_967_296 + 19_999_999,
     ];
-    let mut clauses = Clauses::new(rt.alloc());
-    for (number, _) in rows {
-        assert_eq!(rt; clauses.push(&[Lit::new(1, true)], number), Ok(()));
-    }
-    let ground = Ground::new(clauses);
-    let mut k = 0;
-    for (number, origin) in rows {
-        assert!(rt; k < ground.clauses().len());
-        assert_eq!(rt; ground.clauses().origin(k), number);
-        assert_eq!(rt; ground.origin(k), origin);
-        k += 1;
-    }
-    Ok(())
+    let ground = numbered(&rt, rt.alloc(), &numbers);
+    has_origin(&rt, &ground, 0, numbers[0], Origin::Frame(0));
+    has_origin(&rt, &ground, 1, numbers[1], Origin::Frame(4_294_967_295));
+    has_origin(&rt, &ground, 2, numbers[2], instance(0, 0));
+    has_origin(&rt, &ground, 3, numbers[3], instance(1, 7));
+    has_origin(&rt, &ground, 4, numbers[4], instance(39, 19_999_999));
 }

@@ -1,5 +1,5 @@
 use Rattle.std.proofs.Common.{true, false, subst}
-use Rattle.meaning.specs.Clauses.{joined, minus, plus}
+use Rattle.meaning.specs.Clauses.{minus, plus}
 use Rattle.meaning.specs.Written.{Iff, Neg}
 use Rattle.clause_form.specs.Forms.{IsForm}
 use Rattle.clause_form.specs.declared.forms.Form.TheVariants.{Open}
@@ -37,9 +37,8 @@ returns-in_ok-falsity-in-Open-b-clause-ok g c = λ x y h k.
     let a = open_form size c.args.a c.in-Open.p c.in-Open.m x c.in-Open.is h in
     let b = open_form size c.args.b c.in-Open-b.q c.in-Open-b.n y c.in-Open-b.is k in
     opened_form size c.in_ok-truth-in-Open-b.truth c.in_ok-falsity-in-Open-b.falsity (Iff x y) _ _ (iff_open x y a.0 b.0)
-    (c.in_ok-truth-in-Open-b.ensures size (joined (minus x) (plus y)) (joined (plus x) (minus y))
-    (c.in_ok-onward-in-Open-b.ensures size (minus x) (plus y) (some_minus x a.0) (some_plus y b.0) a.2 (c.in_ok-q_copy-in-Open-b.ensures size (plus y) b.1))
-    (c.in_ok-back-in-Open-b.ensures size (plus x) (minus y) (some_plus x a.0) (some_minus y b.0) a.1 (c.in_ok-n_copy-in-Open-b.ensures size (minus y) b.2)))
-    (c.in_ok-falsity-in-Open-b.ensures size (joined (minus x) (minus y)) (joined (plus x) (plus y))
-    (c.in_ok-neither-in-Open-b.ensures size (minus x) (minus y) (some_minus x a.0) (some_minus y b.0) a.2 b.2)
-    (c.in_ok-either-in-Open-b.ensures size (plus x) (plus y) (some_plus x a.0) (some_plus y b.0) a.1 b.1))
+    (c.in_ok-truth-in-Open-b.ensures size (minus x) (plus y) (plus x) (minus y)
+    (some_minus x a.0, a.2) (some_plus y b.0, c.in_ok-q_copy-in-Open-b.ensures size (plus y) b.1)
+    (some_plus x a.0, a.1) (some_minus y b.0, c.in_ok-n_copy-in-Open-b.ensures size (minus y) b.2))
+    (c.in_ok-falsity-in-Open-b.ensures size (minus x) (minus y) (plus x) (plus y)
+    (some_minus x a.0, a.2) (some_minus y b.0, b.2) (some_plus x a.0, a.1) (some_plus y b.0, b.1))
