@@ -38,6 +38,7 @@ sample_listing n = record {
 abbrev pub IsSampleStudy : ℕ → Question → Type 0
 IsSampleStudy n study = IsAnswer (sample_listing n) (Ok study)
 
--- a number has at most one study
-abbrev pub SamplesAreOne : Type 0
-SamplesAreOne = (n : ℕ) (a b : Question) → IsSampleStudy n a → IsSampleStudy n b → a ≡ b
+-- each number has exactly one study
+abbrev pub SamplesAreStudies : Type 0
+SamplesAreStudies =
+    (n : ℕ) → (study : Question) × IsSampleStudy n study × ((other : Question) → IsSampleStudy n other → other ≡ study)

@@ -1,7 +1,7 @@
 //! What holds of all bytes, and of the studies of numbers.
 
 ghost use Rattle.study.specs.Laws.{AreWhole, HaveKinds, HaveOneAnswer};
-ghost use Rattle.study.specs.Sample.{SamplesAreOne};
+ghost use Rattle.study.specs.Sample.{SamplesAreStudies};
 
 /// Bytes have at most one answer, want of memory aside. So each refusal comes exactly where it is the first that holds.
 pub fn studies_have_one_answer()
@@ -18,7 +18,7 @@ pub fn studies_are_whole()
     ensures { AreWhole }
 {}
 
-/// A number has at most one study.
-pub fn samples_are_one()
-    ensures { SamplesAreOne }
+/// Each number has exactly one study.
+pub fn samples_are_studies()
+    ensures { SamplesAreStudies }
 {}
