@@ -1,7 +1,9 @@
 -- In proof order.
 mod RowLemmas
 mod FitLemmas
+mod DecidedLaws
 pub mod ReportLaws
+mod ClauseLaws
 mod OneAnswer
 mod DeviceLaws
 mod CallLaws

@@ -1,21 +1,24 @@
 -- The rows of the table exclude one another.
-use Rattle.std.proofs.Common.{◌≡◌, ◌∙◌, sym, refl, subst, ap, ℕ, List, length, Option, None, Some, Err, arith}
+use Rattle.std.proofs.Common.{◌≡◌, ◌∙◌, sym, refl, subst, ap, ap₂, ℕ, List, length, Option, None, Some, Ok, Err, arith}
 use Rattle.edge.specs.Shelf.{Files}
 use Rattle.vocab.specs.Study.{Question}
+use Rattle.clause_text.specs.declared.faults.CnfFault.{CnfFault}
+use Rattle.clause_text.specs.ReadDimacs.{Formula, read_dimacs}
 use Rattle.verdicts.specs.Words.{answer_text}
 use Rattle.words.specs.Words.{Request, Check, Axioms, request_of}
 use Rattle.answers.specs.declared.runs.Run.{Run}
 use Rattle.answers.specs.Runs.{IsBare}
-use Rattle.answers.specs.Held.{Holds, HoldsTooMany, most_study_bytes}
+use Rattle.answers.specs.Held.{Holds, HoldsTooMany, most_study_bytes, most_cnf_bytes}
 use Rattle.answers.specs.StudyLines.{study_line}
 use Rattle.answers.specs.Studies.{RefusesStudy, too_long, no_study, OverStudy, study_refused, study_given}
 use Rattle.answers.specs.Check.{IsJudged, judgement, status_of}
+use Rattle.answers.specs.Grounding.{fault_of, refusal_line, OverClauses, clauses_refused, clauses_made}
+use Rattle.answers.specs.Export.{IsExported}
+use Rattle.answers.specs.Lrat.{GivesFormula, RefusesFormula, too_long as long_cnf, no_formula, cnf_line, IsConfirmedBy, formula_refused, proof_judged, said_of}
 use Rattle.answers.specs.Lawful.{IsAnswer}
 use Rattle.answers.specs.Laws.{AnswersAreOne}
-use Rattle.answers.proofs.RowLemmas.{some_same, same_reading, one_study, not_refused}
-
-abbrev One : Run → Run → List ℕ → List ℕ → Type 0
-One run run' text text' = (run ≡ run') × (text ≡ text')
+use Rattle.answers.specs.RowLaws.{AreSame, RowsAreOne}
+use Rattle.answers.proofs.RowLemmas.{some_same, same_reading, one_study, not_refused, one_formula}
 
 -- two runs that tell of no search are one, where their statuses are
 one_run : (run run' : Run) (s s' : ℕ) → IsBare run s → IsBare run' s' → s ≡ s' → run ≡ run'
@@ -44,25 +47,72 @@ module _ (files : Files) (name : List ℕ) where
       t ∙ ap study_line faults ∙ sym t'
 
   -- commands over a study have one answer, where the rest has
-  one_over : (run run' : Run) (text text' : List ℕ) (P P' : Question → Type 0) → ((study : Question) → P study → P' study → One run run' text text')
-      → OverStudy files name run text P → OverStudy files name run' text' P' → One run run' text text'
+  one_over : (run run' : Run) (text text' : List ℕ) (P P' : Question → Type 0) → ((study : Question) → P study → P' study → AreSame run run' text text')
+      → OverStudy files name run text P → OverStudy files name run' text' P' → AreSame run run' text text'
   one_over run run' text text' P P' rest (study_refused r b) (study_refused r' b') = (one_run run run' 3 3 b b' refl, one_refusal text text' r r')
   one_over run run' text text' P P' rest (study_refused r b) (study_given s g p) = absurd (not_refused files name s text g r)
   one_over run run' text text' P P' rest (study_given s g p) (study_refused r b) = absurd (not_refused files name s text' g r)
   one_over run run' text text' P P' rest (study_given s g p) (study_given s' g' p') = rest s' (subst P (one_study files name s s' g g') p) p'
 
+  -- the file of a text of clauses is refused with one line, and not where it gives clauses
+  one_cnf : (text text' : List ℕ) → RefusesFormula files name text → RefusesFormula files name text' → text ≡ text'
+  one_cnf text text' (long_cnf h t) (long_cnf h' t') = t ∙ sym t'
+  one_cnf text text' (long_cnf h t) (no_formula bytes fault h' read t') = absurd (long_or_not most_cnf_bytes h bytes h')
+  one_cnf text text' (no_formula bytes fault h read t) (long_cnf h' t') = absurd (long_or_not most_cnf_bytes h' bytes h)
+  one_cnf text text' (no_formula bytes fault h read t) (no_formula bytes' fault' h' read' t') =
+      let same : bytes ≡ bytes' = some_same (files name) bytes bytes' h.held h'.held in
+      let both : Err fault ≡ Err fault' = sym read ∙ ap read_dimacs same ∙ read' in
+      let faults : fault ≡ fault' = cc in
+      t ∙ ap cnf_line faults ∙ sym t'
+
+  cnf_given : (formula : Formula) (text : List ℕ) → GivesFormula files name formula → RefusesFormula files name text → ⊥
+  cnf_given formula text g (long_cnf h t) = long_or_not most_cnf_bytes h g.bytes g.holds
+  cnf_given formula text g (no_formula bytes fault h read t) =
+      let same : bytes ≡ g.bytes = some_same (files name) bytes g.bytes h.held g.holds.held in
+      let both : Err fault ≡ Ok formula = sym read ∙ ap read_dimacs same ∙ g.read in
+      absurd (cc)
+
+-- commands over the clauses of a study have one answer, where the rest has
+one_clauses : (study : Question) (run run' : Run) (text text' : List ℕ) (P P' : Type 0) → (P → P' → AreSame run run' text text')
+    → OverClauses study run text P → OverClauses study run' text' P' → AreSame run run' text text'
+one_clauses study run run' text text' P P' rest (clauses_refused fault e t b) (clauses_refused fault' e' t' b') =
+    (one_run run run' 3 3 b b' refl, t ∙ ap (refusal_line study) (some_same (fault_of study) fault fault' e e') ∙ sym t')
+one_clauses study run run' text text' P P' rest (clauses_refused fault e t b) (clauses_made e' p') = let no : None ≡ Some fault = sym e' ∙ e in absurd (cc)
+one_clauses study run run' text text' P P' rest (clauses_made e p) (clauses_refused fault e' t b) = let no : None ≡ Some fault = sym e ∙ e' in absurd (cc)
+one_clauses study run run' text text' P P' rest (clauses_made e p) (clauses_made e' p') = rest p p'
+
 module _ (files : Files) (run run' : Run) (text text' : List ℕ) where
-  one_judged : (report : List ℕ) (study : Question) → IsJudged files report study run text → IsJudged files report study run' text' → One run run' text text'
+  pub one_export : (name : List ℕ) → IsExported files name run text → IsExported files name run' text' → AreSame run run' text text'
+  one_export name a a' =
+      one_over files name run run' text text' _ _ (λ s. one_clauses s run run' text text' _ _ (λ p p'. (one_run run run' 0 0 p.0 p'.0 refl, p.1 ∙ sym p'.1))) a a'
+
+  pub one_lrat : (name proof : List ℕ) → IsConfirmedBy files name proof run text → IsConfirmedBy files name proof run' text' → AreSame run run' text text'
+  one_lrat name proof (formula_refused r b) (formula_refused r' b') = (one_run run run' 3 3 b b' refl, one_cnf files name text text' r r')
+  one_lrat name proof (formula_refused r b) (proof_judged f bytes g held b' t') = absurd (cnf_given files name f text g r)
+  one_lrat name proof (proof_judged f bytes g held b t) (formula_refused r b') = absurd (cnf_given files name f text' g r)
+  one_lrat name proof (proof_judged f bytes g held b t) (proof_judged f' bytes' g' held' b' t') =
+      let formulas : f ≡ f' = one_formula files name f f' g g' in
+      let same : bytes ≡ bytes' = some_same (files proof) bytes bytes' held held' in
+      let said : said_of f bytes ≡ said_of f' bytes' = ap₂ said_of formulas same in
+      (one_run run run' _ _ b b' (ap (λ s. s.status) said), t ∙ ap (λ s. s.text) said ∙ sym t')
+
+  one_judged : (report : List ℕ) (study : Question) → IsJudged files report study run text → IsJudged files report study run' text' → AreSame run run' text text'
   one_judged report study j j' =
       let same : j.bytes ≡ j'.bytes = some_same (files report) j.bytes j'.bytes j.held j'.held in (
         one_run run run' _ _ j.ends j'.ends (ap (λ b. status_of (judgement study b)) same),
         j.is ∙ ap (λ b. answer_text (judgement study b)) same ∙ sym j'.is,
       )
 
-  one_row : (request : Option Request) → IsAnswer request files run text → IsAnswer request files run' text' → One run run' text text'
+  one_row : (request : Option Request) → IsAnswer request files run text → IsAnswer request files run' text' → AreSame run run' text text'
   one_row None a a' = (one_run run run' 2 2 a.0 a'.0 refl, a.1 ∙ sym a'.1)
   one_row (Some (Check study report workers)) a a' = one_over files study run run' text text' _ _ (one_judged report) a a'
   one_row (Some (Axioms kind)) a a' = (one_run run run' 0 0 a.0 a'.0 refl, a.1 ∙ sym a'.1)
 
 pub one_answer : AnswersAreOne
 one_answer words files run run' text text' a a' = one_row files run run' text text' (request_of words) a a'
+
+pub one_rows : RowsAreOne
+one_rows = record {
+  export = λ files name run run' text text' a a'. one_export files run run' text text' name a a';
+  lrat = λ files name proof run run' text text' a a'. one_lrat files run run' text text' name proof a a';
+}

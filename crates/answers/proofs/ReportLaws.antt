@@ -1,4 +1,4 @@
--- `check` confirms exactly the reports of right verdicts, and what they claim holds.
+-- `check` confirms exactly the reports of right verdicts, those that `decide` prints among them, and what they claim holds.
 use Rattle.std.proofs.Common.{◌≡◌, ◌∙◌, ◌↔◌, refl, sym, subst, ap, true≢false, ℕ, ◌≤◌, List, length, Some, arith}
 use Rattle.edge.specs.Shelf.{Files}
 use Rattle.vocab.specs.Size.{IsSize}
@@ -17,9 +17,13 @@ use Rattle.answers.specs.declared.runs.Run.{Run}
 use Rattle.answers.specs.Held.{most_report_bytes}
 use Rattle.answers.specs.Studies.{GivesStudy}
 use Rattle.answers.specs.Check.{IsJudged, judgement, status_of}
-use Rattle.answers.specs.Laws.{CheckedAreRight, Claims}
+use Rattle.answers.specs.Rules.{Claims}
+use Rattle.answers.specs.Decide.{IsReported}
+use Rattle.answers.specs.Laws.{CheckedAreRight}
+use Rattle.answers.specs.RowLaws.{DecidedAreConfirmed}
+use Rattle.answers.proofs.DecidedLaws.{found_at}
 use Rattle.answers.proofs.FitLemmas.{right_judged}
-use Rattle.answers.proofs.RowLemmas.{some_same, row_of, over_study}
+use Rattle.answers.proofs.RowLemmas.{some_same, row_of, over_study, granted}
 
 -- a study that was read is one whose reports the laws speak of
 pub reportable : (files : Files) (name : List ℕ) (study : Question) → GivesStudy files name study → IsReportable study
@@ -71,3 +75,10 @@ pub checked_right : CheckedAreRight
 checked_right words files run text name report bytes workers study lawful asked g held =
     checked_row files name report run text study bytes g held
     (over_study files name run text _ study g (row_of words files run text (Some (Check name report workers)) asked lawful))
+
+-- what `decide` prints is confirmed
+pub decided_confirmed : DecidedAreConfirmed
+decided_confirmed files name run text study row g zero_is fits =
+    let r = granted files name run text (λ s. IsReported s run text) study g zero_is row in
+    let f = found_at study run r.verdict zero_is r.decides in
+    (r.verdict, f.told, right_judged study text r.verdict (reportable files name study g) (record { claims_some = f.claims_some; right = f.right; is = r.is }) fits)

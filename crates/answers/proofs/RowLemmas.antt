@@ -1,14 +1,18 @@
 -- A file gives one study, and is not refused where it gives one.
-use Rattle.std.proofs.Common.{◌≡◌, ap, subst, ℕ, ◌<◌, ◌≤◌, List, length, Option, Some, Result, Ok, Err, arith}
+use Rattle.std.proofs.Common.{◌≡◌, ◌∙◌, sym, ap, subst, ℕ, ◌<◌, ◌≤◌, List, length, Option, Some, Result, Ok, Err, arith}
 use Rattle.edge.specs.Shelf.{Files}
 use Rattle.vocab.specs.Study.{Question}
 use Rattle.study.specs.declared.faults.StudyFault.{StudyFault}
 use Rattle.study.specs.Reading.{IsStudyOf}
 use Rattle.study.proofs.OneAnswer.{studies_once}
+use Rattle.clause_text.specs.ReadDimacs.{Formula, read_dimacs}
 use Rattle.words.specs.Words.{Request, request_of}
 use Rattle.answers.specs.declared.runs.Run.{Run}
 use Rattle.answers.specs.Held.{most_study_bytes, Holds}
 use Rattle.answers.specs.Studies.{GivesStudy, RefusesStudy, too_long, no_study, OverStudy, study_refused, study_given}
+use Rattle.answers.specs.Runs.{IsBare}
+use Rattle.answers.specs.Grounding.{OverClauses, clauses_refused, clauses_made}
+use Rattle.answers.specs.Lrat.{GivesFormula}
 use Rattle.answers.specs.Lawful.{IsAnswer, Lawful}
 
 pub some_same : {A : Type 0} (o : Option A) (x y : A) → o ≡ Some x → o ≡ Some y → x ≡ y
@@ -39,3 +43,24 @@ module _ (files : Files) (name : List ℕ) where
   pub over_study : (run : Run) (text : List ℕ) (P : Question → Type 0) (study : Question) → GivesStudy files name study → OverStudy files name run text P → P study
   over_study run text P study g (study_refused r bare) = absurd (not_refused study text g r)
   over_study run text P study g (study_given s h p) = subst P (one_study s study h g) p
+
+-- where a run does not end with status 3, the rest holds of the clauses
+pub past_clauses : (study : Question) (run : Run) (text : List ℕ) (P : Type 0) → (IsBare run 3 → ⊥) → OverClauses study run text P → P
+past_clauses study run text P other (clauses_refused fault e t bare) = absurd (other bare)
+past_clauses study run text P other (clauses_made e p) = p
+
+pub not_three : (run : Run) → run.status ≡ 0 → IsBare run 3 → ⊥
+not_three run zero_is bare = let three : 0 ≡ 3 = sym zero_is ∙ bare.ends in omega (arith, three)
+
+-- where a run ends with status 0 over a file that gives a study, neither is refused
+pub granted : (files : Files) (name : List ℕ) (run : Run) (text : List ℕ) (P : Question → Type 0) (study : Question) → GivesStudy files name study → run.status ≡ 0
+    → OverStudy files name run text (λ s. OverClauses s run text (P s)) → P study
+granted files name run text P study g zero_is row =
+    past_clauses study run text (P study) (not_three run zero_is) (over_study files name run text (λ s. OverClauses s run text (P s)) study g row)
+
+-- a file gives one list of clauses
+pub one_formula : (files : Files) (name : List ℕ) (f f' : Formula) → GivesFormula files name f → GivesFormula files name f' → f ≡ f'
+one_formula files name f f' g g' =
+    let same : g.bytes ≡ g'.bytes = some_same (files name) g.bytes g'.bytes g.holds.held g'.holds.held in
+    let both : Ok f ≡ Ok f' = sym g.read ∙ ap read_dimacs same ∙ g'.read in
+    cc

@@ -10,6 +10,14 @@ most_study_bytes = 1048576
 abbrev pub most_report_bytes : ℕ
 most_report_bytes = 268435456
 
+-- the most bytes of a text of clauses
+abbrev pub most_cnf_bytes : ℕ
+most_cnf_bytes = 536870912
+
+-- the most bytes of a proof
+abbrev pub most_proof_bytes : ℕ
+most_proof_bytes = 536870912
+
 -- the file of this name holds these bytes, and they are not too many
 pub record Holds (files : Files) (limit : ℕ) (name bytes : List ℕ) : Type 0 where
   pub held : files name ≡ Some bytes

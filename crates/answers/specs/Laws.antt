@@ -1,4 +1,5 @@
--- What follows from the table of answers. Each is proved as the contract of a function of the same name in src/laws.rt.
+-- What follows from the table of answers. Each is proved as the contract of a function of the same name in
+-- src/laws.rt.
 use Rattle.std.specs.Prelude.{◌≡◌, ℕ, ◌≤◌, ◌⊎◌, ◌↔◌, List, [], ◌∷◌, length, None, Some, IsTrue}
 use Rattle.std.specs.Io.KnownBytes.{Appends}
 use Rattle.vocab.specs.declared.kinds.Kind.{Kind}
@@ -6,10 +7,7 @@ use Rattle.edge.specs.Shelf.{Files, OthersStay}
 use Rattle.edge.specs.Faults.{Rose}
 use Rattle.edge.specs.Told.{AppendsPrefix}
 use Rattle.vocab.specs.Study.{Question}
-use Rattle.meaning.specs.Space.{below}
-use Rattle.meaning.specs.Truth.{satisfies}
 use Rattle.verdicts.specs.declared.verdicts.Verdict.{Verdict}
-use Rattle.verdicts.specs.declared.verdicts.Verdict.TheVariants.{Possible, Impossible, Undecided}
 use Rattle.verdicts.specs.Judge.{Confirmed}
 use Rattle.verdicts.specs.Report.{IsReport, IsConfirmed}
 use Rattle.verdicts.specs.Words.{answer_text}
@@ -17,26 +15,13 @@ use Rattle.words.specs.Words.{Check, Axioms, request_of}
 use Rattle.answers.specs.declared.runs.Run.{Run}
 use Rattle.answers.specs.Held.{most_report_bytes}
 use Rattle.answers.specs.Studies.{GivesStudy, RefusesStudy}
+use Rattle.answers.specs.Rules.{Claims}
 use Rattle.answers.specs.Usage.{usage_line}
 use Rattle.answers.specs.Check.{judgement, status_of}
 use Rattle.answers.specs.Axioms.{library_text}
 use Rattle.answers.specs.Lawful.{Lawful}
 use Rattle.answers.specs.Devices.{Devices}
 use Rattle.answers.specs.Call.{IsCall, files_of}
-
--- a rule satisfies all axioms of a study
-abbrev pub IsRuleFor : Question → List ℕ → Type 0
-IsRuleFor study table = IsTrue (satisfies study.size study.axioms (below (length study.axioms)) table)
-
--- no rule satisfies the axioms of a core
-abbrev pub HasNoRule : Question → List ℕ → Type 0
-HasNoRule study core = (table : List ℕ) → ¬ IsTrue (satisfies study.size study.axioms core table)
-
--- what a verdict claims of the rules of the study's size: this one satisfies all axioms, or none satisfies those of the core
-abbrev pub Claims : Question → Verdict → Type 0
-Claims study (Possible table) = IsRuleFor study table
-Claims study (Impossible core story witnesses) = HasNoRule study core
-Claims study Undecided = ⊥
 
 -- the run has this status, and this text was written
 abbrev pub Says : Devices → Run → ℕ → List ℕ → Type 0
@@ -46,11 +31,14 @@ Says d run status text = (run.status ≡ status) × Appends d.taken_before d.tak
 
 -- `check` confirms exactly the reports of right verdicts that claim something, within the limit
 abbrev pub CheckedAreRight : Type 0
-CheckedAreRight = (words : List (List ℕ)) (files : Files) (run : Run) (text name report bytes : List ℕ) (workers : ℕ) (study : Question) →
-    Lawful words files run text → request_of words ≡ Some (Check name report workers) → GivesStudy files name study → files report ≡ Some bytes →
+CheckedAreRight =
+    (words : List (List ℕ)) (files : Files) (run : Run) (text name report bytes : List ℕ) (workers : ℕ)
+    (study : Question) → Lawful words files run text → request_of words ≡ Some (Check name report workers) →
+    GivesStudy files name study → files report ≡ Some bytes →
     (run.status ≡ 0) ↔ (IsConfirmed study bytes × (length bytes ≤ most_report_bytes))
 
--- the file of the study gives one, and that of the report is the report, within its limit, of a verdict that is right over it; what the verdict claims holds, and the line for it was written
+-- the file of the study gives one, and that of the report is the report, within its limit, of a verdict that
+-- is right over it; what the verdict claims holds, and the line for it was written
 pub record IsConfirmedRight (d : Devices) (files : Files) (name report : List ℕ) : Type 0 where
   pub study : Question
   pub bytes : List ℕ
@@ -64,21 +52,26 @@ pub record IsConfirmedRight (d : Devices) (files : Files) (name report : List �
 
 -- where `check` ends with status 0, it was such a report
 abbrev pub ConfirmedHolds : Type 0
-ConfirmedHolds = (words : List (List ℕ)) (d : Devices) (run : Run) (files : Files) (name report : List ℕ) (workers : ℕ) → IsCall words d run → d.told ≡ Some files →
-    request_of words ≡ Some (Check name report workers) → run.status ≡ 0 → IsConfirmedRight d files name report
+ConfirmedHolds =
+    (words : List (List ℕ)) (d : Devices) (run : Run) (files : Files) (name report : List ℕ) (workers : ℕ) →
+    IsCall words d run → d.told ≡ Some files → request_of words ≡ Some (Check name report workers) →
+    run.status ≡ 0 → IsConfirmedRight d files name report
 
 -- row by row: a study that is refused, a report that is judged, and the report of a right verdict
 pub record AreRows (d : Devices) (run : Run) (files : Files) (name report : List ℕ) : Type 0 where
   pub refused : (text : List ℕ) → RefusesStudy files name text → Says d run 3 text
   pub judged : (study : Question) (bytes : List ℕ) → GivesStudy files name study → files report ≡ Some bytes
       → Says d run (status_of (judgement study bytes)) (answer_text (judgement study bytes))
-  pub right : (study : Question) (bytes : List ℕ) (verdict : Verdict) → GivesStudy files name study → files report ≡ Some bytes → IsReport study verdict bytes
-      → length bytes ≤ most_report_bytes → Says d run 0 (answer_text (Confirmed verdict))
+  pub right : (study : Question) (bytes : List ℕ) (verdict : Verdict) → GivesStudy files name study
+      → files report ≡ Some bytes → IsReport study verdict bytes → length bytes ≤ most_report_bytes
+      → Says d run 0 (answer_text (Confirmed verdict))
 
 -- each row of `check` is what is answered where it applies, faults and want of memory aside
 abbrev pub ChecksAreAnswered : Type 0
-ChecksAreAnswered = (words : List (List ℕ)) (d : Devices) (run : Run) (files : Files) (name report : List ℕ) (workers : ℕ) → IsCall words d run → d.told ≡ Some files →
-    request_of words ≡ Some (Check name report workers) → run.status ≤ 4 → AreRows d run files name report
+ChecksAreAnswered =
+    (words : List (List ℕ)) (d : Devices) (run : Run) (files : Files) (name report : List ℕ) (workers : ℕ) →
+    IsCall words d run → d.told ≡ Some files → request_of words ≡ Some (Check name report workers) →
+    run.status ≤ 4 → AreRows d run files name report
 
 -- ---- one answer
 
@@ -89,14 +82,17 @@ AnswersAreOne = (words : List (List ℕ)) (files : Files) (run run' : Run) (text
 
 -- ---- whatever the shelf tells
 
--- status 2 comes only where the words are no command; there, faults and want of memory aside, it comes and the usage line is written, and at a fault of the sink the front of that line
+-- status 2 comes only where the words are no command; there, faults and want of memory aside, it comes and
+-- the usage line is written, and at a fault of the sink the front of that line
 pub record IsUsageExact (words : List (List ℕ)) (d : Devices) (run : Run) : Type 0 where
   pub only : run.status ≡ 2 → request_of words ≡ None
   pub written : request_of words ≡ None → run.status ≤ 4 → Says d run 2 usage_line
-  pub cut_short : request_of words ≡ None → run.status ≡ 6 → AppendsPrefix d.taken_before d.taken_now usage_line
+  pub cut_short : request_of words ≡ None → run.status ≡ 6
+      → AppendsPrefix d.taken_before d.taken_now usage_line
 
 abbrev pub UsageIsExact : Type 0
-UsageIsExact = (words : List (List ℕ)) (d : Devices) (run : Run) → IsCall words d run → IsUsageExact words d run
+UsageIsExact =
+    (words : List (List ℕ)) (d : Devices) (run : Run) → IsCall words d run → IsUsageExact words d run
 
 -- `axioms` writes the library, and at a fault of the sink the front of it
 pub record WritesLibrary (d : Devices) (run : Run) (kind : Kind) : Type 0 where
@@ -104,9 +100,11 @@ pub record WritesLibrary (d : Devices) (run : Run) (kind : Kind) : Type 0 where
   pub cut_short : run.status ≡ 6 → AppendsPrefix d.taken_before d.taken_now (library_text kind)
 
 abbrev pub LibraryIsWritten : Type 0
-LibraryIsWritten = (words : List (List ℕ)) (d : Devices) (run : Run) (kind : Kind) → IsCall words d run → request_of words ≡ Some (Axioms kind) → WritesLibrary d run kind
+LibraryIsWritten = (words : List (List ℕ)) (d : Devices) (run : Run) (kind : Kind) → IsCall words d run →
+    request_of words ≡ Some (Axioms kind) → WritesLibrary d run kind
 
--- where a call ends with status 3, its command reads files, and none but the first was touched: the report of a refused study was not opened
+-- where a call ends with status 3, its command reads files, and none but the first was touched: the report of
+-- a refused study was not opened
 pub record IsFirstAloneTouched (names : List (List ℕ)) (d : Devices) : Type 0 where
   pub first : List ℕ
   pub others : List (List ℕ)
@@ -114,12 +112,15 @@ pub record IsFirstAloneTouched (names : List (List ℕ)) (d : Devices) : Type 0 
   pub stay : OthersStay d.left_before d.left_now first
 
 abbrev pub RefusedLeavesUnopened : Type 0
-RefusedLeavesUnopened = (words : List (List ℕ)) (d : Devices) (run : Run) → IsCall words d run → run.status ≡ 3 → IsFirstAloneTouched (files_of (request_of words)) d
+RefusedLeavesUnopened =
+    (words : List (List ℕ)) (d : Devices) (run : Run) → IsCall words d run → run.status ≡ 3 →
+    IsFirstAloneTouched (files_of (request_of words)) d
 
 -- words that name no file touch none, and no count of faults changes
 abbrev pub OtherWordsTouchNone : Type 0
-OtherWordsTouchNone = (words : List (List ℕ)) (d : Devices) (run : Run) → IsCall words d run → files_of (request_of words) ≡ [] →
-    (name : List ℕ) → (d.left_now name ≡ d.left_before name) × (d.faults_now name ≡ d.faults_before name)
+OtherWordsTouchNone = (words : List (List ℕ)) (d : Devices) (run : Run) → IsCall words d run →
+    files_of (request_of words) ≡ [] → (name : List ℕ) →
+    (d.left_now name ≡ d.left_before name) × (d.faults_now name ≡ d.faults_before name)
 
 -- ---- completeness
 
@@ -133,12 +134,17 @@ pub record HasNoFault (words : List (List ℕ)) (d : Devices) : Type 0 where
   pub files : AreQuiet d (files_of (request_of words))
   pub sink : ¬ Rose d.sink_faults_before d.sink_faults_now
 
--- a confirmed report within its limit over a study that is read ends with status 0 or 7, and so does `axioms`; words that are no command end with 2 or 7
+-- a confirmed report within its limit over a study that is read ends with status 0 or 7, and so does
+-- `axioms`; words that are no command end with 2 or 7
 pub record AreAnswered (words : List (List ℕ)) (d : Devices) (run : Run) : Type 0 where
-  pub check : (files : Files) (name report bytes : List ℕ) (workers : ℕ) (study : Question) → d.told ≡ Some files → request_of words ≡ Some (Check name report workers)
-      → GivesStudy files name study → files report ≡ Some bytes → IsConfirmed study bytes → length bytes ≤ most_report_bytes → (run.status ≡ 0) ⊎ (run.status ≡ 7)
+  pub check : (files : Files) (name report bytes : List ℕ) (workers : ℕ) (study : Question)
+      → d.told ≡ Some files → request_of words ≡ Some (Check name report workers)
+      → GivesStudy files name study → files report ≡ Some bytes → IsConfirmed study bytes
+      → length bytes ≤ most_report_bytes → (run.status ≡ 0) ⊎ (run.status ≡ 7)
   pub axioms : (kind : Kind) → request_of words ≡ Some (Axioms kind) → (run.status ≡ 0) ⊎ (run.status ≡ 7)
   pub usage : request_of words ≡ None → (run.status ≡ 2) ⊎ (run.status ≡ 7)
 
 abbrev pub CallsAreComplete : Type 0
-CallsAreComplete = (words : List (List ℕ)) (d : Devices) (run : Run) → IsCall words d run → HasNoFault words d → AreAnswered words d run
+CallsAreComplete =
+    (words : List (List ℕ)) (d : Devices) (run : Run) → IsCall words d run → HasNoFault words d →
+    AreAnswered words d run

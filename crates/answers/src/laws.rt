@@ -1,5 +1,6 @@
 //! What follows from the table of answers. Each law is the contract of a function that does nothing.
 
+ghost use Rattle.answers.specs.RowLaws.{ConfirmedIsUnsatisfiable, DecidedAreConfirmed, DecidedHolds, EnoughDecides, ExportedSaysStudy, ProvedHolds, RowsAreOne, SampledHolds};
 ghost use Rattle.answers.specs.Laws.{CheckedAreRight, ConfirmedHolds, ChecksAreAnswered, AnswersAreOne, UsageIsExact, LibraryIsWritten, RefusedLeavesUnopened, OtherWordsTouchNone, CallsAreComplete};
 
 /// `check` confirms exactly the reports of right verdicts that claim something, within its limit.
@@ -45,4 +46,45 @@ pub fn other_words_touch_none()
 /// Where no fault is counted and nothing is refused, the answer is the one that was asked for, or want of memory.
 pub fn calls_are_complete()
     ensures { CallsAreComplete }
+{}
+
+/// What `export` writes is satisfiable exactly where some rule satisfies all axioms.
+pub fn exported_says_study()
+    ensures { ExportedSaysStudy }
+{}
+
+/// Whatever study is read, a rule that `decide` prints satisfies its axioms, and an impossibility holds for every rule: its
+/// story is accepted over the sentences alone, and each axiom of its core is needed or marked open.
+pub fn decided_holds()
+    ensures { DecidedHolds }
+{}
+
+/// What `decide` prints is, within the limit of reports, confirmed by `check`.
+pub fn decided_are_confirmed()
+    ensures { DecidedAreConfirmed }
+{}
+
+/// Where the limit of a study is at least 3 to the number of its variables, `decide` decides it, with no open mark.
+pub fn enough_decides()
+    ensures { EnoughDecides }
+{}
+
+/// A refutation that `proof` writes leaves no rule, and a verdict of it has one.
+pub fn proved_holds()
+    ensures { ProvedHolds }
+{}
+
+/// Where `lrat` confirms, no assignment satisfies the clauses.
+pub fn confirmed_is_unsatisfiable()
+    ensures { ConfirmedIsUnsatisfiable }
+{}
+
+/// What `sample` says of the study of a number holds.
+pub fn sampled_holds()
+    ensures { SampledHolds }
+{}
+
+/// Over some files `export` and `lrat` have one answer each.
+pub fn rows_are_one()
+    ensures { RowsAreOne }
 {}

@@ -2,21 +2,9 @@
 
 ghost use Rattle.answers.specs.Runs.{IsBare};
 
-use cnf::Derivation;
-use lists::Items;
+use search_logs::Logs;
 use std::alloc::Global;
 use verdicts::Verdict;
-use vocab::Places;
-
-/// A search that spent its limit: the axioms whose clauses it had, by their places, and the clauses that it learned.
-#[derive(Drop)]
-pub struct SearchLog {
-    pub chosen: Places,
-    pub lines: Derivation,
-}
-
-/// Searches, in their order.
-pub type Logs = Items<SearchLog>;
 
 /// How a call of the bench ended.
 #[derive(Drop)]
@@ -38,7 +26,7 @@ impl Run {
         Run {
             status,
             verdict: None,
-            logs: Items::new(alloc),
+            logs: Logs::new(alloc),
         }
     }
 }

@@ -12,6 +12,7 @@ use Rattle.study.specs.declared.faults.StudyFault.TheVariants as fault
 use Rattle.study.specs.Document.{document_of}
 use Rattle.study.specs.declared.listing.Listing.{Listing}
 use Rattle.study.specs.Sentences.{Worded, AreReadAs, study_of}
+use Rattle.study.specs.Sample.{sample_listing, IsSampleStudy}
 use Rattle.study.specs.Reading.{listing_in, IsUnread, IsAnswer, refused, read, IsAnswered, IsStudyOf}
 
 -- the first of some texts that read reads
@@ -89,7 +90,8 @@ refused_once entries name other p q u v =
     first_once u.before v.before (record { name = name; text = u.text }) (record { name = other; text = v.text }) u.after v.after u.sentences v.sentences p q (sym u.listed ∙ v.listed) u.read v.read
     (record { unread = u.unread; not_memory = u.not_memory }) (record { unread = v.unread; not_memory = v.not_memory })
 
-one_of_listing : (listing : Listing) (a b : Result Question StudyFault) → IsAnswer listing a → IsAnswer listing b → a ≡ b
+-- a listing has at most one answer
+pub one_of_listing : (listing : Listing) (a b : Result Question StudyFault) → IsAnswer listing a → IsAnswer listing b → a ≡ b
 one_of_listing listing a b (refused name p u e) (refused other q v d) =
     let (names, reasons) = refused_once listing.axioms name other p q u v in
     let same : fault.Syntax name p ≡ fault.Syntax other q = λ k. fault.Syntax (names k) (reasons k) in
@@ -105,3 +107,7 @@ one_answered (Err e) a b h k = h ∙ sym k
 -- bytes have at most one answer
 pub studies_once : (bytes : List ℕ) (a b : Result Question StudyFault) → IsStudyOf bytes a → IsStudyOf bytes b → a ≡ b
 studies_once bytes a b h k = one_answered (listing_in (document_of bytes)) a b h k
+
+-- a number has at most one study
+pub samples_once : (n : ℕ) (a b : Question) → IsSampleStudy n a → IsSampleStudy n b → a ≡ b
+samples_once n a b h k = let same = one_of_listing (sample_listing n) (Ok a) (Ok b) h k in cc

@@ -92,7 +92,7 @@ study_size size conflicts sentences q e =
     ap (λ (x : Question). x.size) (sym (ok_once work.after))
 
 -- what a listing gives is over its size
-answer_size : (listing : Listing) (q : Question) → IsAnswer listing (Ok q) → q.size ≡ listing.size
+pub answer_size : (listing : Listing) (q : Question) → IsAnswer listing (Ok q) → q.size ≡ listing.size
 answer_size listing q (refused name reason unread e) = absurd (cc)
 answer_size listing q (read sentences all e) = study_size listing.size listing.conflicts sentences q (sym e)
 

@@ -1,6 +1,7 @@
-//! What holds of all bytes.
+//! What holds of all bytes, and of the studies of numbers.
 
 ghost use Rattle.study.specs.Laws.{AreWhole, HaveKinds, HaveOneAnswer};
+ghost use Rattle.study.specs.Sample.{SamplesAreStudies};
 
 /// Bytes have at most one answer, want of memory aside. So each refusal comes exactly where it is the first that holds.
 pub fn studies_have_one_answer()
@@ -15,4 +16,9 @@ pub fn studies_have_kinds()
 /// Each study that bytes give is one that the bench takes, at a size, and its axioms have names.
 pub fn studies_are_whole()
     ensures { AreWhole }
+{}
+
+/// Each number has exactly one study.
+pub fn samples_are_studies()
+    ensures { SamplesAreStudies }
 {}

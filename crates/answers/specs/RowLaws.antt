@@ -1,0 +1,157 @@
+-- What follows from the rows of commands over a study, or over clauses. Each is proved as the contract of a
+-- function of the same name in src/laws.rt.
+use Rattle.std.specs.Prelude.{◌≡◌, ◌≢◌, ℕ, ◌≤◌, ◌^◌, ◌==◌, ◌↔◌, not, filter, Bool, List, [], length, Any, codes, None, Some, IsTrue}
+use Rattle.std.specs.List.{list_all}
+use Rattle.edge.specs.Shelf.{Files}
+use Rattle.vocab.specs.Study.{Question}
+use Rattle.cnf.specs.declared.derivations.Line.{Line}
+use Rattle.cnf.specs.Derived.{IsAccepted}
+use Rattle.cnf.specs.Sat.{IsUnsatisfiable, is_satisfied}
+use Rattle.meaning.specs.declared.cores.Witness.{Witness}
+use Rattle.meaning.specs.declared.stories.Lemma.{Lemma}
+use Rattle.meaning.specs.Stories.{is_story}
+use Rattle.meaning.specs.Tidy.{is_tidy}
+use Rattle.meaning.specs.Truth.{satisfies}
+use Rattle.meaning.specs.Variables.{variable_count}
+use Rattle.verdicts.specs.declared.verdicts.Verdict.{Verdict}
+use Rattle.verdicts.specs.declared.verdicts.Verdict.TheVariants.{Possible, Impossible}
+use Rattle.verdicts.specs.Judge.{Confirmed}
+use Rattle.verdicts.specs.Laws.{is_rule_given}
+use Rattle.verdicts.specs.Report.{report_text}
+use Rattle.study.specs.Sample.{IsSampleStudy}
+use Rattle.clause_text.specs.Lrat.{lrat_text}
+use Rattle.clause_text.specs.ReadDimacs.{Formula}
+use Rattle.search_logs.specs.declared.logs.SearchLog.{SearchLog}
+use Rattle.search_logs.specs.Spent.{has_place, all_places, IsWithout, AreSpentLogs}
+use Rattle.answers.specs.declared.runs.Run.{Run}
+use Rattle.answers.specs.Held.{most_report_bytes}
+use Rattle.answers.specs.Studies.{GivesStudy}
+use Rattle.answers.specs.Rules.{IsRuleFor, HasNoRule, Claims}
+use Rattle.answers.specs.Grounding.{all_clauses}
+use Rattle.answers.specs.Check.{judgement}
+use Rattle.answers.specs.Export.{export_text, IsExported}
+use Rattle.answers.specs.Decide.{IsDecided}
+use Rattle.answers.specs.Proof.{IsProved}
+use Rattle.answers.specs.Lrat.{GivesFormula, IsConfirmedBy}
+use Rattle.answers.specs.Sample.{summary_line, IsSampled}
+
+-- ---- `export`
+
+-- the text is that of the clauses, and these are satisfiable exactly where some rule satisfies all axioms
+pub record SaysStudy (study : Question) (text : List ℕ) : Type 0 where
+  pub is : text ≡ export_text study
+  pub means : ((v : ℕ → Bool) × IsTrue (is_satisfied v (all_clauses study)))
+      ↔ ((table : List ℕ) × IsRuleFor study table)
+
+-- what `export` writes with status 0 says of a study what its axioms say
+abbrev pub ExportedSaysStudy : Type 0
+ExportedSaysStudy = (files : Files) (name : List ℕ) (run : Run) (text : List ℕ) (study : Question) →
+    IsExported files name run text → GivesStudy files name study → run.status ≡ 0 → SaysStudy study text
+
+-- ---- `decide`
+
+-- an axiom of a core is needed: some rule satisfies the others; or its mark is open, and among the logs is
+-- that of a search without it
+pub data IsNeeded (study : Question) (logs : List SearchLog) (core : List ℕ) (k : ℕ) : Type 0 where
+  by_rule : (table : List ℕ)
+      → IsTrue (satisfies study.size study.axioms (filter (λ c. not (c == k)) core) table)
+      → IsNeeded study logs core k
+  by_mark : Any (IsWithout study core k) logs → IsNeeded study logs core k
+
+-- what is printed of an impossibility holds: no rule satisfies the axioms of the core; the story is accepted
+-- and tidy; each axiom of the core is needed or marked; and the searches that stand for the marks spent their
+-- limit
+pub record IsImpossible (study : Question) (logs : List SearchLog) (core : List ℕ)
+    (story : List Lemma) : Type 0 where
+  pub none : HasNoRule study core
+  pub accepted : IsTrue (is_story study.size study.axioms core story)
+  pub tidy : IsTrue (is_tidy study.size study.axioms core story)
+  pub needed : (k : ℕ) → IsTrue (has_place core k) → IsNeeded study logs core k
+  pub spent : AreSpentLogs study logs
+
+-- the report of a rule, which satisfies all axioms, or of an impossibility, which holds
+pub data IsPrinted (study : Question) (run : Run) (text : List ℕ) : Type 0 where
+  a_rule : (table : List ℕ) → run.verdict ≡ Some (Possible table) → text ≡ report_text study (Possible table)
+      → IsRuleFor study table → IsPrinted study run text
+  an_impossibility : (core : List ℕ) (story : List Lemma) (witnesses : List Witness)
+      → run.verdict ≡ Some (Impossible core story witnesses)
+      → text ≡ report_text study (Impossible core story witnesses)
+      → IsImpossible study run.logs core story → IsPrinted study run text
+
+-- whatever study is read, what `decide` prints with status 0 holds
+abbrev pub DecidedHolds : Type 0
+DecidedHolds = (files : Files) (name : List ℕ) (run : Run) (text : List ℕ) (study : Question) →
+    IsDecided files name run text → GivesStudy files name study → run.status ≡ 0 → IsPrinted study run text
+
+-- what `decide` prints with status 0 is, within the limit of reports, confirmed by `check` over the same
+-- study
+abbrev pub DecidedAreConfirmed : Type 0
+DecidedAreConfirmed = (files : Files) (name : List ℕ) (run : Run) (text : List ℕ) (study : Question) →
+    IsDecided files name run text → GivesStudy files name study → run.status ≡ 0 →
+    length text ≤ most_report_bytes →
+    (verdict : Verdict) × (run.verdict ≡ Some verdict) × (judgement study text ≡ Confirmed verdict)
+
+-- no search spent its limit: status 4 did not come, and each axiom of a core that was found has a rule
+pub record IsConclusive (run : Run) : Type 0 where
+  pub decided : run.status ≢ 4
+  pub no_log : run.logs ≡ []
+  pub marked : (core : List ℕ) (story : List Lemma) (witnesses : List Witness)
+      → run.verdict ≡ Some (Impossible core story witnesses) → IsTrue (list_all is_rule_given witnesses)
+
+-- where the limit of a study is at least 3 to the number of its variables, no search of `decide` spends it
+abbrev pub EnoughDecides : Type 0
+EnoughDecides = (files : Files) (name : List ℕ) (run : Run) (text : List ℕ) (study : Question) →
+    IsDecided files name run text → GivesStudy files name study →
+    3 ^ variable_count study.size ≤ study.conflicts → IsConclusive run
+
+-- ---- `proof`
+
+-- an accepted derivation from the clauses of all axioms, so that no rule satisfies these; or a rule that does
+pub data IsProofRight (study : Question) (run : Run) (text : List ℕ) : Type 0 where
+  a_refutation : (lines : List Line) → run.verdict ≡ None → text ≡ lrat_text lines
+      → IsAccepted (all_clauses study) lines → HasNoRule study (all_places study)
+      → IsProofRight study run text
+  its_rule : (table : List ℕ) → run.verdict ≡ Some (Possible table) → text ≡ codes "c possible\n"
+      → IsRuleFor study table → IsProofRight study run text
+
+-- whatever study is read, what `proof` writes with status 0 holds
+abbrev pub ProvedHolds : Type 0
+ProvedHolds = (files : Files) (name : List ℕ) (run : Run) (text : List ℕ) (study : Question) →
+    IsProved files name run text → GivesStudy files name study → run.status ≡ 0 → IsProofRight study run text
+
+-- ---- `lrat`
+
+-- `lrat` confirms only where no assignment satisfies the clauses
+abbrev pub ConfirmedIsUnsatisfiable : Type 0
+ConfirmedIsUnsatisfiable =
+    (files : Files) (name proof : List ℕ) (run : Run) (text : List ℕ) (formula : Formula) →
+    IsConfirmedBy files name proof run text → GivesFormula files name formula → run.status ≡ 0 →
+    IsUnsatisfiable formula.clauses
+
+-- ---- `sample`
+
+-- a verdict on the study of a number holds, and the text is the summary
+pub record IsSampleRight (n : ℕ) (study : Question) (run : Run) (text : List ℕ) : Type 0 where
+  pub verdict : Verdict
+  pub told : run.verdict ≡ Some verdict
+  pub is : text ≡ summary_line n study verdict
+  pub holds : Claims study verdict
+
+-- what `sample` says with status 0 of the study of a number holds
+abbrev pub SampledHolds : Type 0
+SampledHolds = (n : ℕ) (run : Run) (text : List ℕ) (study : Question) →
+    IsSampled n run text → IsSampleStudy n study → run.status ≡ 0 → IsSampleRight n study run text
+
+-- ---- one answer
+
+-- the same run, and the same text
+abbrev pub AreSame : Run → Run → List ℕ → List ℕ → Type 0
+AreSame run run' text text' = (run ≡ run') × (text ≡ text')
+
+-- over some files `export` and `lrat` have one answer each, so each of their rows comes exactly where it says
+pub record RowsAreOne : Type 0 where
+  pub export : (files : Files) (name : List ℕ) (run run' : Run) (text text' : List ℕ) →
+      IsExported files name run text → IsExported files name run' text' → AreSame run run' text text'
+  pub lrat : (files : Files) (name proof : List ℕ) (run run' : Run) (text text' : List ℕ) →
+      IsConfirmedBy files name proof run text → IsConfirmedBy files name proof run' text'
+      → AreSame run run' text text'
