@@ -1,6 +1,6 @@
 //! The lines of a derivation.
 
-ghost use Rattle.std.specs.Prelude.{◌≡◌, ◌≤◌, ◌∷◌, [], Some, None, IfOk, MatchOption};
+ghost use Rattle.std.specs.Prelude.{◌≡◌, ◌≤◌, [], IfOk, option_map};
 ghost use Rattle.clause_text.specs.ReadLrat.{most_id, id_of, hint_of, is_zero, ids_of, hints_of, literals_of, dropping, adding, told};
 ghost use Rattle.clause_text.specs.Words.{words_of, number_up_to};
 
@@ -41,7 +41,7 @@ struct Hint {
 
 /// A hint is an id, of which a minus says that it is below 0.
 fn hint_of(word: &[u8]) -> Option<Hint>
-    ensures { MatchOption result (hint_of word.now ≡ None) (λ hint. hint_of word.now ≡ Some (hint.negative, hint.id)) }
+    ensures { hint_of word.now ≡ option_map (λ hint. (hint.negative, hint.id)) result }
 {
     let (negative, word) = match word.split_first() {
         Some((b'-', rest)) => (true, rest),
@@ -90,7 +90,8 @@ struct Hints {
 
 /// Hints, and then 0 as the last word.
 fn hints_of(alloc: Global, line: &[u8]) -> Result<Option<Hints>, NoMemory>
-    ensures { IfOk result (λ found. MatchOption found (hints_of (words_of line.now) ≡ None) (λ hints. hints_of (words_of line.now) ≡ Some (hints.negative, hints.ids))) }
+    ensures { IfOk result (λ found. hints_of (words_of line.now) ≡
+        option_map (λ hints. (hints.negative, hints.ids)) found) }
 {
     let mut hints = Hints {
         negative: false,
@@ -121,7 +122,8 @@ fn read_literals<'a>(
 ) -> Result<Option<&'a [u8]>, NoMemory>
     requires variables { variables ≤ 10000000 }
     requires empty { clause.old ≡ [] }
-    ensures { IfOk result (λ found. MatchOption found (literals_of variables (words_of line.now) ≡ None) (λ rest. literals_of variables (words_of line.now) ≡ Some (clause.new, words_of rest.now))) }
+    ensures { IfOk result (λ found. literals_of variables (words_of line.now) ≡
+        option_map (λ rest. (clause.new, words_of rest.now)) found) }
 {
     let mut left = line;
     while let Some((word, more)) = next_word(left) {
@@ -137,7 +139,8 @@ fn read_literals<'a>(
 
 /// What is taken away; the id at the front means nothing.
 fn dropping(alloc: Global, front: &[u8], rest: &[u8]) -> Result<Told, NoMemory>
-    ensures { IfOk result (λ found. found ≡ dropping (number_up_to most_id front.now) (ids_of (words_of rest.now))) }
+    ensures { IfOk result (λ found. found ≡
+        dropping (number_up_to most_id front.now) (ids_of (words_of rest.now))) }
 {
     if number_up_to(MOST_ID, front).is_none() {
         return Ok(Told::Formless);
@@ -151,7 +154,8 @@ fn dropping(alloc: Global, front: &[u8], rest: &[u8]) -> Result<Told, NoMemory>
 /// An added clause with its hints.
 fn adding(alloc: Global, variables: u32, front: &[u8], rest: &[u8]) -> Result<Told, NoMemory>
     requires { variables ≤ 10000000 }
-    ensures { IfOk result (λ found. found ≡ adding (id_of front.now) (literals_of variables (words_of rest.now))) }
+    ensures { IfOk result (λ found. found ≡
+        adding (id_of front.now) (literals_of variables (words_of rest.now))) }
 {
     let Some(id) = id_of(front) else {
         return Ok(Told::Formless);
