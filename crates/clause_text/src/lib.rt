@@ -12,6 +12,8 @@ mod lrat_writing;
 mod numbers;
 mod size_text;
 mod steps;
+#[cfg(test)]
+mod tests;
 mod tokens;
 
 pub use cnf_reading::{Formulas, read_dimacs};
