@@ -20,13 +20,11 @@ fn minus_token(most: u32, word: &[u8]) -> Word
     requires { most ≤ 10000000 }
     ensures { read_as result ≡ minus_token (number_up_to most word.now) }
 {
-    let Some(number) = number_up_to(u64::from(most), word) else {
-        return Word::Stray;
-    };
-    if number == 0 {
-        return Word::Stray;
+    match number_up_to(u64::from(most), word) {
+        None => Word::Stray,
+        Some(0) => Word::Stray,
+        Some(number) => Word::Says(Lit::new(number as u32, false)),
     }
-    Word::Says(Lit::new(number as u32, false))
 }
 
 /// A number without a sign.
@@ -34,13 +32,11 @@ fn plain_token(most: u32, word: &[u8]) -> Word
     requires { most ≤ 10000000 }
     ensures { read_as result ≡ plain_token (number_up_to most word.now) }
 {
-    let Some(number) = number_up_to(u64::from(most), word) else {
-        return Word::Stray;
-    };
-    if number == 0 {
-        return Word::Ends;
+    match number_up_to(u64::from(most), word) {
+        None => Word::Stray,
+        Some(0) => Word::Ends,
+        Some(number) => Word::Says(Lit::new(number as u32, true)),
     }
-    Word::Says(Lit::new(number as u32, true))
 }
 
 /// What a word is in a clause whose variables are at most this one.
