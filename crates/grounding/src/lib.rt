@@ -1,0 +1,9 @@
+//! The clauses of a study for chosen axioms, made piece by piece among workers.
+#![tactic(auto)]
+
+mod distinct;
+mod instances;
+mod measuring;
+mod parts;
+mod pieces;
+mod sorting;
