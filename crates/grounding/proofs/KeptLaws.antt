@@ -102,6 +102,13 @@ module _ (seen : List (List ℕ)) (out : ClauseList) (before kept : List Sourced
       by (inl h) = inl (omega (arith, h, length-append out.clauses (clause ∷ [])))
       by (inr h) = inr (omega (arith, h, sum_by-append length out.clauses (clause ∷ [])))
 
+-- what is kept, written another way
+pub kept-as : {seen : List (List ℕ)} {out : ClauseList} {before ss ts : List Sourced} → ss ≡ ts → IsKept seen out before ss → IsKept seen out before ts
+kept-as {seen} {out} {before} e is = subst (IsKept seen out before) e is
+
+pub over-as : (before : List Sourced) {ss ts : List Sourced} → ss ≡ ts → is_over_limits (clauses_in (before ++ ss)) ≡ true → is_over_limits (clauses_in (before ++ ts)) ≡ true
+over-as before e over = subst (λ (ss : List Sourced). is_over_limits (clauses_in (before ++ ss)) ≡ true) e over
+
 -- ---- the clauses of a part
 
 pub source-at : (clauses : List Clause) (numbers : List ℕ) (k : ℕ) (d : Sourced) → length numbers ≡ length clauses → k < length clauses

@@ -4,6 +4,7 @@ use Rattle.std.specs.Prelude.{nat_lt}
 use Rattle.std.specs.List.{flat_map}
 use Rattle.std.proofs.lemmas.Bool.{cases_lt, le-ltb}
 use Rattle.std.proofs.lemmas.List.{length-append, length-map}
+use Rattle.std.proofs.lemmas.List.Sums.{fold-append}
 use Rattle.vocab.specs.Limits.{instance_count}
 use Rattle.vocab.specs.Range.{up_from}
 use Rattle.vocab.specs.Size.{Extent}
@@ -13,21 +14,22 @@ use Rattle.cnf.specs.Sat.{Clause}
 use Rattle.meaning.specs.declared.clauses.Origin.{Origin}
 use Rattle.meaning.specs.declared.clauses.Origin.TheVariants.{Frame, Instance}
 use Rattle.meaning.specs.StudyClauses.{Sourced, from_axiom, from_instance}
+use Rattle.clause_form.specs.Refusals.{is_over_limits}
 use Rattle.clause_form.specs.Sources.{clauses_in, origin_of_number, sourced}
 use Rattle.grounding.specs.declared.sorting.Part.{Part}
 use Rattle.grounding.specs.Distinct.{kept_with}
 use Rattle.grounding.specs.Pieces.{IsPart, end_of, origins_at, rows_at, rows_from, sources_at, sources_of, start_of}
 use Rattle.grounding.proofs.FirstsLaws.{kept_are_firsts}
-use Rattle.grounding.proofs.KeptLaws.{with_origin}
+use Rattle.grounding.proofs.KeptLaws.{over-as, over-grows, with_origin}
 use Rattle.grounding.proofs.PieceLaws.{rows_from-add}
 
 -- ---- lists of clauses, one after another
 
-pub sourced-both : (as bs : List Clause) (ms ns : List ℕ) → length ms ≡ length as → sourced (as ++ bs) (ms ++ ns) ≡ sourced as ms ++ sourced bs ns
-sourced-both [] bs [] ns e = refl
-sourced-both [] bs (m ∷ ms) ns e = absurd (omega arith)
-sourced-both (a ∷ as) bs [] ns e = absurd (omega arith)
-sourced-both (a ∷ as) bs (m ∷ ms) ns e = ap (λ (ss : List Sourced). with_origin a m ∷ ss) (sourced-both as bs ms ns (omega (arith, e)))
+pub sourced-both : (cs ds : List Clause) (ms ns : List ℕ) → length ms ≡ length cs → sourced (cs ++ ds) (ms ++ ns) ≡ sourced cs ms ++ sourced ds ns
+sourced-both [] ds [] ns e = refl
+sourced-both [] ds (m ∷ ms) ns e = absurd (omega arith)
+sourced-both (c ∷ cs) ds [] ns e = absurd (omega arith)
+sourced-both (c ∷ cs) ds (m ∷ ms) ns e = ap (λ (ss : List Sourced). with_origin c m ∷ ss) (sourced-both cs ds ms ns (omega (arith, e)))
 
 -- clauses of one origin
 pub sourced-same : (rows : List Clause) (n : ℕ) (o : Origin) → origin_of_number n ≡ o → sourced rows (map (λ _. n) rows) ≡ map (λ (c : Clause). record { clause = c; origin = o }) rows
@@ -102,7 +104,35 @@ module _ (size : Extent) (sentence : Tree) (base : ℕ) where
         ∙ sym (sources-add from (start_of from piece) (end_of from to piece) low high))
   ]
 
-  instance-sources : (place k : ℕ) → base ≡ (place + 1) * 4294967296 → k < 4294967296 → sources_at size sentence base k ≡ from_instance size place sentence k
+  -- what is kept with the part of one piece more
+  pub next-part : (from to : ℕ) → from ≤ to → (piece : ℕ) (part : Part) (kept : List Sourced) → IsPart size sentence base (start_of from piece) (end_of from to piece) part
+      → fold kept_with (fold kept_with kept (sources_of size sentence base from (min (start_of from piece) to))) (sourced part.clauses part.origins.items)
+      ≡ fold kept_with kept (sources_of size sentence base from (min (start_of from (piece + 1)) to))
+  next-part from to rising piece part kept is =
+      let before = sources_of size sentence base from (min (start_of from piece) to) in
+      ap (fold kept_with (fold kept_with kept before)) (part-sources (start_of from piece) (end_of from to piece) part is)
+      ∙ sym (fold-append kept_with kept before (sources_of size sentence base (start_of from piece) (end_of from to piece)))
+      ∙ ap (fold kept_with kept) (next-piece from to piece rising)
+
+  -- what is kept with the clauses of one round more
+  pub next-round : (from to : ℕ) → from ≤ to
+      → fold kept_with (fold kept_with [] (sources_of size sentence base 0 from)) (sources_of size sentence base from to) ≡ fold kept_with [] (sources_of size sentence base 0 to)
+  next-round from to rising =
+      sym (fold-append kept_with [] (sources_of size sentence base 0 from) (sources_of size sentence base from to))
+      ∙ ap (fold kept_with []) (sym (sources-add 0 from to (omega arith) rising))
+
+  -- a list that is over a limit with the clauses up to a number is so with those after it
+  pub over-rest : (from middle to : ℕ) (before kept : List Sourced) → from ≤ middle → middle ≤ to
+      → is_over_limits (clauses_in (before ++ fold kept_with kept (sources_of size sentence base from middle))) ≡ true
+      → is_over_limits (clauses_in (before ++ fold kept_with kept (sources_of size sentence base from to))) ≡ true
+  over-rest from middle to before kept low high over =
+      let first = sources_of size sentence base from middle in
+      let rest = sources_of size sentence base middle to in
+      over-as before
+      (sym (fold-append kept_with kept first rest) ∙ ap (fold kept_with kept) (sym (sources-add from middle to low high)))
+      (over-grows before (fold kept_with kept first) rest over)
+
+  pub instance-sources : (place k : ℕ) → base ≡ (place + 1) * 4294967296 → k < 4294967296 → sources_at size sentence base k ≡ from_instance size place sentence k
   instance-sources place k e h = sourced-same (rows_at size sentence k) (base + k) (Instance place k) (instance-here (base + k) place k (omega (arith, e)) h)
 
 -- of the clauses of all instances of an axiom the first of equal ones

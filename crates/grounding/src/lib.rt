@@ -4,6 +4,7 @@
 mod distinct;
 mod instances;
 mod measuring;
+mod merging;
 mod parts;
 mod pieces;
 mod sorting;
