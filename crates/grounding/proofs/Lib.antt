@@ -8,3 +8,5 @@ pub mod PieceLaws
 pub mod KeptLaws
 pub mod SourceLemmas
 pub mod WideLemmas
+pub mod ChosenLemmas
+pub mod FrameLemmas

@@ -3,8 +3,11 @@
 
 mod distinct;
 mod instances;
+mod making;
 mod measuring;
 mod merging;
 mod parts;
 mod pieces;
 mod sorting;
+
+pub use making::ground;
