@@ -1,0 +1,71 @@
+-- Keeping one clause after the other gives the first of equal ones.
+use Rattle.std.proofs.Common.{◌≡◌, ◌==◌, ◌&&◌, ◌||◌, ◌+◌, ◌*◌, ℕ, Bool, true, false, not, List, [], ◌∷◌, ◌++◌, ◌≤◌, length, map, fold, refl, sym, ap, ap₂, ◌∙◌, subst, if◌then◌else◌, arith, append-nil, append_assoc}
+use Rattle.std.proofs.lemmas.List.{map-append, length-append}
+use Rattle.std.proofs.lemmas.List.Folds.{list_any-append}
+use Rattle.std.specs.Bool.{beq}
+use Rattle.std.specs.List.{list_any}
+use Rattle.std.specs.Cmp.Lexicographic.{pointwise}
+use Rattle.cnf.specs.Signed.{Signed}
+use Rattle.cnf.specs.Sat.{Clause, same_lit}
+use Rattle.meaning.specs.StudyClauses.{Sourced, firsts}
+use Rattle.meaning.proofs.TestLaws.{or-false}
+use Rattle.grounding.specs.Distinct.{code_of, is_seen, kept_with, same_clause}
+
+or_swap : (a b : Bool) → (a || b) ≡ (b || a)
+or_swap true true = refl
+or_swap true false = refl
+or_swap false true = refl
+or_swap false false = refl
+
+-- two lists have the same clauses
+abbrev pub HaveSame : List Clause → List Clause → Type 0
+HaveSame xs ys = (c : Clause) → is_seen xs c ≡ is_seen ys c
+
+-- whatever the order in which what was seen is kept
+pub kept_are_firsts : (kept : List Sourced) (seen : List Clause) (xs : List Sourced) → HaveSame (map (λ k. k.clause) kept) seen → fold kept_with kept xs ≡ kept ++ firsts seen xs
+kept_are_firsts kept seen [] h = sym (append-nil kept)
+kept_are_firsts kept seen (x ∷ xs) h = by (is_seen (map (λ k. k.clause) kept) x.clause) (is_seen seen x.clause) (h x.clause) (λ ks ss e. kept_are_firsts ks ss xs e)
+  where
+    by : (b c : Bool) → b ≡ c → ((ks : List Sourced) (ss : List Clause) → HaveSame (map (λ k. k.clause) ks) ss → fold kept_with ks xs ≡ ks ++ firsts ss xs)
+        → fold kept_with (if b then kept else kept ++ x ∷ []) xs ≡ kept ++ (if c then firsts seen xs else x ∷ firsts (x.clause ∷ seen) xs)
+    by true true e rest = rest kept seen h
+    by true false e rest = absurd (let k : ⊥ = cc in k)
+    by false true e rest = absurd (let k : ⊥ = cc in k)
+    by false false e rest =
+        rest (kept ++ x ∷ []) (x.clause ∷ seen) (λ c.
+        ap (λ ks. is_seen ks c) (map-append (λ (k : Sourced). k.clause) kept (x ∷ []))
+        ∙ list_any-append (same_clause c) (map (λ k. k.clause) kept) (x.clause ∷ [])
+        ∙ ap₂ (λ u v. u || v) (h c) (or-false (same_clause c x.clause))
+        ∙ or_swap (is_seen seen c) (same_clause c x.clause))
+        ∙ append_assoc kept (x ∷ []) (firsts (x.clause ∷ seen) xs)
+
+-- ---- keys of codes
+
+abbrev pub same_code : Signed → Signed → Bool
+same_code a b = code_of a == code_of b
+
+pub same_codes : (a b : Signed) → same_code a b ≡ same_lit a b
+same_codes a b = by a.variable b.variable a.positive b.positive
+  where
+    by : (v w : ℕ) (p q : Bool) → (2 * v + (if p then 1 else 0) == 2 * w + (if q then 1 else 0)) ≡ (v == w && beq p q)
+    by v w true true = grind arith
+    by v w true false = grind arith
+    by v w false true = grind arith
+    by v w false false = grind arith
+
+pub pointwise_codes : (c d : Clause) → pointwise (λ (m n : ℕ). m == n) (map code_of c) (map code_of d) ≡ same_clause c d
+pointwise_codes [] [] = refl
+pointwise_codes [] (y ∷ d) = refl
+pointwise_codes (x ∷ c) [] = refl
+pointwise_codes (x ∷ c) (y ∷ d) = ap₂ (λ u v. u && v) (same_codes x y) (pointwise_codes c d)
+
+-- a look-up among keys is a look-up among the clauses whose codes they are
+pub keys_seen : {X : Type 0} (h : X → List ℕ) (v : X) (clause : Clause) → h v ≡ map code_of clause → (ks : List X) (seen : List Clause) → map h ks ≡ map (λ c. map code_of c) seen →
+    list_any (λ k. pointwise (λ (m n : ℕ). m == n) (h v) (h k)) ks ≡ is_seen seen clause
+keys_seen h v clause e [] [] s = refl
+keys_seen h v clause e [] (c ∷ seen) s = absurd (let k : ⊥ = cc in k)
+keys_seen h v clause e (k ∷ ks) [] s = absurd (let l : ⊥ = cc in l)
+keys_seen h v clause e (k ∷ ks) (c ∷ seen) s =
+    let first : h k ≡ map code_of c = cc in
+    let rest : map h ks ≡ map (λ d. map code_of d) seen = cc in
+    ap₂ (λ a b. a || b) (ap₂ (λ (m n : List ℕ). pointwise (λ (i j : ℕ). i == j) m n) e first ∙ pointwise_codes clause c) (keys_seen h v clause e ks seen rest)

@@ -1,0 +1,12 @@
+use Rattle.std.proofs.Common.{◌≡◌, [], drop, take}
+use Rattle.meaning.specs.StudyClauses.{study_clauses}
+use Rattle.clause_form.specs.Refusals.{first_full}
+use Rattle.clause_form.specs.Sources.{sourced}
+use Rattle.grounding.proofs.making.push_chosen.Given as goal
+
+-- the clauses of the axioms so far, with none of which the list was full
+abbrev pub invariant-loop-k : goal.invariant-loop-k
+invariant-loop-k g l = record {
+  made : sourced l.out.clauses l.out.origins ≡ study_clauses l.study.size l.study.axioms (take l.k l.chosen);
+  rest : first_full l.study.size l.study.axioms [] l.chosen ≡ first_full l.study.size l.study.axioms (take l.k l.chosen) (drop l.k l.chosen);
+}

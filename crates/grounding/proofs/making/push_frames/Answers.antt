@@ -1,0 +1,15 @@
+use Rattle.std.proofs.Common.{rules, ◌≡◌, ◌<◌, ◌∙◌, ap, arith, length, subst, sym}
+use Rattle.std.specs.Prelude.{sum_by}
+use Rattle.vocab.specs.declared.kinds.Sort.TheVariants.{Profile}
+use Rattle.vocab.specs.Size.{sort_count}
+use Rattle.cnf.specs.ClauseList.{ClauseList}
+use Rattle.outcomes.specs.Frames.{frame_clauses, with_clauses}
+use Rattle.grounding.proofs.FrameLemmas.{AreFramesTo, frames-more}
+use Rattle.grounding.proofs.making.push_frames.Goals as goal
+
+pub loop-p-preserved : goal.loop-p-preserved
+loop-p-preserved g c =
+    let size = g.K.OutcomeKind.size c.args.kind.now in
+    let here : c.loop-p.p < sort_count size Profile = search rules in
+    let few = c.kinds_have_sizes.ensures.is_size.few_profiles in
+    frames-more size c.frames_are_small.ensures c.loop-p.p (omega (arith, here, few)) c.loop-p.out c.frame.new.out c.in-Ok.ensures.ok c.loop-p.invariant

@@ -1,0 +1,4 @@
+pub mod Distinct
+pub mod Rising
+pub mod Pieces
+pub mod Kept

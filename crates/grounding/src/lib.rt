@@ -1,0 +1,13 @@
+//! The clauses of a study for chosen axioms, made piece by piece among workers.
+#![tactic(auto)]
+
+mod distinct;
+mod instances;
+mod making;
+mod measuring;
+mod merging;
+mod parts;
+mod pieces;
+mod sorting;
+
+pub use making::ground;

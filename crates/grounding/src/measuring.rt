@@ -1,0 +1,100 @@
+//! The measures of the instances of an axiom, in rounds of pieces.
+
+ghost use Rattle.std.specs.Prelude.{◌≡◌, ◌≤◌, ◌+◌, IfOk, IsTrue, length};
+ghost use Rattle.vocab.specs.Limits.{instance_count};
+ghost use Rattle.vocab.specs.Study.{is_sentence};
+ghost use Rattle.crew.specs.Right.{AreRight};
+ghost use Rattle.grounding.specs.Pieces.{AreInstances, IsFirstWide, IsFirstWideOfPiece, start_of};
+
+use crate::parts::{Measured, WideInstance, measure_all};
+use crate::pieces::{Measuring, PIECE, ROUND, Round};
+use crew::{Crew, Parts, map_pieces};
+use edge::Gate;
+use lists::NoMemory;
+use meaning::Counts;
+use outcomes::OutcomeKind;
+use std::alloc::Global;
+use std::thread::Threads;
+use vocab::Axiom;
+use worlds::instance_count;
+
+/// The first instance that is too wide, of the pieces of a round in order.
+fn first_found<K: OutcomeKind>(round: &Round<K>, parts: &Parts<Measured>) -> Option<WideInstance>
+    requires right { AreRight (IsFirstWideOfPiece (K.size round.now.kind.now) round.now.named.now.sentence round.now.from round.now.to) 0 parts.now }
+    requires whole { round.now.to ≤ start_of round.now.from (length parts.now) }
+    ensures { IsFirstWide (K.size round.now.kind.now) round.now.named.now.sentence round.now.from round.now.to result }
+{
+    let _ = round;
+    for piece in 0..parts.len() {
+        if let Some(wide) = parts.get(piece).wide {
+            return Some(wide);
+        }
+    }
+    None
+}
+
+/// Appends the sums of the measures of some pieces.
+fn push_sums(parts: &Parts<Measured>, sums: &mut Vec<Counts>) -> Result<(), NoMemory> {
+    for piece in 0..parts.len() {
+        sums.push(parts.get(piece).sum)?;
+    }
+    Ok(())
+}
+
+/// The first instance of a round that is too wide. Appends the sum of the measures of each piece.
+fn measure_round<R: Threads + Sync, K: OutcomeKind, G: Gate>(
+    alloc: Global,
+    crew: &Crew<R, G>,
+    round: &Round<K>,
+    sums: &mut Vec<Counts>,
+) -> Result<Option<WideInstance>, NoMemory>
+    requires instances { AreInstances (K.size round.now.kind.now) round.now.named.now round.now.from round.now.to }
+    requires short { round.now.to ≤ round.now.from + 16384 }
+    ensures { IfOk result (λ found. IsFirstWide (K.size round.now.kind.now) round.now.named.now.sentence round.now.from round.now.to found) }
+{
+    let (from, to) = (round.from, round.to);
+    let measure = |start: u64, end: u64| -> Measured
+        requires { AreInstances (K.size round.now.kind.now) round.now.named.now start end }
+        ensures { IsFirstWide (K.size round.entry.now.kind.now) round.entry.now.named.now.sentence start end result.wide }
+    { measure_all(round.kind, round.named, start, end) };
+    let job = Measuring {
+        measure: &measure,
+        from,
+        to,
+    };
+    let count = (to - from).div_ceil(PIECE) as u32;
+    let parts = map_pieces(crew.rt, alloc, &job, count, crew.workers, crew.gate)?;
+    push_sums(&parts, sums)?;
+    Ok(first_found(round, &parts))
+}
+
+/// The first instance of an axiom that is too wide, of round after round. Appends the sum of the measures of each piece,
+/// up to the round that has it.
+pub(crate) fn measure_axiom<R: Threads + Sync, K: OutcomeKind, G: Gate>(
+    alloc: Global,
+    crew: &Crew<R, G>,
+    kind: &K,
+    named: &Axiom,
+    sums: &mut Vec<Counts>,
+) -> Result<Option<WideInstance>, NoMemory>
+    requires sentence { IsTrue (is_sentence (K.size kind.now) named.now) }
+    requires few { instance_count (K.size kind.now) named.now.sentence ≤ 20000000 }
+    ensures { IfOk result (λ found. IsFirstWide (K.size kind.now) named.now.sentence 0 (instance_count (K.size kind.now) named.now.sentence) found) }
+{
+    let count = instance_count(kind.space(), named.sentence());
+    let mut from = 0;
+    while from < count {
+        let to = count.min(from + PIECE * ROUND);
+        let round = Round {
+            kind,
+            named,
+            from,
+            to,
+        };
+        if let Some(wide) = measure_round(alloc, crew, &round, sums)? {
+            return Ok(Some(wide));
+        }
+        from = to;
+    }
+    Ok(None)
+}

@@ -1,0 +1,179 @@
+//! The clauses of an axiom, made in rounds of pieces, of equal ones the first kept.
+
+ghost use Rattle.std.specs.Prelude.{◌≡◌, ◌<◌, ◌≤◌, ◌+◌, ◌^◌, ◌++◌, Err, Some, IfOk, OnOk, IsTrue, length, map};
+ghost use Rattle.vocab.specs.Limits.{instance_count};
+ghost use Rattle.vocab.specs.Study.{is_sentence};
+ghost use Rattle.crew.specs.Right.{AreRight};
+ghost use Rattle.meaning.specs.StudyClauses.{from_axiom};
+ghost use Rattle.clause_form.specs.Refusals.{is_over_limits};
+ghost use Rattle.clause_form.specs.Sources.{clauses_in, sourced};
+ghost use Rattle.grounding.specs.Kept.{Keeps, Overfills};
+ghost use Rattle.grounding.specs.Pieces.{AreNarrow, AreNarrowInstances, IsPart, IsPartOfPiece, sources_of, start_of};
+
+use crate::distinct::{Seen, keep};
+use crate::parts::{clauses_of_all, sum_of};
+use crate::pieces::{Making, PIECE, ROUND, Round};
+use crate::sorting::Part;
+use cnf::{Clauses, PushFault};
+use crew::{Crew, Parts, map_pieces};
+use edge::Gate;
+use indexmap::IndexSet;
+use lists::NoMemory;
+use meaning::Counts;
+use outcomes::OutcomeKind;
+use std::alloc::Global;
+use std::thread::Threads;
+use vocab::Axiom;
+use worlds::instance_count;
+
+/// The most clauses of a round of several pieces, by their measures.
+const MOST_CLAUSES: u64 = 4_000_000;
+
+/// The most literals of a round of several pieces, by their measures.
+const MOST_LITERALS: u64 = 60_000_000;
+
+/// Appends the clauses of a part, each unless an equal one was kept.
+fn keep_all(alloc: Global, seen: &mut Seen, part: &Part, out: &mut Clauses) -> Result<(), PushFault>
+    requires pairs { length part.now.origins.items ≡ length part.now.clauses }
+    ensures kept { OnOk result (Keeps (map (λ k. k.items) seen.old.keys) out.old (map (λ k. k.items) seen.new.keys) out.new
+        (sourced part.now.clauses part.now.origins.items)) }
+    ensures full { result ≡ Err PushFault.Full → Overfills (map (λ k. k.items) seen.old.keys) out.old
+        (sourced part.now.clauses part.now.origins.items) }
+{
+    for k in 0..part.clauses.len() {
+        match keep(alloc, seen, part.clauses.get(k), part.origins[k], out) {
+            Ok(()) => {}
+            Err(fault) => return Err(fault),
+        }
+    }
+    Ok(())
+}
+
+/// Appends the clauses of the parts of a round, one part after another.
+fn keep_parts<K: OutcomeKind>(
+    alloc: Global,
+    round: &Round<K>,
+    base: u64,
+    parts: &Parts<Part>,
+    seen: &mut Seen,
+    out: &mut Clauses,
+) -> Result<(), PushFault>
+    requires right { AreRight (IsPartOfPiece (K.size round.now.kind.now) round.now.named.now.sentence base round.now.from round.now.to) 0 parts.now }
+    requires rising { round.now.from ≤ round.now.to }
+    requires whole { round.now.to ≤ start_of round.now.from (length parts.now) }
+    ensures kept { OnOk result (Keeps (map (λ k. k.items) seen.old.keys) out.old (map (λ k. k.items) seen.new.keys) out.new
+        (sources_of (K.size round.now.kind.now) round.now.named.now.sentence base round.now.from round.now.to)) }
+    ensures full { result ≡ Err PushFault.Full → Overfills (map (λ k. k.items) seen.old.keys) out.old
+        (sources_of (K.size round.now.kind.now) round.now.named.now.sentence base round.now.from round.now.to) }
+{
+    let _ = round;
+    let _ = base;
+    for piece in 0..parts.len() {
+        match keep_all(alloc, seen, parts.get(piece), out) {
+            Ok(()) => {}
+            Err(fault) => return Err(fault),
+        }
+    }
+    Ok(())
+}
+
+/// Appends the clauses of a round, each unless an equal one of the axiom was kept. The number of an instance is added to
+/// `base`.
+fn add_round<R: Threads + Sync, K: OutcomeKind, G: Gate>(
+    alloc: Global,
+    crew: &Crew<R, G>,
+    round: &Round<K>,
+    base: u64,
+    seen: &mut Seen,
+    out: &mut Clauses,
+) -> Result<(), PushFault>
+    requires instances { AreNarrowInstances (K.size round.now.kind.now) round.now.named.now round.now.from round.now.to }
+    requires base { base ≤ 2 ^ 40 }
+    requires short { round.now.to ≤ round.now.from + 16384 }
+    ensures kept { OnOk result (Keeps (map (λ k. k.items) seen.old.keys) out.old (map (λ k. k.items) seen.new.keys) out.new
+        (sources_of (K.size round.now.kind.now) round.now.named.now.sentence base round.now.from round.now.to)) }
+    ensures full { result ≡ Err PushFault.Full → Overfills (map (λ k. k.items) seen.old.keys) out.old
+        (sources_of (K.size round.now.kind.now) round.now.named.now.sentence base round.now.from round.now.to) }
+{
+    let (from, to) = (round.from, round.to);
+    let make = |start: u64, end: u64| -> Result<Part, NoMemory>
+        requires { AreNarrowInstances (K.size round.now.kind.now) round.now.named.now start end × (base ≤ 2 ^ 40) }
+        ensures { IfOk result (IsPart (K.size round.entry.now.kind.now) round.entry.now.named.now.sentence base start end) }
+    { clauses_of_all(alloc, round.kind, round.named, base, start, end) };
+    let job = Making {
+        make: &make,
+        from,
+        to,
+    };
+    let count = (to - from).div_ceil(PIECE) as u32;
+    match map_pieces(crew.rt, alloc, &job, count, crew.workers, crew.gate) {
+        Ok(parts) => keep_parts(alloc, round, base, &parts, seen, out),
+        Err(_) => Err(PushFault::NoMemory),
+    }
+}
+
+/// Whether the measures of a round pass a limit.
+fn is_much(sum: Counts) -> bool {
+    sum.clauses > MOST_CLAUSES || sum.literals > MOST_LITERALS
+}
+
+/// How many pieces a round has that begins after so many: as many as their measures allow, and at least one.
+fn round_len(sums: &[Counts], done: u64) -> u64
+    requires { done ≤ 20000000 }
+    ensures some { 1 ≤ result }
+    ensures few { result ≤ 256 }
+{
+    let mut sum = Counts {
+        clauses: 0,
+        literals: 0,
+    };
+    for piece in 0..ROUND {
+        if let Some(more) = sums.get((done + piece) as usize) {
+            sum = sum_of(sum, *more);
+        }
+        if piece > 0 && is_much(sum) {
+            return piece;
+        }
+    }
+    ROUND
+}
+
+/// Appends the clauses of the axiom at a place of the study, of equal ones the first.
+pub(crate) fn add_axiom<R: Threads + Sync, K: OutcomeKind, G: Gate>(
+    alloc: Global,
+    crew: &Crew<R, G>,
+    kind: &K,
+    named: &Axiom,
+    place: u32,
+    sums: &[Counts],
+    out: &mut Clauses,
+) -> Result<(), PushFault>
+    requires sentence { IsTrue (is_sentence (K.size kind.now) named.now) }
+    requires few { instance_count (K.size kind.now) named.now.sentence ≤ 20000000 }
+    requires narrow { AreNarrow (K.size kind.now) named.now.sentence 0 (instance_count (K.size kind.now) named.now.sentence) }
+    requires place { place < 40 }
+    ensures made { OnOk result (sourced out.new.clauses out.new.origins ≡
+        sourced out.old.clauses out.old.origins ++ from_axiom (K.size kind.now) place (Some named.now)) }
+    ensures full { result ≡ Err PushFault.Full →
+        IsTrue (is_over_limits (clauses_in (sourced out.old.clauses out.old.origins ++ from_axiom (K.size kind.now) place (Some named.now)))) }
+{
+    let _kept = out.len();
+    let count = instance_count(kind.space(), named.sentence());
+    let base = (u64::from(place) + 1) * 4_294_967_296;
+    let mut seen: Seen = IndexSet::new(alloc);
+    let mut from = 0;
+    while from < count {
+        let to = count.min(from + PIECE * round_len(sums, from / PIECE));
+        let round = Round {
+            kind,
+            named,
+            from,
+            to,
+        };
+        match add_round(alloc, crew, &round, base, &mut seen, out) {
+            Ok(()) => from = to,
+            Err(fault) => return Err(fault),
+        }
+    }
+    Ok(())
+}
