@@ -1,11 +1,11 @@
 -- Axiom after axiom: the first too wide instance, and the first axiom at which the list is full.
-use Rattle.std.proofs.Common.{◌≡◌, ◌<◌, ◌≤◌, ◌+◌, ◌&&◌, ℕ, zero, suc, Bool, true, false, cond, not, List, [], ◌∷◌, ◌++◌, length, map, take, drop, find, refl, sym, ap, ap₂, ◌∙◌, subst, if◌then◌else◌, arith, inl, inr, append_assoc, append-nil, add-one, drop-cons, Option, Some, None, slice_get, slice_index_or, leb-true, ltb-true, eq-or-lt_of_le}
+use Rattle.std.proofs.Common.{◌≡◌, ◌<◌, ◌≤◌, ◌+◌, ◌&&◌, ℕ, zero, suc, Bool, true, false, cond, not, List, [], ◌∷◌, ◌++◌, length, take, drop, find, refl, sym, ap, ap₂, ◌∙◌, subst, if◌then◌else◌, arith, inl, inr, append_assoc, append-nil, add-one, drop-cons, Option, Some, None, slice_get, slice_index_or, leb-true, ltb-true, eq-or-lt_of_le}
 use Rattle.std.specs.Prelude.{nat_le, nat_lt, option_and_then, option_map}
 use Rattle.std.specs.List.{flat_map, list_all}
 use Rattle.std.specs.Option.{option_or}
 use Rattle.std.proofs.lemmas.Bool.{and_parts}
 use Rattle.std.proofs.lemmas.Grind.{flat_map-append}
-use Rattle.std.proofs.lemmas.List.{take_all, take_more}
+use Rattle.std.proofs.lemmas.List.{take_more}
 use Rattle.vocab.specs.declared.kinds.Sort.TheVariants.{Profile}
 use Rattle.vocab.specs.Formula.{body_of}
 use Rattle.vocab.specs.Limits.{depth, instance_count, atom_count, is_within_limits}

@@ -1,11 +1,10 @@
 -- The frames of profiles, one after another, are few.
-use Rattle.std.proofs.Common.{◌≡◌, ◌<◌, ◌≤◌, ◌+◌, ◌*◌, ℕ, List, [], ◌++◌, length, map, sym, subst, ap, ap₂, ◌∙◌, arith, inl, inr, append-nil}
+use Rattle.std.proofs.Common.{◌≡◌, ◌<◌, ◌≤◌, ◌+◌, ◌*◌, ℕ, List, ◌++◌, length, map, sym, subst, ap, ap₂, ◌∙◌, arith, inl, inr, append-nil}
 use Rattle.std.specs.Prelude.{sum_by}
 use Rattle.std.proofs.lemmas.List.{length-append, length-map}
 use Rattle.std.proofs.lemmas.List.Sums.{sum_by-append}
 use Rattle.vocab.specs.Size.{Extent}
 use Rattle.cnf.specs.ClauseList.{ClauseList}
-use Rattle.cnf.specs.Sat.{Clause}
 use Rattle.meaning.specs.declared.clauses.Origin.TheVariants.{Frame}
 use Rattle.meaning.specs.StudyClauses.{Sourced, from_frame}
 use Rattle.outcomes.specs.Frames.{IsFullForAll, frame_clauses, with_clauses}
