@@ -1,6 +1,6 @@
 //! The clauses of an axiom, made in rounds of pieces, of equal ones the first kept.
 
-ghost use Rattle.std.specs.Prelude.{◌≡◌, ◌<◌, ◌≤◌, ◌+◌, ◌^◌, ◌++◌, Err, Some, IfOk, OnOk, IsTrue, length, map};
+ghost use Rattle.std.specs.Prelude.{◌≡◌, ◌<◌, ◌≤◌, ◌+◌, ◌^◌, ◌++◌, Err, Ok, Some, IfOk, OnOk, IsTrue, length, map};
 ghost use Rattle.vocab.specs.Limits.{instance_count};
 ghost use Rattle.vocab.specs.Study.{is_sentence};
 ghost use Rattle.crew.specs.Right.{AreRight};
@@ -8,14 +8,14 @@ ghost use Rattle.meaning.specs.StudyClauses.{from_axiom};
 ghost use Rattle.clause_form.specs.Refusals.{is_over_limits};
 ghost use Rattle.clause_form.specs.Sources.{clauses_in, sourced};
 ghost use Rattle.grounding.specs.Kept.{Keeps, Overfills};
-ghost use Rattle.grounding.specs.Pieces.{AreNarrow, AreNarrowInstances, IsPart, IsPartOfPiece, sources_of, start_of};
+ghost use Rattle.grounding.specs.Pieces.{AreNarrow, AreNarrowInstances, IsPart, IsPartOfPiece, end_of, sources_of, start_of};
 
 use crate::distinct::{Seen, keep};
 use crate::parts::{clauses_of_all, sum_of};
-use crate::pieces::{Making, PIECE, ROUND, Round};
+use crate::pieces::{PIECE, ROUND, Round};
 use crate::sorting::Part;
 use cnf::{Clauses, PushFault};
-use crew::{Crew, Parts, map_pieces};
+use crew::{Crew, Job, Parts, map_pieces};
 use edge::Gate;
 use indexmap::IndexSet;
 use lists::NoMemory;
@@ -31,6 +31,28 @@ const MOST_CLAUSES: u64 = 4_000_000;
 
 /// The most literals of a round of several pieces, by their measures.
 const MOST_LITERALS: u64 = 60_000_000;
+
+/// The pieces of the instances from `from` up to `to`, and how the clauses of a piece are made.
+#[derive(Drop)]
+struct Making<'a, F> {
+    make: &'a F,
+    from: u64,
+    to: u64,
+}
+
+impl<F: Fn(u64, u64) -> Result<Part, NoMemory> + Sync> Job for Making<'_, F> {
+    type Part = Part;
+
+    ghost has = { λ job piece. (start_of job.from piece ≤ job.to) × F.pre job.make.now (start_of job.from piece) (end_of job.from job.to piece) };
+
+    ghost is_right = { λ job piece part. F.post job.make.now (start_of job.from piece) (end_of job.from job.to piece) (Ok part) };
+
+    fn part(&self, piece: u32) -> Result<Part, NoMemory> {
+        let start = self.from + PIECE * u64::from(piece);
+        let end = start + PIECE.min(self.to - start);
+        (self.make)(start, end)
+    }
+}
 
 /// Appends the clauses of a part, each unless an equal one was kept.
 fn keep_all(alloc: Global, seen: &mut Seen, part: &Part, out: &mut Clauses) -> Result<(), PushFault>
