@@ -95,31 +95,31 @@ fn wide(alloc: Global) -> Result<Formula, NoMemory>
 }
 
 /// The study of anonymity and neutrality for two voters and two alternatives.
-fn small(alloc: Global) -> Result<Study, Fail>
-    ensures size { IfOk result (λ study. study.size ≡ full_size Kind.Choice 2 2) }
-    ensures axioms { IfOk result (λ study. length study.axioms ≡ 2) }
+fn small(alloc: Global) -> Result<Box<Study>, Fail>
+    ensures size { IfOk result (λ study. study.value.size ≡ full_size Kind.Choice 2 2) }
+    ensures axioms { IfOk result (λ study. length study.value.axioms ≡ 2) }
 {
     let size = Size::check(Kind::Choice, 2, 2).ok().ok_or("size")?;
     let mut axioms: Axioms = Items::new(alloc);
     axioms.push(Axiom::new(Name::new(b"first").ok_or("name")?, anonymity(alloc)?))?;
     axioms.push(Axiom::new(Name::new(b"second").ok_or("name")?, neutrality(alloc)?))?;
-    Ok(Study::new(size, 1, axioms))
+    Ok(Box::new(alloc, Study::new(size, 1, axioms))?)
 }
 
 /// The study of anonymity, and of an axiom that is too wide, for two voters and three alternatives.
-fn larger(alloc: Global) -> Result<Study, Fail>
-    ensures size { IfOk result (λ study. study.size ≡ full_size Kind.Choice 2 3) }
-    ensures axioms { IfOk result (λ study. length study.axioms ≡ 2) }
+fn larger(alloc: Global) -> Result<Box<Study>, Fail>
+    ensures size { IfOk result (λ study. study.value.size ≡ full_size Kind.Choice 2 3) }
+    ensures axioms { IfOk result (λ study. length study.value.axioms ≡ 2) }
 {
     let size = Size::check(Kind::Choice, 2, 3).ok().ok_or("size")?;
     let mut axioms: Axioms = Items::new(alloc);
     axioms.push(Axiom::new(Name::new(b"first").ok_or("name")?, anonymity(alloc)?))?;
     axioms.push(Axiom::new(Name::new(b"second").ok_or("name")?, wide(alloc)?))?;
-    Ok(Study::new(size, 1, axioms))
+    Ok(Box::new(alloc, Study::new(size, 1, axioms))?)
 }
 
-/// The clauses of a study of choices, for the axioms at some places.
-fn made<R: Threads + Sync>(
+/// What `ground` answers of a study of choices, for the axioms at some places.
+fn answer<R: Threads + Sync>(
     rt: &R,
     alloc: Global,
     study: &Study,
@@ -142,6 +142,41 @@ fn made<R: Threads + Sync>(
     Ok(ground(alloc, &crew, &kind, study, &chosen))
 }
 
+/// The number of clauses of the smaller study.
+fn small_count<R: Threads + Sync>(rt: &R, alloc: Global, workers: u8) -> Result<u32, Fail>
+    requires some { 1 ≤ workers }
+    requires few { workers ≤ 16 }
+{
+    let study = small(alloc)?;
+    let made = answer(rt, alloc, &study, workers, &[0, 1])?;
+    let clauses = made.ok().ok_or("small")?;
+    Ok(clauses.clauses().len())
+}
+
+/// The clauses of the first axiom of the larger study.
+fn larger_clauses<R: Threads + Sync>(rt: &R, alloc: Global, workers: u8) -> Result<Ground, Fail>
+    requires some { 1 ≤ workers }
+    requires few { workers ≤ 16 }
+{
+    let study = larger(alloc)?;
+    let made = answer(rt, alloc, &study, workers, &[0])?;
+    Ok(made.ok().ok_or("larger")?)
+}
+
+/// The refusal of both axioms of the larger study.
+fn larger_fault<R: Threads + Sync>(
+    rt: &R,
+    alloc: Global,
+    workers: u8,
+) -> Result<Option<GroundFault>, Fail>
+    requires some { 1 ≤ workers }
+    requires few { workers ≤ 16 }
+{
+    let study = larger(alloc)?;
+    let made = answer(rt, alloc, &study, workers, &[0, 1])?;
+    Ok(made.err())
+}
+
 /// Whether two lists have the same clauses, each with the same origin.
 fn are_same(left: &Clauses, right: &Clauses) -> bool {
     if left.len() != right.len() {
@@ -155,42 +190,42 @@ fn are_same(left: &Clauses, right: &Clauses) -> bool {
     true
 }
 
+/// Whether so many workers make the same clauses as one does.
+fn are_as_of_one<R: Threads + Sync>(rt: &R, alloc: Global, workers: u8) -> Result<bool, Fail>
+    requires some { 1 ≤ workers }
+    requires few { workers ≤ 16 }
+{
+    let one = larger_clauses(rt, alloc, 1)?;
+    let again = larger_clauses(rt, alloc, workers)?;
+    Ok(are_same(one.clauses(), again.clauses()))
+}
+
 #[test]
 fn clauses_are_the_same_for_every_number_of_workers(rt: HostRuntime) -> Result<(), Fail> {
-    let study = small(rt.alloc())?;
-    let few = made(&rt, rt.alloc(), &study, 1, &[0, 1])?
-        .ok()
-        .ok_or("few")?;
-    assert_eq!(rt; few.clauses().len(), 20);
-    let study = larger(rt.alloc())?;
-    let many = made(&rt, rt.alloc(), &study, 1, &[0])?.ok().ok_or("many")?;
-    assert_eq!(rt; many.clauses().len(), 234);
-    for workers in [2, 3, 16] {
-        let again = made(&rt, rt.alloc(), &study, workers, &[0])?
-            .ok()
-            .ok_or("again")?;
-        assert!(rt;
-            are_same(many.clauses(), again.clauses()),
-            "{workers} workers"
-        );
+    let larger = larger_clauses(&rt, rt.alloc(), 1)?.clauses().len();
+    assert_eq!(rt; larger, 234);
+    for workers in [1, 2, 3, 16] {
+        let small = small_count(&rt, rt.alloc(), workers)?;
+        assert_eq!(rt; small, 20, "{workers} workers");
+        let same = are_as_of_one(&rt, rt.alloc(), workers)?;
+        assert!(rt; same, "{workers} workers");
     }
     Ok(())
 }
 
 #[test]
 fn wide_instance_is_named_with_its_measure(rt: HostRuntime) -> Result<(), Fail> {
-    let study = larger(rt.alloc())?;
     let measure = Counts {
         clauses: 68_719_476_736,
         literals: 2_473_901_162_496,
     };
+    let wide = GroundFault::Wide {
+        axiom: 1,
+        instance: 0,
+        measure,
+    };
     for workers in [1, 16] {
-        let fault = made(&rt, rt.alloc(), &study, workers, &[0, 1])?.err();
-        let wide = GroundFault::Wide {
-            axiom: 1,
-            instance: 0,
-            measure,
-        };
+        let fault = larger_fault(&rt, rt.alloc(), workers)?;
         assert_eq!(rt; fault, Some(wide));
     }
     Ok(())
