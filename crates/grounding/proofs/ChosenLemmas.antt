@@ -168,18 +168,9 @@ module _ (size : Extent) (axioms : List Titled) where
         → first_full size axioms [] chosen ≡ Some (Full (slice_index_or chosen i 0))
     full-found before over = before ∙ full-here true over
 
-  -- no axiom, no clause but those of the frames
-  pub study-frames : study_clauses size axioms [] ≡ flat_map (from_frame size) (below (sort_count size Profile))
-  study-frames = append-nil (flat_map (from_frame size) (below (sort_count size Profile)))
-
--- ---- refusals of either kind
+-- ---- refusals
 
 pub refused-first : (fault : GroundFault) (o p : Option GroundFault) → IsRefused fault o → IsRefused fault (option_or o p)
 refused-first (Wide place k m) o p h = ap (λ q. option_or q p) h
 refused-first (Full place) o p h = ap (λ q. option_or q p) h
 refused-first NoMemory o p h = tt
-
-pub refused-second : (fault : GroundFault) (o p : Option GroundFault) → o ≡ None → IsRefused fault p → IsRefused fault (option_or o p)
-refused-second (Wide place k m) o p none h = ap (λ q. option_or q p) none ∙ h
-refused-second (Full place) o p none h = ap (λ q. option_or q p) none ∙ h
-refused-second NoMemory o p none h = tt

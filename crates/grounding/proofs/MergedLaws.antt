@@ -8,10 +8,10 @@ use Rattle.meaning.proofs.TestLaws.{or-false}
 use Rattle.grounding.specs.Rising.{IsAbove, has}
 use Rattle.grounding.proofs.RisingLaws.{first_there}
 
-pub has-push : (xs : List ℕ) (n k : ℕ) → has (xs ++ n ∷ []) k ≡ (has xs k || nat_eq k n)
+has-push : (xs : List ℕ) (n k : ℕ) → has (xs ++ n ∷ []) k ≡ (has xs k || nat_eq k n)
 has-push xs n k = list_any-append (nat_eq k) xs (n ∷ []) ∙ ap (λ b. has xs k || b) (or-false (nat_eq k n))
 
-pub above-push : (m n : ℕ) (xs : List ℕ) → IsAbove m xs → m < n → ((k : ℕ) → has xs k ≡ true → k < n) → IsAbove m (xs ++ n ∷ [])
+above-push : (m n : ℕ) (xs : List ℕ) → IsAbove m xs → m < n → ((k : ℕ) → has xs k ≡ true → k < n) → IsAbove m (xs ++ n ∷ [])
 above-push m n [] h e under = (e, record {})
 above-push m n (x ∷ xs) h e under = (h.0, above-push x n xs h.1 (under x (first_there x xs)) (λ k is. under k (or_right (nat_eq k x) (has xs k) is)))
 
