@@ -1,6 +1,6 @@
 //! The measures of the instances of an axiom, in rounds of pieces.
 
-ghost use Rattle.std.specs.Prelude.{◌≡◌, ◌≤◌, ◌+◌, IfOk, IsTrue, length};
+ghost use Rattle.std.specs.Prelude.{◌≤◌, ◌+◌, IfOk, IsTrue, length};
 ghost use Rattle.vocab.specs.Limits.{instance_count};
 ghost use Rattle.vocab.specs.Study.{is_sentence};
 ghost use Rattle.crew.specs.Right.{AreRight};

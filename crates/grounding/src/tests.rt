@@ -7,7 +7,7 @@
 //! profiles. With three alternatives there are 36 profiles with four frame clauses each, and 15 pairs of profiles that
 //! anonymity equates, by two clauses for each alternative.
 
-ghost use Rattle.std.specs.Prelude.{◌≡◌, ◌≤◌, codes, length, IfOk, IsTrue};
+ghost use Rattle.std.specs.Prelude.{◌≡◌, ◌≤◌, length, IfOk, IsTrue};
 ghost use Rattle.vocab.specs.Size.{full_size};
 ghost use Rattle.vocab.specs.Tree.{tree_of, term_tree, All, Both, Const, Exists, Leaf, Same, SwapAlts, SwapVoters, Var, WinsAt, With};
 ghost use Rattle.meaning.specs.Cores.{is_core_from};
