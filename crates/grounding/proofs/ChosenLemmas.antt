@@ -1,11 +1,11 @@
 -- Axiom after axiom: the first too wide instance, and the first axiom at which the list is full.
-use Rattle.std.proofs.Common.{◌≡◌, ◌<◌, ◌≤◌, ◌+◌, ◌&&◌, ℕ, zero, suc, Bool, true, false, cond, not, List, [], ◌∷◌, ◌++◌, length, map, take, drop, find, refl, sym, ap, ap₂, ◌∙◌, subst, if◌then◌else◌, arith, inl, inr, append_assoc, append-nil, add-one, drop-cons, Option, Some, None, slice_get, slice_index_or, leb-true, ltb-true, eq-or-lt_of_le}
+use Rattle.std.proofs.Common.{◌≡◌, ◌<◌, ◌≤◌, ◌+◌, ◌&&◌, ℕ, zero, suc, Bool, true, false, cond, not, List, [], ◌∷◌, ◌++◌, length, take, drop, find, refl, sym, ap, ap₂, ◌∙◌, subst, if◌then◌else◌, arith, inl, inr, append_assoc, append-nil, add-one, drop-cons, Option, Some, None, slice_get, slice_index_or, leb-true, ltb-true, eq-or-lt_of_le}
 use Rattle.std.specs.Prelude.{nat_le, nat_lt, option_and_then, option_map}
 use Rattle.std.specs.List.{flat_map, list_all}
 use Rattle.std.specs.Option.{option_or}
 use Rattle.std.proofs.lemmas.Bool.{and_parts}
 use Rattle.std.proofs.lemmas.Grind.{flat_map-append}
-use Rattle.std.proofs.lemmas.List.{take_all, take_more}
+use Rattle.std.proofs.lemmas.List.{take_more}
 use Rattle.vocab.specs.declared.kinds.Sort.TheVariants.{Profile}
 use Rattle.vocab.specs.Formula.{body_of}
 use Rattle.vocab.specs.Limits.{depth, instance_count, atom_count, is_within_limits}
@@ -168,18 +168,9 @@ module _ (size : Extent) (axioms : List Titled) where
         → first_full size axioms [] chosen ≡ Some (Full (slice_index_or chosen i 0))
     full-found before over = before ∙ full-here true over
 
-  -- no axiom, no clause but those of the frames
-  pub study-frames : study_clauses size axioms [] ≡ flat_map (from_frame size) (below (sort_count size Profile))
-  study-frames = append-nil (flat_map (from_frame size) (below (sort_count size Profile)))
-
--- ---- refusals of either kind
+-- ---- refusals
 
 pub refused-first : (fault : GroundFault) (o p : Option GroundFault) → IsRefused fault o → IsRefused fault (option_or o p)
 refused-first (Wide place k m) o p h = ap (λ q. option_or q p) h
 refused-first (Full place) o p h = ap (λ q. option_or q p) h
 refused-first NoMemory o p h = tt
-
-pub refused-second : (fault : GroundFault) (o p : Option GroundFault) → o ≡ None → IsRefused fault p → IsRefused fault (option_or o p)
-refused-second (Wide place k m) o p none h = ap (λ q. option_or q p) none ∙ h
-refused-second (Full place) o p none h = ap (λ q. option_or q p) none ∙ h
-refused-second NoMemory o p none h = tt

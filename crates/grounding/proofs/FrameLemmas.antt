@@ -1,14 +1,13 @@
 -- The frames of profiles, one after another, are few.
-use Rattle.std.proofs.Common.{◌≡◌, ◌<◌, ◌≤◌, ◌+◌, ◌*◌, ℕ, List, [], ◌++◌, length, map, sym, subst, ap, ap₂, ◌∙◌, arith, inl, inr, append-nil}
+use Rattle.std.proofs.Common.{◌≡◌, ◌<◌, ◌≤◌, ◌+◌, ◌*◌, ℕ, List, ◌++◌, length, map, sym, subst, ap, ap₂, ◌∙◌, arith, append-nil}
 use Rattle.std.specs.Prelude.{sum_by}
 use Rattle.std.proofs.lemmas.List.{length-append, length-map}
 use Rattle.std.proofs.lemmas.List.Sums.{sum_by-append}
 use Rattle.vocab.specs.Size.{Extent}
 use Rattle.cnf.specs.ClauseList.{ClauseList}
-use Rattle.cnf.specs.Sat.{Clause}
 use Rattle.meaning.specs.declared.clauses.Origin.TheVariants.{Frame}
 use Rattle.meaning.specs.StudyClauses.{Sourced, from_frame}
-use Rattle.outcomes.specs.Frames.{IsFullForAll, frame_clauses, with_clauses}
+use Rattle.outcomes.specs.Frames.{frame_clauses, with_clauses}
 use Rattle.outcomes.specs.Laws.{AreFramesSmall}
 use Rattle.clause_form.specs.Sources.{sourced}
 use Rattle.grounding.specs.Pieces.{rows_from}
@@ -23,10 +22,6 @@ pub record AreFramesTo (size : Extent) (p : ℕ) (out : ClauseList) : Type 0 whe
   pub short : sum_by length out.clauses ≤ 60 * p
 
 module _ (size : Extent) (small : AreFramesSmall size) (p : ℕ) (below : p < 20000) (out : ClauseList) where
-  pub never-full : AreFramesTo size p out → IsFullForAll out (frame_clauses size p) → ⊥
-  never-full is (inl h) = let more = small.few_clauses p in omega (arith, h, more, is.few, below)
-  never-full is (inr h) = let more = small.few_literals p in omega (arith, h, more, is.short, below)
-
   with_frame : AreFramesTo size p out → AreFramesTo size (p + 1) (with_clauses out (frame_clauses size p) p)
   with_frame is =
       let rows = frame_clauses size p in

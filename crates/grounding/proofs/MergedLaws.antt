@@ -1,7 +1,5 @@
 -- What has been merged of a list that does not fall.
-use Rattle.std.proofs.Common.{◌≡◌, ◌<◌, ◌≤◌, ◌+◌, ℕ, Bool, true, false, ◌||◌, nat_eq, List, [], ◌∷◌, ◌++◌, refl, sym, ap, ap₂, ◌∙◌, subst, arith, true≢false, take, length, slice_index}
-use Rattle.std.specs.Prelude.{◌⊎◌}
-use Rattle.std.specs.List.{list_any}
+use Rattle.std.proofs.Common.{◌≡◌, ◌<◌, ◌≤◌, ◌+◌, ℕ, Bool, true, false, ◌||◌, nat_eq, List, [], ◌∷◌, ◌++◌, refl, sym, ap, ap₂, ◌∙◌, subst, arith, take, length, slice_index}
 use Rattle.std.specs.List.Sorted.{IsNonDecreasing}
 use Rattle.std.proofs.lemmas.Bool.{or_right}
 use Rattle.std.proofs.lemmas.List.{take_more}
@@ -10,10 +8,10 @@ use Rattle.meaning.proofs.TestLaws.{or-false}
 use Rattle.grounding.specs.Rising.{IsAbove, has}
 use Rattle.grounding.proofs.RisingLaws.{first_there}
 
-pub has-push : (xs : List ℕ) (n k : ℕ) → has (xs ++ n ∷ []) k ≡ (has xs k || nat_eq k n)
+has-push : (xs : List ℕ) (n k : ℕ) → has (xs ++ n ∷ []) k ≡ (has xs k || nat_eq k n)
 has-push xs n k = list_any-append (nat_eq k) xs (n ∷ []) ∙ ap (λ b. has xs k || b) (or-false (nat_eq k n))
 
-pub above-push : (m n : ℕ) (xs : List ℕ) → IsAbove m xs → m < n → ((k : ℕ) → has xs k ≡ true → k < n) → IsAbove m (xs ++ n ∷ [])
+above-push : (m n : ℕ) (xs : List ℕ) → IsAbove m xs → m < n → ((k : ℕ) → has xs k ≡ true → k < n) → IsAbove m (xs ++ n ∷ [])
 above-push m n [] h e under = (e, record {})
 above-push m n (x ∷ xs) h e under = (h.0, above-push x n xs h.1 (under x (first_there x xs)) (λ k is. under k (or_right (nat_eq k x) (has xs k) is)))
 

@@ -1,17 +1,16 @@
 -- A rising list has neighbours of one variable exactly where its clause is a tautology.
-use Rattle.std.proofs.Common.{◌≡◌, ◌<◌, ◌≤◌, ◌+◌, ◌*◌, ◌/◌, ◌==◌, ℕ, Bool, true, false, ◌||◌, ◌&&◌, not, nat_eq, List, [], ◌∷◌, map, refl, sym, ap, ap₂, ◌∙◌, subst, arith, true≢false, inl, inr, if◌then◌else◌}
-use Rattle.std.specs.Prelude.{All, ◌⊎◌}
+use Rattle.std.proofs.Common.{◌≡◌, ◌<◌, ◌+◌, ◌*◌, ◌/◌, ◌==◌, ℕ, Bool, true, false, ◌||◌, not, nat_eq, List, [], ◌∷◌, refl, sym, ◌∙◌, subst, arith, true≢false, inl, inr, if◌then◌else◌}
+use Rattle.std.specs.Prelude.{All}
 use Rattle.std.proofs.lemmas.List.Elements.{All-head}
-use Rattle.std.specs.Bool.{beq}
 use Rattle.std.specs.List.{list_any}
-use Rattle.std.proofs.lemmas.Bool.{cases_eq, cases_lt, or_cases, or_left, or_right}
+use Rattle.std.proofs.lemmas.Bool.{cases_lt, or_cases, or_left, or_right}
 use Rattle.cnf.specs.Signed.{Signed}
 use Rattle.cnf.specs.Sat.{Clause, has_lit, is_tautology, opposite_lit, same_lit}
 use Rattle.cnf.proofs.LitLaws.{same_lit-equal, same_lit-refl}
-use Rattle.grounding.specs.Distinct.{code_of}
+use Rattle.grounding.specs.Distinct.{code_of, codes_of}
 use Rattle.grounding.specs.Rising.{IsAbove, has, pair_after}
 use Rattle.grounding.proofs.RisingLaws.{above_not}
-use Rattle.grounding.proofs.SortLaws.{codes, has_codes}
+use Rattle.grounding.proofs.SortLaws.{has_codes}
 
 -- what is in a rising list is above what comes before it
 has_above : (n k : ℕ) (xs : List ℕ) → IsAbove n xs → has xs k ≡ true → n < k
@@ -71,7 +70,7 @@ any_there row (k ∷ part) l e o = elim (or_cases (same_lit l k) (has_lit part l
 
 -- ---- a row and the rising list of its codes
 
-module _ (row : Clause) (merged : List ℕ) (h : IsAbove 1 merged) (same : (k : ℕ) → has merged k ≡ has (codes row) k) where
+module _ (row : Clause) (merged : List ℕ) (h : IsAbove 1 merged) (same : (k : ℕ) → has merged k ≡ has (codes_of row) k) where
   in_merged : (l : Signed) → has_lit row l ≡ true → has merged (code_of l) ≡ true
   in_merged l e = same (code_of l) ∙ has_codes row l ∙ e
 

@@ -7,13 +7,10 @@ use Rattle.std.proofs.lemmas.List.Elements.{All-head, All-tail}
 use Rattle.cnf.specs.Signed.{Signed}
 use Rattle.cnf.specs.Sat.{Clause, has_lit, is_tautology, opposite_lit, same_lit}
 use Rattle.meaning.specs.StudyClauses.{sorted, sorted_in}
-use Rattle.grounding.specs.Distinct.{code_of}
+use Rattle.grounding.specs.Distinct.{code_of, codes_of}
 use Rattle.grounding.specs.Rising.{ArePositive, IsAbove, has, literal_of_code}
 use Rattle.grounding.proofs.FirstsLaws.{same_codes}
 use Rattle.grounding.proofs.RisingLaws.{rising_same}
-
-abbrev pub codes : Clause → List ℕ
-codes c = map code_of c
 
 or_swap : (a b c : Bool) → (a || (b || c)) ≡ (b || (a || c))
 or_swap true true c = refl
@@ -64,35 +61,35 @@ code_other l x v e = by l.variable x.variable l.positive x.positive v e
 
 -- ---- what a sorted clause has
 
-sorted_in_has : (l : Signed) (ks : Clause) (k : ℕ) → has (codes (sorted_in l ks)) k ≡ (nat_eq k (code_of l) || has (codes ks) k)
+sorted_in_has : (l : Signed) (ks : Clause) (k : ℕ) → has (codes_of (sorted_in l ks)) k ≡ (nat_eq k (code_of l) || has (codes_of ks) k)
 sorted_in_has l [] k = refl
 sorted_in_has l (x ∷ xs) k = by (nat_lt l.variable x.variable) (same_lit l x) refl (sorted_in_has l xs k)
   where
-    by : (b c : Bool) → same_lit l x ≡ c → has (codes (sorted_in l xs)) k ≡ (nat_eq k (code_of l) || has (codes xs) k)
-        → has (codes (if b then l ∷ x ∷ xs else (if c then x ∷ xs else x ∷ sorted_in l xs))) k ≡ (nat_eq k (code_of l) || (nat_eq k (code_of x) || has (codes xs) k))
+    by : (b c : Bool) → same_lit l x ≡ c → has (codes_of (sorted_in l xs)) k ≡ (nat_eq k (code_of l) || has (codes_of xs) k)
+        → has (codes_of (if b then l ∷ x ∷ xs else (if c then x ∷ xs else x ∷ sorted_in l xs))) k ≡ (nat_eq k (code_of l) || (nat_eq k (code_of x) || has (codes_of xs) k))
     by true c e ih = refl
     by false true e ih =
-        or_twice (nat_eq k (code_of x)) (has (codes xs) k) ∙ ap (λ (n : ℕ). nat_eq k n || (nat_eq k (code_of x) || has (codes xs) k)) (sym (code_same l x e))
-    by false false e ih = ap (λ b. nat_eq k (code_of x) || b) ih ∙ or_swap (nat_eq k (code_of x)) (nat_eq k (code_of l)) (has (codes xs) k)
+        or_twice (nat_eq k (code_of x)) (has (codes_of xs) k) ∙ ap (λ (n : ℕ). nat_eq k n || (nat_eq k (code_of x) || has (codes_of xs) k)) (sym (code_same l x e))
+    by false false e ih = ap (λ b. nat_eq k (code_of x) || b) ih ∙ or_swap (nat_eq k (code_of x)) (nat_eq k (code_of l)) (has (codes_of xs) k)
 
-pub sorted_has : (row : Clause) (k : ℕ) → has (codes (sorted row)) k ≡ has (codes row) k
+pub sorted_has : (row : Clause) (k : ℕ) → has (codes_of (sorted row)) k ≡ has (codes_of row) k
 sorted_has [] k = refl
 sorted_has (l ∷ ls) k = sorted_in_has l (sorted ls) k ∙ ap (λ b. nat_eq k (code_of l) || b) (sorted_has ls k)
 
 -- ---- how it rises
 
-sorted_in_above : (n : ℕ) (l : Signed) (ks : Clause) → IsAbove n (codes ks) → n < code_of l → has (codes ks) (code_of (opposite_lit l)) ≡ false → IsAbove n (codes (sorted_in l ks))
+sorted_in_above : (n : ℕ) (l : Signed) (ks : Clause) → IsAbove n (codes_of ks) → n < code_of l → has (codes_of ks) (code_of (opposite_lit l)) ≡ false → IsAbove n (codes_of (sorted_in l ks))
 sorted_in_above n l [] h e o = (e, record {})
 sorted_in_above n l (x ∷ xs) h e o =
-    by (nat_lt l.variable x.variable) (same_lit l x) refl refl (λ m g f. sorted_in_above m l xs g f (none_right (nat_eq (code_of (opposite_lit l)) (code_of x)) (has (codes xs) (code_of (opposite_lit l))) o))
+    by (nat_lt l.variable x.variable) (same_lit l x) refl refl (λ m g f. sorted_in_above m l xs g f (none_right (nat_eq (code_of (opposite_lit l)) (code_of x)) (has (codes_of xs) (code_of (opposite_lit l))) o))
   where
     not_other : code_of x ≡ code_of (opposite_lit l) → ⊥
     not_other s = (let t : nat_eq (code_of (opposite_lit l)) (code_of x) ≡ true = grind (arith, s) in
-        true≢false (sym t ∙ none_left (nat_eq (code_of (opposite_lit l)) (code_of x)) (has (codes xs) (code_of (opposite_lit l))) o))
+        true≢false (sym t ∙ none_left (nat_eq (code_of (opposite_lit l)) (code_of x)) (has (codes_of xs) (code_of (opposite_lit l))) o))
 
     by : (b c : Bool) → nat_lt l.variable x.variable ≡ b → same_lit l x ≡ c
-        → ((m : ℕ) → IsAbove m (codes xs) → m < code_of l → IsAbove m (codes (sorted_in l xs)))
-        → IsAbove n (codes (if b then l ∷ x ∷ xs else (if c then x ∷ xs else x ∷ sorted_in l xs)))
+        → ((m : ℕ) → IsAbove m (codes_of xs) → m < code_of l → IsAbove m (codes_of (sorted_in l xs)))
+        → IsAbove n (codes_of (if b then l ∷ x ∷ xs else (if c then x ∷ xs else x ∷ sorted_in l xs)))
     by true c lower same ih = (let v : l.variable < x.variable = grind (arith, lower) in (e, (omega (arith, v, code_high l, code_low x), h.1)))
     by false true lower same ih = h
     by false false lower same ih =
@@ -103,7 +100,7 @@ sorted_in_above n l (x ∷ xs) h e o =
 -- ---- rows with no variable of both signs
 
 -- a literal stands in a row where its code does
-pub has_codes : (row : Clause) (l : Signed) → has (codes row) (code_of l) ≡ has_lit row l
+pub has_codes : (row : Clause) (l : Signed) → has (codes_of row) (code_of l) ≡ has_lit row l
 has_codes [] l = refl
 has_codes (x ∷ xs) l = ap₂ (λ a b. a || b) (same_codes l x) (has_codes xs l)
 
@@ -115,7 +112,7 @@ later_pair l row (k ∷ part) e =
     (none_right (same_lit (opposite_lit k) l) (has_lit row (opposite_lit k)) (none_left (has_lit (l ∷ row) (opposite_lit k)) (list_any (λ j. has_lit (l ∷ row) (opposite_lit j)) part) e))
     (later_pair l row part (none_right (has_lit (l ∷ row) (opposite_lit k)) (list_any (λ j. has_lit (l ∷ row) (opposite_lit j)) part) e))
 
-pub sorted_above : (row : Clause) → ArePositive row → is_tautology row ≡ false → IsAbove 0 (codes (sorted row))
+pub sorted_above : (row : Clause) → ArePositive row → is_tautology row ≡ false → IsAbove 0 (codes_of (sorted row))
 sorted_above [] p e = record {}
 sorted_above (l ∷ ls) p e =
     let first : has_lit (l ∷ ls) (opposite_lit l) ≡ false = none_left (has_lit (l ∷ ls) (opposite_lit l)) (list_any (λ k. has_lit (l ∷ ls) (opposite_lit k)) ls) e in
@@ -124,8 +121,8 @@ sorted_above (l ∷ ls) p e =
     (sorted_has ls (code_of (opposite_lit l)) ∙ has_codes ls (opposite_lit l) ∙ none_right (same_lit (opposite_lit l) l) (has_lit ls (opposite_lit l)) first)
 
 -- the one rising list that has the codes of a row is its sorted clause
-pub sorted_same : (row : Clause) (merged : List ℕ) → ArePositive row → is_tautology row ≡ false → IsAbove 0 merged → ((k : ℕ) → has merged k ≡ has (codes row) k) → merged ≡ codes (sorted row)
-sorted_same row merged p e h same = rising_same 0 merged (codes (sorted row)) h (sorted_above row p e) (λ k. same k ∙ sym (sorted_has row k))
+pub sorted_same : (row : Clause) (merged : List ℕ) → ArePositive row → is_tautology row ≡ false → IsAbove 0 merged → ((k : ℕ) → has merged k ≡ has (codes_of row) k) → merged ≡ codes_of (sorted row)
+sorted_same row merged p e h same = rising_same 0 merged (codes_of (sorted row)) h (sorted_above row p e) (λ k. same k ∙ sym (sorted_has row k))
 
 -- codes and literals are one to one
 coded : (l : Signed) → literal_of_code (code_of l) ≡ l
@@ -135,13 +132,13 @@ coded l = by l.variable l.positive
     by v true = ap₂ (λ (w : ℕ) (q : Bool). let x : Signed = record { variable = w; positive = q } in x) (let e : (2 * v + 1) / 2 ≡ v = omega arith in e) (let e : ((2 * v + 1) % 2 == 1) ≡ true = grind arith in e)
     by v false = ap₂ (λ (w : ℕ) (q : Bool). let x : Signed = record { variable = w; positive = q } in x) (let e : (2 * v + 0) / 2 ≡ v = omega arith in e) (let e : ((2 * v + 0) % 2 == 1) ≡ false = grind arith in e)
 
-pub all_coded : (c : Clause) → map literal_of_code (codes c) ≡ c
+pub all_coded : (c : Clause) → map literal_of_code (codes_of c) ≡ c
 all_coded [] = refl
 all_coded (l ∷ ls) = ap₂ (λ k ks. k ∷ ks) (coded l) (all_coded ls)
 
-pub positive : (row : Clause) (ns : List ℕ) → ns ≡ codes row → All (λ n. 1 < n) ns → ArePositive row
+pub positive : (row : Clause) (ns : List ℕ) → ns ≡ codes_of row → All (λ n. 1 < n) ns → ArePositive row
 positive [] ns e h = record {}
 positive (l ∷ ls) ns e h =
-    let g : All (λ n. 1 < n) (codes (l ∷ ls)) = subst (λ ms. All (λ n. 1 < n) ms) e h in
-    let first : 1 < code_of l = All-head (λ n. 1 < n) (code_of l) (codes ls) g in
-    (omega (arith, first), positive ls (codes ls) refl (All-tail (λ n. 1 < n) (code_of l) (codes ls) g))
+    let g : All (λ n. 1 < n) (codes_of (l ∷ ls)) = subst (λ ms. All (λ n. 1 < n) ms) e h in
+    let first : 1 < code_of l = All-head (λ n. 1 < n) (code_of l) (codes_of ls) g in
+    (omega (arith, first), positive ls (codes_of ls) refl (All-tail (λ n. 1 < n) (code_of l) (codes_of ls) g))

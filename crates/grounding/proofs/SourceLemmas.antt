@@ -1,8 +1,8 @@
 -- The clauses of instances with their origins, part by part.
-use Rattle.std.proofs.Common.{◌≡◌, ◌<◌, ◌≤◌, ◌+◌, ◌-◌, ◌*◌, ◌/◌, ◌%◌, min, ℕ, zero, suc, true, false, List, [], ◌∷◌, ◌++◌, length, map, fold, refl, sym, ap, ap₂, ◌∙◌, subst, if◌then◌else◌, arith, inl, inr, append-nil, Some}
+use Rattle.std.proofs.Common.{◌≡◌, ◌<◌, ◌≤◌, ◌+◌, ◌-◌, ◌*◌, ◌/◌, ◌%◌, min, ℕ, zero, suc, true, false, List, [], ◌∷◌, ◌++◌, length, map, fold, refl, sym, ap, ap₂, ◌∙◌, if◌then◌else◌, arith, inl, inr, append-nil, Some}
 use Rattle.std.specs.Prelude.{nat_lt}
 use Rattle.std.specs.List.{flat_map}
-use Rattle.std.proofs.lemmas.Bool.{cases_lt, le-ltb}
+use Rattle.std.proofs.lemmas.Bool.{cases_lt}
 use Rattle.std.proofs.lemmas.List.{length-append, length-map}
 use Rattle.std.proofs.lemmas.List.Sums.{fold-append}
 use Rattle.vocab.specs.Limits.{instance_count}
@@ -36,7 +36,7 @@ pub sourced-same : (rows : List Clause) (n : ℕ) (o : Origin) → origin_of_num
 sourced-same [] n o e = refl
 sourced-same (c ∷ rows) n o e = ap₂ (λ (p : Origin) (ss : List Sourced). record { clause = c; origin = p } ∷ ss) e (sourced-same rows n o e)
 
-pub rows-agree : {A : Type 0} (f g : ℕ → List A) (i n : ℕ) → ((k : ℕ) → k < i + n → f k ≡ g k) → rows_from f i n ≡ rows_from g i n
+rows-agree : {A : Type 0} (f g : ℕ → List A) (i n : ℕ) → ((k : ℕ) → k < i + n → f k ≡ g k) → rows_from f i n ≡ rows_from g i n
 rows-agree f g i zero h = refl
 rows-agree f g i (suc n) h = ap₂ (λ r s. r ++ s) (h i (omega arith)) (rows-agree f g (suc i) n (λ k less. h k (omega (arith, less))))
 
@@ -45,7 +45,7 @@ rows-agree f g i (suc n) h = ap₂ (λ r s. r ++ s) (h i (omega arith)) (rows-ag
 pub frame-here : (p : ℕ) → p < 4294967296 → origin_of_number p ≡ Frame p
 frame-here p h = ap (λ b. if b then Frame p else Instance (p / 4294967296 - 1) (p % 4294967296)) (let t : nat_lt p 4294967296 ≡ true = grind (arith, h) in t)
 
-pub instance-here : (n place k : ℕ) → n ≡ (place + 1) * 4294967296 + k → k < 4294967296 → origin_of_number n ≡ Instance place k
+instance-here : (n place k : ℕ) → n ≡ (place + 1) * 4294967296 + k → k < 4294967296 → origin_of_number n ≡ Instance place k
 instance-here n place k e h =
     let high : 4294967296 ≤ n = omega (arith, e) in
     let first : n / 4294967296 - 1 ≡ place = omega (arith, e, h) in
@@ -71,11 +71,11 @@ module _ (size : Extent) (sentence : Tree) (base : ℕ) where
     pub part-pairs : IsPart size sentence base from to part → length part.origins.items ≡ length part.clauses
     part-pairs is = ap length is.origins ∙ pairs-from from (to - from) ∙ sym (ap length is.clauses)
 
-    pub part-sources : IsPart size sentence base from to part → sourced part.clauses part.origins.items ≡ sources_of size sentence base from to
+    part-sources : IsPart size sentence base from to part → sourced part.clauses part.origins.items ≡ sources_of size sentence base from to
     part-sources is = ap₂ sourced is.clauses is.origins ∙ rows-sourced from (to - from)
 
   -- the clauses up to a number, and those from there on
-  pub sources-add : (from middle to : ℕ) → from ≤ middle → middle ≤ to →
+  sources-add : (from middle to : ℕ) → from ≤ middle → middle ≤ to →
       sources_of size sentence base from to ≡ sources_of size sentence base from middle ++ sources_of size sentence base middle to
   sources-add from middle to low high =
       let whole : to - from ≡ middle - from + (to - middle) = omega (arith, low, high) in
@@ -89,7 +89,7 @@ module _ (size : Extent) (sentence : Tree) (base : ℕ) where
   sources-none from to h = ap (rows_from (sources_at size sentence base) from) (let none : to - from ≡ 0 = omega (arith, h) in none)
 
   -- the clauses of one piece more
-  pub next-piece : (from to piece : ℕ) → from ≤ to →
+  next-piece : (from to piece : ℕ) → from ≤ to →
       sources_of size sentence base from (min (start_of from piece) to) ++ sources_of size sentence base (start_of from piece) (end_of from to piece)
       ≡ sources_of size sentence base from (min (start_of from (piece + 1)) to)
   next-piece from to piece rising = elim (cases_lt to (start_of from piece)) [
@@ -132,7 +132,7 @@ module _ (size : Extent) (sentence : Tree) (base : ℕ) where
       (sym (fold-append kept_with kept first rest) ∙ ap (fold kept_with kept) (sym (sources-add from middle to low high)))
       (over-grows before (fold kept_with kept first) rest over)
 
-  pub instance-sources : (place k : ℕ) → base ≡ (place + 1) * 4294967296 → k < 4294967296 → sources_at size sentence base k ≡ from_instance size place sentence k
+  instance-sources : (place k : ℕ) → base ≡ (place + 1) * 4294967296 → k < 4294967296 → sources_at size sentence base k ≡ from_instance size place sentence k
   instance-sources place k e h = sourced-same (rows_at size sentence k) (base + k) (Instance place k) (instance-here (base + k) place k (omega (arith, e)) h)
 
 -- of the clauses of all instances of an axiom the first of equal ones

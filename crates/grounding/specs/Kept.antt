@@ -4,11 +4,11 @@ use Rattle.cnf.specs.ClauseList.{ClauseList}
 use Rattle.meaning.specs.StudyClauses.{Sourced}
 use Rattle.clause_form.specs.Refusals.{is_over_limits}
 use Rattle.clause_form.specs.Sources.{clauses_in, sourced}
-use Rattle.grounding.specs.Distinct.{code_of, kept_with}
+use Rattle.grounding.specs.Distinct.{codes_of, kept_with}
 
 -- a list has some clauses and then those that were kept, and these have the codes that were seen
 pub record IsKept (seen : List (List ℕ)) (out : ClauseList) (before kept : List Sourced) : Type 0 where
-  pub codes : seen ≡ map (λ c. map code_of c) (clauses_in kept)
+  pub codes : seen ≡ map codes_of (clauses_in kept)
   pub pairs : length out.origins ≡ length out.clauses
   pub sources : sourced out.clauses out.origins ≡ before ++ kept
 

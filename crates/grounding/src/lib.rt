@@ -9,5 +9,7 @@ mod merging;
 mod parts;
 mod pieces;
 mod sorting;
+#[cfg(test)]
+mod tests;
 
 pub use making::ground;

@@ -1,14 +1,14 @@
 //! The measures of the instances of an axiom, in rounds of pieces.
 
-ghost use Rattle.std.specs.Prelude.{◌≡◌, ◌≤◌, ◌+◌, IfOk, IsTrue, length};
+ghost use Rattle.std.specs.Prelude.{◌≤◌, ◌+◌, IfOk, IsTrue, length};
 ghost use Rattle.vocab.specs.Limits.{instance_count};
 ghost use Rattle.vocab.specs.Study.{is_sentence};
 ghost use Rattle.crew.specs.Right.{AreRight};
-ghost use Rattle.grounding.specs.Pieces.{AreInstances, IsFirstWide, IsFirstWideOfPiece, start_of};
+ghost use Rattle.grounding.specs.Pieces.{AreInstances, IsFirstWide, IsFirstWideOfPiece, end_of, start_of};
 
 use crate::parts::{Measured, WideInstance, measure_all};
-use crate::pieces::{Measuring, PIECE, ROUND, Round};
-use crew::{Crew, Parts, map_pieces};
+use crate::pieces::{PIECE, ROUND, Round};
+use crew::{Crew, Job, Parts, map_pieces};
 use edge::Gate;
 use lists::NoMemory;
 use meaning::Counts;
@@ -17,6 +17,28 @@ use std::alloc::Global;
 use std::thread::Threads;
 use vocab::Axiom;
 use worlds::instance_count;
+
+/// The pieces of the instances from `from` up to `to`, and how a piece is measured.
+#[derive(Drop)]
+struct Measuring<'a, F> {
+    measure: &'a F,
+    from: u64,
+    to: u64,
+}
+
+impl<F: Fn(u64, u64) -> Measured + Sync> Job for Measuring<'_, F> {
+    type Part = Measured;
+
+    ghost has = { λ job piece. (start_of job.from piece ≤ job.to) × F.pre job.measure.now (start_of job.from piece) (end_of job.from job.to piece) };
+
+    ghost is_right = { λ job piece part. F.post job.measure.now (start_of job.from piece) (end_of job.from job.to piece) part };
+
+    fn part(&self, piece: u32) -> Result<Measured, NoMemory> {
+        let start = self.from + PIECE * u64::from(piece);
+        let end = start + PIECE.min(self.to - start);
+        Ok((self.measure)(start, end))
+    }
+}
 
 /// The first instance that is too wide, of the pieces of a round in order.
 fn first_found<K: OutcomeKind>(round: &Round<K>, parts: &Parts<Measured>) -> Option<WideInstance>

@@ -1,21 +1,22 @@
 //! The clauses of an axiom, made in rounds of pieces, of equal ones the first kept.
 
-ghost use Rattle.std.specs.Prelude.{◌≡◌, ◌<◌, ◌≤◌, ◌+◌, ◌^◌, ◌++◌, Err, Some, IfOk, OnOk, IsTrue, length, map};
+ghost use Rattle.std.specs.Prelude.{◌≡◌, ◌<◌, ◌≤◌, ◌+◌, ◌^◌, ◌++◌, Err, Ok, Some, IfOk, OnOk, IsTrue, length};
 ghost use Rattle.vocab.specs.Limits.{instance_count};
 ghost use Rattle.vocab.specs.Study.{is_sentence};
 ghost use Rattle.crew.specs.Right.{AreRight};
 ghost use Rattle.meaning.specs.StudyClauses.{from_axiom};
 ghost use Rattle.clause_form.specs.Refusals.{is_over_limits};
 ghost use Rattle.clause_form.specs.Sources.{clauses_in, sourced};
+ghost use Rattle.grounding.specs.Distinct.{codes_seen};
 ghost use Rattle.grounding.specs.Kept.{Keeps, Overfills};
-ghost use Rattle.grounding.specs.Pieces.{AreNarrow, AreNarrowInstances, IsPart, IsPartOfPiece, sources_of, start_of};
+ghost use Rattle.grounding.specs.Pieces.{AreNarrow, AreNarrowInstances, IsPart, IsPartOfPiece, end_of, sources_of, start_of};
 
 use crate::distinct::{Seen, keep};
 use crate::parts::{clauses_of_all, sum_of};
-use crate::pieces::{Making, PIECE, ROUND, Round};
+use crate::pieces::{PIECE, ROUND, Round};
 use crate::sorting::Part;
 use cnf::{Clauses, PushFault};
-use crew::{Crew, Parts, map_pieces};
+use crew::{Crew, Job, Parts, map_pieces};
 use edge::Gate;
 use indexmap::IndexSet;
 use lists::NoMemory;
@@ -32,12 +33,34 @@ const MOST_CLAUSES: u64 = 4_000_000;
 /// The most literals of a round of several pieces, by their measures.
 const MOST_LITERALS: u64 = 60_000_000;
 
+/// The pieces of the instances from `from` up to `to`, and how the clauses of a piece are made.
+#[derive(Drop)]
+struct Making<'a, F> {
+    make: &'a F,
+    from: u64,
+    to: u64,
+}
+
+impl<F: Fn(u64, u64) -> Result<Part, NoMemory> + Sync> Job for Making<'_, F> {
+    type Part = Part;
+
+    ghost has = { λ job piece. (start_of job.from piece ≤ job.to) × F.pre job.make.now (start_of job.from piece) (end_of job.from job.to piece) };
+
+    ghost is_right = { λ job piece part. F.post job.make.now (start_of job.from piece) (end_of job.from job.to piece) (Ok part) };
+
+    fn part(&self, piece: u32) -> Result<Part, NoMemory> {
+        let start = self.from + PIECE * u64::from(piece);
+        let end = start + PIECE.min(self.to - start);
+        (self.make)(start, end)
+    }
+}
+
 /// Appends the clauses of a part, each unless an equal one was kept.
 fn keep_all(alloc: Global, seen: &mut Seen, part: &Part, out: &mut Clauses) -> Result<(), PushFault>
     requires pairs { length part.now.origins.items ≡ length part.now.clauses }
-    ensures kept { OnOk result (Keeps (map (λ k. k.items) seen.old.keys) out.old (map (λ k. k.items) seen.new.keys) out.new
+    ensures kept { OnOk result (Keeps (codes_seen seen.old.keys) out.old (codes_seen seen.new.keys) out.new
         (sourced part.now.clauses part.now.origins.items)) }
-    ensures full { result ≡ Err PushFault.Full → Overfills (map (λ k. k.items) seen.old.keys) out.old
+    ensures full { result ≡ Err PushFault.Full → Overfills (codes_seen seen.old.keys) out.old
         (sourced part.now.clauses part.now.origins.items) }
 {
     for k in 0..part.clauses.len() {
@@ -61,9 +84,9 @@ fn keep_parts<K: OutcomeKind>(
     requires right { AreRight (IsPartOfPiece (K.size round.now.kind.now) round.now.named.now.sentence base round.now.from round.now.to) 0 parts.now }
     requires rising { round.now.from ≤ round.now.to }
     requires whole { round.now.to ≤ start_of round.now.from (length parts.now) }
-    ensures kept { OnOk result (Keeps (map (λ k. k.items) seen.old.keys) out.old (map (λ k. k.items) seen.new.keys) out.new
+    ensures kept { OnOk result (Keeps (codes_seen seen.old.keys) out.old (codes_seen seen.new.keys) out.new
         (sources_of (K.size round.now.kind.now) round.now.named.now.sentence base round.now.from round.now.to)) }
-    ensures full { result ≡ Err PushFault.Full → Overfills (map (λ k. k.items) seen.old.keys) out.old
+    ensures full { result ≡ Err PushFault.Full → Overfills (codes_seen seen.old.keys) out.old
         (sources_of (K.size round.now.kind.now) round.now.named.now.sentence base round.now.from round.now.to) }
 {
     let _ = round;
@@ -90,9 +113,9 @@ fn add_round<R: Threads + Sync, K: OutcomeKind, G: Gate>(
     requires instances { AreNarrowInstances (K.size round.now.kind.now) round.now.named.now round.now.from round.now.to }
     requires base { base ≤ 2 ^ 40 }
     requires short { round.now.to ≤ round.now.from + 16384 }
-    ensures kept { OnOk result (Keeps (map (λ k. k.items) seen.old.keys) out.old (map (λ k. k.items) seen.new.keys) out.new
+    ensures kept { OnOk result (Keeps (codes_seen seen.old.keys) out.old (codes_seen seen.new.keys) out.new
         (sources_of (K.size round.now.kind.now) round.now.named.now.sentence base round.now.from round.now.to)) }
-    ensures full { result ≡ Err PushFault.Full → Overfills (map (λ k. k.items) seen.old.keys) out.old
+    ensures full { result ≡ Err PushFault.Full → Overfills (codes_seen seen.old.keys) out.old
         (sources_of (K.size round.now.kind.now) round.now.named.now.sentence base round.now.from round.now.to) }
 {
     let (from, to) = (round.from, round.to);

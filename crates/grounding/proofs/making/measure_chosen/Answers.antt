@@ -1,7 +1,5 @@
-use Rattle.std.proofs.Common.{◌≡◌, ◌≤◌, ◌<◌, ◌+◌, ◌∙◌, Some, None, ap, arith, length, slice_get, slice_index_or, subst, sym}
+use Rattle.std.proofs.Common.{◌≡◌, ◌<◌, ◌+◌, ◌∙◌, Some, ap, length, slice_get, slice_index_or}
 use Rattle.std.proofs.lemmas.List.{length_push}
-use Rattle.vocab.specs.Limits.{instance_count}
-use Rattle.grounding.specs.Pieces.{IsFirstWide}
 use Rattle.grounding.proofs.ChosenLemmas.{chosen_below, few_at, sentence_at, wide-found, wide-further}
 use Rattle.grounding.proofs.making.measure_chosen.Goals as goal
 

@@ -1,4 +1,4 @@
-use Rattle.std.proofs.Common.{◌≡◌, ◌≤◌, ◌<◌, ◌+◌, ◌∙◌, ◌++◌, ℕ, List, Some, Err, true, false, ap, arith, length, slice_get, slice_index_or, take, subst, sym}
+use Rattle.std.proofs.Common.{◌≡◌, ◌<◌, ◌+◌, ◌∙◌, ◌++◌, List, Some, Err, true, false, ap, arith, length, slice_get, slice_index_or, take, subst, sym}
 use Rattle.vocab.specs.Limits.{instance_count}
 use Rattle.vocab.specs.Size.{Extent}
 use Rattle.meaning.specs.StudyClauses.{Sourced, from_axiom, study_clauses}

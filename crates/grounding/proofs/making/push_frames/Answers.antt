@@ -1,10 +1,7 @@
-use Rattle.std.proofs.Common.{rules, ◌≡◌, ◌<◌, ◌∙◌, ap, arith, length, subst, sym}
-use Rattle.std.specs.Prelude.{sum_by}
+use Rattle.std.proofs.Common.{rules, ◌<◌, arith}
 use Rattle.vocab.specs.declared.kinds.Sort.TheVariants.{Profile}
 use Rattle.vocab.specs.Size.{sort_count}
-use Rattle.cnf.specs.ClauseList.{ClauseList}
-use Rattle.outcomes.specs.Frames.{frame_clauses, with_clauses}
-use Rattle.grounding.proofs.FrameLemmas.{AreFramesTo, frames-more}
+use Rattle.grounding.proofs.FrameLemmas.{frames-more}
 use Rattle.grounding.proofs.making.push_frames.Goals as goal
 
 pub loop-p-preserved : goal.loop-p-preserved

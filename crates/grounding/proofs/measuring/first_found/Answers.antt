@@ -1,6 +1,5 @@
-use Rattle.std.proofs.Common.{◌≡◌, Some, None, subst, arith}
+use Rattle.std.proofs.Common.{subst, arith}
 use Rattle.crew.proofs.Rights.{AreRight-at}
-use Rattle.grounding.specs.declared.parts.Measured.{Measured}
 use Rattle.grounding.specs.Pieces.{IsFirstWide, IsFirstWideOfPiece, end_of, start_of}
 use Rattle.grounding.proofs.WideLemmas.{zero_more, narrow_further, narrow_to_end, wide_of_piece}
 use Rattle.grounding.proofs.measuring.first_found.Goals as goal

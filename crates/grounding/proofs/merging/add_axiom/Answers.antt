@@ -1,11 +1,8 @@
-use Rattle.std.proofs.Common.{◌≡◌, ◌≤◌, ◌<◌, ◌+◌, ◌-◌, ◌*◌, ◌^◌, ◌∙◌, ◌++◌, List, [], ℕ, ap, arith, min, sym, append-nil}
+use Rattle.std.proofs.Common.{◌≡◌, ◌+◌, ◌-◌, ◌*◌, ◌^◌, ◌∙◌, ◌++◌, List, [], ℕ, ap, arith, min, sym, append-nil}
 use Rattle.std.proofs.lemmas.List.{length-map, nil_from_length}
-use Rattle.std.proofs.lemmas.List.Sums.{fold-append}
 use Rattle.vocab.specs.Limits.{instance_count}
 use Rattle.meaning.specs.StudyClauses.{Sourced}
 use Rattle.clause_form.specs.Sources.{sourced}
-use Rattle.grounding.specs.Distinct.{kept_with}
-use Rattle.grounding.specs.Pieces.{sources_of}
 use Rattle.grounding.proofs.KeptLaws.{kept-as, over-as}
 use Rattle.grounding.proofs.SourceLemmas.{axiom-sources, next-round, over-rest}
 use Rattle.grounding.proofs.WideLemmas.{counted_whole}

@@ -1,15 +1,12 @@
-use Rattle.std.proofs.Common.{◌≡◌, ◌<◌, ◌≤◌, ◌+◌, ◌∙◌, [], ◌++◌, ap, ap₂, arith, fold, length, map, sym, take, get_or, ℕ, List, Err}
-use Rattle.std.specs.Prelude.{slice_index, slice_index_or, IsTrue}
+use Rattle.std.proofs.Common.{◌≡◌, ◌<◌, ◌≤◌, ◌+◌, ◌∙◌, [], ap, ap₂, arith, fold, length, sym, take, ℕ, List}
+use Rattle.std.specs.Prelude.{slice_index, slice_index_or}
 use Rattle.std.proofs.lemmas.List.{get_or_read, take_all}
 use Rattle.std.proofs.lemmas.List.Sums.{fold_more}
 use Rattle.cnf.specs.Sat.{Clause}
-use Rattle.cnf.specs.declared.clauses.PushFault.TheVariants.{Full}
 use Rattle.meaning.specs.StudyClauses.{Sourced}
-use Rattle.clause_form.specs.Refusals.{is_over_limits}
 use Rattle.clause_form.specs.Sources.{clauses_in, sourced}
 use Rattle.clause_form.proofs.SourceLaws.{length-sourced}
 use Rattle.grounding.specs.Distinct.{kept_with}
-use Rattle.grounding.specs.Kept.{IsKept}
 use Rattle.grounding.proofs.KeptLaws.{full-step, kept-as, kept-step, over-as, over-part, source-at, with_origin}
 use Rattle.grounding.proofs.merging.keep_all.Goals as goal
 

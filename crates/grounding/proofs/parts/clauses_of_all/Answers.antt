@@ -1,4 +1,4 @@
-use Rattle.std.proofs.Common.{◌≡◌, ◌≤◌, ◌+◌, ◌++◌, ◌∙◌, ℕ, List, ap, ap₂, arith, map}
+use Rattle.std.proofs.Common.{◌≡◌, ◌+◌, ◌++◌, ◌∙◌, ℕ, List, ap, ap₂, arith, map}
 use Rattle.vocab.specs.Formula.{body_of}
 use Rattle.vocab.specs.Tree.{Tree, tree_of}
 use Rattle.cnf.specs.Sat.{Clause}

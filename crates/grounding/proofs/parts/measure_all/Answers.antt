@@ -1,5 +1,4 @@
-use Rattle.std.proofs.Common.{◌≡◌, ◌≤◌, ◌<◌, ◌∙◌, ℕ, List, ap, ap₂, arith, inl, inr, subst, sym, false}
-use Rattle.std.specs.Prelude.{IsFalse}
+use Rattle.std.proofs.Common.{◌≡◌, ◌∙◌, ℕ, List, ap, ap₂, arith, inl, inr, subst, sym, false}
 use Rattle.std.proofs.lemmas.Bool.{cases_lt}
 use Rattle.vocab.specs.Formula.{body_of}
 use Rattle.vocab.specs.Tree.{Tree}
