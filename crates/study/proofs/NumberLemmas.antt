@@ -1,6 +1,6 @@
 -- The study of a number: its size, its entries one by one, and that nothing in it is refused.
-use Rattle.std.proofs.Common.{◌≡◌, ◌≤◌, ◌<◌, ◌+◌, arith, refl, sym, ap, ◌∙◌, subst, ℕ, zero, suc, pos, List, [], ◌∷◌, ◌++◌, length, get_or, take, drop, Bool, true, false, cond, not, Ok, Err, lit≤, append_assoc}
-use Rattle.std.specs.Prelude.{◌/◌, ◌%◌, ◌==◌, ◌&&◌}
+use Rattle.std.proofs.Common.{◌≡◌, ◌≤◌, ◌<◌, ◌+◌, arith, refl, sym, ℕ, zero, suc, pos, List, [], ◌∷◌, ◌++◌, length, get_or, drop, Bool, true, false, cond, not, Ok, Err, lit≤, append_assoc}
+use Rattle.std.specs.Prelude.{◌/◌, ◌%◌, ◌==◌}
 use Rattle.std.proofs.lemmas.Bool.{and_parts, and_from, or_parts, or_from, not_from_false}
 use Rattle.std.proofs.lemmas.List.{drop_more}
 use Rattle.std.specs.List.{list_any}

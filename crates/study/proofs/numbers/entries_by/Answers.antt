@@ -1,4 +1,4 @@
-use Rattle.std.proofs.Common.{◌∙◌, sym}
+use Rattle.std.proofs.Common.{◌∙◌}
 use Rattle.std.proofs.lemmas.Bool.{eq-eqb, ne_eqb}
 use Rattle.study.specs.Sample.{sample_entries}
 use Rattle.study.proofs.NumberLemmas.{entry_taken, entry_left}
