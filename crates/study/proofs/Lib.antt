@@ -9,3 +9,4 @@ pub mod SoundAxioms
 pub mod NamedAxioms
 pub mod WholeStudies
 pub mod Samples
+pub mod NumberLemmas

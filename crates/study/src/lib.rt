@@ -8,10 +8,12 @@ mod faults;
 pub mod laws;
 mod limits;
 mod listing;
+mod numbers;
 mod reading;
 mod sentences;
 #[cfg(test)]
 mod tests;
 
 pub use faults::{StudyFault, Text};
+pub use numbers::sample;
 pub use reading::read_study;

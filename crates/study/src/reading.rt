@@ -33,7 +33,7 @@ fn study_of(alloc: Global, listing: &Listing, sentences: &[Written]) -> Result<S
 }
 
 /// The study of a listing, or the first refusal of a text or a sentence.
-fn answer_of(alloc: Global, listing: &Listing) -> Result<Study, StudyFault>
+pub(crate) fn answer_of(alloc: Global, listing: &Listing) -> Result<Study, StudyFault>
     requires { IsListing listing.now }
     ensures ok { IfOk result (λ study. IsAnswer listing.now (Ok study)) }
     ensures refused { IfErr result (λ fault. fault ≢ StudyFault.NoMemory → IsAnswer listing.now (Err fault)) }
