@@ -33,15 +33,15 @@ few_statuses None = refl
 few_statuses (Some (Check study report workers)) = refl
 few_statuses (Some (Axioms kind)) = refl
 
-no_read_cause : (request : Option Request) (d : Devices) (names : List (List ℕ)) → AreQuiet d names → HasReadCause request d.told d.faults_before d.faults_now names → ⊥
-no_read_cause request d names quiet (at_first name others is rose) = (subst (λ (xs : List (List ℕ)). AreQuiet d xs) is quiet).0 rose
+no_read_cause : (request : Option Request) (d : Devices) (names : List (List ℕ)) → AreQuiet d names → HasReadCause request d.told d.left_before d.left_now d.faults_before d.faults_now names → ⊥
+no_read_cause request d names quiet (at_first name others is rose stay) = (subst (λ (xs : List (List ℕ)). AreQuiet d xs) is quiet).0 rose
 no_read_cause request d names quiet (at_second name second is rose taken) = (subst (λ (xs : List (List ℕ)). AreQuiet d xs) is quiet).1.0 rose
 
 module _ (words : List (List ℕ)) (d : Devices) (run : Run) (call : IsCall words d run) (calm : HasNoFault words d) where
   -- the answer is lawful, or memory was wanting
   settled : (files : Files) → AreFiles d.told (files_of (request_of words)) files → ((text : List ℕ) × Lawful words files run text) ⊎ (run.status ≡ 7)
   settled files are = elim (cases_lt run.status 5) [
-    | inl low ↦ let a = call.lawful files are (omega (arith, low)) in inl (a.0, a.1)
+    | inl low ↦ let a = call.lawful files are (omega (arith, low)) in inl (a.text, a.lawful)
     | inr high ↦ elim (cases_lt run.status 6) [
       | inl five ↦ absurd (no_read_cause (request_of words) d (files_of (request_of words)) calm.files (call.read_fault (omega (arith, five, high))))
       | inr more ↦ elim (cases_lt run.status 7) [

@@ -1,10 +1,9 @@
 -- What `decide` prints and what `sample` says holds; and where its limit is large, `decide` decides.
 use Rattle.std.proofs.Common.{◌≡◌, refl, sym, subst, ap, ◌∙◌, true≢false, eqb-true, filter, ℕ, ◌<◌, ◌≤◌, ◌^◌, inl, inr, true, not, List, [], ◌∷◌, length, Some, arith}
 use Rattle.std.specs.Cmp.Lexicographic.{pointwise}
-use Rattle.std.specs.Prelude.{◌==◌, Any, IsTrue, None}
-use Rattle.std.specs.List.{list_all, AllByRecursion}
+use Rattle.std.specs.Prelude.{◌==◌, Any, None}
+use Rattle.std.specs.List.{list_all}
 use Rattle.std.proofs.lemmas.Bool.{and_parts, or_cases}
-use Rattle.edge.specs.Shelf.{Files}
 use Rattle.vocab.specs.Size.{IsSize}
 use Rattle.vocab.specs.Study.{Question}
 use Rattle.cnf.proofs.SpentLaws.{spent_is_short}
@@ -19,18 +18,17 @@ use Rattle.meaning.specs.Variables.{variable_count}
 use Rattle.meaning.proofs.StoryLaws.{no_rule}
 use Rattle.verdicts.specs.declared.verdicts.Verdict.{Verdict}
 use Rattle.verdicts.specs.declared.verdicts.Verdict.TheVariants.{Possible, Impossible, Undecided}
-use Rattle.verdicts.specs.Report.{claims, is_right, report_text}
+use Rattle.verdicts.specs.Report.{is_right, report_text}
 use Rattle.verdicts.specs.Laws.{is_rule_given}
 use Rattle.study.proofs.OneAnswer.{samples_once}
 use Rattle.study.proofs.Samples.{samples_sized}
 use Rattle.study.proofs.WholeStudies.{studies_whole}
 use Rattle.search_logs.specs.declared.logs.SearchLog.{SearchLog}
-use Rattle.search_logs.specs.Spent.{has_place, IsSpentLog, IsOfAll, IsWithout, HaveEvidence, AreSpentLogs}
+use Rattle.search_logs.specs.Spent.{has_place, IsOfAll, IsWithout, HaveEvidence, AreSpentLogs}
 use Rattle.answers.specs.declared.runs.Run.{Run}
 use Rattle.answers.specs.Runs.{IsBare}
 use Rattle.answers.specs.Grounding.{OverClauses, clauses_refused, clauses_made}
-use Rattle.answers.specs.Evidence.{IsBacked, IsFound, IsUndecided, Decides, by_verdict, by_limit}
-use Rattle.answers.specs.Studies.{GivesStudy, OverStudy}
+use Rattle.answers.specs.Evidence.{IsBacked, IsFound, Decides, by_verdict, by_limit}
 use Rattle.answers.specs.Rules.{Claims}
 use Rattle.answers.specs.Decide.{IsReported}
 use Rattle.answers.specs.Sample.{IsSummed}

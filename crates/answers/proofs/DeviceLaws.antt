@@ -1,11 +1,11 @@
 -- What a call says and touches, by the devices.
-use Rattle.std.proofs.Common.{◌≡◌, ◌∙◌, ◌≢◌, refl, sym, ap, ap₂, subst, ℕ, ◌≤◌, Bool, true, false, cond, true≢false, eqb-true, List, [], ◌∷◌, take, length, Option, None, Some, arith}
-use Rattle.std.specs.Prelude.{◌==◌}
+use Rattle.std.proofs.Common.{◌≡◌, ◌∙◌, ◌≢◌, refl, sym, ap, ap₂, subst, ℕ, ◌≤◌, inl, inr, Bool, true, false, cond, true≢false, eqb-true, List, [], ◌∷◌, take, length, Option, None, Some, arith}
+use Rattle.std.specs.Prelude.{◌==◌, IfSome}
 use Rattle.std.specs.List.{list_any}
 use Rattle.std.specs.Str.{bytes_eq}
 use Rattle.std.specs.Io.KnownBytes.{Appends}
-use Rattle.std.proofs.lemmas.Bool.{and_parts}
-use Rattle.edge.specs.Shelf.{Files}
+use Rattle.std.proofs.lemmas.Bool.{and_parts, cases_lt}
+use Rattle.edge.specs.Shelf.{Files, OthersStay}
 use Rattle.edge.specs.Told.{AppendsPrefix}
 use Rattle.vocab.specs.declared.kinds.Kind.{Kind}
 use Rattle.vocab.specs.Study.{Question}
@@ -23,7 +23,7 @@ use Rattle.answers.specs.Check.{IsJudged, judgement, status_of}
 use Rattle.answers.specs.Axioms.{library_text}
 use Rattle.answers.specs.Lawful.{IsAnswer}
 use Rattle.answers.specs.Devices.{Devices}
-use Rattle.answers.specs.Call.{IsCall, AreFiles, are_told, none_read, files_of, statuses_of, touched_at}
+use Rattle.answers.specs.Call.{IsCall, AreFiles, are_told, none_read, AreUntouched, HasReadCause, at_first, at_second, IsFirstTaken, files_of, statuses_of, touched_at}
 use Rattle.answers.specs.Laws.{Says, IsConfirmedRight, ConfirmedHolds, ChecksAreAnswered, UsageIsExact, LibraryIsWritten, IsFirstAloneTouched, RefusedLeavesUnopened, OtherWordsTouchNone}
 use Rattle.answers.proofs.FitLemmas.{right_judged}
 use Rattle.answers.proofs.OneAnswer.{one_refusal}
@@ -35,13 +35,13 @@ module _ (words : List (List ℕ)) (d : Devices) (run : Run) (call : IsCall word
   written_at : (files : Files) → AreFiles d.told (files_of request) files → run.status ≤ 4 → (text : List ℕ) × IsAnswer request files run text × Appends d.taken_before d.taken_now text
   written_at files are low =
       let a = call.lawful files (subst (λ (r : Option Request). AreFiles d.told (files_of r) files) (sym asked) are) low in
-      (a.0, row_of words files run a.0 request asked a.1, a.2)
+      (a.text, row_of words files run a.text request asked a.lawful, a.written)
 
   front_at : (files : Files) → AreFiles d.told (files_of request) files → run.status ≡ 6
       → (status : ℕ) × (text : List ℕ) × IsAnswer request files (with_status status run) text × AppendsPrefix d.taken_before d.taken_now text
   front_at files are six =
       let a = call.cut_short files (subst (λ (r : Option Request). AreFiles d.told (files_of r) files) (sym asked) are) six in
-      (a.0, a.1, row_of words files (with_status a.0 run) a.1 request asked a.2, a.3)
+      (a.status, a.text, row_of words files (with_status a.status run) a.text request asked a.lawful, a.written)
 
 -- ---- words without files
 
@@ -165,6 +165,9 @@ other_name : (name other : List ℕ) (b : Bool) → bytes_eq name other ≡ b �
 other_name name other true e ne = absurd (ne (same_from_test name other e))
 other_name name other false e ne = rw e refl
 
+first_same : (name other : List ℕ) (names others : List (List ℕ)) → name ∷ names ≡ other ∷ others → name ≡ other
+first_same name other names others e = cc
+
 module _ (d : Devices) where
   -- where status 3 is one of a command, only its first file is touched
   first_alone : (request : Option Request) → list_any (λ s. s == 3) (statuses_of request) ≡ true
@@ -178,11 +181,56 @@ module _ (d : Devices) where
   }
   first_alone (Some (Axioms kind)) e untouched = absurd (true≢false (sym e))
 
-pub left_unopened : RefusedLeavesUnopened
-left_unopened words d run call three =
+at_three : (words : List (List ℕ)) (d : Devices) (run : Run) → IsCall words d run → run.status ≡ 3 → IsFirstAloneTouched (files_of (request_of words)) d
+at_three words d run call three =
     first_alone d (request_of words)
     (subst (λ (n : ℕ). list_any (λ s. s == n) (statuses_of (request_of words)) ≡ true) three call.status)
     (λ name free. call.untouched name (subst (λ (n : ℕ). list_any (bytes_eq name) (touched_at n (files_of (request_of words))) ≡ false) (sym three) free))
+
+module _ (words : List (List ℕ)) (d : Devices) (run : Run) (files : Files) (name report text : List ℕ) (workers : ℕ) (call : IsCall words d run) (told : d.told ≡ Some files)
+    (asked : request_of words ≡ Some (Check name report workers)) (refuses : RefusesStudy files name text) where
+  -- a file that is not touched at status 3
+  kept_at : (status : ℕ) → status ≡ 3 → AreUntouched status (files_of (request_of words)) d.left_before d.left_now → OthersStay d.left_before d.left_now name
+  kept_at status three untouched other ne =
+      let is : files_of (request_of words) ≡ name ∷ report ∷ [] = ap files_of asked in
+      let kept : AreUntouched 3 (name ∷ report ∷ []) d.left_before d.left_now =
+      subst (λ (names : List (List ℕ)). AreUntouched 3 names d.left_before d.left_now) is (subst (λ (s : ℕ). AreUntouched s (files_of (request_of words)) d.left_before d.left_now) three untouched) in
+      kept other (other_name other name _ refl ne)
+
+  below_five : run.status ≤ 4 → OthersStay d.left_before d.left_now name
+  below_five low =
+      let a = written_at words d run call (Some (Check name report workers)) asked files (are_told told) low in
+      kept_at run.status (refused_row files name run a.0 text _ refuses a.1).0 call.untouched
+
+  at_six : run.status ≡ 6 → OthersStay d.left_before d.left_now name
+  at_six six =
+      let a = call.cut_short files (subst (λ (r : Option Request). AreFiles d.told (files_of r) files) (sym asked) (are_told told)) six in
+      let row = row_of words files (with_status a.status run) a.text (Some (Check name report workers)) asked a.lawful in
+      kept_at a.status (refused_row files name (with_status a.status run) a.text text _ refuses row).0 a.untouched
+
+  -- the cause of a fault is not at the second file, since the first is refused
+  by_cause : (names : List (List ℕ)) → names ≡ name ∷ report ∷ [] → HasReadCause (request_of words) d.told d.left_before d.left_now d.faults_before d.faults_now names
+      → OthersStay d.left_before d.left_now name
+  by_cause names is (at_first first others named rose stay) = subst (λ (n : List ℕ). OthersStay d.left_before d.left_now n) (first_same first name others (report ∷ []) (sym named ∙ is)) stay
+  by_cause names is (at_second first second named rose taken) =
+      let same : first ≡ name = first_same first name (second ∷ []) (report ∷ []) (sym named ∙ is) in
+      let given = subst (λ (o : Option Files). IfSome o (λ f. IsFirstTaken (request_of words) f first)) told taken in
+      absurd (not_refused files name given.0 text (subst (λ (n : List ℕ). GivesStudy files n given.0) same given.1) refuses)
+
+  kept : run.status ≤ 6 → OthersStay d.left_before d.left_now name
+  kept few = elim (cases_lt run.status 5) [
+    | inl low ↦ below_five (omega (arith, low))
+    | inr high ↦ elim (cases_lt run.status 6) [
+      | inl five ↦ by_cause (files_of (request_of words)) (ap files_of asked) (call.read_fault (omega (arith, five, high)))
+      | inr more ↦ at_six (omega (arith, few, more))
+    ]
+  ]
+
+pub left_unopened : RefusedLeavesUnopened
+left_unopened words d run call = record {
+  at_three = at_three words d run call;
+  at_check = λ files name report text workers told asked refuses few. kept words d run files name report text workers call told asked refuses few;
+}
 
 none_of_none : (name : List ℕ) (b : Bool) → list_any (bytes_eq name) (cond b (take 1 []) []) ≡ false
 none_of_none name true = refl

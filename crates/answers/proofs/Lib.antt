@@ -4,6 +4,7 @@ mod FitLemmas
 mod DecidedLaws
 pub mod ReportLaws
 mod ClauseLaws
+mod CompleteLaws
 mod OneAnswer
 mod DeviceLaws
 mod CallLaws

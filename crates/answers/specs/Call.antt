@@ -1,9 +1,10 @@
--- What each call of the bench promises, whatever the words and the devices. The fields of `IsCall` stay as commands are added.
+-- What each call of the bench promises, whatever the words and the devices. The fields of `IsCall` stay as
+-- commands are added.
 use Rattle.std.specs.Prelude.{◌≡◌, ℕ, ◌≤◌, ◌==◌, ◌⊎◌, List, [], ◌∷◌, take, Option, None, Some, IfSome, IsTrue, IsFalse, if◌then◌else◌}
 use Rattle.std.specs.List.{list_any}
 use Rattle.std.specs.Str.{bytes_eq}
 use Rattle.std.specs.Io.KnownBytes.{Appends, Keeps}
-use Rattle.edge.specs.Shelf.{Files}
+use Rattle.edge.specs.Shelf.{Files, OthersStay}
 use Rattle.edge.specs.Faults.{Rose}
 use Rattle.edge.specs.Told.{AppendsPrefix}
 use Rattle.vocab.specs.Study.{Question}
@@ -32,6 +33,11 @@ statuses_of (Some (Axioms kind)) = 0 ∷ 6 ∷ 7 ∷ []
 abbrev pub touched_at : ℕ → List (List ℕ) → List (List ℕ)
 touched_at status names = if status == 3 then take 1 names else names
 
+-- files that a command may not touch at a status keep what was left of them
+abbrev pub AreUntouched : ℕ → List (List ℕ) → (before now : Files) → Type 0
+AreUntouched status names before now =
+    (name : List ℕ) → IsFalse (list_any (bytes_eq name) (touched_at status names)) → now name ≡ before name
+
 -- the first of two files is not refused
 abbrev pub IsFirstTaken : Option Request → Files → List ℕ → Type 0
 IsFirstTaken request files name = (study : Question) × GivesStudy files name study
@@ -43,19 +49,33 @@ pub data AreFiles (told : Option Files) (names : List (List ℕ)) (files : Files
   are_told : told ≡ Some files → AreFiles told names files
   none_read : names ≡ [] → AreFiles told names files
 
--- a fault has its cause at the first file, or at the second where the first is not refused
-pub data HasReadCause (request : Option Request) (told : Option Files) (before now : List ℕ → ℕ) (names : List (List ℕ)) : Type 0 where
-  at_first : (name : List ℕ) (others : List (List ℕ)) → names ≡ name ∷ others → Rose (before name) (now name) → HasReadCause request told before now names
-  at_second : (name second : List ℕ) → names ≡ name ∷ second ∷ [] → Rose (before second) (now second) → IfSome told (λ files. IsFirstTaken request files name)
-      → HasReadCause request told before now names
+-- a fault has its cause at the first file, and then no other was touched, or at the second where the first is
+-- not refused
+pub data HasReadCause (request : Option Request) (told : Option Files) (left_before left_now : Files)
+    (faults_before faults_now : List ℕ → ℕ) (names : List (List ℕ)) : Type 0 where
+  at_first : (name : List ℕ) (others : List (List ℕ)) → names ≡ name ∷ others
+      → Rose (faults_before name) (faults_now name) → OthersStay left_before left_now name
+      → HasReadCause request told left_before left_now faults_before faults_now names
+  at_second : (name second : List ℕ) → names ≡ name ∷ second ∷ []
+      → Rose (faults_before second) (faults_now second)
+      → IfSome told (λ files. IsFirstTaken request files name)
+      → HasReadCause request told left_before left_now faults_before faults_now names
 
--- the text of a lawful answer was written
-abbrev pub Answered : List (List ℕ) → Files → Run → Option (List ℕ) → Option (List ℕ) → Type 0
-Answered words files run before now = (text : List ℕ) × Lawful words files run text × Appends before now text
+module _ (words : List (List ℕ)) (d : Devices) (files : Files) (run : Run) where
+  -- the text of a lawful answer was written
+  pub record IsAnswered : Type 0 where
+    pub text : List ℕ
+    pub lawful : Lawful words files run text
+    pub written : Appends d.taken_before d.taken_now text
 
--- the front of the text of a lawful answer was written, which has the verdict and the logs of the run
-abbrev pub AnsweredInPart : List (List ℕ) → Files → Run → Option (List ℕ) → Option (List ℕ) → Type 0
-AnsweredInPart words files run before now = (status : ℕ) × (text : List ℕ) × Lawful words files (with_status status run) text × AppendsPrefix before now text
+  -- the front of the text of a lawful answer was written, which has the verdict and the logs of the run; and
+  -- no file was touched that the answer leaves alone
+  pub record IsAnsweredInPart : Type 0 where
+    pub status : ℕ
+    pub text : List ℕ
+    pub lawful : Lawful words files (with_status status run) text
+    pub written : AppendsPrefix d.taken_before d.taken_now text
+    pub untouched : AreUntouched status (files_of (request_of words)) d.left_before d.left_now
 
 -- nothing was written, and no search is told of
 pub record IsSilent (run : Run) (before now : Option (List ℕ)) : Type 0 where
@@ -63,19 +83,24 @@ pub record IsSilent (run : Run) (before now : Option (List ℕ)) : Type 0 where
   pub no_verdict : run.verdict ≡ None
   pub no_logs : run.logs ≡ []
 
--- what a call promises: its status and its answer, what was written, the causes of faults, and the files that stay as they were
+-- what a call promises: its status and its answer, what was written, the causes of faults, and the files that
+-- stay as they were
 pub record IsCall (words : List (List ℕ)) (d : Devices) (run : Run) : Type 0 where
   -- the status is one of the command's
   pub status : IsTrue (list_any (λ s. s == run.status) (statuses_of (request_of words)))
   -- below 5 the answer is lawful, and its text was written
-  pub lawful : (files : Files) → AreFiles d.told (files_of (request_of words)) files → run.status ≤ 4 → Answered words files run d.taken_before d.taken_now
+  pub lawful : (files : Files) → AreFiles d.told (files_of (request_of words)) files → run.status ≤ 4
+      → IsAnswered words d files run
   -- at 6 the front of it was
-  pub cut_short : (files : Files) → AreFiles d.told (files_of (request_of words)) files → run.status ≡ 6 → AnsweredInPart words files run d.taken_before d.taken_now
+  pub cut_short : (files : Files) → AreFiles d.told (files_of (request_of words)) files → run.status ≡ 6
+      → IsAnsweredInPart words d files run
   -- at 5 and 7 nothing was
   pub silent : (run.status ≡ 5) ⊎ (run.status ≡ 7) → IsSilent run d.taken_before d.taken_now
   -- 5 and 6 have their causes
-  pub read_fault : run.status ≡ 5 → HasReadCause (request_of words) d.told d.faults_before d.faults_now (files_of (request_of words))
+  pub read_fault : run.status ≡ 5 → HasReadCause (request_of words) d.told d.left_before d.left_now
+      d.faults_before d.faults_now (files_of (request_of words))
   pub write_fault : run.status ≡ 6 → Rose d.sink_faults_before d.sink_faults_now
   -- what is left of each other file stays; and where no file is read, no count of faults rose
-  pub untouched : (name : List ℕ) → IsFalse (list_any (bytes_eq name) (touched_at run.status (files_of (request_of words)))) → d.left_now name ≡ d.left_before name
-  pub uncounted : files_of (request_of words) ≡ [] → (name : List ℕ) → d.faults_now name ≡ d.faults_before name
+  pub untouched : AreUntouched run.status (files_of (request_of words)) d.left_before d.left_now
+  pub uncounted : files_of (request_of words) ≡ [] → (name : List ℕ)
+      → d.faults_now name ≡ d.faults_before name

@@ -3,7 +3,7 @@ use Rattle.std.specs.Prelude.{◌≡◌, List, Any, Some, IsTrue}
 use Rattle.vocab.specs.Study.{Question}
 use Rattle.meaning.specs.Tidy.{is_tidy}
 use Rattle.verdicts.specs.declared.verdicts.Verdict.{Verdict}
-use Rattle.verdicts.specs.declared.verdicts.Verdict.TheVariants.{Possible, Impossible, Undecided}
+use Rattle.verdicts.specs.declared.verdicts.Verdict.TheVariants.{Impossible, Undecided}
 use Rattle.verdicts.specs.Report.{claims, is_right}
 use Rattle.search_logs.specs.declared.logs.SearchLog.{SearchLog}
 use Rattle.search_logs.specs.Spent.{IsOfAll, HaveEvidence, AreSpentLogs}

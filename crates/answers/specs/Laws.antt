@@ -1,6 +1,6 @@
 -- What follows from the table of answers. Each is proved as the contract of a function of the same name in
 -- src/laws.rt.
-use Rattle.std.specs.Prelude.{◌≡◌, ℕ, ◌≤◌, ◌⊎◌, ◌↔◌, List, [], ◌∷◌, length, None, Some, IsTrue}
+use Rattle.std.specs.Prelude.{◌≡◌, ℕ, ◌≤◌, ◌⊎◌, ◌↔◌, List, [], ◌∷◌, length, None, Some}
 use Rattle.std.specs.Io.KnownBytes.{Appends}
 use Rattle.vocab.specs.declared.kinds.Kind.{Kind}
 use Rattle.edge.specs.Shelf.{Files, OthersStay}
@@ -103,18 +103,25 @@ abbrev pub LibraryIsWritten : Type 0
 LibraryIsWritten = (words : List (List ℕ)) (d : Devices) (run : Run) (kind : Kind) → IsCall words d run →
     request_of words ≡ Some (Axioms kind) → WritesLibrary d run kind
 
--- where a call ends with status 3, its command reads files, and none but the first was touched: the report of
--- a refused study was not opened
+-- a command reads files, and none but the first was touched
 pub record IsFirstAloneTouched (names : List (List ℕ)) (d : Devices) : Type 0 where
   pub first : List ℕ
   pub others : List (List ℕ)
   pub named : names ≡ first ∷ others
   pub stay : OthersStay d.left_before d.left_now first
 
+-- none but the first file was touched where a call ends with status 3; and none but the study where the shelf
+-- tells that the study of a `check` is refused, even if it could not be read or its line could not be
+-- written, want of memory aside
+pub record LeavesUnopened (words : List (List ℕ)) (d : Devices) (run : Run) : Type 0 where
+  pub at_three : run.status ≡ 3 → IsFirstAloneTouched (files_of (request_of words)) d
+  pub at_check : (files : Files) (name report text : List ℕ) (workers : ℕ) → d.told ≡ Some files
+      → request_of words ≡ Some (Check name report workers) → RefusesStudy files name text → run.status ≤ 6
+      → OthersStay d.left_before d.left_now name
+
 abbrev pub RefusedLeavesUnopened : Type 0
 RefusedLeavesUnopened =
-    (words : List (List ℕ)) (d : Devices) (run : Run) → IsCall words d run → run.status ≡ 3 →
-    IsFirstAloneTouched (files_of (request_of words)) d
+    (words : List (List ℕ)) (d : Devices) (run : Run) → IsCall words d run → LeavesUnopened words d run
 
 -- words that name no file touch none, and no count of faults changes
 abbrev pub OtherWordsTouchNone : Type 0

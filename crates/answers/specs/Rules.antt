@@ -1,5 +1,5 @@
 -- What is claimed of the rules of a study's size.
-use Rattle.std.specs.Prelude.{◌≡◌, ℕ, List, IsTrue}
+use Rattle.std.specs.Prelude.{ℕ, List, IsTrue}
 use Rattle.vocab.specs.Study.{Question}
 use Rattle.meaning.specs.Truth.{satisfies}
 use Rattle.verdicts.specs.declared.verdicts.Verdict.{Verdict}

@@ -1,6 +1,6 @@
 //! What follows from the table of answers. Each law is the contract of a function that does nothing.
 
-ghost use Rattle.answers.specs.RowLaws.{ConfirmedIsUnsatisfiable, DecidedAreConfirmed, DecidedHolds, EnoughDecides, ExportedSaysStudy, ProvedHolds, RowsAreOne, SampledHolds};
+ghost use Rattle.answers.specs.RowLaws.{ConfirmedIsUnsatisfiable, DecidedAreConfirmed, DecidedHolds, EnoughDecides, ExportedSaysStudy, ProvedHolds, RowsAreComplete, RowsAreOne, SampledHolds};
 ghost use Rattle.answers.specs.Laws.{CheckedAreRight, ConfirmedHolds, ChecksAreAnswered, AnswersAreOne, UsageIsExact, LibraryIsWritten, RefusedLeavesUnopened, OtherWordsTouchNone, CallsAreComplete};
 
 /// `check` confirms exactly the reports of right verdicts that claim something, within its limit.
@@ -33,7 +33,7 @@ pub fn library_is_written()
     ensures { LibraryIsWritten }
 {}
 
-/// Where the study of a command is refused, no other file was opened.
+/// Where the study of a command is refused, no other file was opened, want of memory aside.
 pub fn refused_leaves_unopened()
     ensures { RefusedLeavesUnopened }
 {}
@@ -87,4 +87,10 @@ pub fn sampled_holds()
 /// Over some files `export` and `lrat` have one answer each.
 pub fn rows_are_one()
     ensures { RowsAreOne }
+{}
+
+/// Where the clauses of a study are not refused, each command over them answers what was asked for, or that a search spent
+/// its limit.
+pub fn rows_are_complete()
+    ensures { RowsAreComplete }
 {}

@@ -104,7 +104,7 @@ module _ (words : List (List ℕ)) (d : Devices) where
   pub written : (answer : Answer) → Held (Ok answer) → Appends d.taken_before d.taken_now (text_of answer) → IsCall words d (run_of answer)
   written answer a bytes = record {
     status = a.status;
-    lawful = λ files h low. (text_of answer, a.lawful files h, bytes);
+    lawful = λ files h low. record { text = text_of answer; lawful = a.lawful files h; written = bytes };
     cut_short = λ files h six. absurd (omega (arith, six, a.low));
     silent = λ e. elim e [ inl five ↦ absurd (omega (arith, five, a.low)) | inr seven ↦ absurd (omega (arith, seven, a.low)) ];
     read_fault = λ five. absurd (omega (arith, five, a.low));
@@ -119,7 +119,7 @@ module _ (words : List (List ℕ)) (d : Devices) where
   cut answer a bytes rose = record {
     status = may_be_cut (request_of words);
     lawful = λ files h low. absurd (omega (arith, low));
-    cut_short = λ files h six. (status_of answer, text_of answer, a.lawful files h, bytes);
+    cut_short = λ files h six. record { status = status_of answer; text = text_of answer; lawful = a.lawful files h; written = bytes; untouched = a.untouched };
     silent = λ e. elim e [ inl five ↦ absurd (omega (arith, five)) | inr seven ↦ absurd (omega (arith, seven)) ];
     read_fault = λ five. absurd (omega (arith, five));
     write_fault = λ six. rose;
@@ -129,7 +129,7 @@ module _ (words : List (List ℕ)) (d : Devices) where
 
   -- nothing was
   silent_call : (run : Run) (s : ℕ) → IsBare run s → 5 ≤ s → s ≢ 6 → d.taken_now ≡ d.taken_before → IsTrue (list_any (λ n. n == s) (statuses_of (request_of words)))
-      → (s ≡ 5 → HasReadCause (request_of words) d.told d.faults_before d.faults_now (files_of (request_of words)))
+      → (s ≡ 5 → HasReadCause (request_of words) d.told d.left_before d.left_now d.faults_before d.faults_now (files_of (request_of words)))
       → ((name : List ℕ) → IsFalse (list_any (bytes_eq name) (touched_at s (files_of (request_of words)))) → d.left_now name ≡ d.left_before name)
       → (files_of (request_of words) ≡ [] → (name : List ℕ) → d.faults_now name ≡ d.faults_before name) → IsCall words d run
   silent_call run s bare high other same one cause untouched uncounted = record {

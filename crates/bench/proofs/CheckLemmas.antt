@@ -165,7 +165,7 @@ module _ (told : Option Files) (left_before left_middle : Files) (faults_before 
     lawful = λ files h. tt;
     status = refl;
     low = tt;
-    read_fault = λ e. at_first name (report ∷ []) refl (rose refl);
+    read_fault = λ e. at_first name (report ∷ []) refl (rose refl) others;
     untouched = λ other free. others other (not_first other name (report ∷ []) free);
     uncounted = λ e. absurd (cc);
   }
