@@ -22,15 +22,15 @@ use Rattle.clause_text.proofs.ReadingLemmas.{lt_false}
 
 -- ---- truth
 
-and_left : (a b : Bool) → (a && b) ≡ true → a ≡ true
+pub and_left : (a b : Bool) → (a && b) ≡ true → a ≡ true
 and_left true b h = refl
 and_left false b h = h
 
-and_right : (a b : Bool) → (a && b) ≡ true → b ≡ true
+pub and_right : (a b : Bool) → (a && b) ≡ true → b ≡ true
 and_right true b h = h
 and_right false b h = absurd (false≢true h)
 
-both : (a b : Bool) → a ≡ true → b ≡ true → (a && b) ≡ true
+pub both : (a b : Bool) → a ≡ true → b ≡ true → (a && b) ≡ true
 both a b h k = ap (λ (t : Bool). t && b) h ∙ k
 
 not_true : (a : Bool) → not a ≡ true → a ≡ false
@@ -64,28 +64,28 @@ digit_plain c h =
     let line : c ≢ 10 = omega (arith, low) in
     rw (ne_eqb c 9 tab, ne_eqb c 13 ret, ne_eqb c 32 space, ne_eqb c 10 line) refl
 
-abbrev some_bytes : List ℕ → Bool
+abbrev pub some_bytes : List ℕ → Bool
 some_bytes [] = false
 some_bytes (c ∷ cs) = true
 
-number_plain : (n : ℕ) → list_all is_plain (number_text n) ≡ true
+pub number_plain : (n : ℕ) → list_all is_plain (number_text n) ≡ true
 number_plain n = all_weaker is_digit is_plain digit_plain (number_text n) (number_digits n)
 
-number_some : (n : ℕ) → some_bytes (number_text n) ≡ true
+pub number_some : (n : ℕ) → some_bytes (number_text n) ≡ true
 number_some n = by_text (number_text n) (text_is_number n)
   where
     by_text : (text : List ℕ) → is_number text ≡ true → some_bytes text ≡ true
     by_text [] h = h
     by_text (c ∷ cs) h = refl
 
-literal_plain : (l : Signed) → list_all is_plain (literal_text l) ≡ true
+pub literal_plain : (l : Signed) → list_all is_plain (literal_text l) ≡ true
 literal_plain l = by_sign l.positive
   where
     by_sign : (t : Bool) → list_all is_plain (cond t (number_text l.variable) (45 ∷ number_text l.variable)) ≡ true
     by_sign true = number_plain l.variable
     by_sign false = number_plain l.variable
 
-literal_some : (l : Signed) → some_bytes (literal_text l) ≡ true
+pub literal_some : (l : Signed) → some_bytes (literal_text l) ≡ true
 literal_some l = by_sign l.positive
   where
     by_sign : (t : Bool) → some_bytes (cond t (number_text l.variable) (45 ∷ number_text l.variable)) ≡ true
@@ -95,7 +95,7 @@ literal_some l = by_sign l.positive
 -- ---- parts
 
 module _ (p : ℕ → Bool) where
-  split_off : (part : List ℕ) (c : ℕ) (rest : List ℕ) → list_all (λ b. not (p b)) part ≡ true → p c ≡ true → slice_split p (part ++ c ∷ rest) ≡ part ∷ slice_split p rest
+  pub split_off : (part : List ℕ) (c : ℕ) (rest : List ℕ) → list_all (λ b. not (p b)) part ≡ true → p c ≡ true → slice_split p (part ++ c ∷ rest) ≡ part ∷ slice_split p rest
   split_off [] c rest h e = slice_split-cons_yes p c rest e
   split_off (b ∷ part) c rest h e =
       slice_split-cons_no p b (part ++ c ∷ rest) (not_true (p b) (and_left (not (p b)) (list_all (λ b. not (p b)) part) h))
@@ -110,18 +110,18 @@ module _ (p : ℕ → Bool) where
 plain_word : (text : List ℕ) → list_all is_plain text ≡ true → list_all (λ b. not (is_blank b)) text ≡ true
 plain_word text h = all_weaker is_plain (λ b. not (is_blank b)) (λ c e. and_left (not (is_blank c)) (not (is_end c)) e) text h
 
-plain_line : (text : List ℕ) → list_all is_plain text ≡ true → list_all (λ b. not (is_end b)) text ≡ true
+pub plain_line : (text : List ℕ) → list_all is_plain text ≡ true → list_all (λ b. not (is_end b)) text ≡ true
 plain_line text h = all_weaker is_plain (λ b. not (is_end b)) (λ c e. and_right (not (is_blank c)) (not (is_end c)) e) text h
 
 -- a word with a blank after it
-one_word : (word rest : List ℕ) → some_bytes word ≡ true → list_all is_plain word ≡ true → words_of (word ++ 32 ∷ rest) ≡ word ∷ words_of rest
+pub one_word : (word rest : List ℕ) → some_bytes word ≡ true → list_all is_plain word ≡ true → words_of (word ++ 32 ∷ rest) ≡ word ∷ words_of rest
 one_word [] rest some plain = absurd (false≢true some)
 one_word (c ∷ x) rest some plain =
     ap (filter (λ (w : List ℕ). not (length w == 0))) (split_off is_blank (c ∷ x) 32 rest (plain_word (c ∷ x) plain) refl)
     ∙ keeps c x (slice_split is_blank rest)
 
 -- a word alone
-last_word : (word : List ℕ) → some_bytes word ≡ true → list_all is_plain word ≡ true → words_of word ≡ word ∷ []
+pub last_word : (word : List ℕ) → some_bytes word ≡ true → list_all is_plain word ≡ true → words_of word ≡ word ∷ []
 last_word [] some plain = absurd (false≢true some)
 last_word (c ∷ x) some plain =
     ap (filter (λ (w : List ℕ). not (length w == 0))) (split_last is_blank (c ∷ x) (plain_word (c ∷ x) plain))
@@ -129,7 +129,7 @@ last_word (c ∷ x) some plain =
 
 -- ---- clauses
 
-clause_front : (l : Signed) (ls : Clause) → clause_text (l ∷ ls) ≡ literal_text l ++ 32 ∷ clause_text ls
+pub clause_front : (l : Signed) (ls : Clause) → clause_text (l ∷ ls) ≡ literal_text l ++ 32 ∷ clause_text ls
 clause_front l ls =
     let more : List ℕ = flat_map (λ (l : Signed). literal_text l ++ 32 ∷ []) ls in
     append_assoc (literal_text l ++ 32 ∷ []) more (48 ∷ []) ∙ append_assoc (literal_text l) (32 ∷ []) (more ++ 48 ∷ [])
@@ -139,7 +139,7 @@ clause_words [] = refl
 clause_words (l ∷ ls) =
     ap words_of (clause_front l ls) ∙ one_word (literal_text l) (clause_text ls) (literal_some l) (literal_plain l) ∙ ap (λ (ws : List (List ℕ)). literal_text l ∷ ws) (clause_words ls)
 
-clause_line : (clause : Clause) → list_all (λ b. not (is_end b)) (clause_text clause) ≡ true
+pub clause_line : (clause : Clause) → list_all (λ b. not (is_end b)) (clause_text clause) ≡ true
 clause_line [] = refl
 clause_line (l ∷ ls) =
     ap (list_all (λ b. not (is_end b))) (clause_front l ls)
@@ -148,7 +148,7 @@ clause_line (l ∷ ls) =
 
 -- ---- words of clauses
 
-number_again : (most n : ℕ) → n ≤ most → number_up_to most (number_text n) ≡ Some n
+pub number_again : (most n : ℕ) → n ≤ most → number_up_to most (number_text n) ≡ Some n
 number_again most n h =
     ap (λ (read : Option ℕ). option_and_then (λ (n : ℕ). cond (nat_le n most) (Some n) None) read) (read_text n) ∙ ap (λ (t : Bool). cond t (Some n) None) (le_true n most h)
 
@@ -160,7 +160,7 @@ unsigned v (c ∷ cs) some digits =
     let sign : c ≢ 45 = omega (arith, low) in
     ap (λ (t : Bool). cond t (minus_token (number_up_to v cs)) (plain_token (number_up_to v (c ∷ cs)))) (ne_eqb c 45 sign)
 
-literal_token : (v : ℕ) (l : Signed) → (nat_le 1 l.variable && nat_le l.variable v) ≡ true → token_of v (literal_text l) ≡ Some (Says l)
+pub literal_token : (v : ℕ) (l : Signed) → (nat_le 1 l.variable && nat_le l.variable v) ≡ true → token_of v (literal_text l) ≡ Some (Says l)
 literal_token v l within = by_sign l.positive refl
   where
     some : l.variable ≢ 0
@@ -180,7 +180,7 @@ literal_token v l within = by_sign l.positive refl
         ∙ ap (λ (t : Bool). cond t None (Some (Says (record { variable = l.variable; positive = false })))) (ne_eqb l.variable 0 some)
         ∙ ap (λ (t : Bool). Some (Says (record { variable = l.variable; positive = t }))) (sym is)
 
-end_token : (v : ℕ) → token_of v (48 ∷ []) ≡ Some Ends
+pub end_token : (v : ℕ) → token_of v (48 ∷ []) ≡ Some Ends
 end_token v = let low : 0 ≤ v = omega arith in ap (λ (t : Bool). plain_token (cond t (Some 0) None)) (le_true 0 v low)
 
 module _ (v count n : ℕ) (whole : Clause) (done : List Clause) (rest : List (ℕ × List ℕ)) (room : is_full_for done whole ≡ false) where
@@ -211,7 +211,7 @@ body_lines (c ∷ cs) =
     ∙ split_off is_end (clause_text c) 10 more (clause_line c) refl
     ∙ ap (λ (ls : List (List ℕ)). clause_text c ∷ ls) (body_lines cs)
 
-digits_say : (text rest : List ℕ) → some_bytes text ≡ true → list_all is_digit text ≡ true → is_comment (text ++ rest) ≡ false
+pub digits_say : (text rest : List ℕ) → some_bytes text ≡ true → list_all is_digit text ≡ true → is_comment (text ++ rest) ≡ false
 digits_say [] rest some digits = absurd (false≢true some)
 digits_say (c ∷ cs) rest some digits =
     let high : c ≤ 57 = leb-true c 57 (and_right (nat_le 48 c) (nat_le c 57) (and_left (is_digit c) (list_all is_digit cs) digits)) in
