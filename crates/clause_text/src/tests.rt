@@ -200,5 +200,7 @@ fn size_stands_in_the_second_comment(rt: HostRuntime) -> Result<(), Fail> {
 #[test]
 fn laws_are_calls_that_return() {
     laws::cnf_examples();
+    laws::written_clauses_are_read();
+    laws::written_lines_are_read();
     laws::lrat_examples();
 }
