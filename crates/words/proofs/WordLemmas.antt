@@ -3,7 +3,7 @@ use Rattle.std.proofs.Common.{◌≡◌, refl, [], ◌∷◌, ◌++◌, codes, S
 use Rattle.clap.specs.Words.{Text}
 use Rattle.clap.proofs.OnLiterals.{clap_on_literals}
 use Rattle.words.specs.Values.{number_within, kind_of}
-use Rattle.words.specs.Words.{Check, Axioms, request_of}
+use Rattle.words.specs.Words.{Decide, Check, Export, Proof, Lrat, Axioms, Sample, request_of}
 use Rattle.words.specs.Laws.{IsPlain, OddWords, PlainWords, WorkersWords}
 
 pub odd : OddWords
@@ -19,7 +19,6 @@ odd = record {
   file_help = refl;
   file_of_a_command = refl;
   front_of_a_command = refl;
-  command_to_come = refl;
   option_before_the_command = refl;
   option_in_one_word = refl;
   option_twice = refl;
@@ -39,12 +38,39 @@ odd = record {
   one_word_less = refl;
   one_word_more = refl;
   sets = refl;
+  study_alone = refl;
+  workers_of_decide = refl;
+  workers_of_lrat = refl;
+  negative = refl;
+  leading_zero_of_number = refl;
+  greatest = refl;
+  above_greatest = refl;
 }
+
+decide_read : (word : Text) → IsPlain word → request_of (codes "decide" ∷ word ∷ []) ≡ Some (Decide word 1)
+unfolding clap_on_literals request_of
+decide_read [] e = refl
+decide_read (c ∷ cs) e = rw (e, e) refl
+
+export_read : (word : Text) → IsPlain word → request_of (codes "export" ∷ word ∷ []) ≡ Some (Export word 1)
+unfolding clap_on_literals request_of
+export_read [] e = refl
+export_read (c ∷ cs) e = rw (e, e) refl
+
+proof_read : (word : Text) → IsPlain word → request_of (codes "proof" ∷ word ∷ []) ≡ Some (Proof word 1)
+unfolding clap_on_literals request_of
+proof_read [] e = refl
+proof_read (c ∷ cs) e = rw (e, e) refl
 
 axioms_read : (word : Text) → IsPlain word → request_of (codes "axioms" ∷ word ∷ []) ≡ option_map Axioms (kind_of word)
 unfolding clap_on_literals request_of
 axioms_read [] e = refl
 axioms_read (c ∷ cs) e = rw (e, e) refl
+
+sample_read : (word : Text) → IsPlain word → request_of (codes "sample" ∷ word ∷ []) ≡ option_map Sample (number_within 0 4294967295 word)
+unfolding clap_on_literals request_of
+sample_read [] e = refl
+sample_read (c ∷ cs) e = rw (e, e) refl
 
 check_read : (a b : Text) → IsPlain a → IsPlain b → request_of (codes "check" ∷ a ∷ b ∷ []) ≡ Some (Check a b 1)
 unfolding clap_on_literals request_of
@@ -52,6 +78,13 @@ check_read [] [] e f = refl
 check_read [] (d ∷ ds) e f = rw (f, f) refl
 check_read (c ∷ cs) [] e f = rw (e, e) refl
 check_read (c ∷ cs) (d ∷ ds) e f = rw (e, e, f, f) refl
+
+lrat_read : (a b : Text) → IsPlain a → IsPlain b → request_of (codes "lrat" ∷ a ∷ b ∷ []) ≡ Some (Lrat a b)
+unfolding clap_on_literals request_of
+lrat_read [] [] e f = refl
+lrat_read [] (d ∷ ds) e f = rw (f, f) refl
+lrat_read (c ∷ cs) [] e f = rw (e, e) refl
+lrat_read (c ∷ cs) (d ∷ ds) e f = rw (e, e, f, f) refl
 
 before_read : (a b : Text) → IsPlain a → IsPlain b → request_of (codes "check" ∷ codes "--workers" ∷ b ∷ codes "s" ∷ a ∷ []) ≡ option_map (Check (codes "s") a) (number_within 1 16 b)
 unfolding clap_on_literals request_of
@@ -82,7 +115,15 @@ joined_read (c ∷ cs) [] n e f = rw (e, e) refl
 joined_read (c ∷ cs) (d ∷ ds) n e f = rw (e, e, f, f) refl
 
 pub plain : PlainWords
-plain = record { check = check_read; axioms = axioms_read }
+plain = record {
+  decide = decide_read;
+  check = check_read;
+  export = export_read;
+  proof = proof_read;
+  lrat = lrat_read;
+  axioms = axioms_read;
+  sample = sample_read;
+}
 
 pub workers : WorkersWords
 workers = record { before = before_read; between = between_read; after = after_read; joined = joined_read }

@@ -6,8 +6,8 @@ use Rattle.std.proofs.lemmas.Bool.{and_parts, leb-true}
 use Rattle.verdicts.specs.Numbers.{read_number}
 use Rattle.clap.specs.Words.{Row, Text, first_of}
 use Rattle.words.specs.declared.commands.Command.{Command}
-use Rattle.words.specs.Values.{number_within, workers_in, kind_in}
-use Rattle.words.specs.Words.{Request, Check, Axioms, HasWorkers, asked, over_study, request_under}
+use Rattle.words.specs.Values.{number_within, workers_in, kind_in, number_in}
+use Rattle.words.specs.Words.{Request, Decide, Check, Export, Proof, Lrat, Axioms, Sample, HasWorkers, asked, over_study, request_under}
 
 abbrev Good : Option Request → Type 0
 Good o = IfSome o HasWorkers
@@ -46,14 +46,24 @@ module _ (rows : List Row) where
   checks None = tt
   checks (Some report) = over (λ study workers. Check study report workers) (λ study n few. few)
 
+  proves : (cnf proof : Option Text) → Good (option_and_then (λ c. option_map (Lrat c) proof) cnf)
+  proves None proof = tt
+  proves (Some c) None = tt
+  proves (Some c) (Some p) = tt
+
   mapped : {A : Type 0} (make : A → Request) → ((a : A) → HasWorkers (make a)) → (o : Option A) → Good (option_map make o)
   mapped make good None = tt
   mapped make good (Some a) = good a
 
   under : (name : Text) → Good (request_under name rows)
   under name =
-      either (bytes_eq name (codes "check")) _ _ (checks (first_of (codes "report") rows))
-      (either (bytes_eq name (codes "axioms")) _ _ (mapped Axioms (λ kind. tt) (kind_in rows)) tt)
+      either (bytes_eq name (codes "decide")) _ _ (over Decide (λ study n few. few))
+      (either (bytes_eq name (codes "check")) _ _ (checks (first_of (codes "report") rows))
+      (either (bytes_eq name (codes "export")) _ _ (over Export (λ study n few. few))
+      (either (bytes_eq name (codes "proof")) _ _ (over Proof (λ study n few. few))
+      (either (bytes_eq name (codes "lrat")) _ _ (proves (first_of (codes "cnf") rows) (first_of (codes "proof") rows))
+      (either (bytes_eq name (codes "axioms")) _ _ (mapped Axioms (λ kind. tt) (kind_in rows))
+      (either (bytes_eq name (codes "sample")) _ _ (mapped Sample (λ n. tt) (number_in rows)) tt))))))
 
 -- so has each command that was found
 pub found : (command : Option Command) (name : Text) (rows : List Row) → option_map asked command ≡ request_under name rows → IfSome command (λ it. HasWorkers (asked it))

@@ -2,7 +2,7 @@
 use Rattle.std.specs.Prelude.{◌≡◌, ◌==◌, Bool, false, [], ◌∷◌, ◌++◌, codes, None, Some, option_map}
 use Rattle.clap.specs.Words.{Text}
 use Rattle.words.specs.Values.{number_within, kind_of}
-use Rattle.words.specs.Words.{Check, Axioms, request_of}
+use Rattle.words.specs.Words.{Decide, Check, Export, Proof, Lrat, Axioms, Sample, request_of}
 
 abbrev pub begins_with_hyphen : Text → Bool
 begins_with_hyphen [] = false
@@ -13,8 +13,14 @@ IsPlain word = begins_with_hyphen word ≡ false
 
 -- a command takes its words in their order, whatever they are, as long as none begins with a hyphen
 pub record PlainWords : Type 0 where
+  pub decide : (study : Text) → IsPlain study → request_of (codes "decide" ∷ study ∷ []) ≡ Some (Decide study 1)
   pub check : (study report : Text) → IsPlain study → IsPlain report → request_of (codes "check" ∷ study ∷ report ∷ []) ≡ Some (Check study report 1)
+  pub export : (study : Text) → IsPlain study → request_of (codes "export" ∷ study ∷ []) ≡ Some (Export study 1)
+  pub proof : (study : Text) → IsPlain study → request_of (codes "proof" ∷ study ∷ []) ≡ Some (Proof study 1)
+  pub lrat : (cnf proof : Text) → IsPlain cnf → IsPlain proof → request_of (codes "lrat" ∷ cnf ∷ proof ∷ []) ≡ Some (Lrat cnf proof)
   pub axioms : (kind : Text) → IsPlain kind → request_of (codes "axioms" ∷ kind ∷ []) ≡ option_map Axioms (kind_of kind)
+  pub sample : (number : Text) → IsPlain number
+      → request_of (codes "sample" ∷ number ∷ []) ≡ option_map Sample (number_within 0 4294967295 number)
 
 -- `--workers` may stand before, between and after them, in one word or in two
 pub record WorkersWords : Type 0 where
@@ -39,7 +45,6 @@ pub record OddWords : Type 0 where
   pub file_help : request_of (codes "check" ∷ codes "help" ∷ codes "r" ∷ []) ≡ Some (Check (codes "help") (codes "r") 1)
   pub file_of_a_command : request_of (codes "check" ∷ codes "axioms" ∷ codes "check" ∷ []) ≡ Some (Check (codes "axioms") (codes "check") 1)
   pub front_of_a_command : request_of (codes "che" ∷ codes "s" ∷ codes "r" ∷ []) ≡ None
-  pub command_to_come : request_of (codes "decide" ∷ codes "s" ∷ []) ≡ None
   pub option_before_the_command : request_of (codes "--workers" ∷ codes "4" ∷ codes "check" ∷ codes "s" ∷ codes "r" ∷ []) ≡ None
   pub option_in_one_word : request_of (codes "check" ∷ codes "s" ∷ codes "r" ∷ codes "--workers=4" ∷ []) ≡ Some (Check (codes "s") (codes "r") 4)
   pub option_twice : request_of (codes "check" ∷ codes "s" ∷ codes "r" ∷ codes "--workers" ∷ codes "4" ∷ codes "--workers" ∷ codes "4" ∷ []) ≡ None
@@ -59,3 +64,10 @@ pub record OddWords : Type 0 where
   pub one_word_less : request_of (codes "check" ∷ codes "s" ∷ []) ≡ None
   pub one_word_more : request_of (codes "check" ∷ codes "s" ∷ codes "r" ∷ codes "t" ∷ []) ≡ None
   pub sets : request_of (codes "axioms" ∷ codes "sets" ∷ []) ≡ None
+  pub study_alone : request_of (codes "decide" ∷ []) ≡ None
+  pub workers_of_decide : request_of (codes "decide" ∷ codes "--workers=16" ∷ codes "s" ∷ []) ≡ Some (Decide (codes "s") 16)
+  pub workers_of_lrat : request_of (codes "lrat" ∷ codes "c" ∷ codes "p" ∷ codes "--workers" ∷ codes "4" ∷ []) ≡ None
+  pub negative : request_of (codes "sample" ∷ codes "-3" ∷ []) ≡ None
+  pub leading_zero_of_number : request_of (codes "sample" ∷ codes "007" ∷ []) ≡ None
+  pub greatest : request_of (codes "sample" ∷ codes "4294967295" ∷ []) ≡ Some (Sample 4294967295)
+  pub above_greatest : request_of (codes "sample" ∷ codes "4294967296" ∷ []) ≡ None

@@ -2,17 +2,41 @@
 
 use vocab::Kind;
 
-/// A command with its words. A file is known by its name.
+/// A command with its words. A file is known by its name; a number of workers is from 1 to 16.
 #[derive(Clone, Copy, Debug)]
 pub enum Command<'a> {
-    /// `check STUDY REPORT`, with `--workers K`, from 1 to 16.
+    /// `decide STUDY`, with `--workers K`.
+    Decide {
+        study: &'a str,
+        workers: u8,
+    },
+    /// `check STUDY REPORT`, with `--workers K`.
     Check {
         study: &'a str,
         report: &'a str,
         workers: u8,
     },
+    /// `export STUDY`, with `--workers K`.
+    Export {
+        study: &'a str,
+        workers: u8,
+    },
+    /// `proof STUDY`, with `--workers K`.
+    Proof {
+        study: &'a str,
+        workers: u8,
+    },
+    /// `lrat CNF PROOF`.
+    Lrat {
+        cnf: &'a str,
+        proof: &'a str,
+    },
     /// `axioms KIND`.
     Axioms {
         kind: Kind,
+    },
+    /// `sample N`, with a number up to 4,294,967,295.
+    Sample {
+        number: u32,
     },
 }

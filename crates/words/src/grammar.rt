@@ -2,7 +2,7 @@
 
 ghost use Rattle.std.specs.Prelude.{◌≡◌, IfOk, false};
 ghost use Rattle.clap.specs.Words.{app_of, rule_of};
-ghost use Rattle.words.specs.Words.{place, workers_option, IsLeaf, check_shape, axioms_shape, top_shape, bench_app};
+ghost use Rattle.words.specs.Words.{place, workers_option, IsLeaf, study_shape, check_shape, lrat_shape, axioms_shape, sample_shape, top_shape, bench_app};
 
 use clap::{Arg, Command};
 use std::alloc::{AllocError, Global};
@@ -25,6 +25,14 @@ fn workers_option<'a>(alloc: Global) -> Arg<'a>
         .default_value("1")
 }
 
+/// A command that takes a study, and a number of workers.
+fn study_command<'a>(alloc: Global, name: &'a str) -> Result<Command<'a>, AllocError>
+    ensures { IfOk result (IsLeaf (study_shape name.now)) }
+{
+    let command = Command::new(alloc, name).arg(place(alloc, "study"))?;
+    command.arg(workers_option(alloc))
+}
+
 /// `check STUDY REPORT`.
 fn check_command<'a>(alloc: Global) -> Result<Command<'a>, AllocError>
     ensures { IfOk result (IsLeaf check_shape) }
@@ -34,11 +42,26 @@ fn check_command<'a>(alloc: Global) -> Result<Command<'a>, AllocError>
     command.arg(workers_option(alloc))
 }
 
+/// `lrat CNF PROOF`.
+fn lrat_command<'a>(alloc: Global) -> Result<Command<'a>, AllocError>
+    ensures { IfOk result (IsLeaf lrat_shape) }
+{
+    let command = Command::new(alloc, "lrat").arg(place(alloc, "cnf"))?;
+    command.arg(place(alloc, "proof"))
+}
+
 /// `axioms KIND`.
 fn axioms_command<'a>(alloc: Global) -> Result<Command<'a>, AllocError>
     ensures { IfOk result (IsLeaf axioms_shape) }
 {
     Command::new(alloc, "axioms").arg(place(alloc, "kind"))
+}
+
+/// `sample N`.
+fn sample_command<'a>(alloc: Global) -> Result<Command<'a>, AllocError>
+    ensures { IfOk result (IsLeaf sample_shape) }
+{
+    Command::new(alloc, "sample").arg(place(alloc, "number"))
 }
 
 /// The program before its commands: one of them is wanted.
@@ -54,6 +77,11 @@ fn top_command<'a>(alloc: Global) -> Command<'a>
 pub(crate) fn bench_command<'a>(alloc: Global) -> Result<Command<'a>, AllocError>
     ensures { IfOk result (λ command. app_of command ≡ bench_app) }
 {
-    let command = top_command(alloc).subcommand(check_command(alloc)?)?;
-    command.subcommand(axioms_command(alloc)?)
+    let command = top_command(alloc).subcommand(study_command(alloc, "decide")?)?;
+    let command = command.subcommand(check_command(alloc)?)?;
+    let command = command.subcommand(study_command(alloc, "export")?)?;
+    let command = command.subcommand(study_command(alloc, "proof")?)?;
+    let command = command.subcommand(lrat_command(alloc)?)?;
+    let command = command.subcommand(axioms_command(alloc)?)?;
+    command.subcommand(sample_command(alloc)?)
 }

@@ -2,8 +2,9 @@
 
 ghost use Rattle.std.specs.Prelude.{◌≡◌, ℕ, IfOk, IfSome, option_map};
 ghost use Rattle.clap.specs.Words.{Text, first_of, found_of, rows_of, subcommand_rows_of};
-ghost use Rattle.words.specs.Values.{kind_of, number_within, workers_in, kind_in};
-ghost use Rattle.words.specs.Words.{Request, Check, Axioms, HasWorkers, texts, asked, over_study, check_in, request_under, request_in, request_of};
+ghost use Rattle.words.specs.Values.{kind_of, number_within, workers_in, kind_in, number_in};
+ghost use Rattle.words.specs.Words.{Request, Decide, Check, Export, Proof, Axioms, Sample, HasWorkers};
+ghost use Rattle.words.specs.Words.{texts, asked, over_study, check_in, lrat_in, request_under, request_in, request_of};
 
 use crate::commands::Command;
 use crate::grammar::bench_command;
@@ -53,6 +54,20 @@ fn kind_in(matches: &ArgMatches<'_>) -> Option<Kind>
     kind_of(value_at(matches, "kind")?)
 }
 
+/// A number of 32 bits.
+fn number_of(word: &str) -> Option<u32>
+    ensures { result ≡ number_within 0 4294967295 word.now }
+{
+    number_within(word.as_bytes(), 0, 4_294_967_295).map(|number| number as u32)
+}
+
+/// The number that was found.
+fn number_in(matches: &ArgMatches<'_>) -> Option<u32>
+    ensures { result ≡ number_in (rows_of (found_of matches.now)) }
+{
+    number_of(value_at(matches, "number")?)
+}
+
 /// The study and the number of workers.
 fn over_study<'a>(matches: &ArgMatches<'a>) -> Option<(&'a str, u8)>
     ensures { (make : Text → ℕ → Request) →
@@ -61,6 +76,14 @@ fn over_study<'a>(matches: &ArgMatches<'a>) -> Option<(&'a str, u8)>
     let study = value_at(matches, "study")?;
     let workers = workers_in(matches)?;
     Some((study, workers))
+}
+
+/// `decide STUDY`.
+fn decide_in<'a>(matches: &ArgMatches<'a>) -> Option<Command<'a>>
+    ensures { option_map asked result ≡ over_study Decide (rows_of (found_of matches.now)) }
+{
+    let (study, workers) = over_study(matches)?;
+    Some(Command::Decide { study, workers })
 }
 
 /// `check STUDY REPORT`.
@@ -76,6 +99,31 @@ fn check_in<'a>(matches: &ArgMatches<'a>) -> Option<Command<'a>>
     })
 }
 
+/// `export STUDY`.
+fn export_in<'a>(matches: &ArgMatches<'a>) -> Option<Command<'a>>
+    ensures { option_map asked result ≡ over_study Export (rows_of (found_of matches.now)) }
+{
+    let (study, workers) = over_study(matches)?;
+    Some(Command::Export { study, workers })
+}
+
+/// `proof STUDY`.
+fn proof_in<'a>(matches: &ArgMatches<'a>) -> Option<Command<'a>>
+    ensures { option_map asked result ≡ over_study Proof (rows_of (found_of matches.now)) }
+{
+    let (study, workers) = over_study(matches)?;
+    Some(Command::Proof { study, workers })
+}
+
+/// `lrat CNF PROOF`.
+fn lrat_in<'a>(matches: &ArgMatches<'a>) -> Option<Command<'a>>
+    ensures { option_map asked result ≡ lrat_in (rows_of (found_of matches.now)) }
+{
+    let cnf = value_at(matches, "cnf")?;
+    let proof = value_at(matches, "proof")?;
+    Some(Command::Lrat { cnf, proof })
+}
+
 /// `axioms KIND`.
 fn axioms_in<'a>(matches: &ArgMatches<'a>) -> Option<Command<'a>>
     ensures { option_map asked result ≡ option_map Axioms (kind_in (rows_of (found_of matches.now))) }
@@ -84,13 +132,26 @@ fn axioms_in<'a>(matches: &ArgMatches<'a>) -> Option<Command<'a>>
     Some(Command::Axioms { kind })
 }
 
+/// `sample N`.
+fn sample_in<'a>(matches: &ArgMatches<'a>) -> Option<Command<'a>>
+    ensures { option_map asked result ≡ option_map Sample (number_in (rows_of (found_of matches.now))) }
+{
+    let number = number_in(matches)?;
+    Some(Command::Sample { number })
+}
+
 /// The command of a name, with the values that were found.
 fn command_under<'a>(name: &str, matches: &ArgMatches<'a>) -> Option<Command<'a>>
     ensures { option_map asked result ≡ request_under name.now (rows_of (found_of matches.now)) }
 {
     match name {
+        "decide" => decide_in(matches),
         "check" => check_in(matches),
+        "export" => export_in(matches),
+        "proof" => proof_in(matches),
+        "lrat" => lrat_in(matches),
         "axioms" => axioms_in(matches),
+        "sample" => sample_in(matches),
         _ => None,
     }
 }

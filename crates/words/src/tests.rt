@@ -21,7 +21,18 @@ fn told(alloc: Global, line: &str) -> Result<String, Fail> {
                 },
             ),
         ) => Ok(format!(in alloc; "check [{study}] [{report}] {workers}")?),
+        Ok(Some(Command::Decide { study, workers })) => Ok(format!(in alloc;
+            "decide [{study}] {workers}"
+        )?),
+        Ok(Some(Command::Export { study, workers })) => Ok(format!(in alloc;
+            "export [{study}] {workers}"
+        )?),
+        Ok(Some(Command::Proof { study, workers })) => Ok(format!(in alloc;
+            "proof [{study}] {workers}"
+        )?),
+        Ok(Some(Command::Lrat { cnf, proof })) => Ok(format!(in alloc; "lrat [{cnf}] [{proof}]")?),
         Ok(Some(Command::Axioms { kind })) => Ok(format!(in alloc; "axioms {kind:?}")?),
+        Ok(Some(Command::Sample { number })) => Ok(format!(in alloc; "sample {number}")?),
         Ok(None) => Ok(format!(in alloc; "none")?),
         Err(_) => Ok(format!(in alloc; "no memory")?),
     }
@@ -61,7 +72,14 @@ fn commands(rt: HostRuntime) -> Result<(), Fail> {
         "check [help] [axioms] 1",
     )?;
     same(&rt, rt.alloc(), "axioms choice", "axioms Choice")?;
-    same(&rt, rt.alloc(), "axioms -- ranking", "axioms Ranking")
+    same(&rt, rt.alloc(), "axioms -- ranking", "axioms Ranking")?;
+    same(&rt, rt.alloc(), "decide s", "decide [s] 1")?;
+    same(&rt, rt.alloc(), "decide --workers 3 s", "decide [s] 3")?;
+    same(&rt, rt.alloc(), "export s --workers=2", "export [s] 2")?;
+    same(&rt, rt.alloc(), "proof -- -s", "proof [-s] 1")?;
+    same(&rt, rt.alloc(), "lrat c p", "lrat [c] [p]")?;
+    same(&rt, rt.alloc(), "sample 0", "sample 0")?;
+    same(&rt, rt.alloc(), "sample 4294967295", "sample 4294967295")
 }
 
 #[test]
@@ -83,7 +101,9 @@ fn workers_that_are_none(rt: HostRuntime) -> Result<(), Fail> {
     same(&rt, rt.alloc(), "check s r -- --workers 4", "none")?;
     same(&rt, rt.alloc(), "check s r -w 4", "none")?;
     same(&rt, rt.alloc(), "check s r --work=4", "none")?;
-    same(&rt, rt.alloc(), "axioms choice --workers 4", "none")
+    same(&rt, rt.alloc(), "axioms choice --workers 4", "none")?;
+    same(&rt, rt.alloc(), "lrat c p --workers 4", "none")?;
+    same(&rt, rt.alloc(), "sample 3 --workers 4", "none")
 }
 
 #[test]
@@ -106,5 +126,13 @@ fn words_that_are_none(rt: HostRuntime) -> Result<(), Fail> {
     same(&rt, rt.alloc(), "axioms sets", "none")?;
     same(&rt, rt.alloc(), "axioms Choice", "none")?;
     same(&rt, rt.alloc(), "axioms choice ranking", "none")?;
-    same(&rt, rt.alloc(), "decide s", "none")
+    same(&rt, rt.alloc(), "decide", "none")?;
+    same(&rt, rt.alloc(), "decide s t", "none")?;
+    same(&rt, rt.alloc(), "lrat c", "none")?;
+    same(&rt, rt.alloc(), "sample", "none")?;
+    same(&rt, rt.alloc(), "sample -3", "none")?;
+    same(&rt, rt.alloc(), "sample +3", "none")?;
+    same(&rt, rt.alloc(), "sample 007", "none")?;
+    same(&rt, rt.alloc(), "sample 4294967296", "none")?;
+    same(&rt, rt.alloc(), "sample 18446744073709551617", "none")
 }
