@@ -1,3 +1,4 @@
 -- In reading order.
 pub mod Said
 pub mod Laws
+pub mod Claims

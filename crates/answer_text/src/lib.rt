@@ -1,14 +1,20 @@
-//! The lines of answers, as texts that are poured and nowhere built: of a study that is refused, of a report that is judged,
-//! and of the library of axioms.
+//! The lines of answers, as texts that are poured and nowhere built: of studies, clauses and proofs that are refused, of a report
+//! that is judged, of the library of axioms, and of a verdict in one line.
 #![tactic(auto)]
 
+mod claims;
+mod clause_faults;
 pub mod laws;
 mod library;
+mod proof_faults;
 mod study_faults;
 #[cfg(test)]
 mod tests;
 mod worth;
 
+pub use claims::{ClaimLine, SummaryLine};
+pub use clause_faults::GroundLine;
 pub use library::LibraryLines;
+pub use proof_faults::{CnfLine, LratLine, ProofLine};
 pub use study_faults::StudyLine;
 pub use worth::WorthLine;

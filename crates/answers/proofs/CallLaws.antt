@@ -1,5 +1,5 @@
 -- Where no fault is counted, a call answers what was asked.
-use Rattle.std.proofs.Common.{◌≡◌, sym, subst, ℕ, ◌≤◌, ◌⊎◌, inl, inr, true, true≢false, eqb-true, List, [], ◌∷◌, length, Option, None, Some, arith, refl}
+use Rattle.std.proofs.Common.{◌≡◌, ◌∙◌, ap, ap₂, sym, subst, ℕ, ◌≤◌, ◌⊎◌, inl, inr, true, true≢false, eqb-true, List, [], ◌∷◌, length, Option, None, Some, arith, refl}
 use Rattle.std.specs.Prelude.{◌==◌, nat_le}
 use Rattle.std.specs.List.{list_all, list_any}
 use Rattle.std.proofs.lemmas.Bool.{or_cases, and_parts, cases_lt, leb-true}
@@ -7,16 +7,28 @@ use Rattle.edge.specs.Shelf.{Files}
 use Rattle.vocab.specs.declared.kinds.Kind.{Kind}
 use Rattle.vocab.specs.Study.{Question}
 use Rattle.verdicts.specs.Report.{IsConfirmed}
-use Rattle.words.specs.Words.{Request, Check, Axioms, request_of}
+use Rattle.clause_text.specs.ReadDimacs.{Formula}
+use Rattle.study.specs.Sample.{IsSampleStudy}
+use Rattle.words.specs.Words.{Request, Decide, Check, Export, Proof, Lrat, Axioms, Sample, request_of}
 use Rattle.answers.specs.declared.runs.Run.{Run}
 use Rattle.answers.specs.Held.{most_report_bytes}
-use Rattle.answers.specs.Studies.{GivesStudy}
-use Rattle.answers.specs.Lawful.{Lawful}
+use Rattle.verdicts.specs.declared.verdicts.Verdict.{Verdict}
+use Rattle.study.proofs.OneAnswer.{samples_once}
+use Rattle.answers.specs.Studies.{GivesStudy, OverStudy}
+use Rattle.answers.specs.Grounding.{fault_of, OverClauses, clauses_refused, clauses_made}
+use Rattle.answers.specs.Evidence.{Decides, by_verdict, by_limit}
+use Rattle.answers.specs.Decide.{IsReported}
+use Rattle.answers.specs.Export.{IsWritten}
+use Rattle.answers.specs.Proof.{IsShown, refuted, possible, undecided}
+use Rattle.answers.specs.Lrat.{GivesFormula, IsConfirmedBy, formula_refused, proof_judged, said_of}
+use Rattle.answers.specs.Sample.{IsSampled}
+use Rattle.answers.specs.Lawful.{IsAnswer, Lawful}
 use Rattle.answers.specs.Devices.{Devices}
 use Rattle.answers.specs.Call.{IsCall, AreFiles, are_told, none_read, HasReadCause, at_first, at_second, files_of, statuses_of}
-use Rattle.answers.specs.Laws.{AreQuiet, HasNoFault, CallsAreComplete}
+use Rattle.answers.specs.Laws.{AreQuiet, HasNoFault, IsDecidedOrWanting, CallsAreComplete}
 use Rattle.answers.proofs.ReportLaws.{checked_right}
-use Rattle.answers.proofs.RowLemmas.{row_of}
+use Rattle.answers.proofs.OneAnswer.{cnf_given}
+use Rattle.answers.proofs.RowLemmas.{row_of, over_study, one_formula, some_same}
 
 -- one of some statuses up to 7 is up to 7
 any_below : (statuses : List ℕ) (n : ℕ) → list_all (λ s. nat_le s 7) statuses ≡ true → list_any (λ s. s == n) statuses ≡ true → n ≤ 7
@@ -30,12 +42,52 @@ any_below (s ∷ statuses) n low here =
 
 few_statuses : (request : Option Request) → list_all (λ s. nat_le s 7) (statuses_of request) ≡ true
 few_statuses None = refl
+few_statuses (Some (Decide study workers)) = refl
 few_statuses (Some (Check study report workers)) = refl
+few_statuses (Some (Export study workers)) = refl
+few_statuses (Some (Proof study workers)) = refl
+few_statuses (Some (Lrat cnf proof)) = refl
 few_statuses (Some (Axioms kind)) = refl
+few_statuses (Some (Sample number)) = refl
 
 no_read_cause : (request : Option Request) (d : Devices) (names : List (List ℕ)) → AreQuiet d names → HasReadCause request d.told d.left_before d.left_now d.faults_before d.faults_now names → ⊥
 no_read_cause request d names quiet (at_first name others is rose stay) = (subst (λ (xs : List (List ℕ)). AreQuiet d xs) is quiet).0 rose
 no_read_cause request d names quiet (at_second name second is rose taken) = (subst (λ (xs : List (List ℕ)). AreQuiet d xs) is quiet).1.0 rose
+
+-- ---- what a row says where nothing is refused
+
+given_clauses : (study : Question) (run : Run) (text : List ℕ) (P : Type 0) → fault_of study ≡ None → OverClauses study run text P → P
+given_clauses study run text P none (clauses_refused fault e t bare) = let no : None ≡ Some fault = sym none ∙ e in absurd (cc)
+given_clauses study run text P none (clauses_made e p) = p
+
+-- the rest of a command over the clauses of a study
+rest_of : (files : Files) (name : List ℕ) (run : Run) (text : List ℕ) (P : Question → Type 0) (study : Question) → GivesStudy files name study → fault_of study ≡ None
+    → OverStudy files name run text (λ s. OverClauses s run text (P s)) → P study
+rest_of files name run text P study g none row =
+    given_clauses study run text (P study) none (over_study files name run text (λ s. OverClauses s run text (P s)) study g row)
+
+by_decides : (study : Question) (run : Run) (verdict : Verdict) → Decides study run verdict → IsDecidedOrWanting run
+by_decides study run verdict (by_verdict found) = inl found.ends
+by_decides study run verdict (by_limit u is) = inr (inl u.ends)
+
+by_shown : (study : Question) (run : Run) (text : List ℕ) → IsShown study run text → IsDecidedOrWanting run
+by_shown study run text (refuted lines r bare t) = inl bare.ends
+by_shown study run text (possible table found t) = inl found.ends
+by_shown study run text (undecided u t) = inr (inl u.ends)
+
+by_judged : (files : Files) (name proof : List ℕ) (run : Run) (text : List ℕ) (formula : Formula) (bytes : List ℕ) → GivesFormula files name formula
+    → files proof ≡ Some bytes → (said_of formula bytes).status ≡ 0 → IsConfirmedBy files name proof run text → run.status ≡ 0
+by_judged files name proof run text formula bytes g held zero_is (formula_refused r b) = absurd (cnf_given files name formula text g r)
+by_judged files name proof run text formula bytes g held zero_is (proof_judged f bytes' g' held' b t) =
+    let formulas : f ≡ formula = one_formula files name f formula g' g in
+    let same : bytes' ≡ bytes = some_same (files proof) bytes' bytes held' held in
+    b.ends ∙ ap (λ s. s.status) (ap₂ said_of formulas same) ∙ zero_is
+
+by_summed : (n : ℕ) (study : Question) (run : Run) (text : List ℕ) → IsSampleStudy n study → fault_of study ≡ None → IsSampled n run text → IsDecidedOrWanting run
+by_summed n study run text sample none row =
+    let same : row.0 ≡ study = samples_once n row.0 study row.1 sample in
+    let made = given_clauses row.0 run text _ (subst (λ (s : Question). fault_of s ≡ None) (sym same) none) row.2 in
+    by_decides row.0 run made.verdict made.decides
 
 module _ (words : List (List ℕ)) (d : Devices) (run : Run) (call : IsCall words d run) (calm : HasNoFault words d) where
   -- the answer is lawful, or memory was wanting
@@ -51,6 +103,42 @@ module _ (words : List (List ℕ)) (d : Devices) (run : Run) (call : IsCall word
     ]
   ]
 
+  -- a row of the table, where the shelf tells its files
+  settled_row : (request : Option Request) (files : Files) → request_of words ≡ request → d.told ≡ Some files
+      → ((text : List ℕ) × IsAnswer request files run text) ⊎ (run.status ≡ 7)
+  settled_row request files asked told = elim (settled files (are_told told)) [
+    | inl a ↦ inl (a.0, row_of words files run a.0 request asked a.1)
+    | inr seven ↦ inr seven
+  ]
+
+  decide_settled : (files : Files) (name : List ℕ) (workers : ℕ) (study : Question) → d.told ≡ Some files → request_of words ≡ Some (Decide name workers)
+      → GivesStudy files name study → fault_of study ≡ None → IsDecidedOrWanting run
+  decide_settled files name workers study told asked g none = elim (settled_row (Some (Decide name workers)) files asked told) [
+    | inl a ↦ let made : IsReported study run a.0 = rest_of files name run a.0 _ study g none a.1 in by_decides study run made.verdict made.decides
+    | inr seven ↦ inr (inr seven)
+  ]
+
+  export_settled : (files : Files) (name : List ℕ) (workers : ℕ) (study : Question) → d.told ≡ Some files → request_of words ≡ Some (Export name workers)
+      → GivesStudy files name study → fault_of study ≡ None → (run.status ≡ 0) ⊎ (run.status ≡ 7)
+  export_settled files name workers study told asked g none = elim (settled_row (Some (Export name workers)) files asked told) [
+    | inl a ↦ let made : IsWritten study run a.0 = rest_of files name run a.0 _ study g none a.1 in inl made.0.ends
+    | inr seven ↦ inr seven
+  ]
+
+  proof_settled : (files : Files) (name : List ℕ) (workers : ℕ) (study : Question) → d.told ≡ Some files → request_of words ≡ Some (Proof name workers)
+      → GivesStudy files name study → fault_of study ≡ None → IsDecidedOrWanting run
+  proof_settled files name workers study told asked g none = elim (settled_row (Some (Proof name workers)) files asked told) [
+    | inl a ↦ by_shown study run a.0 (rest_of files name run a.0 (λ s. IsShown s run a.0) study g none a.1)
+    | inr seven ↦ inr (inr seven)
+  ]
+
+  lrat_settled : (files : Files) (name proof bytes : List ℕ) (formula : Formula) → d.told ≡ Some files → request_of words ≡ Some (Lrat name proof)
+      → GivesFormula files name formula → files proof ≡ Some bytes → (said_of formula bytes).status ≡ 0 → (run.status ≡ 0) ⊎ (run.status ≡ 7)
+  lrat_settled files name proof bytes formula told asked g held zero_is = elim (settled_row (Some (Lrat name proof)) files asked told) [
+    | inl a ↦ inl (by_judged files name proof run a.0 formula bytes g held zero_is a.1)
+    | inr seven ↦ inr seven
+  ]
+
   check_settled : (files : Files) (name report bytes : List ℕ) (workers : ℕ) (study : Question) → d.told ≡ Some files → request_of words ≡ Some (Check name report workers)
       → GivesStudy files name study → files report ≡ Some bytes → IsConfirmed study bytes → length bytes ≤ most_report_bytes → (run.status ≡ 0) ⊎ (run.status ≡ 7)
   check_settled files name report bytes workers study told asked g held c fits = elim (settled files (are_told told)) [
@@ -60,6 +148,13 @@ module _ (words : List (List ℕ)) (d : Devices) (run : Run) (call : IsCall word
 
   without_files : (request : Option Request) → request_of words ≡ request → files_of request ≡ [] → ((text : List ℕ) × Lawful words (λ name. None) run text) ⊎ (run.status ≡ 7)
   without_files request asked none = settled (λ name. None) (none_read (subst (λ (r : Option Request). files_of r ≡ []) (sym asked) none))
+
+  sample_settled : (number : ℕ) (study : Question) → request_of words ≡ Some (Sample number) → IsSampleStudy number study → fault_of study ≡ None
+      → IsDecidedOrWanting run
+  sample_settled number study asked sample none = elim (without_files (Some (Sample number)) asked refl) [
+    | inl a ↦ by_summed number study run a.0 sample none (row_of words (λ name. None) run a.0 (Some (Sample number)) asked a.1)
+    | inr seven ↦ inr (inr seven)
+  ]
 
   axioms_settled : (kind : Kind) → request_of words ≡ Some (Axioms kind) → (run.status ≡ 0) ⊎ (run.status ≡ 7)
   axioms_settled kind asked = elim (without_files (Some (Axioms kind)) asked refl) [
@@ -75,6 +170,11 @@ module _ (words : List (List ℕ)) (d : Devices) (run : Run) (call : IsCall word
 
 pub calls_complete : CallsAreComplete
 calls_complete words d run call calm = record {
+  decide = decide_settled words d run call calm;
+  export = export_settled words d run call calm;
+  proof = proof_settled words d run call calm;
+  lrat = lrat_settled words d run call calm;
+  sample = sample_settled words d run call calm;
   check = check_settled words d run call calm;
   axioms = axioms_settled words d run call calm;
   usage = usage_settled words d run call calm;

@@ -16,7 +16,6 @@ use Rattle.meaning.proofs.SpaceLaws.{all_from}
 use Rattle.study.proofs.StudyKinds.{kinds_known}
 use Rattle.study.proofs.WholeStudies.{studies_whole}
 use Rattle.clause_text.specs.declared.faults.LratFault.{LratFault}
-use Rattle.clause_text.specs.declared.faults.LratFault.TheVariants as lrat
 use Rattle.clause_text.specs.ReadDimacs.{Formula}
 use Rattle.clause_text.specs.ReadLrat.{read_lrat}
 use Rattle.search_logs.specs.Spent.{all_places}
@@ -75,9 +74,7 @@ accepted_at formula lines (Some fault) e zero_is = absurd (omega (arith, zero_is
 
 accepted_reading : (formula : Formula) (r : Result (List Line) LratFault) → (of_reading formula r).status ≡ 0 → (lines : List Line) × IsAccepted formula.clauses lines
 accepted_reading formula (Ok lines) e = (lines, accepted_at formula lines (first_fault formula.clauses lines) refl e)
-accepted_reading formula (Err (lrat.Line line)) e = absurd (omega (arith, e))
-accepted_reading formula (Err (lrat.Rat line)) e = absurd (omega (arith, e))
-accepted_reading formula (Err lrat.NoMemory) e = absurd (omega (arith, e))
+accepted_reading formula (Err fault) e = absurd (omega (arith, e))
 
 accepted_said : (formula : Formula) (bytes : List ℕ) (b : Bool) → nat_lt most_proof_bytes (length bytes) ≡ b → (said_of formula bytes).status ≡ 0
     → (lines : List Line) × IsAccepted formula.clauses lines

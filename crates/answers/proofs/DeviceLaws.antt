@@ -13,7 +13,7 @@ use Rattle.verdicts.specs.declared.verdicts.Verdict.{Verdict}
 use Rattle.verdicts.specs.Judge.{Answer, Confirmed}
 use Rattle.verdicts.specs.Report.{IsReport}
 use Rattle.verdicts.specs.Words.{answer_text}
-use Rattle.words.specs.Words.{Request, Check, Axioms, request_of}
+use Rattle.words.specs.Words.{Request, Decide, Check, Export, Proof, Lrat, Axioms, Sample, request_of}
 use Rattle.answers.specs.declared.runs.Run.{Run}
 use Rattle.answers.specs.Runs.{with_status}
 use Rattle.answers.specs.Held.{most_report_bytes}
@@ -24,7 +24,9 @@ use Rattle.answers.specs.Axioms.{library_text}
 use Rattle.answers.specs.Lawful.{IsAnswer}
 use Rattle.answers.specs.Devices.{Devices}
 use Rattle.answers.specs.Call.{IsCall, AreFiles, are_told, none_read, AreUntouched, HasReadCause, at_first, at_second, IsFirstTaken, files_of, statuses_of, touched_at}
-use Rattle.answers.specs.Laws.{Says, IsConfirmedRight, ConfirmedHolds, ChecksAreAnswered, UsageIsExact, LibraryIsWritten, IsFirstAloneTouched, RefusedLeavesUnopened, OtherWordsTouchNone}
+use Rattle.answers.specs.Laws.{Says, IsConfirmedRight, ConfirmedHolds, ChecksAreAnswered, UsageIsExact, LibraryIsWritten, RefusedLeavesUnopened, OtherWordsTouchNone}
+use Rattle.answers.specs.RowLaws.{WrittenDecisionsHold}
+use Rattle.answers.proofs.DecidedLaws.{decided_hold}
 use Rattle.answers.proofs.FitLemmas.{right_judged}
 use Rattle.answers.proofs.OneAnswer.{one_refusal}
 use Rattle.answers.proofs.ReportLaws.{reportable, zero_confirms, confirmed_report, confirmed_claims}
@@ -61,8 +63,13 @@ usage_front words d run call asked six =
 -- no command has status 2
 no_command : (request : Option Request) → list_any (λ s. s == 2) (statuses_of request) ≡ true → request ≡ None
 no_command None e = refl
+no_command (Some (Decide study workers)) e = absurd (true≢false (sym e))
 no_command (Some (Check study report workers)) e = absurd (true≢false (sym e))
+no_command (Some (Export study workers)) e = absurd (true≢false (sym e))
+no_command (Some (Proof study workers)) e = absurd (true≢false (sym e))
+no_command (Some (Lrat cnf proof)) e = absurd (true≢false (sym e))
 no_command (Some (Axioms kind)) e = absurd (true≢false (sym e))
+no_command (Some (Sample number)) e = absurd (true≢false (sym e))
 
 pub usage_exact : UsageIsExact
 usage_exact words d run call = record {
@@ -151,6 +158,13 @@ checks_answered words d run files name report workers call told asked low = reco
   right = right_says words d run files name report workers call told asked low;
 }
 
+-- ---- `decide`
+
+pub decisions_hold : WrittenDecisionsHold
+decisions_hold words d run files name workers study call told asked g zero_is =
+    let a = written_at words d run call (Some (Decide name workers)) asked files (are_told told) (omega (arith, zero_is)) in
+    (a.0, decided_hold files name run a.0 study a.1 g zero_is, a.2)
+
 -- ---- files that are not opened
 
 same_from_test : (name other : List ℕ) → bytes_eq name other ≡ true → name ≡ other
@@ -168,24 +182,12 @@ other_name name other false e ne = rw e refl
 first_same : (name other : List ℕ) (names others : List (List ℕ)) → name ∷ names ≡ other ∷ others → name ≡ other
 first_same name other names others e = cc
 
-module _ (d : Devices) where
-  -- where status 3 is one of a command, only its first file is touched
-  first_alone : (request : Option Request) → list_any (λ s. s == 3) (statuses_of request) ≡ true
-      → ((name : List ℕ) → list_any (bytes_eq name) (touched_at 3 (files_of request)) ≡ false → d.left_now name ≡ d.left_before name) → IsFirstAloneTouched (files_of request) d
-  first_alone None e untouched = absurd (true≢false (sym e))
-  first_alone (Some (Check study report workers)) e untouched = record {
-    first = study;
-    others = report ∷ [];
-    named = refl;
-    stay = λ other ne. untouched other (other_name other study _ refl ne);
-  }
-  first_alone (Some (Axioms kind)) e untouched = absurd (true≢false (sym e))
-
-at_three : (words : List (List ℕ)) (d : Devices) (run : Run) → IsCall words d run → run.status ≡ 3 → IsFirstAloneTouched (files_of (request_of words)) d
-at_three words d run call three =
-    first_alone d (request_of words)
-    (subst (λ (n : ℕ). list_any (λ s. s == n) (statuses_of (request_of words)) ≡ true) three call.status)
-    (λ name free. call.untouched name (subst (λ (n : ℕ). list_any (bytes_eq name) (touched_at n (files_of (request_of words))) ≡ false) (sym three) free))
+at_three : (words : List (List ℕ)) (d : Devices) (run : Run) → IsCall words d run → run.status ≡ 3 → (first : List ℕ) (others : List (List ℕ))
+    → files_of (request_of words) ≡ first ∷ others → OthersStay d.left_before d.left_now first
+at_three words d run call three first others named other ne =
+    call.untouched other
+    (subst (λ (n : ℕ). list_any (bytes_eq other) (touched_at n (files_of (request_of words))) ≡ false) (sym three)
+    (subst (λ (names : List (List ℕ)). list_any (bytes_eq other) (touched_at 3 names) ≡ false) (sym named) (other_name other first _ refl ne)))
 
 module _ (words : List (List ℕ)) (d : Devices) (run : Run) (files : Files) (name report text : List ℕ) (workers : ℕ) (call : IsCall words d run) (told : d.told ≡ Some files)
     (asked : request_of words ≡ Some (Check name report workers)) (refuses : RefusesStudy files name text) where
@@ -214,7 +216,8 @@ module _ (words : List (List ℕ)) (d : Devices) (run : Run) (files : Files) (na
   by_cause names is (at_first first others named rose stay) = subst (λ (n : List ℕ). OthersStay d.left_before d.left_now n) (first_same first name others (report ∷ []) (sym named ∙ is)) stay
   by_cause names is (at_second first second named rose taken) =
       let same : first ≡ name = first_same first name (second ∷ []) (report ∷ []) (sym named ∙ is) in
-      let given = subst (λ (o : Option Files). IfSome o (λ f. IsFirstTaken (request_of words) f first)) told taken in
+      let of_request : IsFirstTaken (request_of words) files first = subst (λ (o : Option Files). IfSome o (λ f. IsFirstTaken (request_of words) f first)) told taken in
+      let given : (study : Question) × GivesStudy files first study = subst (λ (r : Option Request). IsFirstTaken r files first) asked of_request in
       absurd (not_refused files name given.0 text (subst (λ (n : List ℕ). GivesStudy files n given.0) same given.1) refuses)
 
   kept : run.status ≤ 6 → OthersStay d.left_before d.left_now name

@@ -4,7 +4,6 @@ mod FitLemmas
 mod DecidedLaws
 pub mod ReportLaws
 mod ClauseLaws
-mod CompleteLaws
 mod OneAnswer
 mod DeviceLaws
 mod CallLaws

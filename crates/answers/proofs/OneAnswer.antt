@@ -4,7 +4,7 @@ use Rattle.edge.specs.Shelf.{Files}
 use Rattle.vocab.specs.Study.{Question}
 use Rattle.clause_text.specs.ReadDimacs.{Formula, read_dimacs}
 use Rattle.verdicts.specs.Words.{answer_text}
-use Rattle.words.specs.Words.{Request, Check, Axioms, request_of}
+use Rattle.words.specs.Words.{Request, Decide, Check, Export, Proof, Lrat, Axioms, Sample, request_of}
 use Rattle.answers.specs.declared.runs.Run.{Run}
 use Rattle.answers.specs.Runs.{IsBare}
 use Rattle.answers.specs.Held.{Holds, HoldsTooMany, most_study_bytes, most_cnf_bytes}
@@ -15,7 +15,7 @@ use Rattle.answers.specs.Grounding.{fault_of, refusal_line, OverClauses, clauses
 use Rattle.answers.specs.Export.{IsExported}
 use Rattle.answers.specs.Lrat.{GivesFormula, RefusesFormula, too_long as long_cnf, no_formula, cnf_line, IsConfirmedBy, formula_refused, proof_judged, said_of}
 use Rattle.answers.specs.Lawful.{IsAnswer}
-use Rattle.answers.specs.Laws.{AnswersAreOne}
+use Rattle.answers.specs.Laws.{IsSettled, AnswersAreOne}
 use Rattle.answers.specs.RowLaws.{AreSame, RowsAreOne}
 use Rattle.answers.proofs.RowLemmas.{some_same, same_reading, one_study, not_refused, one_formula}
 
@@ -64,7 +64,7 @@ module _ (files : Files) (name : List ℕ) where
       let faults : fault ≡ fault' = cc in
       t ∙ ap cnf_line faults ∙ sym t'
 
-  cnf_given : (formula : Formula) (text : List ℕ) → GivesFormula files name formula → RefusesFormula files name text → ⊥
+  pub cnf_given : (formula : Formula) (text : List ℕ) → GivesFormula files name formula → RefusesFormula files name text → ⊥
   cnf_given formula text g (long_cnf h t) = long_or_not most_cnf_bytes h g.bytes g.holds
   cnf_given formula text g (no_formula bytes fault h read t) =
       let same : bytes ≡ g.bytes = some_same (files name) bytes g.bytes h.held g.holds.held in
@@ -102,13 +102,18 @@ module _ (files : Files) (run run' : Run) (text text' : List ℕ) where
         j.is ∙ ap (λ b. answer_text (judgement study b)) same ∙ sym j'.is,
       )
 
-  one_row : (request : Option Request) → IsAnswer request files run text → IsAnswer request files run' text' → AreSame run run' text text'
-  one_row None a a' = (one_run run run' 2 2 a.0 a'.0 refl, a.1 ∙ sym a'.1)
-  one_row (Some (Check study report workers)) a a' = one_over files study run run' text text' _ _ (one_judged report) a a'
-  one_row (Some (Axioms kind)) a a' = (one_run run run' 0 0 a.0 a'.0 refl, a.1 ∙ sym a'.1)
+  one_row : (request : Option Request) → IsSettled request → IsAnswer request files run text → IsAnswer request files run' text' → AreSame run run' text text'
+  one_row None settled a a' = (one_run run run' 2 2 a.0 a'.0 refl, a.1 ∙ sym a'.1)
+  one_row (Some (Decide study workers)) settled a a' = absurd settled
+  one_row (Some (Check study report workers)) settled a a' = one_over files study run run' text text' _ _ (one_judged report) a a'
+  one_row (Some (Export study workers)) settled a a' = one_export study a a'
+  one_row (Some (Proof study workers)) settled a a' = absurd settled
+  one_row (Some (Lrat cnf proof)) settled a a' = one_lrat cnf proof a a'
+  one_row (Some (Axioms kind)) settled a a' = (one_run run run' 0 0 a.0 a'.0 refl, a.1 ∙ sym a'.1)
+  one_row (Some (Sample number)) settled a a' = absurd settled
 
 pub one_answer : AnswersAreOne
-one_answer words files run run' text text' a a' = one_row files run run' text text' (request_of words) a a'
+one_answer words files run run' text text' settled a a' = one_row files run run' text text' (request_of words) settled a a'
 
 pub one_rows : RowsAreOne
 one_rows = record {

@@ -8,10 +8,12 @@ use Rattle.edge.specs.Shelf.{Files, OthersStay}
 use Rattle.edge.specs.Faults.{Rose}
 use Rattle.edge.specs.Told.{AppendsPrefix}
 use Rattle.vocab.specs.Study.{Question}
-use Rattle.words.specs.Words.{Request, Check, Axioms, request_of}
+use Rattle.clause_text.specs.ReadDimacs.{Formula}
+use Rattle.words.specs.Words.{Request, Decide, Check, Export, Proof, Lrat, Axioms, Sample, request_of}
 use Rattle.answers.specs.declared.runs.Run.{Run}
 use Rattle.answers.specs.Runs.{with_status}
 use Rattle.answers.specs.Studies.{GivesStudy}
+use Rattle.answers.specs.Lrat.{GivesFormula}
 use Rattle.answers.specs.Lawful.{Lawful}
 use Rattle.answers.specs.Devices.{Devices}
 
@@ -20,14 +22,24 @@ use Rattle.answers.specs.Devices.{Devices}
 -- the names of the files of a command, in the order in which they are read
 abbrev pub files_of : Option Request → List (List ℕ)
 files_of None = []
+files_of (Some (Decide study workers)) = study ∷ []
 files_of (Some (Check study report workers)) = study ∷ report ∷ []
+files_of (Some (Export study workers)) = study ∷ []
+files_of (Some (Proof study workers)) = study ∷ []
+files_of (Some (Lrat cnf proof)) = cnf ∷ proof ∷ []
 files_of (Some (Axioms kind)) = []
+files_of (Some (Sample number)) = []
 
 -- the statuses of a command
 abbrev pub statuses_of : Option Request → List ℕ
 statuses_of None = 2 ∷ 6 ∷ 7 ∷ []
+statuses_of (Some (Decide study workers)) = 0 ∷ 3 ∷ 4 ∷ 5 ∷ 6 ∷ 7 ∷ []
 statuses_of (Some (Check study report workers)) = 0 ∷ 1 ∷ 3 ∷ 5 ∷ 6 ∷ 7 ∷ []
+statuses_of (Some (Export study workers)) = 0 ∷ 3 ∷ 5 ∷ 6 ∷ 7 ∷ []
+statuses_of (Some (Proof study workers)) = 0 ∷ 3 ∷ 4 ∷ 5 ∷ 6 ∷ 7 ∷ []
+statuses_of (Some (Lrat cnf proof)) = 0 ∷ 1 ∷ 3 ∷ 5 ∷ 6 ∷ 7 ∷ []
 statuses_of (Some (Axioms kind)) = 0 ∷ 6 ∷ 7 ∷ []
+statuses_of (Some (Sample number)) = 0 ∷ 3 ∷ 4 ∷ 6 ∷ 7 ∷ []
 
 -- the files that a command may touch, by its status: at 3 its first file alone
 abbrev pub touched_at : ℕ → List (List ℕ) → List (List ℕ)
@@ -40,6 +52,7 @@ AreUntouched status names before now =
 
 -- the first of two files is not refused
 abbrev pub IsFirstTaken : Option Request → Files → List ℕ → Type 0
+IsFirstTaken (Some (Lrat cnf proof)) files name = (formula : Formula) × GivesFormula files name formula
 IsFirstTaken request files name = (study : Question) × GivesStudy files name study
 
 -- ---- the promises

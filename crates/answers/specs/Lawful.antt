@@ -1,17 +1,27 @@
 -- The table of answers: which run and which text answer which words, over which files.
 use Rattle.std.specs.Prelude.{ℕ, List, Option, None, Some}
 use Rattle.edge.specs.Shelf.{Files}
-use Rattle.words.specs.Words.{Request, Check, Axioms, request_of}
+use Rattle.words.specs.Words.{Request, Decide, Check, Export, Proof, Lrat, Axioms, Sample, request_of}
 use Rattle.answers.specs.declared.runs.Run.{Run}
 use Rattle.answers.specs.Usage.{IsUsage}
+use Rattle.answers.specs.Decide.{IsDecided}
 use Rattle.answers.specs.Check.{IsChecked}
+use Rattle.answers.specs.Export.{IsExported}
+use Rattle.answers.specs.Proof.{IsProved}
+use Rattle.answers.specs.Lrat.{IsConfirmedBy}
 use Rattle.answers.specs.Axioms.{IsListed}
+use Rattle.answers.specs.Sample.{IsSampled}
 
 -- A row for each request. Where a file that is needed is not held, no answer is lawful. The number of workers changes none.
 abbrev pub IsAnswer : Option Request → Files → Run → List ℕ → Type 0
 IsAnswer None files run text = IsUsage run text
+IsAnswer (Some (Decide study workers)) files run text = IsDecided files study run text
 IsAnswer (Some (Check study report workers)) files run text = IsChecked files study report run text
+IsAnswer (Some (Export study workers)) files run text = IsExported files study run text
+IsAnswer (Some (Proof study workers)) files run text = IsProved files study run text
+IsAnswer (Some (Lrat cnf proof)) files run text = IsConfirmedBy files cnf proof run text
 IsAnswer (Some (Axioms kind)) files run text = IsListed kind run text
+IsAnswer (Some (Sample number)) files run text = IsSampled number run text
 
 -- this run and this text answer the words
 abbrev pub Lawful : List (List ℕ) → Files → Run → List ℕ → Type 0

@@ -1,6 +1,6 @@
 -- What follows from the table of answers. Each is proved as the contract of a function of the same name in
 -- src/laws.rt.
-use Rattle.std.specs.Prelude.{◌≡◌, ℕ, ◌≤◌, ◌⊎◌, ◌↔◌, List, [], ◌∷◌, length, None, Some}
+use Rattle.std.specs.Prelude.{◌≡◌, ℕ, ◌≤◌, ◌⊎◌, ◌↔◌, List, [], ◌∷◌, length, Option, None, Some}
 use Rattle.std.specs.Io.KnownBytes.{Appends}
 use Rattle.vocab.specs.declared.kinds.Kind.{Kind}
 use Rattle.edge.specs.Shelf.{Files, OthersStay}
@@ -11,10 +11,14 @@ use Rattle.verdicts.specs.declared.verdicts.Verdict.{Verdict}
 use Rattle.verdicts.specs.Judge.{Confirmed}
 use Rattle.verdicts.specs.Report.{IsReport, IsConfirmed}
 use Rattle.verdicts.specs.Words.{answer_text}
-use Rattle.words.specs.Words.{Check, Axioms, request_of}
+use Rattle.words.specs.Words.{Request, Decide, Check, Export, Proof, Lrat, Axioms, Sample, request_of}
 use Rattle.answers.specs.declared.runs.Run.{Run}
 use Rattle.answers.specs.Held.{most_report_bytes}
+use Rattle.clause_text.specs.ReadDimacs.{Formula}
+use Rattle.study.specs.Sample.{IsSampleStudy}
 use Rattle.answers.specs.Studies.{GivesStudy, RefusesStudy}
+use Rattle.answers.specs.Grounding.{fault_of}
+use Rattle.answers.specs.Lrat.{GivesFormula, said_of}
 use Rattle.answers.specs.Rules.{Claims}
 use Rattle.answers.specs.Usage.{usage_line}
 use Rattle.answers.specs.Check.{judgement, status_of}
@@ -75,9 +79,16 @@ ChecksAreAnswered =
 
 -- ---- one answer
 
--- over some files words have one answer, so each row comes exactly where it says
+-- words whose answer leaves no choice: all but `decide`, `proof` and `sample`, of which several verdicts may be right
+abbrev pub IsSettled : Option Request → Type 0
+IsSettled (Some (Decide study workers)) = ⊥
+IsSettled (Some (Proof study workers)) = ⊥
+IsSettled (Some (Sample number)) = ⊥
+IsSettled request = Unit {0}
+
+-- over some files such words have one answer, so each row comes exactly where it says
 abbrev pub AnswersAreOne : Type 0
-AnswersAreOne = (words : List (List ℕ)) (files : Files) (run run' : Run) (text text' : List ℕ) →
+AnswersAreOne = (words : List (List ℕ)) (files : Files) (run run' : Run) (text text' : List ℕ) → IsSettled (request_of words) →
     Lawful words files run text → Lawful words files run' text' → (run ≡ run') × (text ≡ text')
 
 -- ---- whatever the shelf tells
@@ -103,18 +114,12 @@ abbrev pub LibraryIsWritten : Type 0
 LibraryIsWritten = (words : List (List ℕ)) (d : Devices) (run : Run) (kind : Kind) → IsCall words d run →
     request_of words ≡ Some (Axioms kind) → WritesLibrary d run kind
 
--- a command reads files, and none but the first was touched
-pub record IsFirstAloneTouched (names : List (List ℕ)) (d : Devices) : Type 0 where
-  pub first : List ℕ
-  pub others : List (List ℕ)
-  pub named : names ≡ first ∷ others
-  pub stay : OthersStay d.left_before d.left_now first
-
--- none but the first file was touched where a call ends with status 3; and none but the study where the shelf
+-- of the files of a command none but the first was touched where the call ends with status 3; and none but the study where the shelf
 -- tells that the study of a `check` is refused, even if it could not be read or its line could not be
 -- written, want of memory aside
 pub record LeavesUnopened (words : List (List ℕ)) (d : Devices) (run : Run) : Type 0 where
-  pub at_three : run.status ≡ 3 → IsFirstAloneTouched (files_of (request_of words)) d
+  pub at_three : run.status ≡ 3 → (first : List ℕ) (others : List (List ℕ)) → files_of (request_of words) ≡ first ∷ others
+      → OthersStay d.left_before d.left_now first
   pub at_check : (files : Files) (name report text : List ℕ) (workers : ℕ) → d.told ≡ Some files
       → request_of words ≡ Some (Check name report workers) → RefusesStudy files name text → run.status ≤ 6
       → OthersStay d.left_before d.left_now name
@@ -141,9 +146,22 @@ pub record HasNoFault (words : List (List ℕ)) (d : Devices) : Type 0 where
   pub files : AreQuiet d (files_of (request_of words))
   pub sink : ¬ Rose d.sink_faults_before d.sink_faults_now
 
--- a confirmed report within its limit over a study that is read ends with status 0 or 7, and so does
--- `axioms`; words that are no command end with 2 or 7
+-- 0, or 4 where the search spent its limit, or 7
+abbrev pub IsDecidedOrWanting : Run → Type 0
+IsDecidedOrWanting run = (run.status ≡ 0) ⊎ ((run.status ≡ 4) ⊎ (run.status ≡ 7))
+
+-- over a study that is read, with clauses within the limits, `decide` and `proof` end with status 0, 4 or 7, and `export` with 0 or 7; so does `sample` over the study of its number; a confirmed report within its limit over a study that is read ends with 0 or 7, and so does an accepted proof over clauses that are read, and `axioms`; words that are no command end with 2 or 7
 pub record AreAnswered (words : List (List ℕ)) (d : Devices) (run : Run) : Type 0 where
+  pub decide : (files : Files) (name : List ℕ) (workers : ℕ) (study : Question) → d.told ≡ Some files → request_of words ≡ Some (Decide name workers)
+      → GivesStudy files name study → fault_of study ≡ None → IsDecidedOrWanting run
+  pub export : (files : Files) (name : List ℕ) (workers : ℕ) (study : Question) → d.told ≡ Some files → request_of words ≡ Some (Export name workers)
+      → GivesStudy files name study → fault_of study ≡ None → (run.status ≡ 0) ⊎ (run.status ≡ 7)
+  pub proof : (files : Files) (name : List ℕ) (workers : ℕ) (study : Question) → d.told ≡ Some files → request_of words ≡ Some (Proof name workers)
+      → GivesStudy files name study → fault_of study ≡ None → IsDecidedOrWanting run
+  pub lrat : (files : Files) (name proof bytes : List ℕ) (formula : Formula) → d.told ≡ Some files → request_of words ≡ Some (Lrat name proof)
+      → GivesFormula files name formula → files proof ≡ Some bytes → (said_of formula bytes).status ≡ 0 → (run.status ≡ 0) ⊎ (run.status ≡ 7)
+  pub sample : (number : ℕ) (study : Question) → request_of words ≡ Some (Sample number) → IsSampleStudy number study → fault_of study ≡ None
+      → IsDecidedOrWanting run
   pub check : (files : Files) (name report bytes : List ℕ) (workers : ℕ) (study : Question)
       → d.told ≡ Some files → request_of words ≡ Some (Check name report workers)
       → GivesStudy files name study → files report ≡ Some bytes → IsConfirmed study bytes

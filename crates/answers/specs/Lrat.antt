@@ -71,12 +71,16 @@ abbrev pub of_derivation : Option (ℕ × LineFault) → Said
 of_derivation None = record { status = 0; text = codes "confirmed\n" }
 of_derivation (Some (line, fault)) = refused (proof_line line (line_fault_text fault))
 
--- by what the text gives; want of memory is never told
+-- of a text that gives no derivation; want of memory is never told
+abbrev pub reading_text : LratFault → List ℕ
+reading_text (lrat.Line line) = proof_line line (codes "line")
+reading_text (lrat.Rat line) = proof_line line (codes "rat")
+reading_text lrat.NoMemory = []
+
+-- by what the text gives
 abbrev pub of_reading : Formula → Result (List Line) LratFault → Said
 of_reading formula (Ok lines) = of_derivation (first_fault formula.clauses lines)
-of_reading formula (Err (lrat.Line line)) = refused (proof_line line (codes "line"))
-of_reading formula (Err (lrat.Rat line)) = refused (proof_line line (codes "rat"))
-of_reading formula (Err lrat.NoMemory) = refused []
+of_reading formula (Err fault) = refused (reading_text fault)
 
 -- what is said of the bytes of a proof
 abbrev pub said_of : Formula → List ℕ → Said

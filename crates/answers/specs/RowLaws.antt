@@ -1,7 +1,8 @@
 -- What follows from the rows of commands over a study, or over clauses. Each is proved as the contract of a
 -- function of the same name in src/laws.rt.
-use Rattle.std.specs.Prelude.{◌≡◌, ◌≢◌, ℕ, ◌≤◌, ◌^◌, ◌==◌, ◌⊎◌, ◌↔◌, not, filter, Bool, List, [], length, Any, codes, None, Some, IsTrue}
+use Rattle.std.specs.Prelude.{◌≡◌, ◌≢◌, ℕ, ◌≤◌, ◌^◌, ◌==◌, ◌↔◌, not, filter, Bool, List, [], length, Any, codes, None, Some, IsTrue}
 use Rattle.std.specs.List.{list_all}
+use Rattle.std.specs.Io.KnownBytes.{Appends}
 use Rattle.edge.specs.Shelf.{Files}
 use Rattle.vocab.specs.Study.{Question}
 use Rattle.cnf.specs.declared.derivations.Line.{Line}
@@ -27,7 +28,10 @@ use Rattle.answers.specs.declared.runs.Run.{Run}
 use Rattle.answers.specs.Held.{most_report_bytes}
 use Rattle.answers.specs.Studies.{GivesStudy}
 use Rattle.answers.specs.Rules.{IsRuleFor, HasNoRule, Claims}
-use Rattle.answers.specs.Grounding.{all_clauses, fault_of}
+use Rattle.answers.specs.Grounding.{all_clauses}
+use Rattle.words.specs.Words.{Decide, request_of}
+use Rattle.answers.specs.Devices.{Devices}
+use Rattle.answers.specs.Call.{IsCall}
 use Rattle.answers.specs.Check.{judgement}
 use Rattle.answers.specs.Export.{export_text, IsExported}
 use Rattle.answers.specs.Decide.{IsDecided}
@@ -82,6 +86,14 @@ pub data IsPrinted (study : Question) (run : Run) (text : List ℕ) : Type 0 whe
 abbrev pub DecidedHolds : Type 0
 DecidedHolds = (files : Files) (name : List ℕ) (run : Run) (text : List ℕ) (study : Question) →
     IsDecided files name run text → GivesStudy files name study → run.status ≡ 0 → IsPrinted study run text
+
+-- whatever study is read, what a call of `decide` has written with status 0 holds
+abbrev pub WrittenDecisionsHold : Type 0
+WrittenDecisionsHold =
+    (words : List (List ℕ)) (d : Devices) (run : Run) (files : Files) (name : List ℕ) (workers : ℕ) (study : Question) →
+    IsCall words d run → d.told ≡ Some files → request_of words ≡ Some (Decide name workers) →
+    GivesStudy files name study → run.status ≡ 0 →
+    (text : List ℕ) × IsPrinted study run text × Appends d.taken_before d.taken_now text
 
 -- what `decide` prints with status 0 is, within the limit of reports, confirmed by `check` over the same
 -- study
@@ -155,21 +167,3 @@ pub record RowsAreOne : Type 0 where
   pub lrat : (files : Files) (name proof : List ℕ) (run run' : Run) (text text' : List ℕ) →
       IsConfirmedBy files name proof run text → IsConfirmedBy files name proof run' text'
       → AreSame run run' text text'
-
--- ---- completeness
-
--- a run has found something, or a search over all axioms spent its limit
-abbrev pub IsEnded : Run → Type 0
-IsEnded run = (run.status ≡ 0) ⊎ (run.status ≡ 4)
-
--- where the clauses of the study are not refused, `export` ends with status 0, and `decide`, `proof` and
--- `sample` with 0 or 4
-pub record RowsAreComplete : Type 0 where
-  pub export : (files : Files) (name : List ℕ) (run : Run) (text : List ℕ) (study : Question) →
-      IsExported files name run text → GivesStudy files name study → fault_of study ≡ None → run.status ≡ 0
-  pub decide : (files : Files) (name : List ℕ) (run : Run) (text : List ℕ) (study : Question) →
-      IsDecided files name run text → GivesStudy files name study → fault_of study ≡ None → IsEnded run
-  pub proof : (files : Files) (name : List ℕ) (run : Run) (text : List ℕ) (study : Question) →
-      IsProved files name run text → GivesStudy files name study → fault_of study ≡ None → IsEnded run
-  pub sample : (n : ℕ) (run : Run) (text : List ℕ) (study : Question) →
-      IsSampled n run text → IsSampleStudy n study → fault_of study ≡ None → IsEnded run

@@ -1,6 +1,6 @@
 //! What follows from the table of answers. Each law is the contract of a function that does nothing.
 
-ghost use Rattle.answers.specs.RowLaws.{ConfirmedIsUnsatisfiable, DecidedAreConfirmed, DecidedHolds, EnoughDecides, ExportedSaysStudy, ProvedHolds, RowsAreComplete, RowsAreOne, SampledHolds};
+ghost use Rattle.answers.specs.RowLaws.{ConfirmedIsUnsatisfiable, DecidedAreConfirmed, DecidedHolds, EnoughDecides, ExportedSaysStudy, ProvedHolds, RowsAreOne, SampledHolds, WrittenDecisionsHold};
 ghost use Rattle.answers.specs.Laws.{CheckedAreRight, ConfirmedHolds, ChecksAreAnswered, AnswersAreOne, UsageIsExact, LibraryIsWritten, RefusedLeavesUnopened, OtherWordsTouchNone, CallsAreComplete};
 
 /// `check` confirms exactly the reports of right verdicts that claim something, within its limit.
@@ -59,6 +59,12 @@ pub fn decided_holds()
     ensures { DecidedHolds }
 {}
 
+/// The headline, of what was written: a rule that a call of `decide` has written satisfies the axioms of the study that was read,
+/// and an impossibility holds for every rule of its size.
+pub fn written_decisions_hold()
+    ensures { WrittenDecisionsHold }
+{}
+
 /// What `decide` prints is, within the limit of reports, confirmed by `check`.
 pub fn decided_are_confirmed()
     ensures { DecidedAreConfirmed }
@@ -87,10 +93,4 @@ pub fn sampled_holds()
 /// Over some files `export` and `lrat` have one answer each.
 pub fn rows_are_one()
     ensures { RowsAreOne }
-{}
-
-/// Where the clauses of a study are not refused, each command over them answers what was asked for, or that a search spent
-/// its limit.
-pub fn rows_are_complete()
-    ensures { RowsAreComplete }
 {}

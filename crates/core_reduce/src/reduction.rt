@@ -36,8 +36,8 @@ pub struct Reduction {
     pub logs: Logs,
 }
 
-/// The number of variables of a study.
-fn variables<K: OutcomeKind>(kind: &K) -> u32
+/// The number of variables of a study of a kind.
+pub fn variables<K: OutcomeKind>(kind: &K) -> u32
     ensures value { result ≡ variable_count (K.size kind.now) }
     ensures few { result < 2 ^ 31 }
 {

@@ -10,4 +10,4 @@ mod tests;
 mod verdict;
 mod words;
 
-pub use verdict::print;
+pub use verdict::{pour_verdict, print};

@@ -66,8 +66,8 @@ fn pour_impossible<'a, K: OutcomeKind, O: Sink>(
     Raw(b"end\n").pour(page, out)
 }
 
-/// Adds the text of a verdict.
-fn pour_verdict<K: OutcomeKind, O: Sink>(
+/// Adds the text of a verdict that has one to what a page holds in front of a sink. No memory is taken.
+pub fn pour_verdict<K: OutcomeKind, O: Sink>(
     kind: &K,
     study: &Study,
     verdict: &Verdict,
