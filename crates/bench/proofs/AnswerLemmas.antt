@@ -8,7 +8,7 @@ use Rattle.edge.specs.Shelf.{Files}
 use Rattle.edge.specs.Faults.{Rose}
 use Rattle.edge.specs.Told.{AppendsPrefix}
 use Rattle.vocab.specs.declared.kinds.Kind.{Kind}
-use Rattle.words.specs.Words.{Request, Check, Axioms, request_of}
+use Rattle.words.specs.Words.{Request, Decide, Check, Export, Proof, Lrat, Axioms, Sample, request_of}
 use Rattle.answers.specs.declared.runs.Run.{Run}
 use Rattle.answers.specs.Runs.{IsBare, with_status}
 use Rattle.answers.specs.Lawful.{IsAnswer}
@@ -18,7 +18,7 @@ use Rattle.bench.specs.declared.answer.Answer.{Answer}
 use Rattle.bench.specs.declared.answer.Answer.TheVariants.{Usage, Library}
 use Rattle.bench.specs.declared.answer.Stop.{Stop}
 use Rattle.bench.specs.declared.answer.Stop.TheVariants as stop
-use Rattle.bench.specs.Answers.{run_of, status_of, text_of}
+use Rattle.bench.specs.Answers.{HasText, run_of, status_of, text_of}
 use Rattle.bench.specs.Answered.{Answers}
 
 pub some_and : {A : Type 0} (r : Option A) (P : A → Type 0) → IsSomeAnd r P → (x : A) × (r ≡ Some x) × P x
@@ -32,11 +32,21 @@ pub may_want_memory : (request : Option Request) → IsTrue (list_any (λ n. n =
 may_want_memory None = refl
 may_want_memory (Some (Check study report workers)) = refl
 may_want_memory (Some (Axioms kind)) = refl
+may_want_memory (Some (Decide study workers)) = refl
+may_want_memory (Some (Export study workers)) = refl
+may_want_memory (Some (Proof study workers)) = refl
+may_want_memory (Some (Lrat cnf proof)) = refl
+may_want_memory (Some (Sample number)) = refl
 
 pub may_be_cut : (request : Option Request) → IsTrue (list_any (λ n. n == 6) (statuses_of request))
 may_be_cut None = refl
 may_be_cut (Some (Check study report workers)) = refl
 may_be_cut (Some (Axioms kind)) = refl
+may_be_cut (Some (Decide study workers)) = refl
+may_be_cut (Some (Export study workers)) = refl
+may_be_cut (Some (Proof study workers)) = refl
+may_be_cut (Some (Lrat cnf proof)) = refl
+may_be_cut (Some (Sample number)) = refl
 
 module _ (request : Option Request) (told : Option Files) (left : Files) (faults : List ℕ → ℕ) where
   -- want of memory, where the shelf is as it was
@@ -45,18 +55,20 @@ module _ (request : Option Request) (told : Option Files) (left : Files) (faults
     lawful = λ files h. tt;
     status = may_want_memory request;
     low = tt;
+    has_text = tt;
     read_fault = λ e. absurd (cc);
     untouched = λ name free. refl;
     uncounted = λ none name. refl;
   }
 
   -- an answer that read no file
-  pub bare_answer : (answer : Answer) → status_of answer ≤ 4 → IsTrue (list_any (λ s. s == status_of answer) (statuses_of request))
+  pub bare_answer : (answer : Answer) → status_of answer ≤ 4 → HasText answer → IsTrue (list_any (λ s. s == status_of answer) (statuses_of request))
       → ((files : Files) → IsAnswer request files (run_of answer) (text_of answer)) → Answers request told left left faults faults (Ok answer)
-  bare_answer answer low one lawful = record {
+  bare_answer answer low has_text one lawful = record {
     lawful = λ files h. lawful files;
     status = one;
     low = low;
+    has_text = has_text;
     read_fault = λ e. absurd (cc);
     untouched = λ name free. refl;
     uncounted = λ none name. refl;
@@ -67,13 +79,13 @@ module _ (request : Option Request) (told : Option Files) (left : Files) (faults
   pub library_answer : (kind : Kind) → request ≡ Some (Axioms kind) → Answers request told left left faults faults (Ok (Library kind))
   library_answer kind asked =
       subst (λ (r : Option Request). Answers r told left left faults faults (Ok (Library kind))) (sym asked)
-      (bare_answer (Some (Axioms kind)) told left faults (Library kind) (omega arith) refl (λ files. (record { ends = refl; no_verdict = refl; no_logs = refl }, refl)))
+      (bare_answer (Some (Axioms kind)) told left faults (Library kind) (omega arith) tt refl (λ files. (record { ends = refl; no_verdict = refl; no_logs = refl }, refl)))
 
   -- the usage line, for words that are no command
   pub usage_answer : request ≡ None → Answers request told left left faults faults (Ok Usage)
   usage_answer asked =
       subst (λ (r : Option Request). Answers r told left left faults faults (Ok Usage)) (sym asked)
-      (bare_answer None told left faults Usage (omega arith) refl (λ files. (record { ends = refl; no_verdict = refl; no_logs = refl }, refl)))
+      (bare_answer None told left faults Usage (omega arith) tt refl (λ files. (record { ends = refl; no_verdict = refl; no_logs = refl }, refl)))
 
 -- ---- calls
 

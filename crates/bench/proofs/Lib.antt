@@ -1,4 +1,11 @@
 -- In proof order.
 mod AnswerLemmas
 mod OpenLemmas
+mod StudyLemmas
+mod PairLemmas
 mod CheckLemmas
+mod ClauseLemmas
+mod DecideLemmas
+mod ProofLemmas
+mod LratLemmas
+mod SampleLemmas

@@ -2,10 +2,15 @@
 use Rattle.std.proofs.Common.{◌≡◌, subst, ℕ, ◌<◌, ◌≤◌, List, length, codes, Option, Some, IfSome, IsSomeAnd, Err}
 use Rattle.edge.specs.Shelf.{Files}
 use Rattle.study.specs.declared.faults.StudyFault.{StudyFault}
+use Rattle.vocab.specs.Study.{Question}
 use Rattle.study.specs.Reading.{IsStudyOf}
+use Rattle.study.proofs.StudyKinds.{kinds_known}
+use Rattle.study.proofs.WholeStudies.{studies_whole}
+use Rattle.verdicts.specs.Laws.{IsReportable}
 use Rattle.answers.specs.Held.{most_study_bytes}
 use Rattle.answers.specs.StudyLines.{study_line}
 use Rattle.answers.specs.Studies.{RefusesStudy, too_long, no_study}
+use Rattle.bench.specs.Opened.{IsRead}
 use Rattle.bench.proofs.AnswerLemmas.{some_and}
 
 pub if_some : {A : Type 0} (o : Option A) (P : A → Type 0) (x : A) → IfSome o P → o ≡ Some x → P x
@@ -23,3 +28,9 @@ pub refuses_bytes : (told : Option Files) (name bytes text : List ℕ) (fault : 
     → IsStudyOf bytes (Err fault) → text ≡ study_line fault → (files : Files) → told ≡ Some files → RefusesStudy files name text
 refuses_bytes told name bytes text fault h fits bad t files e =
     no_study bytes fault (record { held = if_some told (λ files. files name ≡ Some bytes) files h e; fits = fits }) bad t
+
+-- a study that was read is one that reports speak of
+pub reportable : (told : Option Files) (name : List ℕ) (study : Question) → IsRead told name study → IsReportable study
+reportable told name study read =
+    let whole = studies_whole read.bytes study read.gives in
+    record { taken = whole.0; size = whole.1; kind = kinds_known read.bytes study read.gives; names = whole.2 }

@@ -2,3 +2,5 @@
 pub mod Answers
 pub mod Answered
 pub mod Opened
+pub mod Found
+pub mod Given

@@ -7,7 +7,7 @@ ghost use Rattle.vocab.specs.declared.kinds.Kind.TheVariants.{Sets};
 ghost use Rattle.report.specs.Files.{IsWorthOf};
 ghost use Rattle.words.specs.Words.{Check};
 ghost use Rattle.answers.specs.Check.{IsJudged};
-ghost use Rattle.bench.specs.Answers.{run_of, status_of, text_of};
+ghost use Rattle.bench.specs.Answers.{HasText, run_of, status_of, text_of};
 ghost use Rattle.bench.specs.Answered.{Answers};
 
 use crate::answer::{Answer, Stop};
@@ -68,6 +68,7 @@ fn judge_report<R: Threads + Sync, S: Shelf, G: Gate>(
     ensures judged { IfOk result (λ answer. (files : Files) → S.files shelf.old ≡ Some files →
         IsJudged files report.now study.now (run_of answer) (text_of answer)) }
     ensures status { IfOk result (λ answer. status_of answer ≤ 1) }
+    ensures has_text { IfOk result HasText }
     ensures fault { IsErrOf result Stop.ReadFault →
         Rose (S.faults shelf.old report.now) (S.faults shelf.new report.now) }
     ensures others { OthersStay (S.left shelf.old) (S.left shelf.new) report.now }

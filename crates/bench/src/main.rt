@@ -1,8 +1,14 @@
-//! A theorem bench for social choice: checks reports that a rule satisfies axioms, or that none does.
+//! A theorem bench for social choice: decides whether a rule satisfies axioms, tells why none does, and checks reports of both.
 #![tactic(auto)]
 
 mod answer;
 mod check;
+mod decide;
+mod export;
+mod grounds;
+mod lrat;
+mod proof;
+mod sample;
 mod studies;
 mod top;
 
@@ -37,6 +43,10 @@ fn main(rt: HostRuntime) -> ExitCode {
     ExitCode::from(run.status)
 }
 
+#[cfg(test)]
+mod decide_tests;
+#[cfg(test)]
+mod lrat_tests;
 #[cfg(test)]
 mod report_tests;
 #[cfg(test)]

@@ -276,10 +276,26 @@ fn tables_are_read_across_pieces(rt: HostRuntime) -> Result<(), Fail> {
 
 /// A gate whose first call waits for its second.
 #[derive(Drop)]
-struct Meeting {
+pub struct Meeting {
     calls: AtomicU64,
     second: AtomicU64,
     met: AtomicU64,
+}
+
+impl Meeting {
+    /// No call came yet.
+    pub fn new() -> Meeting {
+        Meeting {
+            calls: AtomicU64::new(0),
+            second: AtomicU64::new(0),
+            met: AtomicU64::new(0),
+        }
+    }
+
+    /// Whether the second call came while the first waited.
+    pub fn has_met(&self) -> bool {
+        self.met.load(Ordering::SeqCst) == 1
+    }
 }
 
 impl Gate for Meeting {
@@ -304,14 +320,10 @@ fn two_workers_share_the_check_of_a_rule(rt: HostRuntime) -> Result<(), Fail> {
     let report = dictatorship(alloc, size, " independence pareto")?;
     let study =
         "kind = \"ranking\"\nvoters = 2\nalternatives = 3\naxioms = [\"independence\", \"pareto\"]\n";
-    let gate = Meeting {
-        calls: AtomicU64::new(0),
-        second: AtomicU64::new(0),
-        met: AtomicU64::new(0),
-    };
+    let gate = Meeting::new();
     let (status, bytes) = check(&rt, alloc, "--workers=2", &gate, study, report.as_str())?;
     assert_eq!(rt; status, 0);
     assert_eq!(rt; bytes.as_slice(), b"confirmed possible\n".as_slice());
-    assert_eq!(rt; gate.met.load(Ordering::SeqCst), 1);
+    assert!(rt; gate.has_met());
     Ok(())
 }

@@ -479,7 +479,7 @@ fn words_that_are_no_command_get_the_usage_line(rt: HostRuntime) -> Result<(), F
         &["check"],
         &["check", "a"],
         &["check", "a", "b", "c"],
-        &["decide", "a"],
+        &["decide"],
     ];
     for words in cases {
         let mut shelf = MemoryShelf::new(alloc, &[])?;

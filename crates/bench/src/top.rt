@@ -6,6 +6,11 @@ ghost use Rattle.bench.specs.Answered.{Answers};
 
 use crate::answer::{Answer, Stop};
 use crate::check::check;
+use crate::decide::decide;
+use crate::export::export;
+use crate::lrat::lrat;
+use crate::proof::proof;
+use crate::sample::sample;
 use answers::Run;
 use edge::{Failed, Gate, Shelf, Sink};
 use std::alloc::Global;
@@ -34,7 +39,18 @@ fn answer<R: Threads + Sync, S: Shelf, G: Gate>(
                 },
             ),
         ) => check(rt, alloc, gate, workers, shelf, study, report),
+        Ok(Some(Command::Decide { study, workers })) => {
+            decide(rt, alloc, gate, workers, shelf, study)
+        }
+        Ok(Some(Command::Export { study, workers })) => {
+            export(rt, alloc, gate, workers, shelf, study)
+        }
+        Ok(Some(Command::Proof { study, workers })) => {
+            proof(rt, alloc, gate, workers, shelf, study)
+        }
+        Ok(Some(Command::Lrat { cnf, proof })) => lrat(alloc, shelf, cnf, proof),
         Ok(Some(Command::Axioms { kind })) => Ok(Answer::Library(kind)),
+        Ok(Some(Command::Sample { number })) => sample(rt, alloc, gate, number),
         Ok(None) => Ok(Answer::Usage),
         Err(_) => Err(Stop::NoMemory),
     }
@@ -66,10 +82,10 @@ pub fn bench<R: Threads + Sync, S: Shelf, K: Sink, G: Gate>(
         Err(Stop::ReadFault) => return Run::bare(alloc, 5),
         Err(Stop::NoMemory) => return Run::bare(alloc, 7),
     };
-    let mut run = answer.run(alloc);
     match write_text(&answer, out) {
-        Ok(()) => run,
+        Ok(()) => answer.into_run(alloc),
         Err(Failed) => {
+            let mut run = answer.into_run(alloc);
             run.status = 6;
             run
         }

@@ -1,0 +1,36 @@
+//! The clauses of all axioms of a study.
+
+ghost use Rattle.std.specs.Prelude.{◌≡◌, None, IfOk, IfErr, IsTrue};
+ghost use Rattle.clause_form.specs.Refusals.{IsRefused};
+ghost use Rattle.meaning.specs.StudyClauses.{study_clauses};
+ghost use Rattle.search_logs.specs.Spent.{all_places};
+ghost use Rattle.answers.specs.Grounding.{fault_of};
+
+use clause_form::{Ground, GroundFault};
+use crew::Crew;
+use edge::Gate;
+use grounding::ground;
+use outcomes::OutcomeKind;
+use search_logs::all_places;
+use std::alloc::Global;
+use std::thread::Threads;
+use vocab::Study;
+
+/// The clauses of all axioms of a study, made among workers, which changes none of them.
+pub fn ground_all<R: Threads + Sync, K: OutcomeKind, G: Gate>(
+    alloc: Global,
+    crew: &Crew<R, G>,
+    kind: &K,
+    study: &Study,
+) -> Result<Ground, GroundFault>
+    requires size { study.now.size ≡ K.size kind.now }
+    ensures clauses { IfOk result (λ made. made ≡
+        study_clauses study.now.size study.now.axioms (all_places study.now)) }
+    ensures none { IfOk result (λ made. fault_of study.now ≡ None) }
+    ensures fault { IfErr result (λ fault. IsRefused fault (fault_of study.now)) }
+{
+    let Ok(all) = all_places(alloc, study) else {
+        return Err(GroundFault::NoMemory);
+    };
+    ground(alloc, crew, kind, study, &all)
+}
