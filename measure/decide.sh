@@ -1,0 +1,50 @@
+#!/usr/bin/env bash
+# Seconds and peak memory of `decide` for each study of studies/ and for Arrow's axioms with 2 voters and 3 and 4 alternatives, each
+# against `export` of the same study and stock solvers on what that writes: `minisat` and `cadical`, where they are installed. It also
+# says how many lemmas, steps and lines the report has; each report is checked. Each runs once where it takes more than 2 seconds,
+# else 3 times, and the shortest run counts.
+# The last line is `ratio R`: the seconds of `decide` for four alternatives by those of `export` and `cadical` together, or by those
+# of `export` alone where there is no `cadical`.
+set -eu
+root=$(cd -- "$(dirname -- "$(readlink -f -- "${BASH_SOURCE[0]}")")/.." && pwd)
+work=$(mktemp -d)
+trap 'rm -rf "$work"' EXIT
+program=$root/crates/bench/out/bench
+env -u BENCH_QUICK "$root/bench" axioms choice >/dev/null # proves and builds where a source is newer
+python3 - "$program" "$root/studies" "$work" <<'PY'
+import glob, os, shutil, subprocess, sys, time
+program, studies, work = sys.argv[1:]
+def run(out, *words, ends=(0,)): # the shortest seconds, and the peak memory in KB
+    best, peak = None, 0
+    for _ in range(3):
+        with open(out, "wb") as file:
+            start = time.perf_counter()
+            child = subprocess.Popen(words, stdout=file, stderr=subprocess.DEVNULL)
+            _, status, usage = os.wait4(child.pid, 0)
+            spent = time.perf_counter() - start
+        assert os.waitstatus_to_exitcode(status) in ends, (words, status)
+        best, peak = spent if best is None else min(best, spent), max(peak, usage.ru_maxrss)
+        if best > 2: break
+    return best, peak
+solvers = [name for name in ("minisat", "cadical") if shutil.which(name)]
+last = None
+for study in sorted(glob.glob(studies + "/*.toml")):
+    name = os.path.basename(study)[:-5]
+    report, cnf = work + "/report", work + "/cnf"
+    decide, peak = run(report, program, "decide", study, ends=(0, 4))
+    export, _ = run(cnf, program, "export", study)
+    lines = open(report).read().split("\n")
+    words = [line.split(" ")[0] for line in lines]
+    verdict = next(line for line in lines if line.startswith("verdict "))
+    if not verdict.endswith("undecided"):
+        said = subprocess.run([program, "check", study, report], capture_output=True, text=True)
+        assert said.returncode == 0 and said.stdout.startswith("confirmed "), said
+    row = "%s: %s; decide %.3f s, %d KB; export %.3f s" % (name, verdict[8:], decide, peak, export)
+    times = {}
+    for solver in solvers:
+        times[solver], _ = run(work + "/solved", *([solver, "-q", cnf] if solver == "cadical" else [solver, cnf]), ends=(10, 20))
+        row += "; %s %.3f s" % (solver, times[solver])
+    print(row + "; %d lemmas, %d steps, %d lines" % (words.count("lemma"), words.count("so"), len(lines) - 1))
+    if name == "arrow_four": last = decide / (export + times.get("cadical", 0))
+print("ratio %.2f" % last)
+PY
