@@ -1,8 +1,8 @@
 #!/usr/bin/env bash
 # Seconds and peak memory of `decide` for each study of studies/ and for Arrow's axioms with 2 voters and 3 and 4 alternatives, each
 # against `export` of the same study and stock solvers on what that writes: `minisat` and `cadical`, where they are installed. It also
-# says how many lemmas, steps and lines the report has; each report is checked. Each runs once where it takes more than 2 seconds,
-# else 3 times, and the shortest run counts.
+# says how many lemmas, steps and lines the report has; each report is checked, and is the one beside the study. Each runs once where
+# it takes more than 2 seconds, else 3 times, and the shortest run counts.
 # The last line is `ratio R`: the seconds of `decide` for four alternatives by those of `export` and `cadical` together, or by those
 # of `export` alone where there is no `cadical`.
 set -eu
@@ -39,6 +39,7 @@ for study in sorted(glob.glob(studies + "/*.toml")):
     if not verdict.endswith("undecided"):
         said = subprocess.run([program, "check", study, report], capture_output=True, text=True)
         assert said.returncode == 0 and said.stdout.startswith("confirmed "), said
+        assert open(report).read() == open(study[:-5] + ".report").read(), "studies/%s.report is not what decide writes" % name
     row = "%s: %s; decide %.3f s, %d KB; export %.3f s" % (name, verdict[8:], decide, peak, export)
     times = {}
     for solver in solvers:
