@@ -197,6 +197,25 @@ fn a_spent_search_is_undecided(rt: HostRuntime) -> Result<(), Fail> {
 }
 
 #[test]
+fn a_spent_search_for_a_rule_is_an_open_mark(rt: HostRuntime) -> Result<(), Fail> {
+    let study =
+        "kind = \"choice\"\nvoters = 2\nalternatives = 3\nconflicts = 2\naxioms = [\"unanimity\", \"pareto\", \"anonymity\", \"neutrality\"]\n";
+    let (report, said) = decided(&rt, rt.alloc(), study)?;
+    assert_eq!(rt; said.as_slice(), b"confirmed impossible\n".as_slice());
+    // The first proof has no need of `unanimity`; the limit is reached by the search for a rule without `pareto`.
+    let wanted = [
+        "core pareto anonymity neutrality",
+        "without pareto open 2",
+        "without anonymity rule 36",
+        "without neutrality rule 36",
+    ];
+    for line in wanted {
+        assert!(rt; has_line(report.as_slice(), line), "no {line}");
+    }
+    Ok(())
+}
+
+#[test]
 fn clauses_are_refused_or_written(rt: HostRuntime) -> Result<(), Fail> {
     let wide =
         "kind = \"choice\"\nvoters = 2\nalternatives = 3\naxioms = [\"far\"]\n[sentences]\nfar = \"some p: profile. (wins(@a, p) & wins(@b, with(p, #1, <bac>)))\"\n";
