@@ -3,9 +3,7 @@
 # in plain Rust built by `rustc -O` (measure/check.rs). Each runs 20 times, and the shortest run counts.
 # The last line is `ratio R`: the seconds of the bench by those of plain Rust.
 set -eu
-root=$(cd -- "$(dirname -- "$(readlink -f -- "${BASH_SOURCE[0]}")")/.." && pwd)
-work=$(mktemp -d)
-trap 'rm -rf "$work"' EXIT
+. "$(dirname -- "$(readlink -f -- "${BASH_SOURCE[0]}")")/setup.sh"
 cat >"$work/study.toml" <<'TOML'
 kind = "choice"
 voters = 2
@@ -22,8 +20,7 @@ for one, two in product(ballots, ballots):
 print("end")
 PY
 rustc -O --edition 2021 -o "$work/baseline" "$root/measure/check.rs" 2>/dev/null
-program=$root/crates/bench/out/bench
-env -u BENCH_QUICK "$root/bench" check "$work/study.toml" "$work/report.txt" >/dev/null # proves and builds where a source is newer
+build_program
 seconds() { # the shortest of 20 runs
     python3 - "$@" <<'PY'
 import subprocess, sys, time

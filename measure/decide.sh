@@ -6,11 +6,8 @@
 # The last line is `ratio R`: the seconds of `decide` for four alternatives by those of `export` and `cadical` together, or by those
 # of `export` alone where there is no `cadical`.
 set -eu
-root=$(cd -- "$(dirname -- "$(readlink -f -- "${BASH_SOURCE[0]}")")/.." && pwd)
-work=$(mktemp -d)
-trap 'rm -rf "$work"' EXIT
-program=$root/crates/bench/out/bench
-env -u BENCH_QUICK "$root/bench" axioms choice >/dev/null # proves and builds where a source is newer
+. "$(dirname -- "$(readlink -f -- "${BASH_SOURCE[0]}")")/setup.sh"
+build_program
 python3 - "$program" "$root/studies" "$work" <<'PY'
 import glob, os, shutil, subprocess, sys, time
 program, studies, work = sys.argv[1:]

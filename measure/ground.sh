@@ -5,11 +5,8 @@
 # byte for byte. Each runs 3 times, and the shortest run counts. `writes` are the system calls by which the text was written.
 # The last lines are the speed-up by workers, and `ratio R`: the seconds of the bench with one worker by those of plain Rust.
 set -eu
-root=$(cd -- "$(dirname -- "$(readlink -f -- "${BASH_SOURCE[0]}")")/.." && pwd)
-work=$(mktemp -d)
-trap 'rm -rf "$work"' EXIT
-program=$root/crates/bench/out/bench
-env -u BENCH_QUICK "$root/bench" axioms choice >/dev/null # proves and builds where a source is newer
+. "$(dirname -- "$(readlink -f -- "${BASH_SOURCE[0]}")")/setup.sh"
+build_program
 rustc -O --edition 2021 -o "$work/baseline" "$root/measure/ground.rs" 2>/dev/null
 python3 - "$program" "$root/studies/arrow_four.toml" "$work" <<'PY'
 import os, resource, shutil, subprocess, sys, time

@@ -7,15 +7,8 @@
 # check of these crates left, if anything).
 # The last line is `ratio R`: the time of all calls by that of plain Rust.
 set -eu
-root=$(cd -- "$(dirname -- "$(readlink -f -- "${BASH_SOURCE[0]}")")/.." && pwd)
-work=$(mktemp -d)
-trap 'rm -rf "$work"' EXIT
-mkdir -p "$work/copy/crates"
-for name in lists vocab cnf meaning profiles; do
-    mkdir "$work/copy/crates/$name"
-    cp -r "$root/crates/$name/src" "$root/crates/$name/specs" "$root/crates/$name/proofs" "$root/crates/$name/out" "$work/copy/crates/$name/" 2>/dev/null || true
-    grep -E "^$name( .*)?:" "$root/crates.txt" >>"$work/copy/crates.txt"
-done
+. "$(dirname -- "$(readlink -f -- "${BASH_SOURCE[0]}")")/setup.sh"
+copy_crates lists vocab cnf meaning profiles
 echo "profile_calls: vocab profiles" >>"$work/copy/crates.txt"
 mkdir -p "$work/copy/crates/profile_calls/src" "$work/copy/crates/profile_calls/proofs/voted"
 cat >"$work/copy/crates/profile_calls/proofs/voted/Answers.antt" <<'ANTT'

@@ -5,9 +5,7 @@
 # report has as many lemmas as the second, and one step more in each: its peak must be that of the second, but for 512 KB.
 # The last lines are `ratio NAME R`: the seconds of `check` by those of `wc -l`. Each runs 5 times, and the shortest counts.
 set -eu
-root=$(cd -- "$(dirname -- "$(readlink -f -- "${BASH_SOURCE[0]}")")/.." && pwd)
-work=$(mktemp -d)
-trap 'rm -rf "$work"' EXIT
+. "$(dirname -- "$(readlink -f -- "${BASH_SOURCE[0]}")")/setup.sh"
 cat >"$work/rule.toml" <<'TOML'
 kind = "choice"
 voters = 2
@@ -27,9 +25,11 @@ with open(work + "/rule.report", "w") as out:
         print("%s|%s %s" % (one, two, one[0]), file=out)
     print("end", file=out)
 lines = open(source).read().split("\n")[:-1]
-head, first, last, rest = lines[:7], lines[9:13], lines[14:19], lines[19:]
+one, two = lines.index("lemma 1"), lines.index("lemma 2")
+after = next(k for k, line in enumerate(lines) if line.startswith("without "))
+head, first, last, rest = lines[:lines.index("lemmas 2")], lines[one + 1:two], lines[two + 1:after], lines[after:]
 count = 5000
-longer = first[:1] + ["so !b@ab|ba by outcome ab|ba"] + first[1:]
+longer = first[:1] + ["so !a@ba|ab by axiom anonymity ab|ba 1 2 a"] + first[1:]
 for name, told in (("story", first), ("longer", longer)):
     with open("%s/%s.report" % (work, name), "w") as out:
         print("\n".join(head) + "\nlemmas %d" % (count + 1), file=out)
@@ -37,8 +37,7 @@ for name, told in (("story", first), ("longer", longer)):
             print("lemma %d\n%s" % (number, "\n".join(told)), file=out)
         print("lemma %d\n%s\n%s" % (count + 1, "\n".join(last), "\n".join(rest)), file=out)
 PY
-program=$root/crates/bench/out/bench
-env -u BENCH_QUICK "$root/bench" check "$root/studies/unanimity.toml" "$root/studies/unanimity.report" >/dev/null # builds where a source is newer
+build_program
 rustc -O --edition 2021 -o "$work/peak" "$root/measure/peak.rs" 2>/dev/null
 python3 - "$program" "$work" <<'PY'
 import os, subprocess, sys

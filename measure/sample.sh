@@ -3,9 +3,8 @@
 # undecided, and how many are refused for their clauses. The last line is `ratio R`: the seconds of the slowest by those of the
 # median.
 set -eu
-root=$(cd -- "$(dirname -- "$(readlink -f -- "${BASH_SOURCE[0]}")")/.." && pwd)
-program=$root/crates/bench/out/bench
-env -u BENCH_QUICK "$root/bench" axioms choice >/dev/null # proves and builds where a source is newer
+. "$(dirname -- "$(readlink -f -- "${BASH_SOURCE[0]}")")/setup.sh"
+build_program
 python3 - "$program" "${1:-400}" <<'PY'
 import subprocess, sys, time
 program, last = sys.argv[1], int(sys.argv[2])

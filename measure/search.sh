@@ -7,15 +7,8 @@
 # The search is called by a program that is proved and built in a copy of the repository.
 # The last lines are `ratio scanning R` and `ratio watched R`: the seconds of the search by those of each.
 set -eu
-root=$(cd -- "$(dirname -- "$(readlink -f -- "${BASH_SOURCE[0]}")")/.." && pwd)
-work=$(mktemp -d)
-trap 'rm -rf "$work"' EXIT
-mkdir -p "$work/copy/crates"
-for name in lists cnf propagate cdcl; do
-    mkdir "$work/copy/crates/$name"
-    cp -r "$root/crates/$name/src" "$root/crates/$name/specs" "$root/crates/$name/proofs" "$work/copy/crates/$name/" 2>/dev/null || true
-    grep -E "^$name( .*)?:" "$root/crates.txt" >>"$work/copy/crates.txt"
-done
+. "$(dirname -- "$(readlink -f -- "${BASH_SOURCE[0]}")")/setup.sh"
+copy_crates lists cnf propagate cdcl
 echo "search_calls: lists cnf propagate cdcl" >>"$work/copy/crates.txt"
 mkdir -p "$work/copy/crates/search_calls/src"
 cat >"$work/copy/crates/search_calls/src/main.rt" <<'RT'

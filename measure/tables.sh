@@ -6,15 +6,8 @@
 # The test of the crate is called by a program that is proved and built in a copy of the repository.
 # The last lines are the instances in a second, and `ratio R`: the time of the test by that of plain Rust.
 set -eu
-root=$(cd -- "$(dirname -- "$(readlink -f -- "${BASH_SOURCE[0]}")")/.." && pwd)
-work=$(mktemp -d)
-trap 'rm -rf "$work"' EXIT
-mkdir -p "$work/copy/crates"
-for name in lists vocab cnf meaning profiles outcomes worlds; do
-    mkdir "$work/copy/crates/$name"
-    cp -r "$root/crates/$name/src" "$root/crates/$name/specs" "$root/crates/$name/proofs" "$root/crates/$name/out" "$work/copy/crates/$name/" 2>/dev/null || true
-    grep -E "^$name( .*)?:" "$root/crates.txt" >>"$work/copy/crates.txt"
-done
+. "$(dirname -- "$(readlink -f -- "${BASH_SOURCE[0]}")")/setup.sh"
+copy_crates lists vocab cnf meaning profiles outcomes worlds
 echo "failure_calls: lists vocab profiles outcomes worlds" >>"$work/copy/crates.txt"
 mkdir -p "$work/copy/crates/failure_calls/src" "$work/copy/crates/failure_calls/proofs/constant_table"
 cat >"$work/copy/crates/failure_calls/proofs/constant_table/Invariants.antt" <<'ANTT'
