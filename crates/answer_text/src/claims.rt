@@ -3,7 +3,8 @@
 ghost use Rattle.std.specs.Prelude.{◌≡◌, ◌∷◌, [], ◌++◌, codes};
 ghost use Rattle.meaning.specs.Texts.{kind_text};
 ghost use Rattle.verdicts.specs.Words.{claim_text};
-ghost use Rattle.answer_text.specs.Claims.{claim_line, summary_text};
+ghost use Rattle.answers.specs.Sample.{summary_text};
+ghost use Rattle.answer_text.specs.Claims.{claim_line};
 
 use edge::{Failed, Sink};
 use texts::{Number, Page, Raw, Text, Two};

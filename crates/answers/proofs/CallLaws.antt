@@ -19,7 +19,7 @@ use Rattle.answers.specs.Grounding.{fault_of, OverClauses, clauses_refused, clau
 use Rattle.answers.specs.Evidence.{Decides, by_verdict, by_limit}
 use Rattle.answers.specs.Decide.{IsReported}
 use Rattle.answers.specs.Export.{IsWritten}
-use Rattle.answers.specs.Proof.{IsShown, refuted, possible, undecided}
+use Rattle.answers.specs.Proof.{Proves, refuted, possible, undecided}
 use Rattle.answers.specs.Lrat.{GivesFormula, IsConfirmedBy, formula_refused, proof_judged, said_of}
 use Rattle.answers.specs.Sample.{IsSampled}
 use Rattle.answers.specs.Lawful.{IsAnswer, Lawful}
@@ -70,7 +70,7 @@ by_decides : (study : Question) (run : Run) (verdict : Verdict) → Decides stud
 by_decides study run verdict (by_verdict found) = inl found.ends
 by_decides study run verdict (by_limit u is) = inr (inl u.ends)
 
-by_shown : (study : Question) (run : Run) (text : List ℕ) → IsShown study run text → IsDecidedOrWanting run
+by_shown : (study : Question) (run : Run) (text : List ℕ) → Proves study run text → IsDecidedOrWanting run
 by_shown study run text (refuted lines r bare t) = inl bare.ends
 by_shown study run text (possible table found t) = inl found.ends
 by_shown study run text (undecided u t) = inr (inl u.ends)
@@ -128,7 +128,7 @@ module _ (words : List (List ℕ)) (d : Devices) (run : Run) (call : IsCall word
   proof_settled : (files : Files) (name : List ℕ) (workers : ℕ) (study : Question) → d.told ≡ Some files → request_of words ≡ Some (Proof name workers)
       → GivesStudy files name study → fault_of study ≡ None → IsDecidedOrWanting run
   proof_settled files name workers study told asked g none = elim (settled_row (Some (Proof name workers)) files asked told) [
-    | inl a ↦ by_shown study run a.0 (rest_of files name run a.0 (λ s. IsShown s run a.0) study g none a.1)
+    | inl a ↦ by_shown study run a.0 (rest_of files name run a.0 (λ s. Proves s run a.0) study g none a.1)
     | inr seven ↦ inr (inr seven)
   ]
 

@@ -25,7 +25,7 @@ use Rattle.answers.specs.Studies.{GivesStudy}
 use Rattle.answers.specs.Rules.{IsRuleFor, HasNoRule}
 use Rattle.answers.specs.Grounding.{all_clauses}
 use Rattle.answers.specs.Export.{IsWritten}
-use Rattle.answers.specs.Proof.{IsShown, refuted, possible, undecided}
+use Rattle.answers.specs.Proof.{Proves, refuted, possible, undecided}
 use Rattle.answers.specs.Lrat.{GivesFormula, IsConfirmedBy, formula_refused, proof_judged, said_of, of_reading, of_derivation}
 use Rattle.answers.specs.RowLaws.{ExportedSaysStudy, IsProofRight, a_refutation, its_rule, ProvedHolds, ConfirmedIsUnsatisfiable}
 use Rattle.answers.proofs.RowLemmas.{granted, one_formula}
@@ -54,7 +54,7 @@ refutes_all files name study lines g accepted table holds =
     let assignment = (clauses_mean files name study g).1 (table, holds) in
     accepted_unsatisfiable (all_clauses study) lines accepted assignment.0 assignment.1
 
-shown_right : (files : Files) (name : List ℕ) (study : Question) (run : Run) (text : List ℕ) → GivesStudy files name study → run.status ≡ 0 → IsShown study run text → IsProofRight study run text
+shown_right : (files : Files) (name : List ℕ) (study : Question) (run : Run) (text : List ℕ) → GivesStudy files name study → run.status ≡ 0 → Proves study run text → IsProofRight study run text
 shown_right files name study run text g zero_is (refuted lines r bare is) =
     let accepted = trimmed_accepted (all_clauses study) lines r.trimmed in
     a_refutation lines bare.no_verdict is accepted (refutes_all files name study lines g accepted)
@@ -63,7 +63,7 @@ shown_right files name study run text g zero_is (undecided u is) = let four : 0 
 
 pub proved_hold : ProvedHolds
 proved_hold files name run text study row g zero_is =
-    shown_right files name study run text g zero_is (granted files name run text (λ s. IsShown s run text) study g zero_is row)
+    shown_right files name study run text g zero_is (granted files name run text (λ s. Proves s run text) study g zero_is row)
 
 -- ---- `lrat`
 

@@ -19,15 +19,15 @@ pub record Refutes (study : Question) (lines : List Line) : Type 0 where
   pub trimmed : IsTrue (is_trimmed (all_clauses study) lines)
   pub over : AreOver (variable_count study.size) lines
 
--- the text is a refutation of the clauses; or a rule was found that satisfies all axioms; or nothing was
--- found
-pub data IsShown (study : Question) (run : Run) (text : List ℕ) : Type 0 where
+-- the run and the text answer `proof` over the study: the text is a refutation of its clauses; or a rule was
+-- found that satisfies all axioms; or nothing was found
+pub data Proves (study : Question) (run : Run) (text : List ℕ) : Type 0 where
   refuted : (lines : List Line) → Refutes study lines → IsBare run 0 → text ≡ lrat_text lines
-      → IsShown study run text
+      → Proves study run text
   possible : (table : List ℕ) → IsFound study run (Possible table) → text ≡ codes "c possible\n"
-      → IsShown study run text
-  undecided : IsUndecided study run → text ≡ codes "c undecided\n" → IsShown study run text
+      → Proves study run text
+  undecided : IsUndecided study run → text ≡ codes "c undecided\n" → Proves study run text
 
 abbrev pub IsProved : Files → List ℕ → Run → List ℕ → Type 0
 IsProved files name run text =
-    OverStudy files name run text (λ study. OverClauses study run text (IsShown study run text))
+    OverStudy files name run text (λ study. OverClauses study run text (Proves study run text))

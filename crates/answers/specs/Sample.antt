@@ -10,14 +10,18 @@ use Rattle.answers.specs.declared.runs.Run.{Run}
 use Rattle.answers.specs.Grounding.{all_clauses, OverClauses}
 use Rattle.answers.specs.Evidence.{Decides}
 
--- what is said of the study of a number
-abbrev pub summary_line : ℕ → Question → Verdict → List ℕ
-summary_line n study verdict =
+-- what is said of the study of a number, which has so many clauses
+abbrev pub summary_text : ℕ → Question → ℕ → Verdict → List ℕ
+summary_text n study clauses verdict =
     codes "sample " ++ (decimal n ++ (codes ": kind " ++ (kind_text study.size.kind
     ++ (codes " voters " ++ (decimal study.size.voters
     ++ (codes " alternatives 3 axioms " ++ (decimal (length study.axioms)
-    ++ (codes " clauses " ++ (decimal (length (all_clauses study))
+    ++ (codes " clauses " ++ (decimal clauses
     ++ (codes " verdict " ++ (claim_text verdict ++ 10 ∷ [])))))))))))
+
+-- the same, with the clauses of all axioms
+abbrev pub summary_line : ℕ → Question → Verdict → List ℕ
+summary_line n study verdict = summary_text n study (length (all_clauses study)) verdict
 
 -- the run decides the study, and the text is the summary
 pub record IsSummed (n : ℕ) (study : Question) (run : Run) (text : List ℕ) : Type 0 where

@@ -11,11 +11,10 @@ use Rattle.words.specs.Words.{Request, Sample}
 use Rattle.search_logs.specs.declared.logs.SearchLog.{SearchLog}
 use Rattle.search_logs.specs.Spent.{AreSpentLogs}
 use Rattle.verdicts.specs.declared.verdicts.Verdict.{Verdict}
-use Rattle.answer_text.specs.Claims.{summary_text}
 use Rattle.answers.specs.declared.runs.Run.{Run}
 use Rattle.answers.specs.Evidence.{Decides}
 use Rattle.answers.specs.Grounding.{all_clauses}
-use Rattle.answers.specs.Sample.{IsSummed, IsSampled}
+use Rattle.answers.specs.Sample.{summary_text, IsSummed, IsSampled}
 use Rattle.bench.specs.declared.answer.Answer.{Answer}
 use Rattle.bench.specs.declared.answer.Answer.TheVariants as answer
 use Rattle.bench.specs.declared.answer.Stop.{Stop}

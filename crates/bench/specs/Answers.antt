@@ -10,7 +10,7 @@ use Rattle.verdicts.specs.Report.{has_text, report_text}
 use Rattle.clause_form.specs.Sources.{clauses_in}
 use Rattle.clause_text.specs.Dimacs.{dimacs_text, size_text}
 use Rattle.clause_text.specs.Lrat.{lrat_text}
-use Rattle.answer_text.specs.Claims.{claim_line, summary_text}
+use Rattle.answer_text.specs.Claims.{claim_line}
 use Rattle.answer_text.specs.Said.{worth_text}
 use Rattle.answers.specs.declared.runs.Run.{Run}
 use Rattle.answers.specs.StudyLines.{study_line}
@@ -18,6 +18,7 @@ use Rattle.answers.specs.Grounding.{refusal_line}
 use Rattle.answers.specs.Lrat.{cnf_line, line_fault_text, proof_line, reading_text}
 use Rattle.answers.specs.Usage.{usage_line}
 use Rattle.answers.specs.Axioms.{library_text}
+use Rattle.answers.specs.Sample.{summary_text}
 use Rattle.bench.specs.declared.answer.Answer.{Answer}
 use Rattle.bench.specs.declared.answer.Answer.TheVariants as answer
 

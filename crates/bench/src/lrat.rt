@@ -53,7 +53,8 @@ fn open_clauses<S: Shelf>(alloc: Global, shelf: &mut S, name: &str) -> Result<Gi
 /// What is said of a derivation from some clauses.
 fn checked(alloc: Global, formulas: &Formulas, lines: &Derivation) -> Result<Answer, Stop>
     requires { IsTrue (list_all has_next lines.now) }
-    ensures said { IfOk result (λ answer. IsSaid answer (of_reading (formula_of formulas.now) (Ok lines.now))) }
+    ensures said { IfOk result
+        (λ answer. IsSaid answer (of_reading (formula_of formulas.now) (Ok lines.now))) }
     ensures status { IfOk result (λ answer. status_of answer ≤ 1) }
     ensures has_text { IfOk result HasText }
     ensures read { result ≢ Err Stop.ReadFault }

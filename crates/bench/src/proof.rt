@@ -5,7 +5,7 @@ ghost use Rattle.edge.specs.Shelf.{Files};
 ghost use Rattle.vocab.specs.declared.kinds.Kind.TheVariants.{Sets};
 ghost use Rattle.core_reduce.specs.Proofs.{IsProved};
 ghost use Rattle.words.specs.Words.{Proof};
-ghost use Rattle.answers.specs.Proof.{IsShown};
+ghost use Rattle.answers.specs.Proof.{Proves};
 ghost use Rattle.answers.specs.Grounding.{OverClauses};
 ghost use Rattle.bench.specs.Answers.{HasText, run_of, text_of};
 ghost use Rattle.bench.specs.Answered.{Answers};
@@ -27,7 +27,7 @@ use vocab::{Kind, Study};
 /// What is shown of a search over the clauses of a study.
 fn answer_of(study: &Study, proved: Proved) -> Answer
     requires { IsProved study.now proved }
-    ensures shown { IsShown study.now (run_of result) (text_of result) }
+    ensures shown { Proves study.now (run_of result) (text_of result) }
     ensures has_text { HasText result }
 {
     let _ = study;
@@ -48,7 +48,7 @@ fn prove_over<R: Threads + Sync, K: OutcomeKind, G: Gate>(
 ) -> Result<Answer, Stop>
     requires size { study.size ≡ K.size kind.now }
     ensures row { IfOk result (λ answer. OverClauses study (run_of answer) (text_of answer)
-        (IsShown study (run_of answer) (text_of answer))) }
+        (Proves study (run_of answer) (text_of answer))) }
     ensures has_text { IfOk result HasText }
     ensures read { result ≢ Err Stop.ReadFault }
 {
@@ -71,7 +71,7 @@ fn prove_study<R: Threads + Sync, G: Gate>(
 ) -> Result<Answer, Stop>
     requires known { study.size.kind ≢ Sets }
     ensures row { IfOk result (λ answer. OverClauses study (run_of answer) (text_of answer)
-        (IsShown study (run_of answer) (text_of answer))) }
+        (Proves study (run_of answer) (text_of answer))) }
     ensures has_text { IfOk result HasText }
     ensures read { result ≢ Err Stop.ReadFault }
 {

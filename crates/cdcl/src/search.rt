@@ -50,7 +50,8 @@ pub fn solve(
     requires limit { limit ≤ 1000000 }
     ensures answers { IfOk result (Answers clauses.now.clauses variables limit) }
     ensures conclusive { 3 ^ variables ≤ limit → IfOk result IsConclusive }
-    ensures empty { (k : ℕ) → IsFirstEmpty clauses.now.clauses k → IfOk result (λ search. search ≡ Search.Refuted (citing clauses.now.clauses k)) }
+    ensures empty { (k : ℕ) → IsFirstEmpty clauses.now.clauses k →
+        IfOk result (λ search. search ≡ Search.Refuted (citing clauses.now.clauses k)) }
 {
     match first_empty(clauses) {
         Some(k) => Ok(Search::Refuted(cite(alloc, clauses, variables, k)?)),
@@ -61,7 +62,8 @@ pub fn solve(
 /// The place of the first empty clause.
 fn first_empty(clauses: &Clauses) -> Option<u32>
     ensures some { IfSome result (IsFirstEmpty clauses.now.clauses) }
-    ensures none { IfNone result ((k : ℕ) → k < length clauses.now.clauses → slice_index_or clauses.now.clauses k [] ≢ []) }
+    ensures none { IfNone result
+        ((k : ℕ) → k < length clauses.now.clauses → slice_index_or clauses.now.clauses k [] ≢ []) }
 {
     for k in 0..clauses.len() {
         if clauses.get(k).is_empty() {
@@ -152,7 +154,9 @@ fn choose(trail: &Trail, order: &mut Order, variables: u32) -> Option<u32>
     ensures variables { length order.new.places ≡ variables }
     ensures some { IfSome result (λ v. (1 ≤ v) × (v ≤ variables) × (value_in (known trail.now) v ≡ None)) }
     ensures first { IfSome result (λ v. IsChosen trail.now order.old variables (v - 1)) }
-    ensures others { IfSome result (λ v. (w : ℕ) → w < variables → w ≢ v - 1 → value_in (known trail.now) (w + 1) ≡ None → IsHeld order.new w) }
+    ensures others { IfSome result
+        (λ v. (w : ℕ) → w < variables → w ≢ v - 1 → value_in (known trail.now) (w + 1) ≡ None →
+        IsHeld order.new w) }
     ensures none { IfNone result (IsComplete trail.now variables) }
 {
     let _ = variables;
@@ -226,7 +230,9 @@ fn descend(trail: &mut Trail, order: &mut Order, variables: u32) -> Option<u32>
     requires rests { RestsBelow trail.old }
     ensures all { IfSome result (λ k. HasAll trail.new order.new variables) }
     ensures descends { Descends trail.old trail.new }
-    ensures conflict { IfSome result (λ k. (k < length trail.new.clauses) × IsTrue (is_falsified (known trail.new) (clause_at trail.new k))) }
+    ensures conflict { IfSome result
+        (λ k. (k < length trail.new.clauses) ×
+        IsTrue (is_falsified (known trail.new) (clause_at trail.new k))) }
     ensures closed { IfNone result (IsClosed trail.new) }
     ensures complete { IfNone result (IsComplete trail.new variables) }
 {
@@ -245,7 +251,9 @@ fn descend(trail: &mut Trail, order: &mut Order, variables: u32) -> Option<u32>
 fn values(alloc: Global, trail: &Trail, variables: u32) -> Result<Bits, NoMemory>
     requires { variables < 2 ^ 31 }
     ensures length { IfOk result (λ bits. length bits ≡ variables) }
-    ensures values { IfOk result (λ bits. (v : ℕ) → v < variables → slice_index_or bits v false ≡ unwrap_or (value_in (known trail.now) (v + 1)) false) }
+    ensures values { IfOk result
+        (λ bits. (v : ℕ) → v < variables → slice_index_or bits v false ≡
+        unwrap_or (value_in (known trail.now) (v + 1)) false) }
 {
     let mut bits = Bits::new(alloc, variables)?;
     for v in 0..variables {

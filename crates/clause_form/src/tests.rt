@@ -87,7 +87,9 @@ fn same(alloc: Global, a: Made, b: Made) -> Made {
 
 /// For all values of a sort, or for some.
 fn over(alloc: Global, all: bool, sort: Sort, body: Box<Formula>) -> Result<Box<Formula>, NoMemory>
-    ensures { IfOk result (λ f. tree_of f.value ≡ (if all then All sort (tree_of body.value) else Exists sort (tree_of body.value))) }
+    ensures { IfOk result
+        (λ f. tree_of f.value ≡
+        (if all then All sort (tree_of body.value) else Exists sort (tree_of body.value))) }
 {
     if all {
         return Ok(Box::new(alloc, Formula::All(sort, body))?);
@@ -365,7 +367,9 @@ fn ranks_b(alloc: Global, x: u32, p: u32) -> Result<Box<Formula>, NoMemory>
 
 /// At profile 1 `b` stands above `a`, or at profile 0 above itself.
 fn above(alloc: Global) -> Result<Box<Formula>, NoMemory>
-    ensures { IfOk result (λ f. tree_of f.value ≡ Either (Leaf (Ranks (Const 1) (Const 0) (Const 1))) (Leaf (Ranks (Const 1) (Const 1) (Const 0)))) }
+    ensures { IfOk result
+        (λ f. tree_of f.value ≡
+        Either (Leaf (Ranks (Const 1) (Const 0) (Const 1))) (Leaf (Ranks (Const 1) (Const 1) (Const 0)))) }
 {
     let above = ranks_b(alloc, 0, 1)?;
     let itself = ranks_b(alloc, 1, 0)?;

@@ -85,7 +85,8 @@ impl Text for LratText<'_> {
 /// Writes the text of a derivation. Where the sink fails, a prefix of the text was written. No memory is taken.
 pub fn write_lrat<O: Sink>(derivation: &Derivation, out: &mut O) -> Result<(), Failed>
     ensures ok { OnOk result (Appends (O.taken out.old) (O.taken out.new) (lrat_text derivation.now)) }
-    ensures err { OnErr result (AppendsPrefix (O.taken out.old) (O.taken out.new) (lrat_text derivation.now)) }
+    ensures err { OnErr result
+        (AppendsPrefix (O.taken out.old) (O.taken out.new) (lrat_text derivation.now)) }
     ensures tells { TellsAsBefore (O.taken out.old) (O.taken out.new) }
     ensures cause { HasCause (O.faults out.old) (O.faults out.new) result }
 {

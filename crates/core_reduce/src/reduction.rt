@@ -54,7 +54,9 @@ pub fn search<K: OutcomeKind>(
 ) -> Result<Search, NoMemory>
     requires size { study.now.size ≡ K.size kind.now }
     requires clauses { clauses.now ≡ study_clauses study.now.size study.now.axioms chosen.now }
-    ensures { IfOk result (Answers (clauses_for study.now.size study.now.axioms chosen.now) (variable_count study.now.size) study.now.conflicts) }
+    ensures { IfOk result
+        (Answers (clauses_for study.now.size study.now.axioms chosen.now)
+        (variable_count study.now.size) study.now.conflicts) }
 {
     let _chosen = chosen;
     let _axioms = study.axioms();
@@ -66,7 +68,8 @@ pub fn search<K: OutcomeKind>(
 fn with_rule(study: &Study, mut reduction: Reduction, table: Table) -> Result<Reduction, NoMemory>
     requires reducing { IsReducing study.now reduction }
     requires open { length reduction.witnesses.items < length reduction.core }
-    requires table { IsTrue (satisfies study.now.size study.now.axioms (others (next_open reduction) reduction.core) table) }
+    requires table { IsTrue
+        (satisfies study.now.size study.now.axioms (others (next_open reduction) reduction.core) table) }
     ensures { IfOk result (IsNext study.now reduction) }
 {
     let _study = study;
@@ -84,7 +87,8 @@ fn with_mark(
     requires reducing { IsReducing study.now reduction }
     requires open { length reduction.witnesses.items < length reduction.core }
     requires rest { rest ≡ others (next_open reduction) reduction.core }
-    requires spent { IsSpent (variable_count study.now.size) (clauses_for study.now.size study.now.axioms rest) study.now.conflicts lines }
+    requires spent { IsSpent (variable_count study.now.size)
+        (clauses_for study.now.size study.now.axioms rest) study.now.conflicts lines }
     ensures { IfOk result (IsNext study.now reduction) }
 {
     reduction.logs.push(SearchLog {

@@ -28,8 +28,12 @@ fn key_of(alloc: Global, clause: &[Lit]) -> Result<SmallVec<u32, 4>, NoMemory>
 
 /// Adds a clause, unless an equal one is there. True where it was added.
 fn is_new(alloc: Global, seen: &mut Seen, clause: &[Lit]) -> Result<bool, NoMemory>
-    ensures fresh { IfOk result (λ fresh. (before : List Clause) → codes_seen seen.old.keys ≡ map codes_of before → fresh ≡ not (is_seen before clause.now)) }
-    ensures seen { IfOk result (λ fresh. codes_seen seen.new.keys ≡ codes_seen seen.old.keys ++ (if fresh then codes_of clause.now ∷ [] else [])) }
+    ensures fresh { IfOk result
+        (λ fresh. (before : List Clause) → codes_seen seen.old.keys ≡ map codes_of before → fresh ≡
+        not (is_seen before clause.now)) }
+    ensures seen { IfOk result
+        (λ fresh. codes_seen seen.new.keys ≡
+        codes_seen seen.old.keys ++ (if fresh then codes_of clause.now ∷ [] else [])) }
 {
     let key = key_of(alloc, clause)?;
     match seen.insert(key) {
@@ -49,8 +53,10 @@ pub(crate) fn keep(
     ensures kept { OnOk result ((before : List Clause) → codes_seen seen.old.keys ≡ map codes_of before →
         (out.new ≡ (if is_seen before clause.now then out.old else with_clause out.old clause.now origin))) }
     ensures seen { OnOk result ((before : List Clause) → codes_seen seen.old.keys ≡ map codes_of before →
-        (codes_seen seen.new.keys ≡ map codes_of (if is_seen before clause.now then before else before ++ clause.now ∷ []))) }
-    ensures full { result ≡ Err PushFault.Full → ((before : List Clause) → codes_seen seen.old.keys ≡ map codes_of before →
+        (codes_seen seen.new.keys ≡
+            map codes_of (if is_seen before clause.now then before else before ++ clause.now ∷ []))) }
+    ensures full { result ≡ Err PushFault.Full →
+        ((before : List Clause) → codes_seen seen.old.keys ≡ map codes_of before →
         (is_seen before clause.now ≡ false) × IsFullFor out.old (length clause.now)) }
 {
     match is_new(alloc, seen, clause) {

@@ -27,7 +27,9 @@ use vocab::{Places, Sort, Study};
 /// Appends the frames of all profiles.
 fn push_frames<K: OutcomeKind>(kind: &K, out: &mut Clauses) -> Result<(), NoMemory>
     requires { out.old ≡ no_clauses }
-    ensures { OnOk result (sourced out.new.clauses out.new.origins ≡ flat_map (from_frame (K.size kind.now)) (below (sort_count (K.size kind.now) Profile))) }
+    ensures { OnOk result
+        (sourced out.new.clauses out.new.origins ≡
+        flat_map (from_frame (K.size kind.now)) (below (sort_count (K.size kind.now) Profile))) }
 {
     laws::kinds_have_sizes(kind);
     laws::frames_are_small(kind);
@@ -53,7 +55,8 @@ fn measure_chosen<R: Threads + Sync, K: OutcomeKind, G: Gate>(
     requires chosen { IsTrue (is_core_from 0 (length study.now.axioms) chosen.now) }
     ensures none { IfOk result (λ _. first_wide study.now.size study.now.axioms chosen.now ≡ None) }
     ensures len { IfOk result (λ all. length all ≡ length chosen.now) }
-    ensures err { IfErr result (λ fault. IsRefused fault (first_wide study.now.size study.now.axioms chosen.now)) }
+    ensures err { IfErr result
+        (λ fault. IsRefused fault (first_wide study.now.size study.now.axioms chosen.now)) }
 {
     let axioms = study.axioms();
     let mut all = Items::new(alloc);
@@ -92,10 +95,13 @@ fn push_chosen<R: Threads + Sync, K: OutcomeKind, G: Gate>(
     requires chosen { IsTrue (is_core_from 0 (length study.now.axioms) chosen.now) }
     requires none { first_wide study.now.size study.now.axioms chosen.now ≡ None }
     requires len { length sums.now ≡ length chosen.now }
-    requires frames { sourced out.old.clauses out.old.origins ≡ study_clauses study.now.size study.now.axioms [] }
-    ensures made { OnOk result (sourced out.new.clauses out.new.origins ≡ study_clauses study.now.size study.now.axioms chosen.now) }
+    requires frames { sourced out.old.clauses out.old.origins ≡
+        study_clauses study.now.size study.now.axioms [] }
+    ensures made { OnOk result
+        (sourced out.new.clauses out.new.origins ≡ study_clauses study.now.size study.now.axioms chosen.now) }
     ensures none { OnOk result (first_full study.now.size study.now.axioms [] chosen.now ≡ None) }
-    ensures err { IfErr result (λ fault. IsRefused fault (first_full study.now.size study.now.axioms [] chosen.now)) }
+    ensures err { IfErr result
+        (λ fault. IsRefused fault (first_full study.now.size study.now.axioms [] chosen.now)) }
 {
     let axioms = study.axioms();
     let places = chosen.as_slice();
@@ -127,7 +133,8 @@ pub fn ground<R: Threads + Sync, K: OutcomeKind, G: Gate>(
     requires chosen { IsTrue (is_core_from 0 (length study.now.axioms) chosen.now) }
     ensures ok { IfOk result (λ clauses. clauses ≡ study_clauses study.now.size study.now.axioms chosen.now) }
     ensures none { IfOk result (λ clauses. ground_fault study.now.size study.now.axioms chosen.now ≡ None) }
-    ensures err { IfErr result (λ fault. IsRefused fault (ground_fault study.now.size study.now.axioms chosen.now)) }
+    ensures err { IfErr result
+        (λ fault. IsRefused fault (ground_fault study.now.size study.now.axioms chosen.now)) }
 {
     let sums = match measure_chosen(alloc, crew, kind, study, chosen) {
         Ok(sums) => sums,

@@ -29,9 +29,11 @@ struct Measuring<'a, F> {
 impl<F: Fn(u64, u64) -> Measured + Sync> Job for Measuring<'_, F> {
     type Part = Measured;
 
-    ghost has = { λ job piece. (start_of job.from piece ≤ job.to) × F.pre job.measure.now (start_of job.from piece) (end_of job.from job.to piece) };
+    ghost has = { λ job piece. (start_of job.from piece ≤ job.to) ×
+        F.pre job.measure.now (start_of job.from piece) (end_of job.from job.to piece) };
 
-    ghost is_right = { λ job piece part. F.post job.measure.now (start_of job.from piece) (end_of job.from job.to piece) part };
+    ghost is_right = { λ job piece part.
+        F.post job.measure.now (start_of job.from piece) (end_of job.from job.to piece) part };
 
     fn part(&self, piece: u32) -> Result<Measured, NoMemory> {
         let start = self.from + PIECE * u64::from(piece);
@@ -42,9 +44,12 @@ impl<F: Fn(u64, u64) -> Measured + Sync> Job for Measuring<'_, F> {
 
 /// The first instance that is too wide, of the pieces of a round in order.
 fn first_found<K: OutcomeKind>(round: &Round<K>, parts: &Parts<Measured>) -> Option<WideInstance>
-    requires right { AreRight (IsFirstWideOfPiece (K.size round.now.kind.now) round.now.named.now.sentence round.now.from round.now.to) 0 parts.now }
+    requires right { AreRight
+        (IsFirstWideOfPiece (K.size round.now.kind.now) round.now.named.now.sentence round.now.from
+        round.now.to) 0 parts.now }
     requires whole { round.now.to ≤ start_of round.now.from (length parts.now) }
-    ensures { IsFirstWide (K.size round.now.kind.now) round.now.named.now.sentence round.now.from round.now.to result }
+    ensures { IsFirstWide
+        (K.size round.now.kind.now) round.now.named.now.sentence round.now.from round.now.to result }
 {
     let _ = round;
     for piece in 0..parts.len() {
@@ -70,14 +75,18 @@ fn measure_round<R: Threads + Sync, K: OutcomeKind, G: Gate>(
     round: &Round<K>,
     sums: &mut Vec<Counts>,
 ) -> Result<Option<WideInstance>, NoMemory>
-    requires instances { AreInstances (K.size round.now.kind.now) round.now.named.now round.now.from round.now.to }
+    requires instances { AreInstances
+        (K.size round.now.kind.now) round.now.named.now round.now.from round.now.to }
     requires short { round.now.to ≤ round.now.from + 16384 }
-    ensures { IfOk result (λ found. IsFirstWide (K.size round.now.kind.now) round.now.named.now.sentence round.now.from round.now.to found) }
+    ensures { IfOk result
+        (λ found. IsFirstWide
+        (K.size round.now.kind.now) round.now.named.now.sentence round.now.from round.now.to found) }
 {
     let (from, to) = (round.from, round.to);
     let measure = |start: u64, end: u64| -> Measured
         requires { AreInstances (K.size round.now.kind.now) round.now.named.now start end }
-        ensures { IsFirstWide (K.size round.entry.now.kind.now) round.entry.now.named.now.sentence start end result.wide }
+        ensures { IsFirstWide
+            (K.size round.entry.now.kind.now) round.entry.now.named.now.sentence start end result.wide }
     { measure_all(round.kind, round.named, start, end) };
     let job = Measuring {
         measure: &measure,
@@ -101,7 +110,9 @@ pub(crate) fn measure_axiom<R: Threads + Sync, K: OutcomeKind, G: Gate>(
 ) -> Result<Option<WideInstance>, NoMemory>
     requires sentence { IsTrue (is_sentence (K.size kind.now) named.now) }
     requires few { instance_count (K.size kind.now) named.now.sentence ≤ 20000000 }
-    ensures { IfOk result (λ found. IsFirstWide (K.size kind.now) named.now.sentence 0 (instance_count (K.size kind.now) named.now.sentence) found) }
+    ensures { IfOk result
+        (λ found. IsFirstWide (K.size kind.now) named.now.sentence 0
+        (instance_count (K.size kind.now) named.now.sentence) found) }
 {
     let count = instance_count(kind.space(), named.sentence());
     let mut from = 0;

@@ -12,9 +12,10 @@ ghost use Rattle.grounding.specs.Kept.{Keeps, Overfills};
 ghost use Rattle.grounding.specs.Pieces.{AreNarrow, AreNarrowInstances, IsPart, IsPartOfPiece, end_of, sources_of, start_of};
 
 use crate::distinct::{Seen, keep};
-use crate::parts::{clauses_of_all, sum_of};
+use crate::parts::clauses_of_all;
 use crate::pieces::{PIECE, ROUND, Round};
 use crate::sorting::Part;
+use clause_form::sum;
 use cnf::{Clauses, PushFault};
 use crew::{Crew, Job, Parts, map_pieces};
 use edge::Gate;
@@ -44,9 +45,11 @@ struct Making<'a, F> {
 impl<F: Fn(u64, u64) -> Result<Part, NoMemory> + Sync> Job for Making<'_, F> {
     type Part = Part;
 
-    ghost has = { λ job piece. (start_of job.from piece ≤ job.to) × F.pre job.make.now (start_of job.from piece) (end_of job.from job.to piece) };
+    ghost has = { λ job piece. (start_of job.from piece ≤ job.to) ×
+        F.pre job.make.now (start_of job.from piece) (end_of job.from job.to piece) };
 
-    ghost is_right = { λ job piece part. F.post job.make.now (start_of job.from piece) (end_of job.from job.to piece) (Ok part) };
+    ghost is_right = { λ job piece part.
+        F.post job.make.now (start_of job.from piece) (end_of job.from job.to piece) (Ok part) };
 
     fn part(&self, piece: u32) -> Result<Part, NoMemory> {
         let start = self.from + PIECE * u64::from(piece);
@@ -81,13 +84,17 @@ fn keep_parts<K: OutcomeKind>(
     seen: &mut Seen,
     out: &mut Clauses,
 ) -> Result<(), PushFault>
-    requires right { AreRight (IsPartOfPiece (K.size round.now.kind.now) round.now.named.now.sentence base round.now.from round.now.to) 0 parts.now }
+    requires right { AreRight
+        (IsPartOfPiece (K.size round.now.kind.now) round.now.named.now.sentence base round.now.from
+        round.now.to) 0 parts.now }
     requires rising { round.now.from ≤ round.now.to }
     requires whole { round.now.to ≤ start_of round.now.from (length parts.now) }
     ensures kept { OnOk result (Keeps (codes_seen seen.old.keys) out.old (codes_seen seen.new.keys) out.new
-        (sources_of (K.size round.now.kind.now) round.now.named.now.sentence base round.now.from round.now.to)) }
+        (sources_of (K.size round.now.kind.now) round.now.named.now.sentence base
+            round.now.from round.now.to)) }
     ensures full { result ≡ Err PushFault.Full → Overfills (codes_seen seen.old.keys) out.old
-        (sources_of (K.size round.now.kind.now) round.now.named.now.sentence base round.now.from round.now.to) }
+        (sources_of (K.size round.now.kind.now) round.now.named.now.sentence base
+            round.now.from round.now.to) }
 {
     let _ = round;
     let _ = base;
@@ -110,18 +117,23 @@ fn add_round<R: Threads + Sync, K: OutcomeKind, G: Gate>(
     seen: &mut Seen,
     out: &mut Clauses,
 ) -> Result<(), PushFault>
-    requires instances { AreNarrowInstances (K.size round.now.kind.now) round.now.named.now round.now.from round.now.to }
+    requires instances { AreNarrowInstances
+        (K.size round.now.kind.now) round.now.named.now round.now.from round.now.to }
     requires base { base ≤ 2 ^ 40 }
     requires short { round.now.to ≤ round.now.from + 16384 }
     ensures kept { OnOk result (Keeps (codes_seen seen.old.keys) out.old (codes_seen seen.new.keys) out.new
-        (sources_of (K.size round.now.kind.now) round.now.named.now.sentence base round.now.from round.now.to)) }
+        (sources_of (K.size round.now.kind.now) round.now.named.now.sentence base
+            round.now.from round.now.to)) }
     ensures full { result ≡ Err PushFault.Full → Overfills (codes_seen seen.old.keys) out.old
-        (sources_of (K.size round.now.kind.now) round.now.named.now.sentence base round.now.from round.now.to) }
+        (sources_of (K.size round.now.kind.now) round.now.named.now.sentence base
+            round.now.from round.now.to) }
 {
     let (from, to) = (round.from, round.to);
     let make = |start: u64, end: u64| -> Result<Part, NoMemory>
-        requires { AreNarrowInstances (K.size round.now.kind.now) round.now.named.now start end × (base ≤ 2 ^ 40) }
-        ensures { IfOk result (IsPart (K.size round.entry.now.kind.now) round.entry.now.named.now.sentence base start end) }
+        requires { AreNarrowInstances (K.size round.now.kind.now) round.now.named.now start end ×
+            (base ≤ 2 ^ 40) }
+        ensures { IfOk result
+            (IsPart (K.size round.entry.now.kind.now) round.entry.now.named.now.sentence base start end) }
     { clauses_of_all(alloc, round.kind, round.named, base, start, end) };
     let job = Making {
         make: &make,
@@ -136,8 +148,8 @@ fn add_round<R: Threads + Sync, K: OutcomeKind, G: Gate>(
 }
 
 /// Whether the measures of a round pass a limit.
-fn is_much(sum: Counts) -> bool {
-    sum.clauses > MOST_CLAUSES || sum.literals > MOST_LITERALS
+fn is_much(total: Counts) -> bool {
+    total.clauses > MOST_CLAUSES || total.literals > MOST_LITERALS
 }
 
 /// How many pieces a round has that begins after so many: as many as their measures allow, and at least one.
@@ -146,15 +158,15 @@ fn round_len(sums: &[Counts], done: u64) -> u64
     ensures some { 1 ≤ result }
     ensures few { result ≤ 256 }
 {
-    let mut sum = Counts {
+    let mut total = Counts {
         clauses: 0,
         literals: 0,
     };
     for piece in 0..ROUND {
         if let Some(more) = sums.get((done + piece) as usize) {
-            sum = sum_of(sum, *more);
+            total = sum(total, *more);
         }
-        if piece > 0 && is_much(sum) {
+        if piece > 0 && is_much(total) {
             return piece;
         }
     }
@@ -173,12 +185,14 @@ pub(crate) fn add_axiom<R: Threads + Sync, K: OutcomeKind, G: Gate>(
 ) -> Result<(), PushFault>
     requires sentence { IsTrue (is_sentence (K.size kind.now) named.now) }
     requires few { instance_count (K.size kind.now) named.now.sentence ≤ 20000000 }
-    requires narrow { AreNarrow (K.size kind.now) named.now.sentence 0 (instance_count (K.size kind.now) named.now.sentence) }
+    requires narrow { AreNarrow (K.size kind.now) named.now.sentence 0
+        (instance_count (K.size kind.now) named.now.sentence) }
     requires place { place < 40 }
     ensures made { OnOk result (sourced out.new.clauses out.new.origins ≡
         sourced out.old.clauses out.old.origins ++ from_axiom (K.size kind.now) place (Some named.now)) }
     ensures full { result ≡ Err PushFault.Full →
-        IsTrue (is_over_limits (clauses_in (sourced out.old.clauses out.old.origins ++ from_axiom (K.size kind.now) place (Some named.now)))) }
+        IsTrue (is_over_limits (clauses_in
+            (sourced out.old.clauses out.old.origins ++ from_axiom (K.size kind.now) place (Some named.now)))) }
 {
     let _kept = out.len();
     let count = instance_count(kind.space(), named.sentence());

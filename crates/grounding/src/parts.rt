@@ -3,24 +3,17 @@
 ghost use Rattle.std.specs.Prelude.{◌≡◌, ◌≤◌, ◌-◌, ◌^◌, IfOk, IsTrue};
 ghost use Rattle.vocab.specs.Limits.{instance_count};
 ghost use Rattle.vocab.specs.Study.{is_sentence};
-ghost use Rattle.clause_form.specs.Wide.{is_wide};
 ghost use Rattle.grounding.specs.Pieces.{AreNarrow, IsFirstWide, origins_at, rows_at, rows_from};
 
 use crate::instances::values_of;
 use crate::sorting::{Part, push_sorted};
-use clause_form::{ClauseList, FormFault, clauses, measure};
+use clause_form::{ClauseList, FormFault, clauses, is_wide, measure, sum};
 use cnf::Store;
 use lists::NoMemory;
 use meaning::Counts;
 use outcomes::OutcomeKind;
 use std::alloc::Global;
 use vocab::Axiom;
-
-/// The most clauses of one instance.
-const MOST_CLAUSES: u64 = 100_000;
-
-/// The most literals of all clauses of one instance together.
-const MOST_LITERALS: u64 = 4_000_000;
 
 /// An instance that is too wide, with its measure.
 #[derive(Clone, Copy)]
@@ -36,21 +29,6 @@ pub(crate) struct Measured {
     pub(crate) wide: Option<WideInstance>,
 }
 
-/// Whether counts pass a limit of one instance.
-fn is_wide(counts: Counts) -> bool
-    ensures { result ≡ is_wide counts }
-{
-    counts.clauses > MOST_CLAUSES || counts.literals > MOST_LITERALS
-}
-
-/// The counts of both.
-pub(crate) fn sum_of(a: Counts, b: Counts) -> Counts {
-    Counts {
-        clauses: a.clauses.saturating_add(b.clauses),
-        literals: a.literals.saturating_add(b.literals),
-    }
-}
-
 /// The measures of the instances from `from` up to `to`.
 pub(crate) fn measure_all<K: OutcomeKind>(kind: &K, named: &Axiom, from: u64, to: u64) -> Measured
     requires sentence { IsTrue (is_sentence (K.size kind.now) named.now) }
@@ -58,7 +36,7 @@ pub(crate) fn measure_all<K: OutcomeKind>(kind: &K, named: &Axiom, from: u64, to
     requires within { to ≤ instance_count (K.size kind.now) named.now.sentence }
     ensures { IsFirstWide (K.size kind.now) named.now.sentence from to result.wide }
 {
-    let mut sum = Counts {
+    let mut total = Counts {
         clauses: 0,
         literals: 0,
     };
@@ -67,13 +45,16 @@ pub(crate) fn measure_all<K: OutcomeKind>(kind: &K, named: &Axiom, from: u64, to
         let measure = measure(kind, named.sentence().body(), &values);
         if is_wide(measure) {
             return Measured {
-                sum,
+                sum: total,
                 wide: Some(WideInstance { number, measure }),
             };
         }
-        sum = sum_of(sum, measure);
+        total = sum(total, measure);
     }
-    Measured { sum, wide: None }
+    Measured {
+        sum: total,
+        wide: None,
+    }
 }
 
 /// The clauses of the instances from `from` up to `to`, of which none is too wide. The number of an instance is added to `base`.
@@ -91,8 +72,11 @@ pub(crate) fn clauses_of_all<K: OutcomeKind>(
     requires rising { from ≤ to }
     requires base { base ≤ 2 ^ 40 }
     requires narrow { AreNarrow (K.size kind.now) named.now.sentence from to }
-    ensures clauses { IfOk result (λ part. part.clauses ≡ rows_from (rows_at (K.size kind.now) named.now.sentence) from (to - from)) }
-    ensures origins { IfOk result (λ part. part.origins.items ≡ rows_from (origins_at (K.size kind.now) named.now.sentence base) from (to - from)) }
+    ensures clauses { IfOk result
+        (λ part. part.clauses ≡ rows_from (rows_at (K.size kind.now) named.now.sentence) from (to - from)) }
+    ensures origins { IfOk result
+        (λ part. part.origins.items ≡
+        rows_from (origins_at (K.size kind.now) named.now.sentence base) from (to - from)) }
 {
     let mut part = Part {
         clauses: Store::new(alloc),

@@ -129,7 +129,8 @@ pub(crate) fn push_sorted(
     out: &mut Part,
 ) -> Result<(), NoMemory>
     ensures clauses { OnOk result (out.new.clauses ≡ out.old.clauses ++ plain_rows rows.now) }
-    ensures origins { OnOk result (out.new.origins.items ≡ out.old.origins.items ++ map (λ _. origin) (plain_rows rows.now)) }
+    ensures origins { OnOk result
+        (out.new.origins.items ≡ out.old.origins.items ++ map (λ _. origin) (plain_rows rows.now)) }
 {
     for k in 0..rows.len() {
         if sort_into(rows.get(k), codes, merged, clause)? {

@@ -47,7 +47,10 @@ struct Steps<'a> {
 }
 
 impl Text for Steps<'_> {
-    ghost can = { λ lines. IsTrue (list_all (λ step. is_literal lines.of.study.now.size step.literal && is_reason lines.of.study.now step.reason) lines.steps.now) };
+    ghost can = { λ lines.
+        IsTrue (list_all (λ step.
+        is_literal lines.of.study.now.size step.literal && is_reason lines.of.study.now step.reason)
+        lines.steps.now) };
 
     ghost text = { λ lines. spelled (λ _ step. ended lines.of.study.now (step_line step)) 0 lines.steps.now };
 
@@ -113,7 +116,9 @@ pub(crate) struct StoryLines<'a> {
 impl Text for StoryLines<'_> {
     ghost can = { λ lines. IsTrue (list_all (is_lemma_text lines.of.study.now) lines.lemmas.now) };
 
-    ghost text = { λ lines. spelled (λ number lemma. lines_text lines.of.study.now (lemma_lines number lemma)) 1 lines.lemmas.now };
+    ghost text = { λ lines.
+        spelled (λ number lemma. lines_text lines.of.study.now (lemma_lines number lemma)) 1
+        lines.lemmas.now };
 
     fn pour<O: Sink>(&self, page: &mut Page, out: &mut O) -> Result<(), Failed> {
         for place in 0..self.lemmas.len() {

@@ -27,7 +27,9 @@ pub(crate) struct Rows<'a, K> {
 impl<K: OutcomeKind> Text for Rows<'_, K> {
     ghost can = { λ rows. IsTrue (is_rule (K.size rows.kind.now) rows.table.now) };
 
-    ghost text = { λ rows. spelled (λ p o. profile_text (K.size rows.kind.now) p ++ (32 ∷ (outcome_text (K.size rows.kind.now) o ++ 10 ∷ []))) 0 rows.table.now };
+    ghost text = { λ rows.
+        spelled (λ p o. profile_text (K.size rows.kind.now) p ++
+        (32 ∷ (outcome_text (K.size rows.kind.now) o ++ 10 ∷ []))) 0 rows.table.now };
 
     fn pour<O: Sink>(&self, page: &mut Page, out: &mut O) -> Result<(), Failed> {
         for p in 0..self.table.len() {

@@ -113,8 +113,10 @@ pub fn print<K: OutcomeKind, O: Sink>(
 ) -> Result<(), Failed>
     requires size { study.now.size ≡ K.size kind.now }
     requires has_text { IsTrue (has_text study.now verdict.now) }
-    ensures ok { OnOk result (Appends (O.taken out.old) (O.taken out.new) (report_text study.now verdict.now)) }
-    ensures err { OnErr result (AppendsPrefix (O.taken out.old) (O.taken out.new) (report_text study.now verdict.now)) }
+    ensures ok { OnOk result
+        (Appends (O.taken out.old) (O.taken out.new) (report_text study.now verdict.now)) }
+    ensures err { OnErr result
+        (AppendsPrefix (O.taken out.old) (O.taken out.new) (report_text study.now verdict.now)) }
     ensures tells { TellsAsBefore (O.taken out.old) (O.taken out.new) }
     ensures cause { HasCause (O.faults out.old) (O.faults out.new) result }
 {

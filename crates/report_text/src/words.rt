@@ -118,7 +118,8 @@ fn pour_values<O: Sink>(
     page: &mut Page,
     out: &mut O,
 ) -> Result<(), Failed>
-    requires { IsTrue (pointwise nat_lt (drop level values.now) (map (sort_count of.now.study.now.size) (prefix_of (tree_of formula.now)))) }
+    requires { IsTrue (pointwise nat_lt (drop level values.now)
+        (map (sort_count of.now.study.now.size) (prefix_of (tree_of formula.now)))) }
     ensures { Pours (O.taken out.old) (O.taken out.new) page.old page.new
         (O.faults out.old) (O.faults out.new) result
         (spaced (value_words of.now.study.now (prefix_of (tree_of formula.now)) (drop level values.now))) }
@@ -149,9 +150,12 @@ struct Values<'a> {
 }
 
 impl Text for Values<'_> {
-    ghost can = { λ words. IsTrue (pointwise nat_lt words.values (map (sort_count words.of.study.now.size) (prefix_of (tree_of words.sentence.now)))) };
+    ghost can = { λ words.
+        IsTrue (pointwise nat_lt words.values
+        (map (sort_count words.of.study.now.size) (prefix_of (tree_of words.sentence.now)))) };
 
-    ghost text = { λ words. spaced (value_words words.of.study.now (prefix_of (tree_of words.sentence.now)) words.values) };
+    ghost text = { λ words.
+        spaced (value_words words.of.study.now (prefix_of (tree_of words.sentence.now)) words.values) };
 
     fn pour<O: Sink>(&self, page: &mut Page, out: &mut O) -> Result<(), Failed> {
         pour_values(&self.of, self.sentence, &self.values, 0, page, out)

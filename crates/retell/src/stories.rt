@@ -40,7 +40,8 @@ fn suppose<K: OutcomeKind>(
     ensures suppose { IfOk result (λ suppose. suppose ≡ suppose_of (K.size kind.now) clause.now) }
     ensures stamp { marks.new.stamp ≡ marks.old.stamp }
     ensures room { length marks.new.stamps.items ≡ length marks.old.stamps.items }
-    ensures known { IfOk result (λ _. IsMarking marks.old.stamp marks.new.stamps.items (map opposite_lit clause.now)) }
+    ensures known { IfOk result
+        (λ _. IsMarking marks.old.stamp marks.new.stamps.items (map opposite_lit clause.now)) }
 {
     let mut suppose = Items::new(alloc);
     for lit in clause {
@@ -66,13 +67,17 @@ fn lemma<K: OutcomeKind>(
     requires size { study.now.size ≡ K.size kind.now }
     requires instances { HaveInstances (K.size kind.now) study.now.axioms clauses.now }
     requires few { length earlier.now < 4294967296 }
-    requires over { IsTrue (list_all (is_over (variable_count (K.size kind.now))) (cited_clauses clauses.now earlier.now)) }
+    requires over { IsTrue
+        (list_all (is_over (variable_count (K.size kind.now))) (cited_clauses clauses.now earlier.now)) }
     requires clause_over { IsTrue (is_over (variable_count (K.size kind.now)) clause.now) }
     requires plain { IsFalse (is_tautology clause.now) }
-    requires trimmed { IsTrue (are_hints_trimmed (standing_of clauses.now earlier.now) hints.now (map opposite_lit clause.now)) }
+    requires trimmed { IsTrue
+        (are_hints_trimmed (standing_of clauses.now earlier.now) hints.now (map opposite_lit clause.now)) }
     requires room { variable_count (K.size kind.now) < length marks.old.stamps.items }
     requires none { IsMarking marks.old.stamp marks.old.stamps.items [] }
-    ensures lemma { IfOk result (λ lemma. lemma ≡ lemma_of (K.size kind.now) study.now.axioms clauses.now (standing_of clauses.now earlier.now) clause.now hints.now) }
+    ensures lemma { IfOk result
+        (λ lemma. lemma ≡ lemma_of (K.size kind.now) study.now.axioms clauses.now
+        (standing_of clauses.now earlier.now) clause.now hints.now) }
     ensures stamp { marks.new.stamp ≡ marks.old.stamp }
     ensures room { length marks.new.stamps.items ≡ length marks.old.stamps.items }
     ensures low { IfOk result (λ _. AreStampsUpTo marks.new.stamp marks.new.stamps.items) }
@@ -111,13 +116,18 @@ fn lemma_of_line<K: OutcomeKind>(
     requires size { study.now.size ≡ K.size kind.now }
     requires instances { HaveInstances (K.size kind.now) study.now.axioms clauses.now }
     requires few { length earlier.now < 4294967296 }
-    requires over { IsTrue (list_all (is_over (variable_count (K.size kind.now))) (cited_clauses clauses.now earlier.now)) }
+    requires over { IsTrue
+        (list_all (is_over (variable_count (K.size kind.now))) (cited_clauses clauses.now earlier.now)) }
     requires clause_over { IsTrue (is_over (variable_count (K.size kind.now)) (added_by line.now.step)) }
     requires plain { IsFalse (is_tautology (added_by line.now.step)) }
-    requires trimmed { IsTrue (are_hints_trimmed (standing_of clauses.now earlier.now) (hints_by line.now.step) (map opposite_lit (added_by line.now.step))) }
+    requires trimmed { IsTrue
+        (are_hints_trimmed (standing_of clauses.now earlier.now) (hints_by line.now.step)
+        (map opposite_lit (added_by line.now.step))) }
     requires room { variable_count (K.size kind.now) < length marks.old.stamps.items }
     requires none { IsMarking marks.old.stamp marks.old.stamps.items [] }
-    ensures lemma { IfOk result (λ lemma. lemma ≡ lemma_of (K.size kind.now) study.now.axioms clauses.now (standing_of clauses.now earlier.now) (added_by line.now.step) (hints_by line.now.step)) }
+    ensures lemma { IfOk result
+        (λ lemma. lemma ≡ lemma_of (K.size kind.now) study.now.axioms clauses.now
+        (standing_of clauses.now earlier.now) (added_by line.now.step) (hints_by line.now.step)) }
     ensures stamp { marks.new.stamp ≡ marks.old.stamp }
     ensures room { length marks.new.stamps.items ≡ length marks.old.stamps.items }
     ensures low { IfOk result (λ _. AreStampsUpTo marks.new.stamp marks.new.stamps.items) }
@@ -152,7 +162,8 @@ pub fn retell<K: OutcomeKind>(
     requires trimmed { IsTrue (is_trimmed (clauses_for study.now.size study.now.axioms core.now) proof.now) }
     requires over { AreOver (variable_count study.now.size) proof.now }
     requires few { length proof.now < 2 ^ 32 - 1 }
-    ensures accepted { IfOk result (λ story. IsTrue (is_story study.now.size study.now.axioms core.now story)) }
+    ensures accepted { IfOk result
+        (λ story. IsTrue (is_story study.now.size study.now.axioms core.now story)) }
     ensures tidy { IfOk result (λ story. IsTrue (is_tidy study.now.size study.now.axioms core.now story)) }
 {
     let _core = core;
