@@ -1,5 +1,5 @@
 -- What `decide` prints and what `sample` says holds; and where its limit is large, `decide` decides.
-use Rattle.std.proofs.Common.{◌≡◌, refl, sym, subst, ap, ◌∙◌, true≢false, eqb-true, filter, ℕ, ◌<◌, ◌≤◌, ◌^◌, inl, inr, true, not, List, [], ◌∷◌, length, Some, arith}
+use Rattle.std.proofs.Common.{◌≡◌, ◌≢◌, refl, sym, subst, ap, ◌∙◌, true≢false, eqb-true, filter, ℕ, ◌<◌, ◌≤◌, ◌^◌, inl, inr, true, not, List, [], ◌∷◌, length, Some, arith}
 use Rattle.std.specs.Cmp.Lexicographic.{pointwise}
 use Rattle.std.specs.Prelude.{◌==◌, Any, None}
 use Rattle.std.specs.List.{list_all}
@@ -31,8 +31,9 @@ use Rattle.answers.specs.Grounding.{OverClauses, clauses_refused, clauses_made}
 use Rattle.answers.specs.Evidence.{IsBacked, IsFound, Decides, by_verdict, by_limit}
 use Rattle.answers.specs.Rules.{Claims}
 use Rattle.answers.specs.Decide.{IsReported}
+use Rattle.answers.specs.Proof.{Proves, refuted, possible, undecided}
 use Rattle.answers.specs.Sample.{IsSummed}
-use Rattle.answers.specs.RowLaws.{IsNeeded, by_rule, by_mark, IsImpossible, IsPrinted, a_rule, an_impossibility, DecidedHolds, IsConclusive, EnoughDecides, IsSampleRight, SampledHolds}
+use Rattle.answers.specs.RowLaws.{IsNeeded, by_rule, by_mark, IsImpossible, IsPrinted, a_rule, an_impossibility, DecidedHolds, IsConclusive, EnoughDecides, EnoughProves, IsSampleRight, SampledHolds}
 use Rattle.answers.proofs.RowLemmas.{some_same, over_study, past_clauses, not_three, granted}
 
 -- the witnesses of a right core
@@ -150,17 +151,33 @@ conclusive study run verdict enough (by_verdict f) =
     }
 conclusive study run verdict enough (by_limit u v) = absurd (none_among run.logs (IsOfAll study) (no_logs study run.logs enough u.logs) u.spent)
 
-bare_conclusive : (run : Run) → IsBare run 3 → IsConclusive run
-bare_conclusive run bare = record {
-  decided = λ four. let no : 3 ≡ 4 = sym bare.ends ∙ four in absurd (omega (arith, no));
+bare_conclusive : (run : Run) (status : ℕ) → status ≢ 4 → IsBare run status → IsConclusive run
+bare_conclusive run status other bare = record {
+  decided = λ four. other (sym bare.ends ∙ four);
   no_log = bare.no_logs;
   marked = λ core story witnesses told. let no : None ≡ Some (Impossible core story witnesses) = sym bare.no_verdict ∙ told in absurd (cc);
 }
 
+not_four : 3 ≢ 4
+not_four = λ no. absurd (omega (arith, no))
+
 conclusive_row : (study : Question) (run : Run) (text : List ℕ) → 3 ^ variable_count study.size ≤ study.conflicts → OverClauses study run text (IsReported study run text) → IsConclusive run
-conclusive_row study run text enough (clauses_refused fault e t bare) = bare_conclusive run bare
+conclusive_row study run text enough (clauses_refused fault e t bare) = bare_conclusive run 3 not_four bare
 conclusive_row study run text enough (clauses_made e r) = conclusive study run r.verdict enough r.decides
 
 pub enough_decided : EnoughDecides
 enough_decided files name run text study row g enough =
     conclusive_row study run text enough (over_study files name run text (λ s. OverClauses s run text (IsReported s run text)) study g row)
+
+proved_conclusive : (study : Question) (run : Run) (text : List ℕ) → 3 ^ variable_count study.size ≤ study.conflicts → Proves study run text → IsConclusive run
+proved_conclusive study run text enough (refuted lines r bare is) = bare_conclusive run 0 (λ no. absurd (omega (arith, no))) bare
+proved_conclusive study run text enough (possible table f is) = conclusive study run (Possible table) enough (by_verdict f)
+proved_conclusive study run text enough (undecided u is) = absurd (none_among run.logs (IsOfAll study) (no_logs study run.logs enough u.logs) u.spent)
+
+proved_row : (study : Question) (run : Run) (text : List ℕ) → 3 ^ variable_count study.size ≤ study.conflicts → OverClauses study run text (Proves study run text) → IsConclusive run
+proved_row study run text enough (clauses_refused fault e t bare) = bare_conclusive run 3 not_four bare
+proved_row study run text enough (clauses_made e r) = proved_conclusive study run text enough r
+
+pub enough_proved : EnoughProves
+enough_proved files name run text study row g enough =
+    proved_row study run text enough (over_study files name run text (λ s. OverClauses s run text (Proves s run text)) study g row)

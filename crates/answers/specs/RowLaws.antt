@@ -118,6 +118,12 @@ EnoughDecides = (files : Files) (name : List ℕ) (run : Run) (text : List ℕ) 
 
 -- ---- `proof`
 
+-- where the limit of a study is at least 3 to the number of its variables, `proof` does not spend it
+abbrev pub EnoughProves : Type 0
+EnoughProves = (files : Files) (name : List ℕ) (run : Run) (text : List ℕ) (study : Question) →
+    IsProved files name run text → GivesStudy files name study →
+    3 ^ variable_count study.size ≤ study.conflicts → IsConclusive run
+
 -- an accepted derivation from the clauses of all axioms, so that no rule satisfies these; or a rule that does
 pub data IsProofRight (study : Question) (run : Run) (text : List ℕ) : Type 0 where
   a_refutation : (lines : List Line) → run.verdict ≡ None → text ≡ lrat_text lines

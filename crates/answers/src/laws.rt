@@ -1,6 +1,6 @@
 //! What follows from the table of answers. Each law is the contract of a function that does nothing.
 
-ghost use Rattle.answers.specs.RowLaws.{ConfirmedIsUnsatisfiable, DecidedAreConfirmed, DecidedHolds, EnoughDecides, ExportedSaysStudy, ProvedHolds, RowsAreOne, SampledHolds, WrittenDecisionsHold};
+ghost use Rattle.answers.specs.RowLaws.{ConfirmedIsUnsatisfiable, DecidedAreConfirmed, DecidedHolds, EnoughDecides, EnoughProves, ExportedSaysStudy, ProvedHolds, RowsAreOne, SampledHolds, WrittenDecisionsHold};
 ghost use Rattle.answers.specs.Laws.{CheckedAreRight, ConfirmedHolds, ChecksAreAnswered, AnswersAreOne, UsageIsExact, LibraryIsWritten, RefusedLeavesUnopened, OtherWordsTouchNone, CallsAreComplete};
 
 /// `check` confirms exactly the reports of right verdicts that claim something, within its limit.
@@ -73,6 +73,11 @@ pub fn decided_are_confirmed()
 /// Where the limit of a study is at least 3 to the number of its variables, `decide` decides it, with no open mark.
 pub fn enough_decides()
     ensures { EnoughDecides }
+{}
+
+/// Where the limit of a study is at least 3 to the number of its variables, `proof` finds a rule or a refutation.
+pub fn enough_proves()
+    ensures { EnoughProves }
 {}
 
 /// A refutation that `proof` writes leaves no rule, and a verdict of it has one.

@@ -1,7 +1,7 @@
 //! What the program tells `clap` of its words.
 
 ghost use Rattle.std.specs.Prelude.{◌≡◌, IfOk, false};
-ghost use Rattle.clap.specs.Words.{app_of, rule_of};
+ghost use Rattle.clap.specs.Words.{App, Shape, app_of, rule_of, with_subcommand};
 ghost use Rattle.words.specs.Words.{place, workers_option, IsLeaf, study_shape, check_shape, lrat_shape, axioms_shape, sample_shape, top_shape, bench_app};
 
 use clap::{Arg, Command};
@@ -73,15 +73,27 @@ fn top_command<'a>(alloc: Global) -> Command<'a>
         .subcommand_required(true)
 }
 
+/// A command with one more below it, where both could be made. (Both are handed over as they come, so that one place alone lets
+/// a command go where memory ends.)
+fn add_command<'a>(
+    command: Result<Command<'a>, AllocError>,
+    below: Result<Command<'a>, AllocError>,
+) -> Result<Command<'a>, AllocError>
+    ensures { (app : App) (shape : Shape) → IfOk command.entry (λ c. app_of c ≡ app) → IfOk below.entry (IsLeaf shape) →
+        IfOk result (λ c. app_of c ≡ with_subcommand app shape) }
+{
+    command?.subcommand(below?)
+}
+
 /// The program with all its commands.
 pub(crate) fn bench_command<'a>(alloc: Global) -> Result<Command<'a>, AllocError>
     ensures { IfOk result (λ command. app_of command ≡ bench_app) }
 {
-    let command = top_command(alloc).subcommand(study_command(alloc, "decide")?)?;
-    let command = command.subcommand(check_command(alloc)?)?;
-    let command = command.subcommand(study_command(alloc, "export")?)?;
-    let command = command.subcommand(study_command(alloc, "proof")?)?;
-    let command = command.subcommand(lrat_command(alloc)?)?;
-    let command = command.subcommand(axioms_command(alloc)?)?;
-    command.subcommand(sample_command(alloc)?)
+    let command = add_command(Ok(top_command(alloc)), study_command(alloc, "decide"));
+    let command = add_command(command, check_command(alloc));
+    let command = add_command(command, study_command(alloc, "export"));
+    let command = add_command(command, study_command(alloc, "proof"));
+    let command = add_command(command, lrat_command(alloc));
+    let command = add_command(command, axioms_command(alloc));
+    add_command(command, sample_command(alloc))
 }
