@@ -8,6 +8,24 @@ use std::alloc::Global;
 use std::test::Fail;
 use std::thread::Threads;
 
+/// The status of a command over a study and a report, into a sink.
+fn put<R: Threads + Sync, G: Gate>(
+    rt: &R,
+    alloc: Global,
+    gate: &G,
+    words: &[&str],
+    study: &str,
+    report: &[u8],
+    out: &mut MemorySink,
+) -> Result<u8, Fail> {
+    let mut shelf = MemoryShelf::new(alloc, &[])?;
+    shelf.hold("study", study.as_bytes())?;
+    shelf.hold("report", report)?;
+    let words = words_of(alloc, words)?;
+    let run = bench(rt, alloc, &words, &mut shelf, out, gate);
+    Ok(run.status)
+}
+
 /// The status and the bytes of a command over a study and a report, into a sink with so much room.
 fn answered<R: Threads + Sync, G: Gate>(
     rt: &R,
@@ -18,13 +36,9 @@ fn answered<R: Threads + Sync, G: Gate>(
     report: &[u8],
     room: usize,
 ) -> Result<(u8, Vec<u8>), Fail> {
-    let mut shelf = MemoryShelf::new(alloc, &[])?;
-    shelf.hold("study", study.as_bytes())?;
-    shelf.hold("report", report)?;
-    let words = words_of(alloc, words)?;
     let mut out = MemorySink::new(alloc, room, &[])?;
-    let run = bench(rt, alloc, &words, &mut shelf, &mut out, gate);
-    Ok((run.status, out.bytes().to_vec(alloc)?))
+    let status = put(rt, alloc, gate, words, study, report, &mut out)?;
+    Ok((status, out.bytes().to_vec(alloc)?))
 }
 
 /// The report that `decide` writes with one worker, which with sixteen is the same, and what `check` says of it; or nothing where
@@ -256,41 +270,57 @@ fn a_report_is_cut_where_the_room_ends(rt: HostRuntime) -> Result<(), Fail> {
     Ok(())
 }
 
+/// Arrow's axioms for two voters and three alternatives.
+const ARROW: &str =
+    "kind = \"ranking\"\nvoters = 2\nalternatives = 3\naxioms = [\"pareto\", \"independence\", \"non_dictatorship\"]\n";
+
 #[test]
 fn workers_change_no_clause(rt: HostRuntime) -> Result<(), Fail> {
-    let arrow =
-        "kind = \"ranking\"\nvoters = 2\nalternatives = 3\naxioms = [\"pareto\", \"independence\", \"non_dictatorship\"]\n";
-    let words = ["export", "study", "--workers=1"];
-    let (status, one) = answered(&rt, rt.alloc(), &Open, &words, arrow, b"", 100_000)?;
-    assert_eq!(rt; status, 0);
-    assert!(rt; has_line(one.as_slice(), "p cnf 108 992"));
-    for workers in ["--workers=2", "--workers=3", "--workers=16"] {
-        let words = ["export", "study", workers];
-        let (_, many) = answered(&rt, rt.alloc(), &Open, &words, arrow, b"", 100_000)?;
-        assert_eq!(rt; many.as_slice(), one.as_slice(), "at {workers}");
-    }
     let small =
         "kind = \"choice\"\nvoters = 2\nalternatives = 2\naxioms = [\"anonymity\", \"neutrality\"]\n";
-    let (_, text) = answered(
-        &rt,
-        rt.alloc(),
-        &Open,
-        &["export", "study"],
-        small,
-        b"",
-        10_000,
-    )?;
-    assert!(rt; has_line(text.as_slice(), "p cnf 8 20"));
+    for (study, header) in [(ARROW, "p cnf 108 992"), (small, "p cnf 8 20")] {
+        let words = ["export", "study", "--workers=1"];
+        let (status, one) = answered(&rt, rt.alloc(), &Open, &words, study, b"", 100_000)?;
+        assert_eq!(rt; status, 0);
+        assert!(rt; has_line(one.as_slice(), header), "no {header}");
+        for workers in ["--workers=2", "--workers=3", "--workers=16"] {
+            let words = ["export", "study", workers];
+            let (_, many) = answered(&rt, rt.alloc(), &Open, &words, study, b"", 100_000)?;
+            assert!(rt; many.as_slice() == one.as_slice(), "at {workers}");
+        }
+    }
+    Ok(())
+}
+
+#[test]
+fn a_failed_write_leaves_a_front(rt: HostRuntime) -> Result<(), Fail> {
+    let alloc = rt.alloc();
+    for (command, least) in [("export", 3), ("proof", 1)] {
+        let words = [command, "study"];
+        let (_, whole) = answered(&rt, alloc, &Open, &words, ARROW, b"", 100_000)?;
+        // Each write takes a page of 4,096 bytes, the last one the rest, and then comes the flush.
+        let writes = whole.len().div_ceil(4096);
+        assert!(rt; writes >= least);
+        for call in 0..100u32 {
+            let mut out = MemorySink::new(alloc, 100_000, &[call])?;
+            let status = put(&rt, alloc, &Open, &words, ARROW, b"", &mut out)?;
+            let taken = whole.len().min(4096 * call as usize);
+            assert!(rt; out.bytes() == &whole.as_slice()[..taken], "at {call}");
+            if call as usize > writes {
+                assert_eq!(rt; status, 0);
+                break;
+            }
+            assert_eq!(rt; status, 6, "at {call}");
+        }
+    }
     Ok(())
 }
 
 #[test]
 fn two_workers_share_the_clauses_of_a_study(rt: HostRuntime) -> Result<(), Fail> {
-    let arrow =
-        "kind = \"ranking\"\nvoters = 2\nalternatives = 3\naxioms = [\"pareto\", \"independence\", \"non_dictatorship\"]\n";
     let gate = Meeting::new();
     let words = ["export", "study", "--workers", "2"];
-    let (status, _) = answered(&rt, rt.alloc(), &gate, &words, arrow, b"", 100_000)?;
+    let (status, _) = answered(&rt, rt.alloc(), &gate, &words, ARROW, b"", 100_000)?;
     assert_eq!(rt; status, 0);
     assert!(rt; gate.has_met());
     Ok(())
