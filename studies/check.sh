@@ -1,0 +1,47 @@
+#!/usr/bin/env bash
+# Holds the program against the reports beside the studies: over each study `decide` writes its report byte for byte and `check`
+# confirms it, and over studies/anonymity_neutrality.toml each report in studies/refused/ is refused with the line that
+# docs/FORMATS.md shows. Where all is so, nothing is written; else a line for each fault, and the status is 1.
+# The program is the proved build, which the launcher makes where there is none; no proof rests on this.
+set -u
+root=$(cd -- "$(dirname -- "$(readlink -f -- "${BASH_SOURCE[0]}")")/.." && pwd) || exit 1
+work=$(mktemp -d) || exit 1
+trap 'rm -rf "$work"' EXIT
+unset BENCH_QUICK
+faults=0
+
+fault() {
+    printf 'studies: %s\n' "$*" >&2
+    faults=$((faults + 1))
+}
+
+# Runs the program, and takes what it wrote and its status.
+answer() {
+    "$root/bench" "$@" >"$work/written"
+    status=$?
+}
+
+# Whether the program ended with a status and wrote one line.
+is_line() {
+    [ "$status" -eq "$1" ] && printf '%s\n' "$2" | cmp -s - "$work/written"
+}
+
+for study in "$root"/studies/*.toml; do
+    report=${study%.toml}.report
+    name=$(basename "$study" .toml)
+    verdict=$(sed -n 's/^verdict //p' "$report")
+    answer decide "$study"
+    [ "$status" -eq 0 ] && cmp -s "$report" "$work/written" || fault "decide does not write $name.report"
+    answer check "$study" "$report"
+    is_line 0 "confirmed $verdict" || fault "check does not confirm $name.report"
+done
+
+shown=0
+while read -r file line; do
+    shown=$((shown + 1))
+    answer check "$root/studies/anonymity_neutrality.toml" "$root/studies/refused/$file"
+    is_line 1 "$line" || fault "check does not say of refused/$file: $line"
+done < <(sed -n 's/^| `\([a-z_]*\.report\)` | `\(refused [^`]*\)` |$/\1 \2/p' "$root/docs/FORMATS.md")
+[ "$shown" -eq "$(find "$root/studies/refused" -name '*.report' | wc -l)" ] || fault "docs/FORMATS.md does not show each report in refused/"
+
+[ "$faults" -eq 0 ]
