@@ -6,15 +6,8 @@
 # number of bytes written are compared too. The calls are made by a program that is proved and built in a copy of the repository.
 # The last lines are `ratio NAME R`: the seconds of each part by those of the plain one.
 set -eu
-root=$(cd -- "$(dirname -- "$(readlink -f -- "${BASH_SOURCE[0]}")")/.." && pwd)
-work=$(mktemp -d)
-trap 'rm -rf "$work"' EXIT
-mkdir -p "$work/copy/crates"
-for name in lists vocab cnf lrat_check meaning edge texts verdicts clause_text; do
-    mkdir "$work/copy/crates/$name"
-    cp -r "$root/crates/$name/src" "$root/crates/$name/specs" "$root/crates/$name/proofs" "$work/copy/crates/$name/" 2>/dev/null || true
-    grep -E "^$name( .*)?:" "$root/crates.txt" >>"$work/copy/crates.txt"
-done
+. "$(dirname -- "$(readlink -f -- "${BASH_SOURCE[0]}")")/setup.sh"
+copy_crates lists vocab cnf lrat_check meaning edge texts verdicts clause_text
 echo "lrat_calls: lists cnf edge clause_text lrat_check" >>"$work/copy/crates.txt"
 mkdir -p "$work/copy/crates/lrat_calls/src"
 cat >"$work/copy/crates/lrat_calls/src/main.rt" <<'RT'

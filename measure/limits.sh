@@ -3,11 +3,9 @@
 # literals. They take more memory than a test is to take. The script ends at the first answer that is not the one in docs/FORMATS.md.
 # Each line has the seconds and the peak memory of a run.
 set -eu
-root=$(cd -- "$(dirname -- "$(readlink -f -- "${BASH_SOURCE[0]}")")/.." && pwd)
-work=$(mktemp -d)
-trap 'rm -rf "$work"' EXIT
-env -u BENCH_QUICK "$root/bench" axioms choice >/dev/null # proves and builds where a source is newer
-python3 - "$root/crates/bench/out/bench" "$work" <<'PY'
+. "$(dirname -- "$(readlink -f -- "${BASH_SOURCE[0]}")")/setup.sh"
+build_program
+python3 - "$program" "$work" <<'PY'
 import os, subprocess, sys, time
 program, work = sys.argv[1:]
 BYTES, CLAUSES, LITERALS = 536_870_912, 4_000_000, 60_000_000

@@ -6,15 +6,13 @@
 # The memory is said by the size of both texts too. The last line is `ratio R`: the seconds of the command by those of the plain one.
 # measure/clause_text.sh measures the parts.
 set -eu
-root=$(cd -- "$(dirname -- "$(readlink -f -- "${BASH_SOURCE[0]}")")/.." && pwd)
-work=$(mktemp -d)
-trap 'rm -rf "$work"' EXIT
-env -u BENCH_QUICK "$root/bench" axioms choice >/dev/null # proves and builds where a source is newer
+. "$(dirname -- "$(readlink -f -- "${BASH_SOURCE[0]}")")/setup.sh"
+build_program
 for name in lrat refutation peak; do
     rustc -O --edition 2021 -o "$work/$name" "$root/measure/$name.rs"
 done
 "$work/refutation" "$work/cnf" "$work/proof" 340 120 530
-python3 - "$root/crates/bench/out/bench" "$work" <<'PY'
+python3 - "$program" "$work" <<'PY'
 import os, subprocess, sys
 program, work = sys.argv[1:]
 texts = [work + "/cnf", work + "/proof"]
