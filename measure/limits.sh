@@ -1,6 +1,7 @@
 #!/usr/bin/env bash
 # What `lrat` says of texts that are as large as they may be, and of those that are larger by one: bytes of both texts, clauses, and
-# literals. They take more memory than a test is to take. The script ends at the first answer that is not the one in docs/FORMATS.md.
+# literals; and what `export` says of an axiom that has more than 4,000,000 clauses, and where an instance of a later one is too wide.
+# They take more memory than a test is to take. The script ends at the first answer that is not the one in docs/FORMATS.md.
 # Each line has the seconds and the peak memory of a run.
 set -eu
 . "$(dirname -- "$(readlink -f -- "${BASH_SOURCE[0]}")")/setup.sh"
@@ -15,10 +16,10 @@ def hold(name, text, size=None): # a comment fills the file up to its size
         if size is not None:
             file.write("c")
             file.truncate(size)
-def run(what, status, line):
+def run(what, status, line, words=("lrat", work + "/cnf", work + "/proof")):
     start = time.perf_counter()
     with open(work + "/said", "w") as out:
-        child = subprocess.Popen([program, "lrat", work + "/cnf", work + "/proof"], stdout=out)
+        child = subprocess.Popen([program, *words], stdout=out)
         _, ended, usage = os.wait4(child.pid, 0)
     said = open(work + "/said").read()
     assert (os.waitstatus_to_exitcode(ended), said) == (status, line + "\n"), (what, ended, said)
@@ -37,4 +38,10 @@ hold("cnf", "p cnf 0 0\n")
 for more, line in ((0, "proof line 1: not_empty"), (1, "proof: too long")):
     hold("proof", "", BYTES + more)
     run("%d bytes of a proof" % (BYTES + more), 1, line)
+for axioms, line in (('"many"', "study: many: full"), ('"many", "w"', "study: w: wide 0 18446744073709551615 18446744073709551615")):
+    with open(work + "/study", "w") as file:
+        print('kind = "choice"\nvoters = 2\nalternatives = 4\naxioms = [%s]\n[sentences]' % axioms, file=file)
+        print('many = "all p: profile. all q: profile. all x: alt. all y: alt. (wins(x, p) -> wins(y, q))"', file=file)
+        print('w = "some p: profile. (wins(@a, p) & wins(@b, p))"', file=file)
+    run("axioms %s" % axioms, 3, line, ("export", work + "/study"))
 PY
