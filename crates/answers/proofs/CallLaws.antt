@@ -104,7 +104,7 @@ module _ (words : List (List ℕ)) (d : Devices) (run : Run) (call : IsCall word
   ]
 
   -- a row of the table, where the shelf tells its files
-  settled_row : (request : Option Request) (files : Files) → request_of words ≡ request → d.told ≡ Some files
+  pub settled_row : (request : Option Request) (files : Files) → request_of words ≡ request → d.told ≡ Some files
       → ((text : List ℕ) × IsAnswer request files run text) ⊎ (run.status ≡ 7)
   settled_row request files asked told = elim (settled files (are_told told)) [
     | inl a ↦ inl (a.0, row_of words files run a.0 request asked a.1)

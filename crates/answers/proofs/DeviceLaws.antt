@@ -34,7 +34,7 @@ use Rattle.answers.proofs.RowLemmas.{some_same, row_of, over_study, not_refused}
 
 module _ (words : List (List ℕ)) (d : Devices) (run : Run) (call : IsCall words d run) (request : Option Request) (asked : request_of words ≡ request) where
   -- the row of what was asked, and what was written of it
-  written_at : (files : Files) → AreFiles d.told (files_of request) files → run.status ≤ 4 → (text : List ℕ) × IsAnswer request files run text × Appends d.taken_before d.taken_now text
+  pub written_at : (files : Files) → AreFiles d.told (files_of request) files → run.status ≤ 4 → (text : List ℕ) × IsAnswer request files run text × Appends d.taken_before d.taken_now text
   written_at files are low =
       let a = call.lawful files (subst (λ (r : Option Request). AreFiles d.told (files_of r) files) (sym asked) are) low in
       (a.text, row_of words files run a.text request asked a.lawful, a.written)

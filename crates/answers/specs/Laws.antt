@@ -1,6 +1,6 @@
 -- What follows from the table of answers. Each is proved as the contract of a function of the same name in
 -- src/laws.rt.
-use Rattle.std.specs.Prelude.{◌≡◌, ℕ, ◌≤◌, ◌⊎◌, ◌↔◌, List, [], ◌∷◌, length, Option, None, Some}
+use Rattle.std.specs.Prelude.{◌≡◌, ◌≢◌, ℕ, ◌≤◌, ◌⊎◌, ◌↔◌, List, [], ◌∷◌, length, codes, Option, None, Some}
 use Rattle.std.specs.Io.KnownBytes.{Appends}
 use Rattle.vocab.specs.declared.kinds.Kind.{Kind}
 use Rattle.edge.specs.Shelf.{Files, OthersStay}
@@ -13,7 +13,7 @@ use Rattle.verdicts.specs.Report.{IsReport, IsConfirmed}
 use Rattle.verdicts.specs.Words.{answer_text}
 use Rattle.words.specs.Words.{Request, Decide, Check, Export, Proof, Lrat, Axioms, Sample, request_of}
 use Rattle.answers.specs.declared.runs.Run.{Run}
-use Rattle.answers.specs.Held.{most_report_bytes}
+use Rattle.answers.specs.Held.{most_report_bytes, most_proof_bytes, Holds}
 use Rattle.clause_text.specs.ReadDimacs.{Formula}
 use Rattle.study.specs.Sample.{IsSampleStudy}
 use Rattle.answers.specs.Studies.{GivesStudy, RefusesStudy}
@@ -173,3 +173,38 @@ abbrev pub CallsAreComplete : Type 0
 CallsAreComplete =
     (words : List (List ℕ)) (d : Devices) (run : Run) → IsCall words d run → HasNoFault words d →
     AreAnswered words d run
+
+-- ---- `export`, `proof` and `lrat`
+
+-- a call of this request, over a file that gives this study, ended with status 0, and this text is all that the
+-- sink has taken
+pub record Wrote (request : List ℕ → ℕ → Request) (study : Question) (text : List ℕ) : Type 0 where
+  pub words : List (List ℕ)
+  pub d : Devices
+  pub run : Run
+  pub files : Files
+  pub name : List ℕ
+  pub workers : ℕ
+  pub call : IsCall words d run
+  pub told : d.told ≡ Some files
+  pub asked : request_of words ≡ Some (request name workers)
+  pub given : GivesStudy files name study
+  pub done : run.status ≡ 0
+  pub empty : d.taken_before ≡ Some []
+  pub taken : d.taken_now ≡ Some text
+
+-- a call of `lrat` confirms, faults and want of memory aside; where no fault is counted, only memory may be wanting
+pub record Confirms (words : List (List ℕ)) (d : Devices) (run : Run) : Type 0 where
+  pub says : run.status ≤ 4 → Says d run 0 (codes "confirmed\n")
+  pub completes : HasNoFault words d → (run.status ≡ 0) ⊎ (run.status ≡ 7)
+
+-- what calls of `export` and `proof` have written of one study is confirmed by a call of `lrat` over files that
+-- hold it, whatever else these hold; but where `proof` wrote that there is a rule, or a text that is too long
+abbrev pub WrittenProofsAreConfirmed : Type 0
+WrittenProofsAreConfirmed =
+    (study : Question) (clauses refutation : List ℕ) →
+    Wrote Export study clauses → Wrote Proof study refutation → refutation ≢ codes "c possible\n" →
+    (words : List (List ℕ)) (d : Devices) (run : Run) (files : Files) (cnf proof : List ℕ) →
+    IsCall words d run → d.told ≡ Some files → request_of words ≡ Some (Lrat cnf proof) →
+    files cnf ≡ Some clauses → Holds files most_proof_bytes proof refutation →
+    Confirms words d run

@@ -25,7 +25,8 @@ use Rattle.clause_text.specs.ReadDimacs.{Formula}
 use Rattle.search_logs.specs.declared.logs.SearchLog.{SearchLog}
 use Rattle.search_logs.specs.Spent.{has_place, all_places, IsWithout, AreSpentLogs}
 use Rattle.answers.specs.declared.runs.Run.{Run}
-use Rattle.answers.specs.Held.{most_report_bytes}
+use Rattle.answers.specs.Runs.{IsBare}
+use Rattle.answers.specs.Held.{most_report_bytes, most_proof_bytes, Holds}
 use Rattle.answers.specs.Studies.{GivesStudy}
 use Rattle.answers.specs.Rules.{IsRuleFor, HasNoRule, Claims}
 use Rattle.answers.specs.Grounding.{all_clauses}
@@ -145,6 +146,24 @@ ConfirmedIsUnsatisfiable =
     (files : Files) (name proof : List ℕ) (run : Run) (text : List ℕ) (formula : Formula) →
     IsConfirmedBy files name proof run text → GivesFormula files name formula → run.status ≡ 0 →
     IsUnsatisfiable formula.clauses
+
+-- over these files `lrat` confirms, and answers nothing else
+abbrev pub IsConfirming : Files → List ℕ → List ℕ → Type 0
+IsConfirming files cnf proof = (run : Run) (text : List ℕ) →
+    IsConfirmedBy files cnf proof run text ↔ (IsBare run 0 × (text ≡ codes "confirmed\n"))
+
+-- where `export` and `proof` end with status 0 over files that give one study, `lrat` confirms over files that
+-- hold what they write, whatever else these hold; but where `proof` writes that there is a rule, or a text that is
+-- too long
+abbrev pub ProvedAreConfirmed : Type 0
+ProvedAreConfirmed =
+    (study : Question) (exported proved files : Files) (name name' cnf proof : List ℕ) (run run' : Run)
+    (clauses refutation : List ℕ) →
+    IsExported exported name run clauses → GivesStudy exported name study → run.status ≡ 0 →
+    IsProved proved name' run' refutation → GivesStudy proved name' study → run'.status ≡ 0 →
+    refutation ≢ codes "c possible\n" →
+    files cnf ≡ Some clauses → Holds files most_proof_bytes proof refutation →
+    IsConfirming files cnf proof
 
 -- ---- `sample`
 

@@ -1,7 +1,7 @@
 //! What follows from the table of answers. Each law is the contract of a function that does nothing.
 
-ghost use Rattle.answers.specs.RowLaws.{ConfirmedIsUnsatisfiable, DecidedAreConfirmed, DecidedHolds, EnoughDecides, EnoughProves, ExportedSaysStudy, ProvedHolds, RowsAreOne, SampledHolds, WrittenDecisionsHold};
-ghost use Rattle.answers.specs.Laws.{CheckedAreRight, ConfirmedHolds, ChecksAreAnswered, AnswersAreOne, UsageIsExact, LibraryIsWritten, RefusedLeavesUnopened, OtherWordsTouchNone, CallsAreComplete};
+ghost use Rattle.answers.specs.RowLaws.{ConfirmedIsUnsatisfiable, DecidedAreConfirmed, DecidedHolds, EnoughDecides, EnoughProves, ExportedSaysStudy, ProvedAreConfirmed, ProvedHolds, RowsAreOne, SampledHolds, WrittenDecisionsHold};
+ghost use Rattle.answers.specs.Laws.{CheckedAreRight, ConfirmedHolds, ChecksAreAnswered, AnswersAreOne, UsageIsExact, LibraryIsWritten, RefusedLeavesUnopened, OtherWordsTouchNone, CallsAreComplete, WrittenProofsAreConfirmed};
 
 /// `check` confirms exactly the reports of right verdicts that claim something, within its limit.
 pub fn checked_are_right()
@@ -88,6 +88,19 @@ pub fn proved_holds()
 /// Where `lrat` confirms, no assignment satisfies the clauses.
 pub fn confirmed_is_unsatisfiable()
     ensures { ConfirmedIsUnsatisfiable }
+{}
+
+/// Where `export` and `proof` end with status 0 over one study, `lrat` confirms over files that hold what they write, whatever else
+/// these hold; but where `proof` writes that there is a rule, or a text that is longer than `lrat` reads. What `export` writes never
+/// is.
+pub fn proved_are_confirmed()
+    ensures { ProvedAreConfirmed }
+{}
+
+/// The same of calls: what calls of `export` and `proof` have written of one study, a call of `lrat` over files that hold it confirms,
+/// faults and want of memory aside.
+pub fn written_proofs_are_confirmed()
+    ensures { WrittenProofsAreConfirmed }
 {}
 
 /// What `sample` says of the study of a number holds.
