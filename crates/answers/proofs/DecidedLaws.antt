@@ -158,11 +158,8 @@ bare_conclusive run status other bare = record {
   marked = λ core story witnesses told. let no : None ≡ Some (Impossible core story witnesses) = sym bare.no_verdict ∙ told in absurd (cc);
 }
 
-not_four : 3 ≢ 4
-not_four = λ no. absurd (omega (arith, no))
-
 conclusive_row : (study : Question) (run : Run) (text : List ℕ) → 3 ^ variable_count study.size ≤ study.conflicts → OverClauses study run text (IsReported study run text) → IsConclusive run
-conclusive_row study run text enough (clauses_refused fault e t bare) = bare_conclusive run 3 not_four bare
+conclusive_row study run text enough (clauses_refused fault e t bare) = bare_conclusive run 3 (λ no. absurd (omega (arith, no))) bare
 conclusive_row study run text enough (clauses_made e r) = conclusive study run r.verdict enough r.decides
 
 pub enough_decided : EnoughDecides
@@ -175,7 +172,7 @@ proved_conclusive study run text enough (possible table f is) = conclusive study
 proved_conclusive study run text enough (undecided u is) = absurd (none_among run.logs (IsOfAll study) (no_logs study run.logs enough u.logs) u.spent)
 
 proved_row : (study : Question) (run : Run) (text : List ℕ) → 3 ^ variable_count study.size ≤ study.conflicts → OverClauses study run text (Proves study run text) → IsConclusive run
-proved_row study run text enough (clauses_refused fault e t bare) = bare_conclusive run 3 not_four bare
+proved_row study run text enough (clauses_refused fault e t bare) = bare_conclusive run 3 (λ no. absurd (omega (arith, no))) bare
 proved_row study run text enough (clauses_made e r) = proved_conclusive study run text enough r
 
 pub enough_proved : EnoughProves
