@@ -15,7 +15,8 @@ use Rattle.meaning.specs.declared.clauses.Origin.TheVariants.{Frame, Instance}
 use Rattle.meaning.specs.StudyClauses.{Sourced}
 use Rattle.clause_form.specs.Sources.{clauses_in, origins_in, is_of, is_left}
 use Rattle.core_reduce.specs.declared.needs.Focus.{Focus}
-use Rattle.core_reduce.specs.Cited.{is_of_axiom, is_axiom_id, is_axiom_cited_by, is_axiom_cited, keeps}
+use Rattle.clause_form.specs.Cited.{is_of_axiom, is_axiom_id, is_axiom_cited_by, is_axiom_cited}
+use Rattle.core_reduce.specs.Kept.{keeps}
 use Rattle.core_reduce.specs.Moved.{stays, stays_id, moved_step, moved_line, hints_stay, lines_stay}
 use Rattle.core_reduce.specs.Reducing.{IsFocus}
 use Rattle.core_reduce.proofs.MovedLaws.{trimmed_moved}

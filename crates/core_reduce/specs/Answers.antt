@@ -18,7 +18,7 @@ use Rattle.core_reduce.specs.declared.answers.Reduced.{Reduced}
 use Rattle.core_reduce.specs.declared.answers.Refutation.{Refutation}
 use Rattle.search_logs.specs.declared.logs.SearchLog.{SearchLog}
 use Rattle.search_logs.specs.Spent.{has_place, all_places, IsOfAll, HaveEvidence, AreSpentLogs}
-use Rattle.core_reduce.specs.Cited.{is_axiom_cited}
+use Rattle.clause_form.specs.Cited.{is_axiom_cited}
 
 module _ (study : Question) where
   -- a refutation is right: its core is right; its clauses are those of the core, its proof is trimmed and accepted over them, has no variable above those of the study, and fewer than 2^32 - 1 lines; no rule satisfies the core; and each open mark has its log

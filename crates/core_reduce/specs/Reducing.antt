@@ -17,7 +17,8 @@ use Rattle.core_reduce.specs.declared.needs.Focus.{Focus}
 use Rattle.core_reduce.specs.declared.reduction.Reduction.{Reduction}
 use Rattle.core_reduce.specs.declared.rests.Rest.{Rest}
 use Rattle.search_logs.specs.Spent.{has_place, IsSpentLog, HasEvidence}
-use Rattle.core_reduce.specs.Cited.{is_axiom_cited, keeps}
+use Rattle.clause_form.specs.Cited.{is_axiom_cited}
+use Rattle.core_reduce.specs.Kept.{keeps}
 use Rattle.core_reduce.specs.Moved.{place_in}
 
 -- ---- leaving out

@@ -99,10 +99,13 @@ fn finish(alloc: Global, study: &Study, reduction: Reduction) -> Result<Reduced,
     })
 }
 
-/// Reduces an accepted proof over the clauses of the chosen axioms to a core: each axiom of it is one of the chosen, and a hint of
-/// the given proof names a clause of it. One axiom after the other is left out, in the order of the study, and a search goes over
-/// the clauses of the rest.
-pub(crate) fn reduce<K: OutcomeKind>(
+/// Reduces a refutation of the clauses of the chosen axioms, whoever found it, to a core with a witness for each axiom: each axiom
+/// of the core is one of the chosen, and a hint of `proof` names a clause of it. What `proof` does not need plays no part. One axiom
+/// after the other is left out, in the order of the study, and a search goes over the clauses of the rest; where it spends the
+/// study's limit, the mark is open, and the logs have that search.
+///
+/// `chosen` are places of the study that rise, and `clauses` those of these axioms. `lrat_check::check` accepts `proof` over them.
+pub fn reduce<K: OutcomeKind>(
     alloc: Global,
     kind: &K,
     study: &Study,

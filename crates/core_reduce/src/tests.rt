@@ -1,21 +1,23 @@
-//! Two studies, worked out by hand. Where one voter has one alternative `a`, there is one profile, and
+//! Studies that are worked out by hand. Where one voter has one alternative `a`, there is one profile, and
 //! variable 1 says that `a` wins there. Where one voter has two, variables 1 and 2 say that `a` stands above
 //! `b` at the profiles ab and ba.
 
 ghost use Rattle.std.specs.Prelude.{◌≡◌, ◌≤◌, true, false, [], ◌∷◌, codes, IfOk};
 ghost use Rattle.vocab.specs.Size.{full_size};
-ghost use Rattle.vocab.specs.Tree.{tree_of, All, Const, Leaf, Not, Ranks, Same, Var, WinsAt};
+ghost use Rattle.vocab.specs.Tree.{tree_of, All, Const, Leaf, Not, Ranks, Var, WinsAt};
 ghost use Rattle.meaning.specs.StudyClauses.{study_clauses};
 ghost use Rattle.clause_form.specs.Sources.{sourced};
 ghost use Rattle.search_logs.specs.Spent.{all_places};
+ghost use Rattle.core_reduce.specs.Examples.{agree, both, doubled, four, six, added, dropped, by_first_and_third};
 
-use crate::{Answer, Finding, decide};
+use crate::{Answer, Finding, Reduced, decide, reduce};
 use clause_form::Ground;
-use cnf::{Clauses, Lit};
+use cnf::{Clauses, Derivation, Ids, Line, Lit, Lits, Step};
 use lists::NoMemory;
 use meaning::Witness;
 use outcomes::{ChoiceKind, RankingKind};
 use profiles::Space;
+use search_logs::all_places;
 use std::alloc::Global;
 use std::test::Fail;
 use vocab::{Atom, Axiom, Axioms, Formula, Kind, Name, Size, Sort, Study, Term};
@@ -111,62 +113,52 @@ fn above(alloc: Global, p: u32) -> Result<Box<Formula>, NoMemory>
 }
 
 /// The outcomes at both profiles agree.
-fn agree(alloc: Global) -> Result<Formula, NoMemory>
-    ensures { IfOk result (λ f. tree_of f ≡
-        Same (Leaf (Ranks (Const 0) (Const 1) (Const 0))) (Leaf (Ranks (Const 0) (Const 1) (Const 1)))) }
+fn agreement(alloc: Global) -> Result<Formula, NoMemory>
+    ensures { IfOk result (λ f. tree_of f ≡ agree) }
 {
     let left = above(alloc, 0)?;
     Ok(Formula::Same(left, above(alloc, 1)?))
 }
 
 /// They do not.
-fn differ(alloc: Global) -> Result<Formula, NoMemory>
-    ensures { IfOk result (λ f. tree_of f ≡
-        Not (Same (Leaf (Ranks (Const 0) (Const 1) (Const 0)))
-        (Leaf (Ranks (Const 0) (Const 1) (Const 1))))) }
+fn difference(alloc: Global) -> Result<Formula, NoMemory>
+    ensures { IfOk result (λ f. tree_of f ≡ Not agree) }
 {
-    Ok(Formula::Not(Box::new(alloc, agree(alloc)?)?))
+    Ok(Formula::Not(Box::new(alloc, agreement(alloc)?)?))
+}
+
+/// Both axioms.
+fn both_axioms(alloc: Global) -> Result<Axioms, Fail>
+    ensures { IfOk result (λ axioms. axioms ≡ both) }
+{
+    let mut axioms = Axioms::new(alloc);
+    axioms.push(Axiom::new(Name::new(b"agree").ok_or("name")?, agreement(alloc)?))?;
+    axioms.push(Axiom::new(Name::new(b"differ").ok_or("name")?, difference(alloc)?))?;
+    Ok(axioms)
 }
 
 /// The study of both axioms.
 fn disputed(alloc: Global, conflicts: u32) -> Result<Study, Fail>
     requires some { 1 ≤ conflicts }
     requires few { conflicts ≤ 1000000 }
-    ensures { IfOk result (λ study. study ≡ record {
-      size = full_size Kind.Ranking 1 2;
-      conflicts = conflicts;
-      axioms =
-          record {
-            name = codes "agree";
-            sentence =
-                Same (Leaf (Ranks (Const 0) (Const 1) (Const 0)))
-                (Leaf (Ranks (Const 0) (Const 1) (Const 1)));
-          }
-          ∷ record {
-            name = codes "differ";
-            sentence =
-                Not (Same (Leaf (Ranks (Const 0) (Const 1) (Const 0)))
-                (Leaf (Ranks (Const 0) (Const 1) (Const 1))));
-          }
-          ∷ [];
-    }) }
+    ensures { IfOk result (λ study. study ≡
+        record { size = full_size Kind.Ranking 1 2; conflicts = conflicts; axioms = both }) }
 {
-    let mut axioms = Axioms::new(alloc);
-    axioms.push(Axiom::new(Name::new(b"agree").ok_or("name")?, agree(alloc)?))?;
-    axioms.push(Axiom::new(Name::new(b"differ").ok_or("name")?, differ(alloc)?))?;
-    Ok(Study::new(one_and_two()?, conflicts, axioms))
+    Ok(Study::new(one_and_two()?, conflicts, both_axioms(alloc)?))
+}
+
+/// The study of both axioms, and of the second under another name.
+fn twice_disputed(alloc: Global) -> Result<Study, Fail>
+    ensures { IfOk result (λ study. study ≡ doubled) }
+{
+    let mut axioms = both_axioms(alloc)?;
+    axioms.push(Axiom::new(Name::new(b"apart").ok_or("name")?, difference(alloc)?))?;
+    Ok(Study::new(one_and_two()?, 100, axioms))
 }
 
 /// Both variables agree, by instance 0 of axiom 0, and differ, by instance 0 of axiom 1.
-fn four(alloc: Global) -> Result<Clauses, Fail>
-    ensures { IfOk result (λ list. list ≡ record {
-      clauses =
-          (record { variable = 1; positive = false } ∷ record { variable = 2; positive = true } ∷ [])
-          ∷ (record { variable = 1; positive = true } ∷ record { variable = 2; positive = false } ∷ [])
-          ∷ (record { variable = 1; positive = false } ∷ record { variable = 2; positive = false } ∷ [])
-          ∷ (record { variable = 1; positive = true } ∷ record { variable = 2; positive = true } ∷ []) ∷ [];
-      origins = 4294967296 ∷ 4294967296 ∷ 8589934592 ∷ 8589934592 ∷ [];
-    }) }
+fn clauses_of_both(alloc: Global) -> Result<Clauses, Fail>
+    ensures { IfOk result (λ list. list ≡ four) }
 {
     let mut clauses = Clauses::new(alloc);
     clauses.push(&[Lit::new(1, false), Lit::new(2, true)], 4_294_967_296)?;
@@ -176,6 +168,50 @@ fn four(alloc: Global) -> Result<Clauses, Fail>
     Ok(clauses)
 }
 
+/// The clauses of the second axiom once more, by instance 0 of axiom 2.
+fn clauses_of_three(alloc: Global) -> Result<Clauses, Fail>
+    ensures { IfOk result (λ list. list ≡ six) }
+{
+    let mut clauses = clauses_of_both(alloc)?;
+    clauses.push(&[Lit::new(1, false), Lit::new(2, false)], 12_884_901_888)?;
+    clauses.push(&[Lit::new(1, true), Lit::new(2, true)], 12_884_901_888)?;
+    Ok(clauses)
+}
+
+/// A line that adds a clause.
+fn adds(alloc: Global, at: u32, id: u64, literals: &[Lit], by: &[u64]) -> Result<Line, NoMemory>
+    ensures { IfOk result (λ line. line ≡ added at id literals.now by.now) }
+{
+    let mut clause = Lits::new(alloc);
+    clause.append(literals)?;
+    let mut hints = Ids::new(alloc);
+    hints.append(by)?;
+    let step = Step::Add { id, clause, hints };
+    Ok(Line { at, step })
+}
+
+/// A line that takes a clause away.
+fn drops(alloc: Global, at: u32, id: u64) -> Result<Line, NoMemory>
+    ensures { IfOk result (λ line. line ≡ dropped at id) }
+{
+    let mut ids = Ids::new(alloc);
+    ids.push(id)?;
+    let step = Step::Drop { ids };
+    Ok(Line { at, step })
+}
+
+/// A refutation by the first axiom and the third, with a tautology, a clause that is taken away, and gaps in its ids.
+fn proof_by_first_and_third(alloc: Global) -> Result<Derivation, NoMemory>
+    ensures { IfOk result (λ lines. lines ≡ by_first_and_third) }
+{
+    let mut lines = Derivation::new(alloc);
+    lines.push(adds(alloc, 2, 9, &[Lit::new(1, true), Lit::new(1, false)], &[3])?)?;
+    lines.push(adds(alloc, 3, 12, &[Lit::new(2, true)], &[6, 1])?)?;
+    lines.push(drops(alloc, 5, 6)?)?;
+    lines.push(adds(alloc, 6, 20, &[], &[12, 2, 5, 4])?)?;
+    Ok(lines)
+}
+
 /// What is decided of both axioms.
 fn answer_within(alloc: Global, conflicts: u32) -> Result<Box<Answer>, Fail>
     requires some { 1 ≤ conflicts }
@@ -183,7 +219,7 @@ fn answer_within(alloc: Global, conflicts: u32) -> Result<Box<Answer>, Fail>
 {
     let kind = RankingKind::new(Space::new(one_and_two()?));
     let study = disputed(alloc, conflicts)?;
-    let answer = decide(alloc, &kind, &study, Ground::new(four(alloc)?))?;
+    let answer = decide(alloc, &kind, &study, Ground::new(clauses_of_both(alloc)?))?;
     Ok(Box::new(alloc, answer)?)
 }
 
@@ -250,5 +286,31 @@ fn axioms_are_refuted_within_their_limit(rt: HostRuntime) -> Result<(), Fail> {
     assert!(rt; is_refuted(&answer, [0, 1].as_slice(), 2));
     let answer = answer_within(rt.alloc(), 1)?;
     assert!(rt; is_spent(&answer, [0, 1].as_slice(), 1));
+    Ok(())
+}
+
+/// What the refutation by the first axiom and the third is reduced to.
+fn reduced(alloc: Global) -> Result<Box<Answer>, Fail> {
+    let kind = RankingKind::new(Space::new(one_and_two()?));
+    let study = twice_disputed(alloc)?;
+    let chosen = all_places(alloc, &study)?;
+    let lines = proof_by_first_and_third(alloc)?;
+    let reduced = reduce(
+        alloc,
+        &kind,
+        &study,
+        &chosen,
+        Ground::new(clauses_of_three(alloc)?),
+        &lines,
+    )?;
+    let Reduced { refutation, logs } = reduced;
+    let finding = Finding::Impossible(refutation);
+    Ok(Box::new(alloc, Answer { finding, logs })?)
+}
+
+#[test]
+fn axioms_of_a_given_proof_are_the_core(rt: HostRuntime) -> Result<(), Fail> {
+    let answer = reduced(rt.alloc())?;
+    assert!(rt; is_refuted(&answer, [0, 2].as_slice(), 2));
     Ok(())
 }

@@ -8,7 +8,8 @@ use Rattle.meaning.specs.Variables.{variable_count}
 use Rattle.clause_form.specs.Sources.{is_left}
 use Rattle.clause_form.proofs.RestLaws.{rest_is_ground}
 use Rattle.search_logs.specs.Spent.{has_place, IsSpentLog}
-use Rattle.core_reduce.specs.Cited.{is_axiom_cited, keeps}
+use Rattle.clause_form.specs.Cited.{is_axiom_cited}
+use Rattle.core_reduce.specs.Kept.{keeps}
 use Rattle.core_reduce.proofs.CoreLaws.{all-filter, core-filter, core_in_range, each_member, nothing_marked}
 use Rattle.core_reduce.proofs.FinishLaws.{filter_member, member_passes}
 use Rattle.core_reduce.proofs.deciding.start.Goals as goal

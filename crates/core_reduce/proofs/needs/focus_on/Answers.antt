@@ -1,7 +1,8 @@
 use Rattle.std.proofs.Common.{Bool, List, ap, ◌∙◌, map, filter}
 use Rattle.cnf.specs.declared.derivations.Line.{Line}
 use Rattle.clause_form.specs.Sources.{is_left}
-use Rattle.core_reduce.specs.Cited.{is_axiom_cited, keeps}
+use Rattle.clause_form.specs.Cited.{is_axiom_cited}
+use Rattle.core_reduce.specs.Kept.{keeps}
 use Rattle.core_reduce.specs.Moved.{moved_line}
 use Rattle.core_reduce.proofs.CitedLaws.{is_focus}
 use Rattle.core_reduce.proofs.needs.focus_on.Goals as goal

@@ -8,7 +8,7 @@ use Rattle.meaning.specs.StudyClauses.{study_clauses}
 use Rattle.meaning.specs.Variables.{variable_count}
 use Rattle.clause_form.specs.Sources.{is_left}
 use Rattle.clause_form.proofs.RestLaws.{rest_is_ground}
-use Rattle.core_reduce.specs.Cited.{keeps}
+use Rattle.core_reduce.specs.Kept.{keeps}
 use Rattle.core_reduce.specs.Reducing.{kept_marks, others, next_open, AreMarked}
 use Rattle.core_reduce.proofs.CoreLaws.{all-filter, core-filter, filter-others, marked_part, marks_fewer, place_in_range}
 use Rattle.core_reduce.proofs.reduction.without.Goals as goal
