@@ -51,3 +51,5 @@ mod lrat_tests;
 mod report_tests;
 #[cfg(test)]
 mod tests;
+#[cfg(test)]
+mod worker_tests;

@@ -1,4 +1,4 @@
-//! The worked examples of `check`, over devices in memory, with one worker and with sixteen.
+//! The worked examples of `check`, over devices in memory, with 1, 2 and 16 workers.
 
 use crate::top::bench;
 use edge::{CalmShelf, CalmSink, MemoryShelf, MemorySink, Open};
@@ -39,7 +39,7 @@ fn check_among<R: Threads + Sync>(
     Ok((run.status, out.bytes().to_vec(alloc)?))
 }
 
-/// The status and the bytes of `check` with one worker, which with sixteen are the same, or else status 255.
+/// The status and the bytes of `check` with one worker, which with 2 and 16 are the same, or else status 255.
 fn check<R: Threads + Sync>(
     rt: &R,
     alloc: Global,
@@ -47,13 +47,14 @@ fn check<R: Threads + Sync>(
     report: &str,
     failing: &[u32],
 ) -> Result<(u8, Vec<u8>), NoMemory> {
-    let (status, bytes) = check_among(rt, alloc, "--workers=1", study, report, failing)?;
-    let (other, others) = check_among(rt, alloc, "--workers=16", study, report, failing)?;
-    if status == other && bytes.as_slice() == others.as_slice() {
-        Ok((status, bytes))
-    } else {
-        Ok((255, bytes))
+    let (mut status, bytes) = check_among(rt, alloc, "--workers=1", study, report, failing)?;
+    for workers in ["--workers=2", "--workers=16"] {
+        let (other, others) = check_among(rt, alloc, workers, study, report, failing)?;
+        if status != other || bytes.as_slice() != others.as_slice() {
+            status = 255;
+        }
     }
+    Ok((status, bytes))
 }
 
 #[test]
@@ -84,16 +85,6 @@ fn reports_are_judged(rt: HostRuntime) -> Result<(), Fail> {
         let (found, bytes) = check(&rt, rt.alloc(), STUDY, report.as_str(), &[])?;
         assert_eq!(rt; found, status, "at {table:?}");
         assert_eq!(rt; bytes.as_slice(), text.as_bytes());
-    }
-    Ok(())
-}
-
-#[test]
-fn any_number_of_workers_answers_the_same(rt: HostRuntime) -> Result<(), Fail> {
-    for workers in ["--workers=1", "--workers=2", "--workers=16"] {
-        let (status, bytes) = check_among(&rt, rt.alloc(), workers, STUDY, REPORT, &[])?;
-        assert_eq!(rt; status, 0, "at {workers}");
-        assert_eq!(rt; bytes.as_slice(), b"confirmed possible\n".as_slice());
     }
     Ok(())
 }
