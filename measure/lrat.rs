@@ -1,6 +1,6 @@
-// The readings of crate `clause_text`, the check of crate `lrat_check` and the two writings in plain Rust: lrat CNF PROOF. Prints
-// the answer, and then the nanoseconds of reading the clauses, of reading the derivation, of checking it, and of writing both
-// into memory.
+// The command `lrat` in plain Rust, the same algorithm step by step: lrat CNF PROOF. Prints the answer. With one more word, `parts`,
+// it writes both texts into memory too, and prints behind the answer the number of bytes written, and the nanoseconds of reading
+// the clauses, of reading the derivation, of checking it, and of writing both.
 use std::time::Instant;
 
 const MOST_VARIABLES: u64 = 10_000_000;
@@ -159,8 +159,8 @@ fn follows(marks: &mut Marks, clauses: &Clauses, lines: &[(usize, Step)], places
             }
             clauses.get(*hint as usize - 1)
         } else {
-            match places.binary_search_by_key(hint, |place| place.0) {
-                Ok(k) if places[k].2 => match &lines[places[k].1].1 {
+            match place_of(places, inputs.len(), *hint) {
+                Some(k) if places[k].2 => match &lines[places[k].1].1 {
                     Step::Add { clause, .. } => clause,
                     Step::Drop { .. } => unreachable!(),
                 },
@@ -188,6 +188,15 @@ fn follows(marks: &mut Marks, clauses: &Clauses, lines: &[(usize, Step)], places
     Err("no_conflict".into())
 }
 
+// The place of an added clause, tried first where it is if each id is the next one.
+fn place_of(places: &[(u64, usize, bool)], count: usize, id: u64) -> Option<usize> {
+    let guess = id.checked_sub(count as u64 + 1)? as usize;
+    if places.get(guess).is_some_and(|place| place.0 == id) {
+        return Some(guess);
+    }
+    places.binary_search_by_key(&id, |place| place.0).ok()
+}
+
 fn check(variables: u64, clauses: &Clauses, lines: &[(usize, Step)]) -> Result<(), String> {
     let mut marks = Marks { stamps: vec![0; variables as usize + 1], signs: vec![false; variables as usize + 1], now: 0 };
     let mut inputs = vec![true; clauses.len()];
@@ -199,7 +208,7 @@ fn check(variables: u64, clauses: &Clauses, lines: &[(usize, Step)]) -> Result<(
                 for id in ids {
                     if *id <= inputs.len() as u64 {
                         inputs[*id as usize - 1] = false;
-                    } else if let Ok(k) = places.binary_search_by_key(id, |place| place.0) {
+                    } else if let Some(k) = place_of(&places, inputs.len(), *id) {
                         places[k].2 = false;
                     }
                 }
@@ -280,23 +289,36 @@ fn write_lrat(lines: &[(usize, Step)], out: &mut Vec<u8>) {
     }
 }
 
+fn read_clauses(name: &str) -> (u64, Clauses, u128) {
+    let text = std::fs::read(name).expect("a file");
+    let start = Instant::now();
+    let (variables, clauses) = read_cnf(&text).unwrap_or_else(|fault| panic!("cnf: {fault}"));
+    (variables, clauses, start.elapsed().as_nanos())
+}
+
+fn read_lines(name: &str, variables: u64) -> (Vec<(usize, Step)>, u128) {
+    let text = std::fs::read(name).expect("a file");
+    let start = Instant::now();
+    let lines = read_lrat(&text, variables).unwrap_or_else(|fault| panic!("proof {fault}"));
+    (lines, start.elapsed().as_nanos())
+}
+
 fn main() {
-    let names: Vec<String> = std::env::args().skip(1).collect();
-    let texts: Vec<Vec<u8>> = names.iter().map(|name| std::fs::read(name).expect("a file")).collect();
+    let words: Vec<String> = std::env::args().skip(1).collect();
+    let (variables, clauses, read) = read_clauses(&words[0]);
+    let (lines, told) = read_lines(&words[1], variables);
     let start = Instant::now();
-    let (variables, clauses) = read_cnf(&texts[0]).unwrap_or_else(|fault| panic!("cnf: {fault}"));
-    let read = start.elapsed().as_nanos();
-    let start = Instant::now();
-    let lines = read_lrat(&texts[1], variables).unwrap_or_else(|fault| panic!("proof {fault}"));
-    let told = start.elapsed().as_nanos();
-    let start = Instant::now();
-    let answer = check(variables, &clauses, &lines);
+    let answer = check(variables, &clauses, &lines).map_or_else(|fault| fault, |()| "confirmed".into());
     let checked = start.elapsed().as_nanos();
+    if words.len() == 2 {
+        println!("{answer}");
+        return;
+    }
     let start = Instant::now();
-    let mut out = Vec::with_capacity(texts[0].len() + texts[1].len() + 100);
+    let mut out = Vec::with_capacity(100_000_000);
     write_cnf(variables, &clauses, &mut out);
     write_lrat(&lines, &mut out);
     let written = out.len();
     let wrote = start.elapsed().as_nanos();
-    println!("{} {written} {read} {told} {checked} {wrote}", answer.map_or_else(|fault| fault, |()| "confirmed".into()));
+    println!("{answer} {written} {read} {told} {checked} {wrote}");
 }

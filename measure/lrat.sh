@@ -1,100 +1,31 @@
 #!/usr/bin/env bash
-# Seconds for reading clauses and a derivation from text, checking it and writing both, by crates `clause_text` and
-# `lrat_check`, against the same work in plain Rust built by `rustc -O` (measure/lrat.rs). The clauses are all of 16 variables,
-# and the derivation resolves them in pairs, a variable less each time, until the empty clause is left: 65,536 clauses and 65,535
-# added ones of up to 15 literals, with deletions between. Each runs 5 times, and the shortest run counts. The answers and the
-# number of bytes written are compared too. The calls are made by a program that is proved and built in a copy of the repository.
-# The last lines are `ratio NAME R`: the seconds of each part by those of the plain one.
+# Seconds and peak memory of `lrat`, which reads and checks a refutation of about 100 MB, against a plain checker of the same texts in
+# Rust built by `rustc -O` (measure/lrat.rs), the same algorithm step by step. The clauses and the refutation are made by
+# measure/refutation.rs, the same at each run: 340 random lists of 530 clauses over 120 variables, and the lines that a search learns
+# from them, 514,408 clauses of 12 literals and 14 hints on average, with deletions between. Each runs 3 times, and the shortest run counts.
+# The memory is said by the size of both texts too. The last line is `ratio R`: the seconds of the command by those of the plain one.
+# measure/clause_text.sh measures the parts.
 set -eu
 root=$(cd -- "$(dirname -- "$(readlink -f -- "${BASH_SOURCE[0]}")")/.." && pwd)
 work=$(mktemp -d)
 trap 'rm -rf "$work"' EXIT
-mkdir -p "$work/copy/crates"
-for name in lists vocab cnf lrat_check meaning edge texts verdicts clause_text; do
-    mkdir "$work/copy/crates/$name"
-    cp -r "$root/crates/$name/src" "$root/crates/$name/specs" "$root/crates/$name/proofs" "$work/copy/crates/$name/" 2>/dev/null || true
-    grep -E "^$name( .*)?:" "$root/crates.txt" >>"$work/copy/crates.txt"
+env -u BENCH_QUICK "$root/bench" axioms choice >/dev/null # proves and builds where a source is newer
+for name in lrat refutation peak; do
+    rustc -O --edition 2021 -o "$work/$name" "$root/measure/$name.rs"
 done
-echo "lrat_calls: lists cnf edge clause_text lrat_check" >>"$work/copy/crates.txt"
-mkdir -p "$work/copy/crates/lrat_calls/src"
-cat >"$work/copy/crates/lrat_calls/src/main.rt" <<'RT'
-// The answer to a derivation over clauses, how many bytes both have as they are written, and the nanoseconds of reading the
-// clauses, of reading the derivation, of checking it, and of writing both into memory.
-#![tactic(auto)]
-
-use clause_text::{read_dimacs, read_lrat, write_dimacs, write_lrat};
-use edge::{FileShelf, MemorySink, read_all};
-use lrat_check::check;
-use std::io;
-use std::time::Instant;
-
-fn main(rt: HostRuntime) -> io::Result<()> {
-    let alloc = rt.alloc();
-    let mut shelf = FileShelf::new(&rt);
-    let Ok(text) = read_all(alloc, &mut shelf, "halves.cnf", 100_000_000) else {
-        return Ok(());
-    };
-    let Ok(proof) = read_all(alloc, &mut shelf, "halves.lrat", 100_000_000) else {
-        return Ok(());
-    };
-    let Ok(mut out) = MemorySink::new(alloc, 100_000_000, &[]) else {
-        return Ok(());
-    };
-    let start = Instant::now(&rt)?;
-    let Ok(formulas) = read_dimacs(alloc, text.as_slice()) else {
-        return Ok(());
-    };
-    let read = start.elapsed(&rt)?.as_nanos();
-    let start = Instant::now(&rt)?;
-    let Ok(lines) = read_lrat(alloc, proof.as_slice(), formulas.variables) else {
-        return Ok(());
-    };
-    let told = start.elapsed(&rt)?.as_nanos();
-    let start = Instant::now(&rt)?;
-    let answer = check(alloc, &formulas.clauses, &lines).is_ok();
-    let checked = start.elapsed(&rt)?.as_nanos();
-    let start = Instant::now(&rt)?;
-    let done = write_dimacs(b"x", &formulas.clauses, formulas.variables, &mut out).is_ok()
-        && write_lrat(&lines, &mut out).is_ok();
-    let wrote = start.elapsed(&rt)?.as_nanos();
-    let word = if answer && done { "confirmed" } else { "refused" };
-    let count = out.bytes().len();
-    println!(rt; "{word} {count} {read} {told} {checked} {wrote}")?;
-    Ok(())
-}
-RT
-(cd "$work/copy/crates/lrat_calls" && rt run >"$work/run.log" 2>&1) || { tail -20 "$work/run.log"; exit 1; }
-rustc -O --edition 2021 -o "$work/plain" "$root/measure/lrat.rs"
-python3 - "$work" <<'PY'
-import subprocess, sys
-work, k = sys.argv[1], 16
-def words(bits, count):
-    return [v + 1 if bits >> v & 1 else -(v + 1) for v in range(count)]
-with open(work + "/halves.cnf", "w") as out:
-    print("p cnf %d %d" % (k, 2 ** k), file=out)
-    for bits in range(2 ** k):
-        print(*words(bits, k), 0, file=out)
-with open(work + "/halves.lrat", "w") as out:
-    first, free = 1, 2 ** k + 1
-    for count in range(k - 1, -1, -1):
-        for bits in range(2 ** count):
-            print(free + bits, *words(bits, count), 0, first + bits, first + bits + 2 ** count, 0, file=out)
-        print(0, "d", *range(first, free), 0, file=out)
-        first, free = free, free + 2 ** count
-def shortest(*words):
-    best = None
-    for _ in range(5):
-        word, count, *times = subprocess.run(words, cwd=work, capture_output=True, text=True, check=True).stdout.split()
-        assert word == "confirmed", word
-        now = [int(time) for time in times]
-        best = now if best is None else [min(a, b) for a, b in zip(best, now)]
-    return count, best
-count, ours = shortest(work + "/copy/crates/lrat_calls/out/lrat_calls")
-plain_count, plain = shortest(work + "/plain", "halves.cnf", "halves.lrat")
-assert count == plain_count, (count, plain_count)
-names = ("clauses", "derivation", "check", "writing")
-for name, mine, other in zip(names, ours, plain):
-    print("%s: %.4f s, plain %.4f s" % (name, mine / 1e9, other / 1e9))
-for name, mine, other in zip(names, ours, plain):
-    print("ratio %s %.2f" % (name, mine / other))
+"$work/refutation" "$work/cnf" "$work/proof" 340 120 530
+python3 - "$root/crates/bench/out/bench" "$work" <<'PY'
+import os, subprocess, sys
+program, work = sys.argv[1:]
+texts = [work + "/cnf", work + "/proof"]
+size = sum(map(os.path.getsize, texts))
+def run(*words):
+    time, peak, text = subprocess.run([work + "/peak", "3", *words], capture_output=True, text=True, check=True).stdout.split(" ", 2)
+    assert text == "confirmed\n", text
+    return float(time), int(peak) * 1024
+ours, plain = run(program, "lrat", *texts), run(work + "/lrat", *texts)
+print("clauses and refutation: %.1f MB" % (size / 1e6))
+for name, (time, peak) in (("lrat", ours), ("plain", plain)):
+    print("%s: %.3f s, %.0f MB, %.2f times the texts" % (name, time, peak / 1e6, peak / size))
+print("ratio %.2f" % (ours[0] / plain[0]))
 PY

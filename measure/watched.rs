@@ -2,11 +2,11 @@
 // watched at two of them, the watchers of a literal are a linked list, the variable of greatest activity is decided with the sign
 // that it last had, the clause of the first unique implication point is learned, and the search begins anew after 64 times the next
 // number of Luby's series. For each number of variables and of clauses that it is given, it prints the answer and the nanoseconds of
-// the search.
+// the search over a random list. measure/refutation.rs takes the lines of a refutation from it.
 use std::time::Instant;
 
 #[derive(Clone, Copy, PartialEq, Eq)]
-struct Lit {
+pub struct Lit {
     code: u32,
 }
 
@@ -14,10 +14,10 @@ impl Lit {
     fn new(variable: u32, positive: bool) -> Lit {
         Lit { code: 2 * variable + positive as u32 }
     }
-    fn variable(self) -> u32 {
+    pub fn variable(self) -> u32 {
         self.code / 2
     }
-    fn positive(self) -> bool {
+    pub fn positive(self) -> bool {
         self.code % 2 == 1
     }
     fn opposite(self) -> Lit {
@@ -25,7 +25,7 @@ impl Lit {
     }
 }
 
-struct Store {
+pub struct Store {
     literals: Vec<Lit>,
     ends: Vec<usize>,
 }
@@ -34,10 +34,10 @@ impl Store {
     fn new() -> Store {
         Store { literals: Vec::new(), ends: Vec::new() }
     }
-    fn len(&self) -> usize {
+    pub fn len(&self) -> usize {
         self.ends.len()
     }
-    fn get(&self, k: usize) -> &[Lit] {
+    pub fn get(&self, k: usize) -> &[Lit] {
         let from = if k == 0 { 0 } else { self.ends[k - 1] };
         &self.literals[from..self.ends[k]]
     }
@@ -358,23 +358,39 @@ fn go_back(trail: &mut Trail, order: &mut Order, level: u32) {
     trail.back_to(level);
 }
 
-fn solve(clauses: &Store, variables: u32, limit: u32) -> String {
+// A clause that is added, its id, and those of the clauses by which it follows.
+pub type Line = (u64, Vec<Lit>, Vec<u64>);
+
+pub enum Answer {
+    Found(usize),
+    Refuted(Vec<Line>),
+    Spent(Vec<Line>),
+}
+
+// The empty clause, from a conflict that follows from no decision.
+fn last_line(trail: &Trail, conflict: u32, id: u64) -> Line {
+    let reasons = trail.entries.iter().filter_map(|e| e.reason).chain([conflict]);
+    (id, Vec::new(), reasons.map(|k| u64::from(k) + 1).collect())
+}
+
+pub fn solve(clauses: &Store, variables: u32, limit: u32) -> Answer {
     let mut trail = Trail::new(clauses, variables);
     let mut order = Order::new(variables);
-    let mut lines: Vec<(u64, Vec<Lit>, Vec<u64>)> = Vec::new();
+    let mut lines: Vec<Line> = Vec::new();
     let (mut round, mut count) = (1, 0);
     for _ in 0..limit {
         let Some(conflict) = descend(&mut trail, &mut order) else {
-            return format!("found {}", (1..=variables).filter(|v| trail.value(*v) == Some(true)).count());
+            return Answer::Found((1..=variables).filter(|v| trail.value(*v) == Some(true)).count());
         };
+        let id = (clauses.len() + lines.len() + 1) as u64;
         if trail.level == 0 {
-            return format!("refuted {}", lines.len() + 1);
+            lines.push(last_line(&trail, conflict, id));
+            return Answer::Refuted(lines);
         }
         let lesson = analyze(&trail, conflict);
         lesson.clause.iter().for_each(|l| order.raise(l.variable()));
         go_back(&mut trail, &mut order, lesson.level);
         trail.learn(&lesson.clause);
-        let id = (clauses.len() + lines.len() + 1) as u64;
         lines.push((id, lesson.clause, lesson.hints.iter().map(|h| *h as u64 + 1).collect()));
         count += 1;
         if count == 64 * luby(round) {
@@ -382,7 +398,7 @@ fn solve(clauses: &Store, variables: u32, limit: u32) -> String {
             go_back(&mut trail, &mut order, 0);
         }
     }
-    format!("spent {}", lines.len())
+    Answer::Spent(lines)
 }
 
 fn next(state: u64) -> u64 {
@@ -395,24 +411,35 @@ fn pick(state: u64, below: u32) -> u32 {
     ((state >> 33) % u64::from(below)) as u32
 }
 
+// A list of clauses of three literals each, and the state that the next one begins with.
+pub fn random(variables: u32, count: u32, mut state: u64) -> (Store, u64) {
+    let mut clauses = Store::new();
+    for _ in 0..count {
+        let mut clause = Vec::new();
+        for _ in 0..3 {
+            state = next(state);
+            let variable = pick(state, variables) + 1;
+            state = next(state);
+            clause.push(Lit::new(variable, pick(state, 2) == 1));
+        }
+        clauses.push(&clause);
+    }
+    (clauses, state)
+}
+
+pub const SEED: u64 = 88172645463325252;
+
 fn main() {
     let sizes: Vec<u32> = std::env::args().skip(1).map(|word| word.parse().unwrap()).collect();
     for size in sizes.chunks(2) {
         let (variables, count) = (size[0], size[1]);
-        let mut state: u64 = 88172645463325252;
-        let mut clauses = Store::new();
-        for _ in 0..count {
-            let mut clause = Vec::new();
-            for _ in 0..3 {
-                state = next(state);
-                let variable = pick(state, variables) + 1;
-                state = next(state);
-                clause.push(Lit::new(variable, pick(state, 2) == 1));
-            }
-            clauses.push(&clause);
-        }
+        let (clauses, _) = random(variables, count, SEED);
         let start = Instant::now();
-        let answer = solve(&clauses, variables, 100_000);
+        let answer = match solve(&clauses, variables, 100_000) {
+            Answer::Found(number) => format!("found {number}"),
+            Answer::Refuted(lines) => format!("refuted {}", lines.len()),
+            Answer::Spent(lines) => format!("spent {}", lines.len()),
+        };
         println!("{answer} {}", start.elapsed().as_nanos());
     }
 }

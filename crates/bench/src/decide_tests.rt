@@ -1,58 +1,10 @@
 //! The worked examples of `decide`, with 1, 2 and 16 workers, over devices in memory. Each report that is written is checked too.
 
-use crate::tests::words_of;
-use crate::top::bench;
-use answers::Run;
-use edge::{Gate, MemoryShelf, MemorySink, Open};
+use crate::calls::answered;
+use edge::Open;
 use std::alloc::Global;
 use std::test::Fail;
 use std::thread::Threads;
-
-/// What a call came to: its status, how many clauses its spent searches learned, and the bytes that it wrote.
-#[derive(Drop)]
-pub struct Told {
-    pub status: u8,
-    pub learned: usize,
-    pub bytes: Vec<u8>,
-}
-
-/// The status of a run, and how many clauses its spent searches learned.
-fn counts(run: Run) -> (u8, usize) {
-    let mut learned: usize = 0;
-    for log in run.logs.as_slice() {
-        learned = learned.saturating_add(log.lines.len());
-    }
-    (run.status, learned)
-}
-
-/// A shelf with two files.
-fn shelf_of(alloc: Global, first: &[u8], second: &[u8]) -> Result<MemoryShelf, Fail> {
-    let mut shelf = MemoryShelf::new(alloc, &[])?;
-    shelf.hold("first", first)?;
-    shelf.hold("second", second)?;
-    Ok(shelf)
-}
-
-/// What a command comes to over the files `first` and `second`, with a sink that has so much room.
-pub fn answered<R: Threads + Sync, G: Gate>(
-    rt: &R,
-    alloc: Global,
-    gate: &G,
-    words: &[&str],
-    first: &[u8],
-    second: &[u8],
-    room: usize,
-) -> Result<Told, Fail> {
-    let words = words_of(alloc, words)?;
-    let mut shelf = shelf_of(alloc, first, second)?;
-    let mut out = MemorySink::new(alloc, room, &[])?;
-    let (status, learned) = counts(bench(rt, alloc, &words, &mut shelf, &mut out, gate));
-    Ok(Told {
-        status,
-        learned,
-        bytes: out.bytes().to_vec(alloc)?,
-    })
-}
 
 /// Whether `check` with this word for the workers confirms a report.
 fn is_confirmed<R: Threads + Sync>(

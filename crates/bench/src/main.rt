@@ -44,6 +44,8 @@ fn main(rt: HostRuntime) -> ExitCode {
 }
 
 #[cfg(test)]
+mod calls;
+#[cfg(test)]
 mod decide_tests;
 #[cfg(test)]
 mod lrat_tests;
