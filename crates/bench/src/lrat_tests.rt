@@ -1,30 +1,10 @@
-//! The worked examples of `lrat`, `proof` and `sample`, over devices in memory.
+//! The worked examples of `lrat` and `sample`, over devices in memory.
 
-use crate::tests::words_of;
-use crate::top::bench;
-use edge::{MemoryShelf, MemorySink, Open};
+use crate::calls::answered;
+use edge::Open;
 use std::alloc::Global;
 use std::test::Fail;
 use std::thread::Threads;
-
-/// The status and the bytes of a command over a study, clauses and a proof.
-fn answered<R: Threads + Sync>(
-    rt: &R,
-    alloc: Global,
-    words: &[&str],
-    study: &str,
-    cnf: &[u8],
-    proof: &[u8],
-) -> Result<(u8, Vec<u8>), Fail> {
-    let mut shelf = MemoryShelf::new(alloc, &[])?;
-    shelf.hold("study", study.as_bytes())?;
-    shelf.hold("cnf", cnf)?;
-    shelf.hold("proof", proof)?;
-    let words = words_of(alloc, words)?;
-    let mut out = MemorySink::new(alloc, 1_000_000, &[])?;
-    let run = bench(rt, alloc, &words, &mut shelf, &mut out, &Open);
-    Ok((run.status, out.bytes().to_vec(alloc)?))
-}
 
 /// Two variables that can be neither equal nor different.
 const SQUARE: &str = "p cnf 2 4\n1 2 0\n-1 2 0\n1 -2 0\n-1 -2 0\n";
@@ -32,15 +12,27 @@ const SQUARE: &str = "p cnf 2 4\n1 2 0\n-1 2 0\n1 -2 0\n-1 -2 0\n";
 /// The same four clauses, with comments, blank lines, other blanks and other line ends, and no end of the last line.
 const SCATTERED: &str = "c a\n\np\tcnf 2 4\r\n1\nc 9 -0 0\n2 0 -1 2\r\n\t0 1 -2 0 -1\nc\n\n-2 0";
 
-/// The status and the bytes of `lrat` over clauses and a proof of them.
-fn judged<R: Threads + Sync>(
+/// Whether `lrat` over clauses and the proof of this name ends with the status, and writes the text; the proof `second` is this one.
+fn judges<R: Threads + Sync>(
     rt: &R,
     alloc: Global,
+    name: &str,
     cnf: &str,
     proof: &str,
-) -> Result<(u8, Vec<u8>), Fail> {
-    let words = ["lrat", "cnf", "proof"];
-    answered(rt, alloc, &words, "", cnf.as_bytes(), proof.as_bytes())
+    status: u8,
+    text: &str,
+) -> Result<bool, Fail> {
+    let words = ["lrat", "first", name];
+    let said = answered(
+        rt,
+        alloc,
+        &Open,
+        &words,
+        cnf.as_bytes(),
+        proof.as_bytes(),
+        1_000,
+    )?;
+    Ok(said.is(status, text.as_bytes()))
 }
 
 #[test]
@@ -95,9 +87,8 @@ fn proofs_are_judged(rt: HostRuntime) -> Result<(), Fail> {
         ("9223372036854775808 0 1 0\n", 1, "proof line 1: line\n"),
     ];
     for (proof, status, text) in cases {
-        let (found, bytes) = judged(&rt, rt.alloc(), SQUARE, proof)?;
-        assert_eq!(rt; found, status, "at {proof:?}");
-        assert!(rt; bytes.as_slice() == text.as_bytes(), "at {proof:?}");
+        let right = judges(&rt, rt.alloc(), "second", SQUARE, proof, status, text)?;
+        assert!(rt; right, "at {proof}");
     }
     Ok(())
 }
@@ -110,9 +101,8 @@ fn proofs_of_other_clauses_are_confirmed(rt: HostRuntime) -> Result<(), Fail> {
         ("p cnf 0 1\n0\n", "2 0 1 0\n"),
     ];
     for (cnf, proof) in cases {
-        let (status, bytes) = judged(&rt, rt.alloc(), cnf, proof)?;
-        assert_eq!(rt; status, 0, "at {cnf:?}");
-        assert!(rt; bytes.as_slice() == b"confirmed\n".as_slice());
+        let right = judges(&rt, rt.alloc(), "second", cnf, proof, 0, "confirmed\n")?;
+        assert!(rt; right, "at {cnf}");
     }
     Ok(())
 }
@@ -128,10 +118,8 @@ fn clauses_are_refused_before_the_proof_is_opened(rt: HostRuntime) -> Result<(),
         (SQUARE, 5, ""),
     ];
     for (cnf, status, text) in cases {
-        let words = ["lrat", "cnf", "absent"];
-        let (found, bytes) = answered(&rt, rt.alloc(), &words, "", cnf.as_bytes(), b"")?;
-        assert_eq!(rt; found, status, "at {cnf:?}");
-        assert!(rt; bytes.as_slice() == text.as_bytes(), "at {cnf:?}");
+        let right = judges(&rt, rt.alloc(), "absent", cnf, "", status, text)?;
+        assert!(rt; right, "at {cnf}");
     }
     Ok(())
 }
@@ -142,51 +130,16 @@ fn more_than_four_million_clauses_are_refused(rt: HostRuntime) -> Result<(), Fai
     for _ in 0..400_000 {
         cnf.push_str(" 0 0 0 0 0 0 0 0 0 0")?;
     }
-    let (status, bytes) = judged(&rt, rt.alloc(), cnf.as_str(), "")?;
-    assert_eq!(rt; status, 3);
-    assert!(rt; bytes.as_slice() == b"cnf: full\n".as_slice());
-    Ok(())
-}
-
-#[test]
-fn refutations_are_confirmed(rt: HostRuntime) -> Result<(), Fail> {
-    let alloc = rt.alloc();
-    let studies = [
-        "kind = \"choice\"\nvoters = 2\nalternatives = 2\naxioms = [\"anonymity\", \"neutrality\"]\n",
-        "kind = \"ranking\"\nvoters = 2\nalternatives = 3\naxioms = [\"pareto\", \"independence\", \"non_dictatorship\"]\n",
-    ];
-    for study in studies {
-        let (status, cnf) = answered(&rt, alloc, &["export", "study"], study, b"", b"")?;
-        assert_eq!(rt; status, 0);
-        let (status, proof) = answered(&rt, alloc, &["proof", "study"], study, b"", b"")?;
-        assert_eq!(rt; status, 0);
-        let words = ["lrat", "cnf", "proof"];
-        let (status, said) = answered(&rt, alloc, &words, study, cnf.as_slice(), proof.as_slice())?;
-        assert_eq!(rt; status, 0);
-        assert!(rt; said.as_slice() == b"confirmed\n".as_slice());
-    }
-    Ok(())
-}
-
-#[test]
-fn other_studies_have_no_refutation(rt: HostRuntime) -> Result<(), Fail> {
-    let cases = [
-        (
-            "kind = \"choice\"\nvoters = 1\nalternatives = 2\naxioms = [\"unanimity\"]\n",
-            0,
-            "c possible\n",
-        ),
-        (
-            "kind = \"choice\"\nvoters = 2\nalternatives = 3\nconflicts = 1\naxioms = [\"onto\", \"strategyproof\", \"non_dictatorship\"]\n",
-            4,
-            "c undecided\n",
-        ),
-    ];
-    for (study, status, text) in cases {
-        let (found, bytes) = answered(&rt, rt.alloc(), &["proof", "study"], study, b"", b"")?;
-        assert_eq!(rt; found, status);
-        assert!(rt; bytes.as_slice() == text.as_bytes());
-    }
+    let right = judges(
+        &rt,
+        rt.alloc(),
+        "second",
+        cnf.as_str(),
+        "",
+        3,
+        "cnf: full\n",
+    )?;
+    assert!(rt; right);
     Ok(())
 }
 
@@ -207,9 +160,9 @@ fn samples_are_decided(rt: HostRuntime) -> Result<(), Fail> {
         ),
     ];
     for (number, text) in cases {
-        let (status, bytes) = answered(&rt, rt.alloc(), &["sample", number], "", b"", b"")?;
-        assert_eq!(rt; status, 0, "at {number}");
-        assert!(rt; bytes.as_slice() == text.as_bytes(), "at {number}");
+        let words = ["sample", number];
+        let said = answered(&rt, rt.alloc(), &Open, &words, b"", b"", 1_000)?;
+        assert!(rt; said.is(0, text.as_bytes()), "at {number}");
     }
     Ok(())
 }

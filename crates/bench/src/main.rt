@@ -44,6 +44,8 @@ fn main(rt: HostRuntime) -> ExitCode {
 }
 
 #[cfg(test)]
+mod calls;
+#[cfg(test)]
 mod decide_tests;
 #[cfg(test)]
 mod lrat_tests;
@@ -51,3 +53,5 @@ mod lrat_tests;
 mod report_tests;
 #[cfg(test)]
 mod tests;
+#[cfg(test)]
+mod worker_tests;

@@ -1,9 +1,7 @@
-//! Reports that are confirmed, and changes of them, each refused at the line that was changed, with one worker and with
-//! sixteen.
+//! Reports that are confirmed, and changes of them, each refused at the line that was changed, with 1, 2 and 16 workers.
 
-use crate::tests::words_of;
-use crate::top::bench;
-use edge::{Gate, MemoryShelf, MemorySink, Open};
+use crate::calls::answered;
+use edge::{Gate, Open};
 use lists::NoMemory;
 use outcomes::ChoiceKind;
 use profiles::Space;
@@ -29,26 +27,7 @@ const LIBERAL: &str =
 const LIBERAL_STORY: &str =
     "bench report 1\nkind choice\nvoters 2\nalternatives 3\naxioms pareto right_one right_two\nverdict impossible\ncore pareto right_one right_two\nlemmas 1\nlemma 1\nso !b@cab|bca by axiom right_one cab|bca\nso !c@cab|bca by axiom right_two cab|bca\nso !a@cab|bca by axiom pareto cab|bca c a\nclash by outcome cab|bca\nwithout pareto open 1000\nwithout right_one open 1000\nwithout right_two open 1000\nend\n";
 
-/// The status and the bytes of `check` with this word for the workers.
-fn check<R: Threads + Sync, G: Gate>(
-    rt: &R,
-    alloc: Global,
-    workers: &str,
-    gate: &G,
-    study: &str,
-    report: &str,
-) -> Result<(u8, Vec<u8>), Fail> {
-    let mut shelf = MemoryShelf::new(alloc, &[])?;
-    shelf.hold("study", study.as_bytes())?;
-    shelf.hold("report", report.as_bytes())?;
-    let words = words_of(alloc, &["check", workers, "study", "report"])?;
-    let mut out = MemorySink::new(alloc, 1000, &[])?;
-    let run = bench(rt, alloc, &words, &mut shelf, &mut out, gate);
-    Ok((run.status, out.bytes().to_vec(alloc)?))
-}
-
-/// Whether the text is written of the report, with one worker and with sixteen; the status is 0 where it is confirmed, and
-/// else 1.
+/// Whether the text is written of the report, with 1, 2 and 16 workers; the status is 0 where it is confirmed, and else 1.
 fn is_answered<R: Threads + Sync>(
     rt: &R,
     alloc: Global,
@@ -56,16 +35,16 @@ fn is_answered<R: Threads + Sync>(
     report: &str,
     text: &str,
 ) -> Result<bool, Fail> {
-    let status = if text.starts_with("confirmed") { 0 } else { 1 };
-    let (one, by_one) = check(rt, alloc, "--workers=1", &Open, study, report)?;
-    let (many, by_many) = check(rt, alloc, "--workers=16", &Open, study, report)?;
+    let wanted = if text.starts_with("confirmed") { 0 } else { 1 };
     let line = format!(in alloc; "{text}\n")?;
-    Ok(
-        one == status
-            && many == status
-            && by_one.as_slice() == line.as_bytes()
-            && by_many.as_slice() == line.as_bytes(),
-    )
+    let mut right = true;
+    for workers in ["--workers=1", "--workers=2", "--workers=16"] {
+        let words = ["check", workers, "first", "second"];
+        let (first, second) = (study.as_bytes(), report.as_bytes());
+        let said = answered(rt, alloc, &Open, &words, first, second, 1_000)?;
+        right = right && said.is(wanted, line.as_bytes());
+    }
+    Ok(right)
 }
 
 /// The text with other lines in place of the line of this number, from 1.
@@ -319,11 +298,10 @@ fn two_workers_share_the_check_of_a_rule(rt: HostRuntime) -> Result<(), Fail> {
     let size = Size::check(Kind::Ranking, 2, 3).ok().ok_or("size")?;
     let report = dictatorship(alloc, size, " independence pareto")?;
     let study =
-        "kind = \"ranking\"\nvoters = 2\nalternatives = 3\naxioms = [\"independence\", \"pareto\"]\n";
+        b"kind = \"ranking\"\nvoters = 2\nalternatives = 3\naxioms = [\"independence\", \"pareto\"]\n";
     let gate = Meeting::new();
-    let (status, bytes) = check(&rt, alloc, "--workers=2", &gate, study, report.as_str())?;
-    assert_eq!(rt; status, 0);
-    assert_eq!(rt; bytes.as_slice(), b"confirmed possible\n".as_slice());
-    assert!(rt; gate.has_met());
+    let words = ["check", "--workers=2", "first", "second"];
+    let said = answered(&rt, alloc, &gate, &words, study, report.as_bytes(), 1_000)?;
+    assert!(rt; said.is(0, b"confirmed possible\n") && gate.has_met());
     Ok(())
 }

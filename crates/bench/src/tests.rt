@@ -1,9 +1,9 @@
-//! The worked examples of `check`, over devices in memory, with one worker and with sixteen.
+//! The worked examples of `check`, over devices in memory, with 1, 2 and 16 workers.
 
+use crate::calls::{answered, answered_over, put, shelf_of, words_of};
 use crate::top::bench;
-use edge::{CalmShelf, CalmSink, MemoryShelf, MemorySink, Open};
-use lists::NoMemory;
-use std::alloc::{AllocError, Global};
+use edge::{CalmShelf, CalmSink, MemorySink, Open};
+use std::alloc::Global;
 use std::test::Fail;
 use std::thread::Threads;
 
@@ -12,48 +12,24 @@ const STUDY: &str = "kind = \"choice\"\nvoters = 1\nalternatives = 2\naxioms = [
 const REPORT: &str =
     "bench report 1\nkind choice\nvoters 1\nalternatives 2\naxioms unanimity\nverdict possible\nrule 2\nab a\nba b\nend\n";
 
-/// The words of a command.
-pub fn words_of(alloc: Global, words: &[&str]) -> Result<Vec<String>, AllocError> {
-    let mut list = Vec::new(alloc);
-    for word in words {
-        list.push(String::from_str(alloc, word)?)?;
-    }
-    Ok(list)
-}
-
-/// The status and the bytes of `check` with this word for the workers, where these calls of the shelf fail.
-fn check_among<R: Threads + Sync>(
-    rt: &R,
-    alloc: Global,
-    workers: &str,
-    study: &str,
-    report: &str,
-    failing: &[u32],
-) -> Result<(u8, Vec<u8>), NoMemory> {
-    let mut shelf = MemoryShelf::new(alloc, failing)?;
-    shelf.hold("study", study.as_bytes())?;
-    shelf.hold("report", report.as_bytes())?;
-    let words = words_of(alloc, &["check", "study", workers, "report"])?;
-    let mut out = MemorySink::new(alloc, 1000, &[])?;
-    let run = bench(rt, alloc, &words, &mut shelf, &mut out, &Open);
-    Ok((run.status, out.bytes().to_vec(alloc)?))
-}
-
-/// The status and the bytes of `check` with one worker, which with sixteen are the same, or else status 255.
-fn check<R: Threads + Sync>(
+/// Whether `check` with 1, 2 and 16 workers, where these calls of the shelf fail, ends with the status and writes the text.
+fn judges<R: Threads + Sync>(
     rt: &R,
     alloc: Global,
     study: &str,
     report: &str,
     failing: &[u32],
-) -> Result<(u8, Vec<u8>), NoMemory> {
-    let (status, bytes) = check_among(rt, alloc, "--workers=1", study, report, failing)?;
-    let (other, others) = check_among(rt, alloc, "--workers=16", study, report, failing)?;
-    if status == other && bytes.as_slice() == others.as_slice() {
-        Ok((status, bytes))
-    } else {
-        Ok((255, bytes))
+    status: u8,
+    text: &str,
+) -> Result<bool, Fail> {
+    let mut right = true;
+    for workers in ["--workers=1", "--workers=2", "--workers=16"] {
+        let words = ["check", "first", workers, "second"];
+        let shelf = shelf_of(alloc, failing, study.as_bytes(), report.as_bytes())?;
+        let said = answered_over(rt, alloc, &Open, &words, shelf, 1_000)?;
+        right = right && said.is(status, text.as_bytes());
     }
+    Ok(right)
 }
 
 #[test]
@@ -81,19 +57,8 @@ fn reports_are_judged(rt: HostRuntime) -> Result<(), Fail> {
     for (table, status, text) in cases {
         let mut report = String::from_str(rt.alloc(), head)?;
         report.push_str(table)?;
-        let (found, bytes) = check(&rt, rt.alloc(), STUDY, report.as_str(), &[])?;
-        assert_eq!(rt; found, status, "at {table:?}");
-        assert_eq!(rt; bytes.as_slice(), text.as_bytes());
-    }
-    Ok(())
-}
-
-#[test]
-fn any_number_of_workers_answers_the_same(rt: HostRuntime) -> Result<(), Fail> {
-    for workers in ["--workers=1", "--workers=2", "--workers=16"] {
-        let (status, bytes) = check_among(&rt, rt.alloc(), workers, STUDY, REPORT, &[])?;
-        assert_eq!(rt; status, 0, "at {workers}");
-        assert_eq!(rt; bytes.as_slice(), b"confirmed possible\n".as_slice());
+        let right = judges(&rt, rt.alloc(), STUDY, report.as_str(), &[], status, text)?;
+        assert!(rt; right, "at {table}");
     }
     Ok(())
 }
@@ -128,9 +93,8 @@ fn axioms_are_tested_in_the_order_of_the_study(rt: HostRuntime) -> Result<(), Fa
         let report = format!(in alloc;
             "bench report 1\nkind choice\nvoters 1\nalternatives 2\naxioms {named}\n{table}"
         )?;
-        let (status, bytes) = check(&rt, alloc, study.as_str(), report.as_str(), &[])?;
-        assert_eq!(rt; status, 1, "at {listed}");
-        assert_eq!(rt; bytes.as_slice(), text.as_bytes());
+        let right = judges(&rt, alloc, study.as_str(), report.as_str(), &[], 1, text)?;
+        assert!(rt; right, "at {listed}");
     }
     Ok(())
 }
@@ -171,9 +135,8 @@ fn studies_are_refused_before_the_report_is_opened(rt: HostRuntime) -> Result<()
     ];
     for (study, text) in cases {
         // The calls of the shelf are: 0 rewinds the study, 1 and 2 read it, 3 would rewind the report.
-        let (status, bytes) = check(&rt, rt.alloc(), study, REPORT, &[3])?;
-        assert_eq!(rt; status, 3, "at {study:?}");
-        assert_eq!(rt; bytes.as_slice(), text.as_bytes());
+        let right = judges(&rt, rt.alloc(), study, REPORT, &[3], 3, text)?;
+        assert!(rt; right, "at {study}");
     }
     Ok(())
 }
@@ -209,10 +172,9 @@ fn own_sentences_are_refused_at_their_first_fault(rt: HostRuntime) -> Result<(),
     let alloc = rt.alloc();
     for (sentence, text) in cases {
         let study = format!(in alloc; "{SMALL}[sentences]\nodd = \"{sentence}\"\n")?;
-        let (status, bytes) = check(&rt, alloc, study.as_str(), REPORT, &[3])?;
         let line = format!(in alloc; "study: odd: {text}\n")?;
-        assert_eq!(rt; status, 3, "at {sentence:?}");
-        assert_eq!(rt; bytes.as_slice(), line.as_bytes());
+        let right = judges(&rt, alloc, study.as_str(), REPORT, &[3], 3, line.as_str())?;
+        assert!(rt; right, "at {sentence}");
     }
     Ok(())
 }
@@ -259,9 +221,16 @@ fn rules_that_rank_are_judged(rt: HostRuntime) -> Result<(), Fail> {
         let report = format!(in alloc;
             "bench report 1\nkind ranking\nvoters 1\nalternatives 2\naxioms {named}\nverdict possible\nrule 2\n{rows}end\n"
         )?;
-        let (found, bytes) = check(&rt, alloc, study.as_str(), report.as_str(), &[])?;
-        assert_eq!(rt; found, status, "at {rows:?}");
-        assert_eq!(rt; bytes.as_slice(), text.as_bytes());
+        let right = judges(
+            &rt,
+            alloc,
+            study.as_str(),
+            report.as_str(),
+            &[],
+            status,
+            text,
+        )?;
+        assert!(rt; right, "at {rows}");
     }
     Ok(())
 }
@@ -299,9 +268,9 @@ fn larger_rules_are_judged(rt: HostRuntime) -> Result<(), Fail> {
         let report = format!(in alloc;
             "bench report 1\nkind {kind}\nvoters {voters}\nalternatives {alternatives}\naxioms{named}\nverdict possible\nrule {profiles}\n{rows}end\n"
         )?;
-        let (status, bytes) = check(&rt, alloc, study.as_str(), report.as_str(), &[])?;
-        assert_eq!(rt; status, 0, "at {rows:?}");
-        assert_eq!(rt; bytes.as_slice(), b"confirmed possible\n".as_slice());
+        let said = "confirmed possible\n";
+        let right = judges(&rt, alloc, study.as_str(), report.as_str(), &[], 0, said)?;
+        assert!(rt; right, "at {rows}");
     }
     Ok(())
 }
@@ -325,7 +294,8 @@ fn sentences_have_limits(rt: HostRuntime) -> Result<(), Fail> {
         let study = format!(in alloc;
             "{SMALL}[sentences]\nodd = \"all p: profile. {signs}wins(@a, p)\"\n"
         )?;
-        is_refused(&rt, alloc, study.as_str(), text)?;
+        let right = is_refused(&rt, alloc, study.as_str(), text)?;
+        assert!(rt; right, "at {text}");
     }
     // Of rules for two voters and five alternatives.
     let large = [
@@ -349,31 +319,24 @@ fn sentences_have_limits(rt: HostRuntime) -> Result<(), Fail> {
         let study = format!(in alloc;
             "kind = \"choice\"\nvoters = 2\nalternatives = 5\naxioms = [{axioms}]\n[sentences]\nodd = \"{sentence}\"\n"
         )?;
-        is_refused(&rt, alloc, study.as_str(), text)?;
+        let right = is_refused(&rt, alloc, study.as_str(), text)?;
+        assert!(rt; right, "at {text}");
     }
     Ok(())
 }
 
-/// That the study is refused by this text, or is not where the text is empty: then the report would be opened.
+/// Whether the study is refused by this text, or is not where the text is empty: then the report would be opened.
 fn is_refused<R: Threads + Sync>(
     rt: &R,
     alloc: Global,
     study: &str,
     text: &str,
-) -> Result<(), Fail> {
-    let (status, bytes) = check(rt, alloc, study, REPORT, &[3])?;
-    let line = format!(in alloc; "study: {text}\n")?;
+) -> Result<bool, Fail> {
     if text.is_empty() {
-        return if status == 5 {
-            Ok(())
-        } else {
-            Err(Fail::from(NoMemory))
-        };
+        return judges(rt, alloc, study, REPORT, &[3], 5, "");
     }
-    if status != 3 || bytes.as_slice() != line.as_bytes() {
-        return Err(Fail::from(NoMemory));
-    }
-    Ok(())
+    let line = format!(in alloc; "study: {text}\n")?;
+    judges(rt, alloc, study, REPORT, &[3], 3, line.as_str())
 }
 
 #[test]
@@ -390,7 +353,8 @@ fn studies_have_few_axioms(rt: HostRuntime) -> Result<(), Fail> {
         let study = format!(in alloc;
             "kind = \"choice\"\nvoters = 2\nalternatives = 2\naxioms = [{listed}]\n[sentences]\n{own}"
         )?;
-        is_refused(&rt, alloc, study.as_str(), text)?;
+        let right = is_refused(&rt, alloc, study.as_str(), text)?;
+        assert!(rt; right, "at {text}");
     }
     Ok(())
 }
@@ -403,25 +367,13 @@ fn a_study_may_have_a_mebibyte(rt: HostRuntime) -> Result<(), Fail> {
     for _ in study.len()..1_048_576 {
         study.push_str(" ")?;
     }
-    let (status, _) = check(&rt, alloc, study.as_str(), REPORT, &[])?;
-    assert_eq!(rt; status, 0);
+    let said = "confirmed possible\n";
+    let right = judges(&rt, alloc, study.as_str(), REPORT, &[], 0, said)?;
     study.push_str(" ")?;
-    let (status, bytes) = check(&rt, alloc, study.as_str(), REPORT, &[])?;
-    assert_eq!(rt; status, 3);
-    assert_eq!(rt; bytes.as_slice(), b"study: too long\n".as_slice());
+    let line = "study: too long\n";
+    let refused = judges(&rt, alloc, study.as_str(), REPORT, &[], 3, line)?;
+    assert!(rt; right && refused);
     Ok(())
-}
-
-/// What `axioms` writes of a kind, where its status is 0.
-fn library_of<R: Threads + Sync>(rt: &R, alloc: Global, kind: &str) -> Result<Vec<u8>, Fail> {
-    let mut shelf = MemoryShelf::new(alloc, &[])?;
-    let mut out = MemorySink::new(alloc, 10_000, &[])?;
-    let words = words_of(alloc, &["axioms", kind])?;
-    let run = bench(rt, alloc, &words, &mut shelf, &mut out, &Open);
-    if run.status != 0 {
-        return Err(Fail::from(NoMemory));
-    }
-    Ok(out.bytes().to_vec(alloc)?)
 }
 
 /// How many lines end in a text.
@@ -431,42 +383,42 @@ fn lines_in(text: &[u8]) -> usize {
 
 #[test]
 fn the_library_is_printed(rt: HostRuntime) -> Result<(), Fail> {
-    let choice = library_of(&rt, rt.alloc(), "choice")?;
-    assert_eq!(rt; lines_in(choice.as_slice()), 9);
-    let ranking = library_of(&rt, rt.alloc(), "ranking")?;
-    assert_eq!(rt; lines_in(ranking.as_slice()), 5);
-    let first =
-        "pareto: all p: profile. all x: alt. all y: alt. (all i: voter. prefers(i, x, y, p) -> ranks(x, y, p))\n";
-    assert!(rt; ranking.as_slice().starts_with(first.as_bytes()));
+    let cases = [
+        (
+            "choice",
+            9,
+            "unanimity: all p: profile. all x: alt. (all i: voter. all y: alt. (x = y | prefers(i, x, y, p)) -> wins(x, p))\n",
+        ),
+        (
+            "ranking",
+            5,
+            "pareto: all p: profile. all x: alt. all y: alt. (all i: voter. prefers(i, x, y, p) -> ranks(x, y, p))\n",
+        ),
+    ];
+    for (kind, count, first) in cases {
+        let words = ["axioms", kind];
+        let said = answered(&rt, rt.alloc(), &Open, &words, b"", b"", 10_000)?;
+        let bytes = said.bytes.as_slice();
+        let right = lines_in(bytes) == count && bytes.starts_with(first.as_bytes());
+        assert!(rt; right && said.status == 0, "at {kind}");
+    }
     Ok(())
 }
 
 #[test]
 fn failed_reads_write_nothing(rt: HostRuntime) -> Result<(), Fail> {
     for call in 0..6 {
-        let (status, bytes) = check(&rt, rt.alloc(), STUDY, REPORT, &[call])?;
-        assert_eq!(rt; status, 5, "at call {call}");
-        assert!(rt; bytes.is_empty());
+        let right = judges(&rt, rt.alloc(), STUDY, REPORT, &[call], 5, "")?;
+        assert!(rt; right, "at call {call}");
     }
-    Ok(())
-}
-
-#[test]
-fn a_report_that_is_not_held_writes_nothing(rt: HostRuntime) -> Result<(), Fail> {
-    let alloc = rt.alloc();
-    let mut shelf = MemoryShelf::new(alloc, &[])?;
-    shelf.hold("study", STUDY.as_bytes())?;
-    let words = words_of(alloc, &["check", "study", "report"])?;
-    let mut out = MemorySink::new(alloc, 1000, &[])?;
-    let run = bench(&rt, alloc, &words, &mut shelf, &mut out, &Open);
-    assert_eq!(rt; run.status, 5);
-    assert!(rt; out.bytes().is_empty());
+    let words = ["check", "first", "absent"];
+    let said = answered(&rt, rt.alloc(), &Open, &words, STUDY.as_bytes(), b"", 1_000)?;
+    assert!(rt; said.is(5, b""));
     Ok(())
 }
 
 #[test]
 fn words_that_are_no_command_get_the_usage_line(rt: HostRuntime) -> Result<(), Fail> {
-    let alloc = rt.alloc();
     let cases: [&[&str]; 12] = [
         &[],
         &["help"],
@@ -481,57 +433,46 @@ fn words_that_are_no_command_get_the_usage_line(rt: HostRuntime) -> Result<(), F
         &["check", "a", "b", "c"],
         &["decide"],
     ];
+    let line =
+        b"usage: bench decide STUDY | check STUDY REPORT | export STUDY | proof STUDY | lrat CNF PROOF | axioms KIND | sample N [--workers K]\n";
     for words in cases {
-        let mut shelf = MemoryShelf::new(alloc, &[])?;
-        let mut out = MemorySink::new(alloc, 6, &[])?;
-        let run = bench(
-            &rt,
-            alloc,
-            &words_of(alloc, words)?,
-            &mut shelf,
-            &mut out,
-            &Open,
-        );
-        assert_eq!(rt; run.status, 6, "at {words:?}");
-        assert_eq!(rt; out.bytes(), b"usage:".as_slice());
-        let run = bench(
-            &rt,
-            alloc,
-            &words_of(alloc, words)?,
-            &mut shelf,
-            &mut CalmSink::new(),
-            &Open,
-        );
-        assert_eq!(rt; run.status, 2, "at {words:?}");
+        let said = answered(&rt, rt.alloc(), &Open, words, b"", b"", 1_000)?;
+        let front = answered(&rt, rt.alloc(), &Open, words, b"", b"", 6)?;
+        assert!(rt; said.is(2, line) && front.is(6, b"usage:"), "at {words:?}");
     }
     Ok(())
 }
 
+/// The status of `check` over calm devices.
+fn calm_status<R: Threads + Sync>(
+    rt: &R,
+    alloc: Global,
+    shelf: &mut CalmShelf,
+) -> Result<u8, Fail> {
+    let words = words_of(alloc, &["check", "first", "second"])?;
+    let run = bench(rt, alloc, &words, shelf, &mut CalmSink::new(), &Open);
+    Ok(run.status)
+}
+
 #[test]
 fn calm_devices_never_fail(rt: HostRuntime) -> Result<(), Fail> {
-    let alloc = rt.alloc();
-    let mut shelf = CalmShelf::new(alloc);
-    let words = words_of(alloc, &["check", "study", "report"])?;
-    let run = bench(&rt, alloc, &words, &mut shelf, &mut CalmSink::new(), &Open);
-    assert_eq!(rt; run.status, 3);
-    shelf.hold("study", STUDY.as_bytes())?;
-    shelf.hold("report", REPORT.as_bytes())?;
-    let run = bench(&rt, alloc, &words, &mut shelf, &mut CalmSink::new(), &Open);
-    assert_eq!(rt; run.status, 0);
+    let mut shelf = CalmShelf::new(rt.alloc());
+    let empty = calm_status(&rt, rt.alloc(), &mut shelf)?;
+    shelf.hold("first", STUDY.as_bytes())?;
+    shelf.hold("second", REPORT.as_bytes())?;
+    let held = calm_status(&rt, rt.alloc(), &mut shelf)?;
+    assert!(rt; empty == 3 && held == 0);
     Ok(())
 }
 
 #[test]
 fn a_failed_flush_comes_after_the_whole_text(rt: HostRuntime) -> Result<(), Fail> {
     let alloc = rt.alloc();
-    let mut shelf = MemoryShelf::new(alloc, &[])?;
-    shelf.hold("study", STUDY.as_bytes())?;
-    shelf.hold("report", REPORT.as_bytes())?;
-    let words = words_of(alloc, &["check", "study", "report"])?;
+    let mut shelf = shelf_of(alloc, &[], STUDY.as_bytes(), REPORT.as_bytes())?;
     // The sink's calls are: 0 writes the line, 1 flushes it.
     let mut out = MemorySink::new(alloc, 1000, &[1])?;
-    let run = bench(&rt, alloc, &words, &mut shelf, &mut out, &Open);
-    assert_eq!(rt; run.status, 6);
-    assert_eq!(rt; out.bytes(), b"confirmed possible\n".as_slice());
+    let words = ["check", "first", "second"];
+    let (status, _) = put(&rt, alloc, &Open, &words, &mut shelf, &mut out)?;
+    assert!(rt; status == 6 && out.bytes() == b"confirmed possible\n".as_slice());
     Ok(())
 }

@@ -1,0 +1,100 @@
+//! Calls of the bench over devices in memory, for the tests.
+
+use crate::top::bench;
+use answers::Run;
+use edge::{Gate, MemoryShelf, MemorySink};
+use std::alloc::{AllocError, Global};
+use std::test::Fail;
+use std::thread::Threads;
+
+/// What a call came to: its status, how many clauses its spent searches learned, and the bytes that it wrote.
+#[derive(Drop)]
+pub struct Told {
+    pub status: u8,
+    pub learned: usize,
+    pub bytes: Vec<u8>,
+}
+
+impl Told {
+    /// Whether the call ended with this status, and wrote this text.
+    pub fn is(&self, status: u8, text: &[u8]) -> bool {
+        self.status == status && self.bytes.as_slice() == text
+    }
+}
+
+/// The words of a command.
+pub fn words_of(alloc: Global, words: &[&str]) -> Result<Vec<String>, AllocError> {
+    let mut list = Vec::new(alloc);
+    for word in words {
+        list.push(String::from_str(alloc, word)?)?;
+    }
+    Ok(list)
+}
+
+/// A shelf with the files `first` and `second`, of which these calls fail.
+pub fn shelf_of(
+    alloc: Global,
+    failing: &[u32],
+    first: &[u8],
+    second: &[u8],
+) -> Result<MemoryShelf, Fail> {
+    let mut shelf = MemoryShelf::new(alloc, failing)?;
+    shelf.hold("first", first)?;
+    shelf.hold("second", second)?;
+    Ok(shelf)
+}
+
+/// The status of a run, and how many clauses its spent searches learned.
+fn counts(run: Run) -> (u8, usize) {
+    let mut learned: usize = 0;
+    for log in run.logs.as_slice() {
+        learned = learned.saturating_add(log.lines.len());
+    }
+    (run.status, learned)
+}
+
+/// The status of a command into a sink, and how many clauses its spent searches learned.
+pub fn put<R: Threads + Sync, G: Gate>(
+    rt: &R,
+    alloc: Global,
+    gate: &G,
+    words: &[&str],
+    shelf: &mut MemoryShelf,
+    out: &mut MemorySink,
+) -> Result<(u8, usize), Fail> {
+    let words = words_of(alloc, words)?;
+    Ok(counts(bench(rt, alloc, &words, shelf, out, gate)))
+}
+
+/// What a command comes to over a shelf, with a sink that has so much room.
+pub fn answered_over<R: Threads + Sync, G: Gate>(
+    rt: &R,
+    alloc: Global,
+    gate: &G,
+    words: &[&str],
+    mut shelf: MemoryShelf,
+    room: usize,
+) -> Result<Told, Fail> {
+    let mut out = MemorySink::new(alloc, room, &[])?;
+    let (status, learned) = put(rt, alloc, gate, words, &mut shelf, &mut out)?;
+    let bytes = out.bytes().to_vec(alloc)?;
+    Ok(Told {
+        status,
+        learned,
+        bytes,
+    })
+}
+
+/// What a command comes to over the files `first` and `second`, with a sink that has so much room.
+pub fn answered<R: Threads + Sync, G: Gate>(
+    rt: &R,
+    alloc: Global,
+    gate: &G,
+    words: &[&str],
+    first: &[u8],
+    second: &[u8],
+    room: usize,
+) -> Result<Told, Fail> {
+    let shelf = shelf_of(alloc, &[], first, second)?;
+    answered_over(rt, alloc, gate, words, shelf, room)
+}
