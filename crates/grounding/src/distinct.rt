@@ -54,7 +54,7 @@ pub(crate) fn keep(
         (out.new ≡ (if is_seen before clause.now then out.old else with_clause out.old clause.now origin))) }
     ensures seen { OnOk result ((before : List Clause) → codes_seen seen.old.keys ≡ map codes_of before →
         (codes_seen seen.new.keys ≡
-            map codes_of (if is_seen before clause.now then before else before ++ clause.now ∷ []))) }
+        map codes_of (if is_seen before clause.now then before else before ++ clause.now ∷ []))) }
     ensures full { result ≡ Err PushFault.Full →
         ((before : List Clause) → codes_seen seen.old.keys ≡ map codes_of before →
         (is_seen before clause.now ≡ false) × IsFullFor out.old (length clause.now)) }

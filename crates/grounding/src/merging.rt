@@ -91,10 +91,10 @@ fn keep_parts<K: OutcomeKind>(
     requires whole { round.now.to ≤ start_of round.now.from (length parts.now) }
     ensures kept { OnOk result (Keeps (codes_seen seen.old.keys) out.old (codes_seen seen.new.keys) out.new
         (sources_of (K.size round.now.kind.now) round.now.named.now.sentence base
-            round.now.from round.now.to)) }
+        round.now.from round.now.to)) }
     ensures full { result ≡ Err PushFault.Full → Overfills (codes_seen seen.old.keys) out.old
         (sources_of (K.size round.now.kind.now) round.now.named.now.sentence base
-            round.now.from round.now.to) }
+        round.now.from round.now.to) }
 {
     let _ = round;
     let _ = base;
@@ -123,10 +123,10 @@ fn add_round<R: Threads + Sync, K: OutcomeKind, G: Gate>(
     requires short { round.now.to ≤ round.now.from + 16384 }
     ensures kept { OnOk result (Keeps (codes_seen seen.old.keys) out.old (codes_seen seen.new.keys) out.new
         (sources_of (K.size round.now.kind.now) round.now.named.now.sentence base
-            round.now.from round.now.to)) }
+        round.now.from round.now.to)) }
     ensures full { result ≡ Err PushFault.Full → Overfills (codes_seen seen.old.keys) out.old
         (sources_of (K.size round.now.kind.now) round.now.named.now.sentence base
-            round.now.from round.now.to) }
+        round.now.from round.now.to) }
 {
     let (from, to) = (round.from, round.to);
     let make = |start: u64, end: u64| -> Result<Part, NoMemory>
@@ -192,7 +192,7 @@ pub(crate) fn add_axiom<R: Threads + Sync, K: OutcomeKind, G: Gate>(
         sourced out.old.clauses out.old.origins ++ from_axiom (K.size kind.now) place (Some named.now)) }
     ensures full { result ≡ Err PushFault.Full →
         IsTrue (is_over_limits (clauses_in
-            (sourced out.old.clauses out.old.origins ++ from_axiom (K.size kind.now) place (Some named.now)))) }
+        (sourced out.old.clauses out.old.origins ++ from_axiom (K.size kind.now) place (Some named.now)))) }
 {
     let _kept = out.len();
     let count = instance_count(kind.space(), named.sentence());

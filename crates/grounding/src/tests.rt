@@ -61,7 +61,7 @@ fn same(alloc: Global, left: Box<Formula>, right: Box<Formula>) -> Result<Box<Fo
 fn anonymity(alloc: Global) -> Result<Formula, NoMemory>
     ensures { IfOk result (λ f. tree_of f ≡ All Sort.Profile (All Sort.Voter (All Sort.Voter (All Sort.Alt
         (Same (Leaf (WinsAt (Var 3) (Var 0)))
-            (Leaf (WinsAt (Var 3) (SwapVoters (Var 0) (Var 1) (Var 2))))))))) }
+        (Leaf (WinsAt (Var 3) (SwapVoters (Var 0) (Var 1) (Var 2))))))))) }
 {
     let here = wins(alloc, Term::Var(3), Term::Var(0))?;
     let swapped = Term::SwapVoters(var(alloc, 0)?, var(alloc, 1)?, var(alloc, 2)?);
@@ -87,7 +87,7 @@ fn neutrality(alloc: Global) -> Result<Formula, NoMemory>
 fn wide(alloc: Global) -> Result<Formula, NoMemory>
     ensures { IfOk result (λ f. tree_of f ≡ Exists Sort.Profile
         (Both (Leaf (WinsAt (Const 0) (Var 0)))
-            (Leaf (WinsAt (Const 1) (With (Var 0) (Const 0) (Const 2)))))) }
+        (Leaf (WinsAt (Const 1) (With (Var 0) (Const 0) (Const 2)))))) }
 {
     let here = wins(alloc, Term::Const(0), Term::Var(0))?;
     let changed = Term::With(var(alloc, 0)?, constant(alloc, 0)?, constant(alloc, 2)?);
