@@ -205,7 +205,9 @@ fn answer(alloc: Global, lines: &Derivation) -> Result<Box<Result<Adopted, Adopt
 {
     let kind = ChoiceKind::new(Space::new(two_and_two()?));
     let study = study(alloc)?;
-    let answer = adopt(alloc, &kind, &study, Ground::new(clauses(alloc)?), lines);
+    let list = clauses(alloc)?;
+    let made = Ground::new(list);
+    let answer = adopt(alloc, &kind, &study, made, lines);
     Ok(Box::new(alloc, answer)?)
 }
 
