@@ -1,0 +1,4 @@
+-- In reading order.
+pub mod Told
+pub mod Refused
+pub mod Examples
