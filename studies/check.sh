@@ -2,12 +2,13 @@
 # Holds the program against the reports beside the studies: over each study `decide` writes its report byte for byte and `check`
 # confirms it, and over studies/anonymity_neutrality.toml each report in studies/refused/ is refused with the line that
 # docs/FORMATS.md shows. Where all is so, nothing is written; else a line for each fault, and the status is 1.
-# The program is the proved build, which the launcher makes where there is none; no proof rests on this.
+# The program is the proved build that stands there, as `rt ci` leaves it; where there is none, the launcher makes it. No proof rests on this.
 set -u
 root=$(cd -- "$(dirname -- "$(readlink -f -- "${BASH_SOURCE[0]}")")/.." && pwd) || exit 1
 work=$(mktemp -d) || exit 1
 trap 'rm -rf "$work"' EXIT
-unset BENCH_QUICK
+program=$root/crates/bench/out/bench
+[ -x "$program" ] || env -u BENCH_QUICK "$root/bench" axioms choice >"$work/written" || exit 1
 faults=0
 
 fault() {
@@ -17,7 +18,7 @@ fault() {
 
 # Runs the program, and takes what it wrote and its status.
 answer() {
-    "$root/bench" "$@" >"$work/written"
+    "$program" "$@" >"$work/written"
     status=$?
 }
 
