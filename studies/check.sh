@@ -2,13 +2,15 @@
 # Holds the program against the reports beside the studies: over each study `decide` writes its report byte for byte and `check`
 # confirms it, and over studies/anonymity_neutrality.toml each report in studies/refused/ is refused with the line that
 # docs/FORMATS.md shows. Where all is so, nothing is written; else a line for each fault, and the status is 1.
-# The program is the proved build that stands there, as `rt ci` leaves it; where there is none, the launcher makes it. No proof rests on this.
+# `export` of Arrow's axioms for four alternatives is the same with 1, 2 and 16 workers.
+# The program is the one that the launcher runs, which is proved and built first where a source is newer; with --built, as after `rt ci`,
+# the one that stands there. No proof rests on this.
 set -u
 root=$(cd -- "$(dirname -- "$(readlink -f -- "${BASH_SOURCE[0]}")")/.." && pwd) || exit 1
 work=$(mktemp -d) || exit 1
 trap 'rm -rf "$work"' EXIT
 program=$root/crates/bench/out/bench
-[ -x "$program" ] || env -u BENCH_QUICK "$root/bench" axioms choice >"$work/written" || exit 1
+[ "${1-}" = --built ] || env -u BENCH_QUICK "$root/bench" axioms choice >"$work/written" || exit 1
 faults=0
 
 fault() {
@@ -44,5 +46,12 @@ while read -r file line; do
     is_line 1 "$line" || fault "check does not say of refused/$file: $line"
 done < <(sed -n 's/^| `\([a-z_]*\.report\)` | `\(refused [^`]*\)` |$/\1 \2/p' "$root/docs/FORMATS.md")
 [ "$shown" -eq "$(find "$root/studies/refused" -name '*.report' | wc -l)" ] || fault "docs/FORMATS.md does not show each report in refused/"
+
+for workers in 1 2 16; do
+    answer export "$root/studies/arrow_four.toml" --workers "$workers"
+    [ "$status" -eq 0 ] && grep -qx 'p cnf 3456 500546' "$work/written" || fault "export of arrow_four with $workers workers is another text"
+    [ "$workers" -ne 1 ] || mv "$work/written" "$work/one"
+    [ "$workers" -eq 1 ] || cmp -s "$work/one" "$work/written" || fault "export of arrow_four with $workers workers is not that with one"
+done
 
 [ "$faults" -eq 0 ]
