@@ -2,7 +2,8 @@
 # Holds the program against the reports beside the studies: over each study `decide` writes its report byte for byte and `check`
 # confirms it, and over studies/anonymity_neutrality.toml each report in studies/refused/ is refused with the line that
 # docs/FORMATS.md shows. Where all is so, nothing is written; else a line for each fault, and the status is 1.
-# `export` of Arrow's axioms for four alternatives is the same with 1, 2 and 16 workers.
+# `export` of Arrow's axioms for four alternatives is the same with 1, 2 and 16 workers, no words end with status 2, and an absent study
+# with status 5.
 # The program is the one that the launcher runs, which is proved and built first where a source is newer; with --built, as after `rt ci`,
 # the one that stands there. No proof rests on this.
 set -u
@@ -38,6 +39,11 @@ for study in "$root"/studies/*.toml; do
     answer check "$study" "$report"
     is_line 0 "confirmed $verdict" || fault "check does not confirm $name.report"
 done
+
+answer
+[ "$status" -eq 2 ] || fault "no words end with status $status"
+answer check "$work/absent" "$work/absent"
+[ "$status" -eq 5 ] || fault "an absent study ends with status $status"
 
 shown=0
 while read -r file line; do
