@@ -2,8 +2,8 @@
 # Holds the program against the reports beside the studies: over each study `decide` writes its report byte for byte and `check`
 # confirms it, and over studies/anonymity_neutrality.toml each report in studies/refused/ is refused with the line that
 # docs/FORMATS.md shows. Where all is so, nothing is written; else a line for each fault, and the status is 1.
-# `export` of Arrow's axioms for four alternatives is the same with 1, 2 and 16 workers, no words end with status 2, and an absent study
-# with status 5.
+# `export` of Arrow's axioms for four alternatives is the same with 1, 2 and 16 workers, a sample is the same line at each run, no words
+# end with status 2, and an absent study with status 5.
 # The program is the one that the launcher runs, which is proved and built first where a source is newer; with --built, as after `rt ci`,
 # the one that stands there. No proof rests on this.
 set -u
@@ -58,6 +58,13 @@ for workers in 1 2 16; do
     [ "$status" -eq 0 ] && grep -qx 'p cnf 3456 500546' "$work/written" || fault "export of arrow_four with $workers workers is another text"
     [ "$workers" -ne 1 ] || mv "$work/written" "$work/one"
     [ "$workers" -eq 1 ] || cmp -s "$work/one" "$work/written" || fault "export of arrow_four with $workers workers is not that with one"
+done
+
+for number in 0 1 32 383; do
+    answer sample "$number"
+    mv "$work/written" "$work/one"
+    answer sample "$number"
+    [ "$status" -eq 0 ] && cmp -s "$work/one" "$work/written" || fault "sample $number is not the same at each run"
 done
 
 [ "$faults" -eq 0 ]

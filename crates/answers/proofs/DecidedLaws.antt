@@ -64,11 +64,13 @@ module _ (study : Question) (logs : List SearchLog) (core : List ℕ) where
       ]
 
   impossible : (story : List Lemma) (witnesses : List Witness) → is_right study (Impossible core story witnesses) ≡ true
-      → IsBacked study logs (Impossible core story witnesses) → AreSpentLogs study logs → IsSize study.size → IsImpossible study logs core story
+      → IsBacked study logs (Impossible core story witnesses) → AreSpentLogs study logs → IsSize study.size → IsImpossible study logs core story witnesses
   impossible story witnesses right backed spent size =
       let parts = core_witnesses study core story witnesses right in
       record {
         none = no_rule study.size size study.axioms core story parts.0;
+        witnessed = (and_parts (is_story study.size study.axioms core story) (is_core_right study.size study.axioms study.conflicts core witnesses) right).1;
+        logged = backed.1;
         accepted = parts.0;
         tidy = backed.0;
         needed = needed_from core witnesses parts.1 backed.1;

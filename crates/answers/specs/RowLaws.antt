@@ -10,6 +10,7 @@ use Rattle.cnf.specs.Derived.{IsAccepted}
 use Rattle.cnf.specs.Sat.{IsUnsatisfiable, is_satisfied}
 use Rattle.meaning.specs.declared.cores.Witness.{Witness}
 use Rattle.meaning.specs.declared.stories.Lemma.{Lemma}
+use Rattle.meaning.specs.Cores.{is_core_right}
 use Rattle.meaning.specs.Stories.{is_story}
 use Rattle.meaning.specs.Tidy.{is_tidy}
 use Rattle.meaning.specs.Truth.{satisfies}
@@ -23,7 +24,7 @@ use Rattle.study.specs.Sample.{IsSampleStudy}
 use Rattle.clause_text.specs.Lrat.{lrat_text}
 use Rattle.clause_text.specs.ReadDimacs.{Formula}
 use Rattle.search_logs.specs.declared.logs.SearchLog.{SearchLog}
-use Rattle.search_logs.specs.Spent.{has_place, all_places, IsWithout, AreSpentLogs}
+use Rattle.search_logs.specs.Spent.{has_place, all_places, IsWithout, HaveEvidence, AreSpentLogs}
 use Rattle.answers.specs.declared.runs.Run.{Run}
 use Rattle.answers.specs.Runs.{IsBare}
 use Rattle.answers.specs.Held.{most_report_bytes, most_proof_bytes, Holds}
@@ -64,11 +65,14 @@ pub data IsNeeded (study : Question) (logs : List SearchLog) (core : List ℕ) (
   by_mark : Any (IsWithout study core k) logs → IsNeeded study logs core k
 
 -- what is printed of an impossibility holds: no rule satisfies the axioms of the core; the story is accepted
--- and tidy; each axiom of the core is needed or marked; and the searches that stand for the marks spent their
--- limit
-pub record IsImpossible (study : Question) (logs : List SearchLog) (core : List ℕ)
-    (story : List Lemma) : Type 0 where
+-- and tidy; the core is of axioms in the order of the study, each with its witness, a rule that satisfies the
+-- others or an open mark with the limit and its log; so each axiom of the core is needed or marked; and the
+-- searches that stand for the marks spent their limit
+pub record IsImpossible (study : Question) (logs : List SearchLog) (core : List ℕ) (story : List Lemma)
+    (witnesses : List Witness) : Type 0 where
   pub none : HasNoRule study core
+  pub witnessed : IsTrue (is_core_right study.size study.axioms study.conflicts core witnesses)
+  pub logged : HaveEvidence study logs core core witnesses
   pub accepted : IsTrue (is_story study.size study.axioms core story)
   pub tidy : IsTrue (is_tidy study.size study.axioms core story)
   pub needed : (k : ℕ) → IsTrue (has_place core k) → IsNeeded study logs core k
@@ -81,7 +85,7 @@ pub data IsPrinted (study : Question) (run : Run) (text : List ℕ) : Type 0 whe
   an_impossibility : (core : List ℕ) (story : List Lemma) (witnesses : List Witness)
       → run.verdict ≡ Some (Impossible core story witnesses)
       → text ≡ report_text study (Impossible core story witnesses)
-      → IsImpossible study run.logs core story → IsPrinted study run text
+      → IsImpossible study run.logs core story witnesses → IsPrinted study run text
 
 -- whatever study is read, what `decide` prints with status 0 holds
 abbrev pub DecidedHolds : Type 0
