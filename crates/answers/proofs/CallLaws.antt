@@ -9,7 +9,7 @@ use Rattle.vocab.specs.Study.{Question}
 use Rattle.verdicts.specs.Report.{IsConfirmed}
 use Rattle.clause_text.specs.ReadDimacs.{Formula}
 use Rattle.study.specs.Sample.{IsSampleStudy}
-use Rattle.words.specs.Words.{Request, Decide, Check, Export, Proof, Lrat, Axioms, Sample, request_of}
+use Rattle.words.specs.Words.{Request, Decide, Check, Export, Proof, Lrat, Axioms, Sample, Adopt, request_of}
 use Rattle.answers.specs.declared.runs.Run.{Run}
 use Rattle.answers.specs.Held.{most_report_bytes}
 use Rattle.verdicts.specs.declared.verdicts.Verdict.{Verdict}
@@ -18,7 +18,8 @@ use Rattle.answers.specs.Studies.{GivesStudy, OverStudy}
 use Rattle.answers.specs.Grounding.{fault_of, OverClauses, clauses_refused, clauses_made}
 use Rattle.answers.specs.Evidence.{Decides, by_verdict, by_limit}
 use Rattle.answers.specs.Decide.{IsReported}
-use Rattle.answers.specs.Export.{IsWritten}
+use Rattle.answers.specs.Adopt.{Adopts, proof_refused, proof_retold}
+use Rattle.answers.specs.Export.{exported_formula, IsWritten}
 use Rattle.answers.specs.Proof.{Proves, refuted, possible, undecided}
 use Rattle.answers.specs.Lrat.{GivesFormula, IsConfirmedBy, formula_refused, proof_judged, said_of}
 use Rattle.answers.specs.Sample.{IsSampled}
@@ -49,6 +50,7 @@ few_statuses (Some (Proof study workers)) = refl
 few_statuses (Some (Lrat cnf proof)) = refl
 few_statuses (Some (Axioms kind)) = refl
 few_statuses (Some (Sample number)) = refl
+few_statuses (Some (Adopt study proof workers)) = refl
 
 no_read_cause : (request : Option Request) (d : Devices) (names : List (List ℕ)) → AreQuiet d names → HasReadCause request d.told d.left_before d.left_now d.faults_before d.faults_now names → ⊥
 no_read_cause request d names quiet (at_first name others is rose stay) = (subst (λ (xs : List (List ℕ)). AreQuiet d xs) is quiet).0 rose
@@ -56,12 +58,12 @@ no_read_cause request d names quiet (at_second name second is rose taken) = (sub
 
 -- ---- what a row says where nothing is refused
 
-given_clauses : (study : Question) (run : Run) (text : List ℕ) (P : Type 0) → fault_of study ≡ None → OverClauses study run text P → P
+pub given_clauses : (study : Question) (run : Run) (text : List ℕ) (P : Type 0) → fault_of study ≡ None → OverClauses study run text P → P
 given_clauses study run text P none (clauses_refused fault e t bare) = let no : None ≡ Some fault = sym none ∙ e in absurd (cc)
 given_clauses study run text P none (clauses_made e p) = p
 
 -- the rest of a command over the clauses of a study
-rest_of : (files : Files) (name : List ℕ) (run : Run) (text : List ℕ) (P : Question → Type 0) (study : Question) → GivesStudy files name study → fault_of study ≡ None
+pub rest_of : (files : Files) (name : List ℕ) (run : Run) (text : List ℕ) (P : Question → Type 0) (study : Question) → GivesStudy files name study → fault_of study ≡ None
     → OverStudy files name run text (λ s. OverClauses s run text (P s)) → P study
 rest_of files name run text P study g none row =
     given_clauses study run text (P study) none (over_study files name run text (λ s. OverClauses s run text (P s)) study g row)
@@ -82,6 +84,14 @@ by_judged files name proof run text formula bytes g held zero_is (proof_judged f
     let formulas : f ≡ formula = one_formula files name f formula g' g in
     let same : bytes' ≡ bytes = some_same (files proof) bytes' bytes held' held in
     b.ends ∙ ap (λ s. s.status) (ap₂ said_of formulas same) ∙ zero_is
+
+by_adopted : (files : Files) (proof : List ℕ) (run : Run) (text : List ℕ) (study : Question) (bytes : List ℕ) → files proof ≡ Some bytes
+    → (said_of (exported_formula study) bytes).status ≡ 0 → Adopts files proof study run text → run.status ≡ 0
+by_adopted files proof run text study bytes held zero_is (proof_refused bytes' held' one is bare) =
+    let same : bytes' ≡ bytes = some_same (files proof) bytes' bytes held' held in
+    let no : 1 ≡ 0 = sym one ∙ ap (λ (b : List ℕ). (said_of (exported_formula study) b).status) same ∙ zero_is in
+    absurd (omega (arith, no))
+by_adopted files proof run text study bytes held zero_is (proof_retold bytes' lines held' refutes retold) = retold.found.ends
 
 by_summed : (n : ℕ) (study : Question) (run : Run) (text : List ℕ) → IsSampleStudy n study → fault_of study ≡ None → IsSampled n run text → IsDecidedOrWanting run
 by_summed n study run text sample none row =
@@ -139,6 +149,13 @@ module _ (words : List (List ℕ)) (d : Devices) (run : Run) (call : IsCall word
     | inr seven ↦ inr seven
   ]
 
+  adopt_settled : (files : Files) (name proof bytes : List ℕ) (workers : ℕ) (study : Question) → d.told ≡ Some files → request_of words ≡ Some (Adopt name proof workers)
+      → GivesStudy files name study → fault_of study ≡ None → files proof ≡ Some bytes → (said_of (exported_formula study) bytes).status ≡ 0 → (run.status ≡ 0) ⊎ (run.status ≡ 7)
+  adopt_settled files name proof bytes workers study told asked g none held zero_is = elim (settled_row (Some (Adopt name proof workers)) files asked told) [
+    | inl a ↦ inl (by_adopted files proof run a.0 study bytes held zero_is (rest_of files name run a.0 (λ s. Adopts files proof s run a.0) study g none a.1))
+    | inr seven ↦ inr seven
+  ]
+
   check_settled : (files : Files) (name report bytes : List ℕ) (workers : ℕ) (study : Question) → d.told ≡ Some files → request_of words ≡ Some (Check name report workers)
       → GivesStudy files name study → files report ≡ Some bytes → IsConfirmed study bytes → length bytes ≤ most_report_bytes → (run.status ≡ 0) ⊎ (run.status ≡ 7)
   check_settled files name report bytes workers study told asked g held c fits = elim (settled files (are_told told)) [
@@ -176,6 +193,7 @@ calls_complete words d run call calm = record {
   lrat = lrat_settled words d run call calm;
   sample = sample_settled words d run call calm;
   check = check_settled words d run call calm;
+  adopt = adopt_settled words d run call calm;
   axioms = axioms_settled words d run call calm;
   usage = usage_settled words d run call calm;
 }

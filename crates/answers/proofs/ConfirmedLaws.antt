@@ -16,7 +16,7 @@ use Rattle.answers.specs.Runs.{IsBare}
 use Rattle.answers.specs.Held.{most_proof_bytes, Holds}
 use Rattle.answers.specs.Studies.{GivesStudy}
 use Rattle.answers.specs.Grounding.{all_clauses, fault_of, OverClauses, clauses_refused, clauses_made}
-use Rattle.answers.specs.Export.{export_text, IsWritten, IsExported}
+use Rattle.answers.specs.Export.{export_text, exported_formula, IsWritten, IsExported}
 use Rattle.answers.specs.Proof.{Refutes, Proves, refuted, possible, undecided, IsProved}
 use Rattle.answers.specs.Lrat.{GivesFormula, Said, refused, said_of, of_reading, of_derivation, IsConfirmedBy, proof_judged}
 use Rattle.answers.specs.Lawful.{IsAnswer}
@@ -34,7 +34,7 @@ use Rattle.answers.proofs.CallLaws.{settled_row}
 -- ---- what the rows say with status 0
 
 -- the clauses of a run that does not end with status 3 are not refused
-not_faulty : (study : Question) (run : Run) (text : List ℕ) (P : Type 0) → run.status ≡ 0 → OverClauses study run text P → fault_of study ≡ None
+pub not_faulty : (study : Question) (run : Run) (text : List ℕ) (P : Type 0) → run.status ≡ 0 → OverClauses study run text P → fault_of study ≡ None
 not_faulty study run text P zero_is (clauses_refused fault e t bare) = absurd (not_three run zero_is bare)
 not_faulty study run text P zero_is (clauses_made none p) = none
 
@@ -50,42 +50,43 @@ module _ (files : Files) (name : List ℕ) (study : Question) (run : Run) (text 
   by_shown other (possible table found is) = absurd (other is)
   by_shown other (undecided u is) = let four : 0 ≡ 4 = sym zero_is ∙ u.ends in absurd (omega (arith, four))
 
-  refuting : text ≢ codes "c possible\n" → IsProved files name run text → (lines : List Line) × Refutes study lines × (text ≡ lrat_text lines)
+  pub refuting : text ≢ codes "c possible\n" → IsProved files name run text → (lines : List Line) × Refutes study lines × (text ≡ lrat_text lines)
   refuting other row = by_shown other (granted files name run text (λ s. Proves s run text) study g zero_is row)
 
 -- ---- what is said of such a proof
 
-abbrev formula_of : Question → Formula
-formula_of study = record { variables = variable_count study.size; clauses = all_clauses study }
-
 -- a text that gives an accepted derivation is confirmed
-said_accepted : (formula : Formula) (text : List ℕ) → length text ≤ most_proof_bytes → GivesAccepted formula.variables formula.clauses text → said_of formula text ≡ of_derivation None
+pub said_accepted : (formula : Formula) (text : List ℕ) → length text ≤ most_proof_bytes → GivesAccepted formula.variables formula.clauses text → said_of formula text ≡ of_derivation None
 said_accepted formula text fits given =
     ap (λ (b : Bool). cond b (refused (codes "proof: too long\n")) (of_reading formula (read_lrat formula.variables text))) (le-ltb most_proof_bytes (length text) fits)
     ∙ ap (λ (r : Result (List Line) LratFault). of_reading formula r) given.read
     ∙ ap (λ (o : Option (ℕ × LineFault)). of_derivation o) given.accepted
 
+-- so is a refutation that `proof` writes
+pub said_of_written : (study : Question) (refutation : List ℕ) (lines : List Line) → IsReadAgain study → Refutes study lines → refutation ≡ lrat_text lines → length refutation ≤ most_proof_bytes
+    → said_of (exported_formula study) refutation ≡ of_derivation None
+said_of_written study refutation lines again refutes proved fits =
+    let short : length (lrat_text lines) ≤ most_proof_bytes = subst (λ (t : List ℕ). length t ≤ most_proof_bytes) proved fits in
+    let accepted : GivesAccepted (variable_count study.size) (all_clauses study) refutation =
+    subst (λ (t : List ℕ). GivesAccepted (variable_count study.size) (all_clauses study) t) (sym proved)
+    (written_accepted (variable_count study.size) (all_clauses study) lines again.few.short short refutes.trimmed refutes.over) in
+    said_accepted (exported_formula study) refutation fits accepted
+
 module _ (study : Question) (files : Files) (cnf proof clauses refutation : List ℕ) (again : IsReadAgain study) (lines : List Line) (refutes : Refutes study lines)
     (exported : clauses ≡ export_text study) (proved : refutation ≡ lrat_text lines) (held : files cnf ≡ Some clauses) (holds : Holds files most_proof_bytes proof refutation) where
-  formula_given : GivesFormula files cnf (formula_of study)
+  formula_given : GivesFormula files cnf (exported_formula study)
   formula_given = record {
     bytes = export_text study;
     holds = record { held = held ∙ ap (λ (t : List ℕ). Some t) exported; fits = again.fits };
     read = again.read;
   }
 
-  proof_accepted : GivesAccepted (variable_count study.size) (all_clauses study) refutation
-  proof_accepted =
-      let fits : length (lrat_text lines) ≤ most_proof_bytes = subst (λ (t : List ℕ). length t ≤ most_proof_bytes) proved holds.fits in
-      subst (λ (t : List ℕ). GivesAccepted (variable_count study.size) (all_clauses study) t) (sym proved)
-      (written_accepted (variable_count study.size) (all_clauses study) lines again.few.short fits refutes.trimmed refutes.over)
-
-  confirmed_said : said_of (formula_of study) refutation ≡ of_derivation None
-  confirmed_said = said_accepted (formula_of study) refutation holds.fits proof_accepted
+  confirmed_said : said_of (exported_formula study) refutation ≡ of_derivation None
+  confirmed_said = said_of_written study refutation lines again refutes proved holds.fits
 
   row_there : (run : Run) (text : List ℕ) → IsBare run 0 → text ≡ codes "confirmed\n" → IsConfirmedBy files cnf proof run text
   row_there run text bare is =
-      proof_judged (formula_of study) refutation formula_given holds.held
+      proof_judged (exported_formula study) refutation formula_given holds.held
       (subst (λ (s : Said). IsBare run s.status) (sym confirmed_said) bare) (is ∙ ap (λ (s : Said). s.text) (sym confirmed_said))
 
   abbrev confirming_run : Run
@@ -116,7 +117,7 @@ all_written d text written empty taken appended =
     sym all
 
 -- the row of such a call
-row_written : (request : List ℕ → ℕ → Request) (study : Question) (text : List ℕ) (w : Wrote request study text) → IsAnswer (Some (request w.name w.workers)) w.files w.run text
+pub row_written : (request : List ℕ → ℕ → Request) (study : Question) (text : List ℕ) (w : Wrote request study text) → IsAnswer (Some (request w.name w.workers)) w.files w.run text
 row_written request study text w =
     let done = w.done in
     let a = written_at w.words w.d w.run w.call (Some (request w.name w.workers)) w.asked w.files (are_told w.told) (omega (arith, done)) in

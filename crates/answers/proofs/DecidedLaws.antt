@@ -63,7 +63,7 @@ module _ (study : Question) (logs : List SearchLog) (core : List ℕ) where
         | inr later ↦ needed_from rest witnesses p.1 marks.1 k later
       ]
 
-  impossible : (story : List Lemma) (witnesses : List Witness) → is_right study (Impossible core story witnesses) ≡ true
+  pub impossible : (story : List Lemma) (witnesses : List Witness) → is_right study (Impossible core story witnesses) ≡ true
       → IsBacked study logs (Impossible core story witnesses) → AreSpentLogs study logs → IsSize study.size → IsImpossible study logs core story witnesses
   impossible story witnesses right backed spent size =
       let parts = core_witnesses study core story witnesses right in
@@ -143,7 +143,7 @@ found_given study run verdict none f core story witnesses told =
     let backed : IsBacked study run.logs (Impossible core story witnesses) = subst (λ (v : Verdict). IsBacked study run.logs v) same f.backed in
     all_given study run.logs core core witnesses none (core_witnesses study core story witnesses right).1 backed.1
 
-conclusive : (study : Question) (run : Run) (verdict : Verdict) → 3 ^ variable_count study.size ≤ study.conflicts → Decides study run verdict → IsConclusive run
+pub conclusive : (study : Question) (run : Run) (verdict : Verdict) → 3 ^ variable_count study.size ≤ study.conflicts → Decides study run verdict → IsConclusive run
 conclusive study run verdict enough (by_verdict f) =
     let none = no_logs study run.logs enough f.logs in
     record {
@@ -153,7 +153,7 @@ conclusive study run verdict enough (by_verdict f) =
     }
 conclusive study run verdict enough (by_limit u v) = absurd (none_among run.logs (IsOfAll study) (no_logs study run.logs enough u.logs) u.spent)
 
-bare_conclusive : (run : Run) (status : ℕ) → status ≢ 4 → IsBare run status → IsConclusive run
+pub bare_conclusive : (run : Run) (status : ℕ) → status ≢ 4 → IsBare run status → IsConclusive run
 bare_conclusive run status other bare = record {
   decided = λ four. other (sym bare.ends ∙ four);
   no_log = bare.no_logs;

@@ -9,15 +9,18 @@ use Rattle.edge.specs.Shelf.{Files, OthersStay}
 use Rattle.edge.specs.Told.{AppendsPrefix}
 use Rattle.vocab.specs.declared.kinds.Kind.{Kind}
 use Rattle.vocab.specs.Study.{Question}
+use Rattle.clause_text.specs.ReadDimacs.{Formula}
 use Rattle.verdicts.specs.declared.verdicts.Verdict.{Verdict}
 use Rattle.verdicts.specs.Judge.{Answer, Confirmed}
 use Rattle.verdicts.specs.Report.{IsReport}
 use Rattle.verdicts.specs.Words.{answer_text}
-use Rattle.words.specs.Words.{Request, Decide, Check, Export, Proof, Lrat, Axioms, Sample, request_of}
+use Rattle.words.specs.Words.{Request, Decide, Check, Export, Proof, Lrat, Axioms, Sample, Adopt, request_of}
 use Rattle.answers.specs.declared.runs.Run.{Run}
 use Rattle.answers.specs.Runs.{with_status}
 use Rattle.answers.specs.Held.{most_report_bytes}
 use Rattle.answers.specs.Studies.{GivesStudy, RefusesStudy, OverStudy, study_refused, study_given}
+use Rattle.answers.specs.Grounding.{fault_of, OverClauses, clauses_refused, clauses_made}
+use Rattle.answers.specs.Lrat.{GivesFormula, IsConfirmedBy, formula_refused, proof_judged}
 use Rattle.answers.specs.Usage.{usage_line}
 use Rattle.answers.specs.Check.{IsJudged, judgement, status_of}
 use Rattle.answers.specs.Axioms.{library_text}
@@ -70,6 +73,7 @@ no_command (Some (Proof study workers)) e = absurd (true≢false (sym e))
 no_command (Some (Lrat cnf proof)) e = absurd (true≢false (sym e))
 no_command (Some (Axioms kind)) e = absurd (true≢false (sym e))
 no_command (Some (Sample number)) e = absurd (true≢false (sym e))
+no_command (Some (Adopt study proof workers)) e = absurd (true≢false (sym e))
 
 pub usage_exact : UsageIsExact
 usage_exact words d run call = record {
@@ -189,42 +193,70 @@ at_three words d run call three first others named other ne =
     (subst (λ (n : ℕ). list_any (bytes_eq other) (touched_at n (files_of (request_of words))) ≡ false) (sym three)
     (subst (λ (names : List (List ℕ)). list_any (bytes_eq other) (touched_at 3 names) ≡ false) (sym named) (other_name other first _ refl ne)))
 
-module _ (words : List (List ℕ)) (d : Devices) (run : Run) (files : Files) (name report text : List ℕ) (workers : ℕ) (call : IsCall words d run) (told : d.told ≡ Some files)
-    (asked : request_of words ≡ Some (Check name report workers)) (refuses : RefusesStudy files name text) where
+-- a command over two files ends with status 3 where the first is not taken
+over_untaken : (files : Files) (name first : List ℕ) (run : Run) (text : List ℕ) (P : Question → Type 0) → name ≡ first
+    → ((study : Question) → GivesStudy files first study → P study → run.status ≡ 3) → OverStudy files name run text P → run.status ≡ 3
+over_untaken files name first run text P same given (study_refused r bare) = bare.ends
+over_untaken files name first run text P same given (study_given study g p) = given study (subst (λ (n : List ℕ). GivesStudy files n study) same g) p
+
+adopted_untaken : (study : Question) (run : Run) (text : List ℕ) (P : Type 0) → (fault_of study ≡ None → ⊥) → OverClauses study run text P → run.status ≡ 3
+adopted_untaken study run text P faulty (clauses_refused fault e t bare) = bare.ends
+adopted_untaken study run text P faulty (clauses_made none p) = absurd (faulty none)
+
+confirmed_untaken : (files : Files) (name proof first : List ℕ) (run : Run) (text : List ℕ) → name ≡ first → (((formula : Formula) × GivesFormula files first formula) → ⊥)
+    → IsConfirmedBy files name proof run text → run.status ≡ 3
+confirmed_untaken files name proof first run text same untaken (formula_refused r bare) = bare.ends
+confirmed_untaken files name proof first run text same untaken (proof_judged formula bytes g held bare is) =
+    absurd (untaken (formula, subst (λ (n : List ℕ). GivesFormula files n formula) same g))
+
+three_untaken : (request : Option Request) (files : Files) (first second : List ℕ) (run : Run) (text : List ℕ) → files_of request ≡ first ∷ second ∷ []
+    → (IsFirstTaken request files first → ⊥) → IsAnswer request files run text → run.status ≡ 3
+three_untaken None files first second run text two untaken row = absurd (cc)
+three_untaken (Some (Decide study workers)) files first second run text two untaken row = absurd (cc)
+three_untaken (Some (Check study report workers)) files first second run text two untaken row =
+    over_untaken files study first run text _ (first_same study first _ _ two) (λ s g p. absurd (untaken (s, g))) row
+three_untaken (Some (Export study workers)) files first second run text two untaken row = absurd (cc)
+three_untaken (Some (Proof study workers)) files first second run text two untaken row = absurd (cc)
+three_untaken (Some (Lrat cnf proof)) files first second run text two untaken row =
+    confirmed_untaken files cnf proof first run text (first_same cnf first _ _ two) untaken row
+three_untaken (Some (Axioms kind)) files first second run text two untaken row = absurd (cc)
+three_untaken (Some (Sample number)) files first second run text two untaken row = absurd (cc)
+three_untaken (Some (Adopt study proof workers)) files first second run text two untaken row =
+    over_untaken files study first run text _ (first_same study first _ _ two) (λ s g p. adopted_untaken s run text _ (λ none. untaken (s, g, none)) p) row
+
+module _ (words : List (List ℕ)) (d : Devices) (run : Run) (files : Files) (first second : List ℕ) (call : IsCall words d run) (told : d.told ≡ Some files)
+    (two : files_of (request_of words) ≡ first ∷ second ∷ []) (untaken : IsFirstTaken (request_of words) files first → ⊥) where
   -- a file that is not touched at status 3
-  kept_at : (status : ℕ) → status ≡ 3 → AreUntouched status (files_of (request_of words)) d.left_before d.left_now → OthersStay d.left_before d.left_now name
+  kept_at : (status : ℕ) → status ≡ 3 → AreUntouched status (files_of (request_of words)) d.left_before d.left_now → OthersStay d.left_before d.left_now first
   kept_at status three untouched other ne =
-      let is : files_of (request_of words) ≡ name ∷ report ∷ [] = ap files_of asked in
-      let kept : AreUntouched 3 (name ∷ report ∷ []) d.left_before d.left_now =
-      subst (λ (names : List (List ℕ)). AreUntouched 3 names d.left_before d.left_now) is (subst (λ (s : ℕ). AreUntouched s (files_of (request_of words)) d.left_before d.left_now) three untouched) in
-      kept other (other_name other name _ refl ne)
+      let kept : AreUntouched 3 (first ∷ second ∷ []) d.left_before d.left_now =
+      subst (λ (names : List (List ℕ)). AreUntouched 3 names d.left_before d.left_now) two (subst (λ (s : ℕ). AreUntouched s (files_of (request_of words)) d.left_before d.left_now) three untouched) in
+      kept other (other_name other first _ refl ne)
 
-  below_five : run.status ≤ 4 → OthersStay d.left_before d.left_now name
+  below_five : run.status ≤ 4 → OthersStay d.left_before d.left_now first
   below_five low =
-      let a = written_at words d run call (Some (Check name report workers)) asked files (are_told told) low in
-      kept_at run.status (refused_row files name run a.0 text _ refuses a.1).0 call.untouched
+      let a = call.lawful files (are_told told) low in
+      kept_at run.status (three_untaken (request_of words) files first second run a.text two untaken a.lawful) call.untouched
 
-  at_six : run.status ≡ 6 → OthersStay d.left_before d.left_now name
+  at_six : run.status ≡ 6 → OthersStay d.left_before d.left_now first
   at_six six =
-      let a = call.cut_short files (subst (λ (r : Option Request). AreFiles d.told (files_of r) files) (sym asked) (are_told told)) six in
-      let row = row_of words files (with_status a.status run) a.text (Some (Check name report workers)) asked a.lawful in
-      kept_at a.status (refused_row files name (with_status a.status run) a.text text _ refuses row).0 a.untouched
+      let a = call.cut_short files (are_told told) six in
+      kept_at a.status (three_untaken (request_of words) files first second (with_status a.status run) a.text two untaken a.lawful) a.untouched
 
-  -- the cause of a fault is not at the second file, since the first is refused
-  by_cause : (names : List (List ℕ)) → names ≡ name ∷ report ∷ [] → HasReadCause (request_of words) d.told d.left_before d.left_now d.faults_before d.faults_now names
-      → OthersStay d.left_before d.left_now name
-  by_cause names is (at_first first others named rose stay) = subst (λ (n : List ℕ). OthersStay d.left_before d.left_now n) (first_same first name others (report ∷ []) (sym named ∙ is)) stay
-  by_cause names is (at_second first second named rose taken) =
-      let same : first ≡ name = first_same first name (second ∷ []) (report ∷ []) (sym named ∙ is) in
-      let of_request : IsFirstTaken (request_of words) files first = subst (λ (o : Option Files). IfSome o (λ f. IsFirstTaken (request_of words) f first)) told taken in
-      let given : (study : Question) × GivesStudy files first study = subst (λ (r : Option Request). IsFirstTaken r files first) asked of_request in
-      absurd (not_refused files name given.0 text (subst (λ (n : List ℕ). GivesStudy files n given.0) same given.1) refuses)
+  -- the cause of a fault is not at the second file, since the first is not taken
+  by_cause : (names : List (List ℕ)) → names ≡ first ∷ second ∷ [] → HasReadCause (request_of words) d.told d.left_before d.left_now d.faults_before d.faults_now names
+      → OthersStay d.left_before d.left_now first
+  by_cause names is (at_first name others named rose stay) = subst (λ (n : List ℕ). OthersStay d.left_before d.left_now n) (first_same name first others (second ∷ []) (sym named ∙ is)) stay
+  by_cause names is (at_second name other named rose taken) =
+      let same : name ≡ first = first_same name first (other ∷ []) (second ∷ []) (sym named ∙ is) in
+      let of_request : IsFirstTaken (request_of words) files name = subst (λ (o : Option Files). IfSome o (λ f. IsFirstTaken (request_of words) f name)) told taken in
+      absurd (untaken (subst (λ (n : List ℕ). IsFirstTaken (request_of words) files n) same of_request))
 
-  kept : run.status ≤ 6 → OthersStay d.left_before d.left_now name
+  kept : run.status ≤ 6 → OthersStay d.left_before d.left_now first
   kept few = elim (cases_lt run.status 5) [
     | inl low ↦ below_five (omega (arith, low))
     | inr high ↦ elim (cases_lt run.status 6) [
-      | inl five ↦ by_cause (files_of (request_of words)) (ap files_of asked) (call.read_fault (omega (arith, five, high)))
+      | inl five ↦ by_cause (files_of (request_of words)) two (call.read_fault (omega (arith, five, high)))
       | inr more ↦ at_six (omega (arith, few, more))
     ]
   ]
@@ -232,7 +264,7 @@ module _ (words : List (List ℕ)) (d : Devices) (run : Run) (files : Files) (na
 pub left_unopened : RefusedLeavesUnopened
 left_unopened words d run call = record {
   at_three = at_three words d run call;
-  at_check = λ files name report text workers told asked refuses few. kept words d run files name report text workers call told asked refuses few;
+  at_pair = λ files first second told two untaken few. kept words d run files first second call told two untaken few;
 }
 
 none_of_none : (name : List ℕ) (b : Bool) → list_any (bytes_eq name) (cond b (take 1 []) []) ≡ false

@@ -11,3 +11,4 @@ mod LimitLemmas
 mod RangeLemmas
 mod ExportLemmas
 mod ConfirmedLaws
+mod AdoptLaws

@@ -4,7 +4,7 @@ use Rattle.edge.specs.Shelf.{Files}
 use Rattle.vocab.specs.Study.{Question}
 use Rattle.clause_text.specs.ReadDimacs.{Formula, read_dimacs}
 use Rattle.verdicts.specs.Words.{answer_text}
-use Rattle.words.specs.Words.{Request, Decide, Check, Export, Proof, Lrat, Axioms, Sample, request_of}
+use Rattle.words.specs.Words.{Request, Decide, Check, Export, Proof, Lrat, Axioms, Sample, Adopt, request_of}
 use Rattle.answers.specs.declared.runs.Run.{Run}
 use Rattle.answers.specs.Runs.{IsBare}
 use Rattle.answers.specs.Held.{Holds, HoldsTooMany, most_study_bytes, most_cnf_bytes}
@@ -111,6 +111,7 @@ module _ (files : Files) (run run' : Run) (text text' : List ℕ) where
   one_row (Some (Lrat cnf proof)) settled a a' = one_lrat cnf proof a a'
   one_row (Some (Axioms kind)) settled a a' = (one_run run run' 0 0 a.0 a'.0 refl, a.1 ∙ sym a'.1)
   one_row (Some (Sample number)) settled a a' = absurd settled
+  one_row (Some (Adopt study proof workers)) settled a a' = absurd settled
 
 pub one_answer : AnswersAreOne
 one_answer words files run run' text text' settled a a' = one_row files run run' text text' (request_of words) settled a a'

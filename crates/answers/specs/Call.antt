@@ -9,10 +9,11 @@ use Rattle.edge.specs.Faults.{Rose}
 use Rattle.edge.specs.Told.{AppendsPrefix}
 use Rattle.vocab.specs.Study.{Question}
 use Rattle.clause_text.specs.ReadDimacs.{Formula}
-use Rattle.words.specs.Words.{Request, Decide, Check, Export, Proof, Lrat, Axioms, Sample, request_of}
+use Rattle.words.specs.Words.{Request, Decide, Check, Export, Proof, Lrat, Axioms, Sample, Adopt, request_of}
 use Rattle.answers.specs.declared.runs.Run.{Run}
 use Rattle.answers.specs.Runs.{with_status}
 use Rattle.answers.specs.Studies.{GivesStudy}
+use Rattle.answers.specs.Grounding.{fault_of}
 use Rattle.answers.specs.Lrat.{GivesFormula}
 use Rattle.answers.specs.Lawful.{Lawful}
 use Rattle.answers.specs.Devices.{Devices}
@@ -29,6 +30,7 @@ files_of (Some (Proof study workers)) = study ∷ []
 files_of (Some (Lrat cnf proof)) = cnf ∷ proof ∷ []
 files_of (Some (Axioms kind)) = []
 files_of (Some (Sample number)) = []
+files_of (Some (Adopt study proof workers)) = study ∷ proof ∷ []
 
 -- the statuses of a command
 abbrev pub statuses_of : Option Request → List ℕ
@@ -40,6 +42,7 @@ statuses_of (Some (Proof study workers)) = 0 ∷ 3 ∷ 4 ∷ 5 ∷ 6 ∷ 7 ∷ [
 statuses_of (Some (Lrat cnf proof)) = 0 ∷ 1 ∷ 3 ∷ 5 ∷ 6 ∷ 7 ∷ []
 statuses_of (Some (Axioms kind)) = 0 ∷ 6 ∷ 7 ∷ []
 statuses_of (Some (Sample number)) = 0 ∷ 3 ∷ 4 ∷ 6 ∷ 7 ∷ []
+statuses_of (Some (Adopt study proof workers)) = 0 ∷ 1 ∷ 3 ∷ 5 ∷ 6 ∷ 7 ∷ []
 
 -- the files that a command may touch, by its status: at 3 its first file alone
 abbrev pub touched_at : ℕ → List (List ℕ) → List (List ℕ)
@@ -50,9 +53,11 @@ abbrev pub AreUntouched : ℕ → List (List ℕ) → (before now : Files) → T
 AreUntouched status names before now =
     (name : List ℕ) → IsFalse (list_any (bytes_eq name) (touched_at status names)) → now name ≡ before name
 
--- the first of two files is not refused
+-- the first of two files is not refused, nor are the clauses that `adopt` makes of it
 abbrev pub IsFirstTaken : Option Request → Files → List ℕ → Type 0
 IsFirstTaken (Some (Lrat cnf proof)) files name = (formula : Formula) × GivesFormula files name formula
+IsFirstTaken (Some (Adopt study proof workers)) files name =
+    (study : Question) × GivesStudy files name study × (fault_of study ≡ None)
 IsFirstTaken request files name = (study : Question) × GivesStudy files name study
 
 -- ---- the promises

@@ -4,6 +4,7 @@ use Rattle.edge.specs.Shelf.{Files}
 use Rattle.vocab.specs.Study.{Question}
 use Rattle.meaning.specs.Variables.{variable_count}
 use Rattle.clause_text.specs.Dimacs.{size_text, dimacs_text}
+use Rattle.clause_text.specs.ReadDimacs.{Formula}
 use Rattle.answers.specs.declared.runs.Run.{Run}
 use Rattle.answers.specs.Runs.{IsBare}
 use Rattle.answers.specs.Studies.{OverStudy}
@@ -12,6 +13,10 @@ use Rattle.answers.specs.Grounding.{all_clauses, OverClauses}
 -- the text of the clauses of all axioms
 abbrev pub export_text : Question → List ℕ
 export_text study = dimacs_text (size_text study.size) (variable_count study.size) (all_clauses study)
+
+-- what that text gives where it is read
+abbrev pub exported_formula : Question → Formula
+exported_formula study = record { variables = variable_count study.size; clauses = all_clauses study }
 
 -- the text is that of the clauses
 abbrev pub IsWritten : Question → Run → List ℕ → Type 0

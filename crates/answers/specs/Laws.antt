@@ -11,13 +11,14 @@ use Rattle.verdicts.specs.declared.verdicts.Verdict.{Verdict}
 use Rattle.verdicts.specs.Judge.{Confirmed}
 use Rattle.verdicts.specs.Report.{IsReport, IsConfirmed}
 use Rattle.verdicts.specs.Words.{answer_text}
-use Rattle.words.specs.Words.{Request, Decide, Check, Export, Proof, Lrat, Axioms, Sample, request_of}
+use Rattle.words.specs.Words.{Request, Decide, Check, Export, Proof, Lrat, Axioms, Sample, Adopt, request_of}
 use Rattle.answers.specs.declared.runs.Run.{Run}
 use Rattle.answers.specs.Held.{most_report_bytes, most_proof_bytes, Holds}
 use Rattle.clause_text.specs.ReadDimacs.{Formula}
 use Rattle.study.specs.Sample.{IsSampleStudy}
 use Rattle.answers.specs.Studies.{GivesStudy, RefusesStudy}
 use Rattle.answers.specs.Grounding.{fault_of}
+use Rattle.answers.specs.Export.{exported_formula}
 use Rattle.answers.specs.Lrat.{GivesFormula, said_of}
 use Rattle.answers.specs.Rules.{Claims}
 use Rattle.answers.specs.Usage.{usage_line}
@@ -25,7 +26,7 @@ use Rattle.answers.specs.Check.{judgement, status_of}
 use Rattle.answers.specs.Axioms.{library_text}
 use Rattle.answers.specs.Lawful.{Lawful}
 use Rattle.answers.specs.Devices.{Devices}
-use Rattle.answers.specs.Call.{IsCall, files_of}
+use Rattle.answers.specs.Call.{IsCall, IsFirstTaken, files_of}
 
 -- the run has this status, and this text was written
 abbrev pub Says : Devices → Run → ℕ → List ℕ → Type 0
@@ -79,11 +80,12 @@ ChecksAreAnswered =
 
 -- ---- one answer
 
--- words whose answer leaves no choice: all but `decide`, `proof` and `sample`, of which several verdicts may be right
+-- words whose answer leaves no choice: all but `decide`, `proof`, `sample` and `adopt`, of which several verdicts may be right
 abbrev pub IsSettled : Option Request → Type 0
 IsSettled (Some (Decide study workers)) = ⊥
 IsSettled (Some (Proof study workers)) = ⊥
 IsSettled (Some (Sample number)) = ⊥
+IsSettled (Some (Adopt study proof workers)) = ⊥
 IsSettled request = Unit {0}
 
 -- over some files such words have one answer, so each row comes exactly where it says
@@ -114,15 +116,15 @@ abbrev pub LibraryIsWritten : Type 0
 LibraryIsWritten = (words : List (List ℕ)) (d : Devices) (run : Run) (kind : Kind) → IsCall words d run →
     request_of words ≡ Some (Axioms kind) → WritesLibrary d run kind
 
--- of the files of a command none but the first was touched where the call ends with status 3; and none but the study where the shelf
--- tells that the study of a `check` is refused, even if it could not be read or its line could not be
--- written, want of memory aside
+-- of the files of a command none but the first was touched where the call ends with status 3; and none but the
+-- first of two where the shelf tells that the first is not taken, even if it could not be read or its line could
+-- not be written, want of memory aside
 pub record LeavesUnopened (words : List (List ℕ)) (d : Devices) (run : Run) : Type 0 where
   pub at_three : run.status ≡ 3 → (first : List ℕ) (others : List (List ℕ)) → files_of (request_of words) ≡ first ∷ others
       → OthersStay d.left_before d.left_now first
-  pub at_check : (files : Files) (name report text : List ℕ) (workers : ℕ) → d.told ≡ Some files
-      → request_of words ≡ Some (Check name report workers) → RefusesStudy files name text → run.status ≤ 6
-      → OthersStay d.left_before d.left_now name
+  pub at_pair : (files : Files) (first second : List ℕ) → d.told ≡ Some files
+      → files_of (request_of words) ≡ first ∷ second ∷ [] → ¬ IsFirstTaken (request_of words) files first
+      → run.status ≤ 6 → OthersStay d.left_before d.left_now first
 
 abbrev pub RefusedLeavesUnopened : Type 0
 RefusedLeavesUnopened =
@@ -150,7 +152,7 @@ pub record HasNoFault (words : List (List ℕ)) (d : Devices) : Type 0 where
 abbrev pub IsDecidedOrWanting : Run → Type 0
 IsDecidedOrWanting run = (run.status ≡ 0) ⊎ ((run.status ≡ 4) ⊎ (run.status ≡ 7))
 
--- over a study that is read, with clauses within the limits, `decide` and `proof` end with status 0, 4 or 7, and `export` with 0 or 7; so does `sample` over the study of its number; a confirmed report within its limit over a study that is read ends with 0 or 7, and so does an accepted proof over clauses that are read, and `axioms`; words that are no command end with 2 or 7
+-- over a study that is read, with clauses within the limits, `decide` and `proof` end with status 0, 4 or 7, and `export` with 0 or 7; so does `sample` over the study of its number; a confirmed report within its limit over a study that is read ends with 0 or 7, and so does an accepted proof over clauses that are read or that `adopt` makes, and `axioms`; words that are no command end with 2 or 7
 pub record AreAnswered (words : List (List ℕ)) (d : Devices) (run : Run) : Type 0 where
   pub decide : (files : Files) (name : List ℕ) (workers : ℕ) (study : Question) → d.told ≡ Some files → request_of words ≡ Some (Decide name workers)
       → GivesStudy files name study → fault_of study ≡ None → IsDecidedOrWanting run
@@ -166,6 +168,10 @@ pub record AreAnswered (words : List (List ℕ)) (d : Devices) (run : Run) : Typ
       → d.told ≡ Some files → request_of words ≡ Some (Check name report workers)
       → GivesStudy files name study → files report ≡ Some bytes → IsConfirmed study bytes
       → length bytes ≤ most_report_bytes → (run.status ≡ 0) ⊎ (run.status ≡ 7)
+  pub adopt : (files : Files) (name proof bytes : List ℕ) (workers : ℕ) (study : Question) → d.told ≡ Some files
+      → request_of words ≡ Some (Adopt name proof workers) → GivesStudy files name study → fault_of study ≡ None
+      → files proof ≡ Some bytes → (said_of (exported_formula study) bytes).status ≡ 0
+      → (run.status ≡ 0) ⊎ (run.status ≡ 7)
   pub axioms : (kind : Kind) → request_of words ≡ Some (Axioms kind) → (run.status ≡ 0) ⊎ (run.status ≡ 7)
   pub usage : request_of words ≡ None → (run.status ≡ 2) ⊎ (run.status ≡ 7)
 
@@ -208,3 +214,22 @@ WrittenProofsAreConfirmed =
     IsCall words d run → d.told ≡ Some files → request_of words ≡ Some (Lrat cnf proof) →
     files cnf ≡ Some clauses → Holds files most_proof_bytes proof refutation →
     Confirms words d run
+
+-- ---- `proof` and `adopt`
+
+-- a call of `adopt` ends with status 0, faults and want of memory aside; where no fault is counted, only memory may
+-- be wanting
+pub record AdoptsIt (words : List (List ℕ)) (d : Devices) (run : Run) : Type 0 where
+  pub ends : run.status ≤ 4 → run.status ≡ 0
+  pub completes : HasNoFault words d → (run.status ≡ 0) ⊎ (run.status ≡ 7)
+
+-- what a call of `proof` has written of a study is adopted by a call over files that hold it and give that study,
+-- whatever else these hold; but where it wrote that there is a rule, or a text that is too long
+abbrev pub WrittenProofsAreAdopted : Type 0
+WrittenProofsAreAdopted =
+    (study : Question) (refutation : List ℕ) →
+    Wrote Proof study refutation → refutation ≢ codes "c possible\n" →
+    (words : List (List ℕ)) (d : Devices) (run : Run) (files : Files) (name proof : List ℕ) (workers : ℕ) →
+    IsCall words d run → d.told ≡ Some files → request_of words ≡ Some (Adopt name proof workers) →
+    GivesStudy files name study → Holds files most_proof_bytes proof refutation →
+    AdoptsIt words d run

@@ -14,6 +14,7 @@ pub mod Decide
 pub mod Proof
 pub mod Lrat
 pub mod Sample
+pub mod Adopt
 pub mod Lawful
 pub mod Devices
 pub mod Call

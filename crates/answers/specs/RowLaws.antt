@@ -1,6 +1,6 @@
 -- What follows from the rows of commands over a study, or over clauses. Each is proved as the contract of a
 -- function of the same name in src/laws.rt.
-use Rattle.std.specs.Prelude.{◌≡◌, ◌≢◌, ℕ, ◌≤◌, ◌^◌, ◌==◌, ◌↔◌, not, filter, Bool, List, [], length, Any, codes, None, Some, IsTrue}
+use Rattle.std.specs.Prelude.{◌≡◌, ◌≢◌, ℕ, ◌≤◌, ◌^◌, ◌==◌, ◌↔◌, not, filter, Bool, List, [], length, Any, codes, None, Some, Ok, IsTrue}
 use Rattle.std.specs.List.{list_all}
 use Rattle.std.specs.Io.KnownBytes.{Appends}
 use Rattle.edge.specs.Shelf.{Files}
@@ -23,6 +23,7 @@ use Rattle.verdicts.specs.Report.{report_text}
 use Rattle.study.specs.Sample.{IsSampleStudy}
 use Rattle.clause_text.specs.Lrat.{lrat_text}
 use Rattle.clause_text.specs.ReadDimacs.{Formula}
+use Rattle.clause_text.specs.ReadLrat.{read_lrat}
 use Rattle.search_logs.specs.declared.logs.SearchLog.{SearchLog}
 use Rattle.search_logs.specs.Spent.{has_place, all_places, IsWithout, HaveEvidence, AreSpentLogs}
 use Rattle.answers.specs.declared.runs.Run.{Run}
@@ -30,16 +31,17 @@ use Rattle.answers.specs.Runs.{IsBare}
 use Rattle.answers.specs.Held.{most_report_bytes, most_proof_bytes, Holds}
 use Rattle.answers.specs.Studies.{GivesStudy}
 use Rattle.answers.specs.Rules.{IsRuleFor, HasNoRule, Claims}
-use Rattle.answers.specs.Grounding.{all_clauses}
+use Rattle.answers.specs.Grounding.{all_clauses, fault_of}
 use Rattle.words.specs.Words.{Decide, request_of}
 use Rattle.answers.specs.Devices.{Devices}
 use Rattle.answers.specs.Call.{IsCall}
 use Rattle.answers.specs.Check.{judgement}
-use Rattle.answers.specs.Export.{export_text, IsExported}
+use Rattle.answers.specs.Export.{export_text, exported_formula, IsExported}
 use Rattle.answers.specs.Decide.{IsDecided}
 use Rattle.answers.specs.Proof.{IsProved}
-use Rattle.answers.specs.Lrat.{GivesFormula, IsConfirmedBy}
+use Rattle.answers.specs.Lrat.{GivesFormula, IsConfirmedBy, said_of}
 use Rattle.answers.specs.Sample.{summary_line, IsSampled}
+use Rattle.answers.specs.Adopt.{AreNamed, IsAdopted}
 
 -- ---- `export`
 
@@ -168,6 +170,61 @@ ProvedAreConfirmed =
     refutation ≢ codes "c possible\n" →
     files cnf ≡ Some clauses → Holds files most_proof_bytes proof refutation →
     IsConfirming files cnf proof
+
+-- ---- `adopt`
+
+-- an impossibility that holds, and its report; each axiom of its core is named by the derivation of the proof
+pub record IsAdoptedRight (study : Question) (bytes : List ℕ) (run : Run) (text : List ℕ) : Type 0 where
+  pub core : List ℕ
+  pub story : List Lemma
+  pub witnesses : List Witness
+  pub lines : List Line
+  pub told : run.verdict ≡ Some (Impossible core story witnesses)
+  pub is : text ≡ report_text study (Impossible core story witnesses)
+  pub holds : IsImpossible study run.logs core story witnesses
+  pub read : read_lrat (variable_count study.size) bytes ≡ Ok lines
+  pub named : AreNamed study lines core
+
+-- whatever study and proof are read, what `adopt` prints with status 0 holds
+abbrev pub AdoptedHolds : Type 0
+AdoptedHolds = (files : Files) (name proof : List ℕ) (run : Run) (text bytes : List ℕ) (study : Question) →
+    IsAdopted files name proof run text → GivesStudy files name study → files proof ≡ Some bytes →
+    run.status ≡ 0 → IsAdoptedRight study bytes run text
+
+-- and is, within the limit of reports, confirmed by `check` over the same study
+abbrev pub AdoptedAreConfirmed : Type 0
+AdoptedAreConfirmed =
+    (files : Files) (name proof : List ℕ) (run : Run) (text : List ℕ) (study : Question) →
+    IsAdopted files name proof run text → GivesStudy files name study → run.status ≡ 0 →
+    length text ≤ most_report_bytes →
+    (verdict : Verdict) × (run.verdict ≡ Some verdict) × (judgement study text ≡ Confirmed verdict)
+
+-- it ends as `lrat` does over what `export` writes, and refuses a proof with the line of `lrat`
+pub record EndsAsLrat (study : Question) (bytes : List ℕ) (run : Run) (text : List ℕ) : Type 0 where
+  pub ends : run.status ≡ (said_of (exported_formula study) bytes).status
+  pub refused : run.status ≡ 1 → text ≡ (said_of (exported_formula study) bytes).text
+
+abbrev pub AdoptsAsLrat : Type 0
+AdoptsAsLrat = (files : Files) (name proof : List ℕ) (run : Run) (text bytes : List ℕ) (study : Question) →
+    IsAdopted files name proof run text → GivesStudy files name study → fault_of study ≡ None →
+    files proof ≡ Some bytes → EndsAsLrat study bytes run text
+
+-- what `proof` writes of a study with status 0 is adopted over files that hold it and give that study; but where
+-- it writes that there is a rule, or a text that is too long
+abbrev pub ProvedAreAdopted : Type 0
+ProvedAreAdopted =
+    (study : Question) (proved files : Files) (name' name proof : List ℕ) (run' run : Run)
+    (refutation text : List ℕ) →
+    IsProved proved name' run' refutation → GivesStudy proved name' study → run'.status ≡ 0 →
+    refutation ≢ codes "c possible\n" →
+    IsAdopted files name proof run text → GivesStudy files name study →
+    Holds files most_proof_bytes proof refutation → run.status ≡ 0
+
+-- where the limit of a study is at least 3 to the number of its variables, no mark of `adopt` is open
+abbrev pub EnoughAdopts : Type 0
+EnoughAdopts = (files : Files) (name proof : List ℕ) (run : Run) (text : List ℕ) (study : Question) →
+    IsAdopted files name proof run text → GivesStudy files name study →
+    3 ^ variable_count study.size ≤ study.conflicts → IsConclusive run
 
 -- ---- `sample`
 

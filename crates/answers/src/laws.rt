@@ -1,7 +1,7 @@
 //! What follows from the table of answers. Each law is the contract of a function that does nothing.
 
-ghost use Rattle.answers.specs.RowLaws.{ConfirmedIsUnsatisfiable, DecidedAreConfirmed, DecidedHolds, EnoughDecides, EnoughProves, ExportedSaysStudy, ProvedAreConfirmed, ProvedHolds, RowsAreOne, SampledHolds, WrittenDecisionsHold};
-ghost use Rattle.answers.specs.Laws.{CheckedAreRight, ConfirmedHolds, ChecksAreAnswered, AnswersAreOne, UsageIsExact, LibraryIsWritten, RefusedLeavesUnopened, OtherWordsTouchNone, CallsAreComplete, WrittenProofsAreConfirmed};
+ghost use Rattle.answers.specs.RowLaws.{AdoptedAreConfirmed, AdoptedHolds, AdoptsAsLrat, ConfirmedIsUnsatisfiable, DecidedAreConfirmed, DecidedHolds, EnoughAdopts, EnoughDecides, EnoughProves, ExportedSaysStudy, ProvedAreAdopted, ProvedAreConfirmed, ProvedHolds, RowsAreOne, SampledHolds, WrittenDecisionsHold};
+ghost use Rattle.answers.specs.Laws.{CheckedAreRight, ConfirmedHolds, ChecksAreAnswered, AnswersAreOne, UsageIsExact, LibraryIsWritten, RefusedLeavesUnopened, OtherWordsTouchNone, CallsAreComplete, WrittenProofsAreAdopted, WrittenProofsAreConfirmed};
 
 /// `check` confirms exactly the reports of right verdicts that claim something, within its limit.
 pub fn checked_are_right()
@@ -101,6 +101,38 @@ pub fn proved_are_confirmed()
 /// faults and want of memory aside.
 pub fn written_proofs_are_confirmed()
     ensures { WrittenProofsAreConfirmed }
+{}
+
+/// Whatever study and proof are read, an impossibility that `adopt` prints holds for every rule, and the proof names each axiom
+/// of its core.
+pub fn adopted_holds()
+    ensures { AdoptedHolds }
+{}
+
+/// What `adopt` prints is, within the limit of reports, confirmed by `check`.
+pub fn adopted_are_confirmed()
+    ensures { AdoptedAreConfirmed }
+{}
+
+/// `adopt` ends with the status of `lrat` over what `export` writes, and refuses a proof with the same line.
+pub fn adopts_as_lrat()
+    ensures { AdoptsAsLrat }
+{}
+
+/// A refutation that `proof` writes is adopted, if it is no longer than `adopt` reads.
+pub fn proved_are_adopted()
+    ensures { ProvedAreAdopted }
+{}
+
+/// The same of calls: what a call of `proof` has written, a call of `adopt` over files that hold it adopts, faults and want of memory
+/// aside.
+pub fn written_proofs_are_adopted()
+    ensures { WrittenProofsAreAdopted }
+{}
+
+/// Where the limit of a study is at least 3 to the number of its variables, each axiom of a core that `adopt` prints has its rule.
+pub fn enough_adopts()
+    ensures { EnoughAdopts }
 {}
 
 /// What `sample` says of the study of a number holds.

@@ -63,7 +63,7 @@ pub check_command : (name report : List ℕ) (workers : ℕ) → IsPairCommand (
 check_command name report workers = record { two = refl; statuses = refl }
 
 module _ (told : Option Files) (name report : List ℕ) where
-  given : (study : Question) (files : Files) → IsRead told name study → told ≡ Some files → GivesStudy files name study
+  pub given : (study : Question) (files : Files) → IsRead told name study → told ≡ Some files → GivesStudy files name study
   given study files read e = record { bytes = read.bytes; holds = record { held = read.held files e; fits = read.fits }; read = read.gives }
 
   -- a study that was read is taken

@@ -9,3 +9,4 @@ mod DecideLemmas
 mod ProofLemmas
 mod LratLemmas
 mod SampleLemmas
+mod AdoptionLemmas

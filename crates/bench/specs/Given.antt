@@ -1,4 +1,4 @@
--- The clauses of a file, as they were read, and what is said of a proof from them.
+-- The clauses of a file, as they were read, and what is said of a derivation from them.
 use Rattle.std.specs.Prelude.{◌≡◌, ℕ, ◌≤◌, List, length, Option, Some, Ok}
 use Rattle.edge.specs.Shelf.{Files}
 use Rattle.clause_text.specs.declared.cnf_reading.Formulas.{Formulas}
@@ -39,10 +39,3 @@ IsGiven told name (given.Refused answer) = RefusesCnf told name answer
 pub record IsSaid (answer : Answer) (said : Said) : Type 0 where
   pub ends : IsBare (run_of answer) said.status
   pub is : text_of answer ≡ said.text
-
--- the file of a proof is judged over clauses, and the text is what is said of it
-pub record IsProofSaid (files : Files) (proof : List ℕ) (formula : Formula) (run : Run) (text : List ℕ) : Type 0 where
-  pub bytes : List ℕ
-  pub held : files proof ≡ Some bytes
-  pub ends : IsBare run (said_of formula bytes).status
-  pub is : text ≡ (said_of formula bytes).text

@@ -28,7 +28,7 @@ use vocab::{Kind, Size, Study};
 
 /// What is said to words that are no command.
 const USAGE: &[u8] =
-    b"usage: bench decide STUDY | check STUDY REPORT | export STUDY | proof STUDY | lrat CNF PROOF | axioms KIND | sample N [--workers K]\n";
+    b"usage: bench decide STUDY | check STUDY REPORT | export STUDY | proof STUDY | lrat CNF PROOF | axioms KIND | sample N | adopt STUDY PROOF [--workers K]\n";
 
 /// What is answered: a row of the table, with what its text names.
 #[derive(Drop)]

@@ -1,6 +1,7 @@
 //! The clauses of all axioms of a study.
 
-ghost use Rattle.std.specs.Prelude.{◌≡◌, None, IfOk, IfErr, IsTrue};
+ghost use Rattle.std.specs.Prelude.{◌≡◌, ◌≢◌, None, IfOk, IfErr};
+ghost use Rattle.vocab.specs.declared.kinds.Kind.TheVariants.{Sets};
 ghost use Rattle.clause_form.specs.Refusals.{IsRefused};
 ghost use Rattle.meaning.specs.StudyClauses.{study_clauses};
 ghost use Rattle.search_logs.specs.Spent.{all_places};
@@ -10,11 +11,12 @@ use clause_form::{Ground, GroundFault};
 use crew::Crew;
 use edge::Gate;
 use grounding::ground;
-use outcomes::OutcomeKind;
+use outcomes::{ChoiceKind, OutcomeKind, RankingKind};
+use profiles::Space;
 use search_logs::all_places;
 use std::alloc::Global;
 use std::thread::Threads;
-use vocab::Study;
+use vocab::{Kind, Study};
 
 /// The clauses of all axioms of a study, made among workers, which changes none of them.
 pub fn ground_all<R: Threads + Sync, K: OutcomeKind, G: Gate>(
@@ -33,4 +35,24 @@ pub fn ground_all<R: Threads + Sync, K: OutcomeKind, G: Gate>(
         return Err(GroundFault::NoMemory);
     };
     ground(alloc, crew, kind, study, &all)
+}
+
+/// The same of a study of a kind that is known.
+pub fn ground_study<R: Threads + Sync, G: Gate>(
+    alloc: Global,
+    crew: &Crew<R, G>,
+    study: &Study,
+) -> Result<Ground, GroundFault>
+    requires known { study.now.size.kind ≢ Sets }
+    ensures clauses { IfOk result (λ made. made ≡
+        study_clauses study.now.size study.now.axioms (all_places study.now)) }
+    ensures none { IfOk result (λ made. fault_of study.now ≡ None) }
+    ensures fault { IfErr result (λ fault. IsRefused fault (fault_of study.now)) }
+{
+    let space = Space::new(study.size());
+    match study.size().kind() {
+        Kind::Choice => ground_all(alloc, crew, &ChoiceKind::new(space), study),
+        Kind::Ranking => ground_all(alloc, crew, &RankingKind::new(space), study),
+        Kind::Sets => unreachable!(),
+    }
 }

@@ -9,17 +9,19 @@ ghost use Rattle.words.specs.Words.{Lrat};
 ghost use Rattle.answers.specs.Lrat.{of_reading};
 ghost use Rattle.bench.specs.Answers.{HasText, run_of, status_of, text_of};
 ghost use Rattle.bench.specs.Answered.{Answers};
-ghost use Rattle.bench.specs.Given.{IsGiven, IsProofSaid, IsSaid, formula_of};
+ghost use Rattle.bench.specs.Derived.{IsProofSaid};
+ghost use Rattle.bench.specs.Given.{IsGiven, IsSaid, formula_of};
 
 use crate::answer::{Answer, Stop};
-use clause_text::{CnfFault, Formulas, LratFault, read_dimacs, read_lrat};
+use crate::derivations::{Derived, open_derivation};
+use clause_text::{CnfFault, Formulas, read_dimacs};
 use cnf::Derivation;
 use edge::{ReadFault, Shelf, read_all};
 use lrat_check::{CheckFault, check};
 use std::alloc::Global;
 
-/// The most bytes of a text of clauses, and of a proof.
-const MOST_BYTES: u32 = 536_870_912;
+/// The most bytes of a text of clauses.
+const MOST_CNF_BYTES: u32 = 536_870_912;
 
 /// The clauses of a file, or the answer that refuses them.
 #[derive(Drop)]
@@ -37,7 +39,7 @@ fn open_clauses<S: Shelf>(alloc: Global, shelf: &mut S, name: &str) -> Result<Gi
     ensures others { OthersStay (S.left shelf.old) (S.left shelf.new) name.now }
     ensures none_fell { NoneFell (S.faults shelf.old) (S.faults shelf.new) }
 {
-    let bytes = match read_all(alloc, shelf, name, MOST_BYTES) {
+    let bytes = match read_all(alloc, shelf, name, MOST_CNF_BYTES) {
         Ok(bytes) => bytes,
         Err(ReadFault::TooLong) => return Ok(Given::Refused(Answer::LongCnf)),
         Err(ReadFault::Failed) => return Err(Stop::ReadFault),
@@ -82,16 +84,10 @@ fn judge_proof<S: Shelf>(
         Rose (S.faults shelf.old proof.now) (S.faults shelf.new proof.now) }
     ensures others { OthersStay (S.left shelf.old) (S.left shelf.new) proof.now }
 {
-    let bytes = match read_all(alloc, shelf, proof, MOST_BYTES) {
-        Ok(bytes) => bytes,
-        Err(ReadFault::TooLong) => return Ok(Answer::LongProof),
-        Err(ReadFault::Failed) => return Err(Stop::ReadFault),
-        Err(ReadFault::NoMemory) => return Err(Stop::NoMemory),
-    };
-    match read_lrat(alloc, bytes.as_slice(), formulas.variables) {
-        Ok(lines) => checked(alloc, formulas, &lines),
-        Err(LratFault::NoMemory) => Err(Stop::NoMemory),
-        Err(fault) => Ok(Answer::NoProof(fault)),
+    match open_derivation(alloc, shelf, proof, formulas.variables) {
+        Ok(Derived::Lines(lines)) => checked(alloc, formulas, &lines),
+        Ok(Derived::Refused(answer)) => Ok(answer),
+        Err(stop) => Err(stop),
     }
 }
 

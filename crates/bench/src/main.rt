@@ -1,9 +1,11 @@
 //! A theorem bench for social choice: decides whether a rule satisfies axioms, tells why none does, and checks reports of both.
 #![tactic(auto)]
 
+mod adoption;
 mod answer;
 mod check;
 mod decide;
+mod derivations;
 mod export;
 mod grounds;
 mod lrat;
@@ -43,6 +45,8 @@ fn main(rt: HostRuntime) -> ExitCode {
     ExitCode::from(run.status)
 }
 
+#[cfg(test)]
+mod adopt_tests;
 #[cfg(test)]
 mod calls;
 #[cfg(test)]

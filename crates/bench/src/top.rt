@@ -4,6 +4,7 @@ ghost use Rattle.words.specs.Words.{texts, request_of};
 ghost use Rattle.answers.specs.Call.{IsCall};
 ghost use Rattle.bench.specs.Answered.{Answers};
 
+use crate::adoption::adopt;
 use crate::answer::{Answer, Stop};
 use crate::check::check;
 use crate::decide::decide;
@@ -51,6 +52,15 @@ fn answer<R: Threads + Sync, S: Shelf, G: Gate>(
         Ok(Some(Command::Lrat { cnf, proof })) => lrat(alloc, shelf, cnf, proof),
         Ok(Some(Command::Axioms { kind })) => Ok(Answer::Library(kind)),
         Ok(Some(Command::Sample { number })) => sample(rt, alloc, gate, number),
+        Ok(
+            Some(
+                Command::Adopt {
+                    study,
+                    proof,
+                    workers,
+                },
+            ),
+        ) => adopt(rt, alloc, gate, workers, shelf, study, proof),
         Ok(None) => Ok(Answer::Usage),
         Err(_) => Err(Stop::NoMemory),
     }

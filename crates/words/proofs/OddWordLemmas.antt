@@ -43,4 +43,6 @@ odd = record {
   leading_zero_of_number = refl;
   greatest = refl;
   above_greatest = refl;
+  workers_of_adopt = refl;
+  proof_alone = refl;
 }

@@ -3,7 +3,7 @@ use Rattle.std.proofs.Common.{◌≡◌, refl, [], ◌∷◌, ◌++◌, codes, S
 use Rattle.clap.specs.Words.{Text}
 use Rattle.clap.proofs.OnLiterals.{clap_on_literals}
 use Rattle.words.specs.Values.{number_within, kind_of}
-use Rattle.words.specs.Words.{Decide, Check, Export, Proof, Lrat, Axioms, Sample, request_of}
+use Rattle.words.specs.Words.{Decide, Check, Export, Proof, Lrat, Axioms, Sample, Adopt, request_of}
 use Rattle.words.specs.Laws.{IsPlain, PlainWords, WorkersWords}
 
 decide_read : (word : Text) → IsPlain word → request_of (codes "decide" ∷ word ∷ []) ≡ Some (Decide word 1)
@@ -45,6 +45,13 @@ lrat_read [] (d ∷ ds) e f = rw (f, f) refl
 lrat_read (c ∷ cs) [] e f = rw (e, e) refl
 lrat_read (c ∷ cs) (d ∷ ds) e f = rw (e, e, f, f) refl
 
+adopt_read : (a b : Text) → IsPlain a → IsPlain b → request_of (codes "adopt" ∷ a ∷ b ∷ []) ≡ Some (Adopt a b 1)
+unfolding clap_on_literals request_of
+adopt_read [] [] e f = refl
+adopt_read [] (d ∷ ds) e f = rw (f, f) refl
+adopt_read (c ∷ cs) [] e f = rw (e, e) refl
+adopt_read (c ∷ cs) (d ∷ ds) e f = rw (e, e, f, f) refl
+
 before_read : (a b : Text) → IsPlain a → IsPlain b → request_of (codes "check" ∷ codes "--workers" ∷ b ∷ codes "s" ∷ a ∷ []) ≡ option_map (Check (codes "s") a) (number_within 1 16 b)
 unfolding clap_on_literals request_of
 before_read [] [] e f = refl
@@ -82,6 +89,7 @@ plain = record {
   lrat = lrat_read;
   axioms = axioms_read;
   sample = sample_read;
+  adopt = adopt_read;
 }
 
 pub workers : WorkersWords

@@ -7,7 +7,7 @@ use Rattle.verdicts.specs.Numbers.{read_number}
 use Rattle.clap.specs.Words.{Row, Text, first_of}
 use Rattle.words.specs.declared.commands.Command.{Command}
 use Rattle.words.specs.Values.{number_within, workers_in, kind_in, number_in}
-use Rattle.words.specs.Words.{Request, Decide, Check, Export, Proof, Lrat, Axioms, Sample, HasWorkers, asked, over_study, request_under}
+use Rattle.words.specs.Words.{Request, Decide, Check, Export, Proof, Lrat, Axioms, Sample, Adopt, HasWorkers, asked, over_study, request_under}
 
 abbrev Good : Option Request → Type 0
 Good o = IfSome o HasWorkers
@@ -46,6 +46,10 @@ module _ (rows : List Row) where
   checks None = tt
   checks (Some report) = over (λ study workers. Check study report workers) (λ study n few. few)
 
+  adopts : (o : Option Text) → Good (option_and_then (λ proof. over_study (λ study workers. Adopt study proof workers) rows) o)
+  adopts None = tt
+  adopts (Some proof) = over (λ study workers. Adopt study proof workers) (λ study n few. few)
+
   proves : (cnf proof : Option Text) → Good (option_and_then (λ c. option_map (Lrat c) proof) cnf)
   proves None proof = tt
   proves (Some c) None = tt
@@ -63,7 +67,8 @@ module _ (rows : List Row) where
       (either (bytes_eq name (codes "proof")) _ _ (over Proof (λ study n few. few))
       (either (bytes_eq name (codes "lrat")) _ _ (proves (first_of (codes "cnf") rows) (first_of (codes "proof") rows))
       (either (bytes_eq name (codes "axioms")) _ _ (mapped Axioms (λ kind. tt) (kind_in rows))
-      (either (bytes_eq name (codes "sample")) _ _ (mapped Sample (λ n. tt) (number_in rows)) tt))))))
+      (either (bytes_eq name (codes "sample")) _ _ (mapped Sample (λ n. tt) (number_in rows))
+      (either (bytes_eq name (codes "adopt")) _ _ (adopts (first_of (codes "proof") rows)) tt)))))))
 
 -- so has each command that was found
 pub found : (command : Option Command) (name : Text) (rows : List Row) → option_map asked command ≡ request_under name rows → IfSome command (λ it. HasWorkers (asked it))

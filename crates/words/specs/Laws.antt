@@ -2,7 +2,7 @@
 use Rattle.std.specs.Prelude.{◌≡◌, ◌==◌, Bool, false, [], ◌∷◌, ◌++◌, codes, None, Some, option_map}
 use Rattle.clap.specs.Words.{Text}
 use Rattle.words.specs.Values.{number_within, kind_of}
-use Rattle.words.specs.Words.{Decide, Check, Export, Proof, Lrat, Axioms, Sample, request_of}
+use Rattle.words.specs.Words.{Decide, Check, Export, Proof, Lrat, Axioms, Sample, Adopt, request_of}
 
 abbrev pub begins_with_hyphen : Text → Bool
 begins_with_hyphen [] = false
@@ -21,6 +21,7 @@ pub record PlainWords : Type 0 where
   pub axioms : (kind : Text) → IsPlain kind → request_of (codes "axioms" ∷ kind ∷ []) ≡ option_map Axioms (kind_of kind)
   pub sample : (number : Text) → IsPlain number
       → request_of (codes "sample" ∷ number ∷ []) ≡ option_map Sample (number_within 0 4294967295 number)
+  pub adopt : (study proof : Text) → IsPlain study → IsPlain proof → request_of (codes "adopt" ∷ study ∷ proof ∷ []) ≡ Some (Adopt study proof 1)
 
 -- `--workers` may stand before, between and after them, in one word or in two
 pub record WorkersWords : Type 0 where
@@ -71,3 +72,5 @@ pub record OddWords : Type 0 where
   pub leading_zero_of_number : request_of (codes "sample" ∷ codes "007" ∷ []) ≡ None
   pub greatest : request_of (codes "sample" ∷ codes "4294967295" ∷ []) ≡ Some (Sample 4294967295)
   pub above_greatest : request_of (codes "sample" ∷ codes "4294967296" ∷ []) ≡ None
+  pub workers_of_adopt : request_of (codes "adopt" ∷ codes "s" ∷ codes "--workers" ∷ codes "2" ∷ codes "p" ∷ []) ≡ Some (Adopt (codes "s") (codes "p") 2)
+  pub proof_alone : request_of (codes "adopt" ∷ codes "p" ∷ []) ≡ None

@@ -39,4 +39,10 @@ pub enum Command<'a> {
     Sample {
         number: u32,
     },
+    /// `adopt STUDY PROOF`, with `--workers K`.
+    Adopt {
+        study: &'a str,
+        proof: &'a str,
+        workers: u8,
+    },
 }

@@ -2,7 +2,7 @@
 
 ghost use Rattle.std.specs.Prelude.{◌≡◌, IfOk, false};
 ghost use Rattle.clap.specs.Words.{App, Shape, app_of, rule_of, with_subcommand};
-ghost use Rattle.words.specs.Words.{place, workers_option, IsLeaf, study_shape, check_shape, lrat_shape, axioms_shape, sample_shape, top_shape, bench_app};
+ghost use Rattle.words.specs.Words.{place, workers_option, IsLeaf, study_shape, check_shape, lrat_shape, axioms_shape, sample_shape, adopt_shape, top_shape, bench_app};
 
 use clap::{Arg, Command};
 use std::alloc::{AllocError, Global};
@@ -64,6 +64,15 @@ fn sample_command<'a>(alloc: Global) -> Result<Command<'a>, AllocError>
     Command::new(alloc, "sample").arg(place(alloc, "number"))
 }
 
+/// `adopt STUDY PROOF`.
+fn adopt_command<'a>(alloc: Global) -> Result<Command<'a>, AllocError>
+    ensures { IfOk result (IsLeaf adopt_shape) }
+{
+    let command = Command::new(alloc, "adopt").arg(place(alloc, "study"))?;
+    let command = command.arg(place(alloc, "proof"))?;
+    command.arg(workers_option(alloc))
+}
+
 /// The program before its commands: one of them is wanted.
 fn top_command<'a>(alloc: Global) -> Command<'a>
     ensures { IsLeaf top_shape result }
@@ -95,5 +104,6 @@ pub(crate) fn bench_command<'a>(alloc: Global) -> Result<Command<'a>, AllocError
     let command = add_command(command, study_command(alloc, "proof"));
     let command = add_command(command, lrat_command(alloc));
     let command = add_command(command, axioms_command(alloc));
-    add_command(command, sample_command(alloc))
+    let command = add_command(command, sample_command(alloc));
+    add_command(command, adopt_command(alloc))
 }

@@ -4,7 +4,7 @@ ghost use Rattle.std.specs.Prelude.{◌≡◌, ℕ, IfOk, IfSome, option_map};
 ghost use Rattle.clap.specs.Words.{Text, first_of, found_of, rows_of, subcommand_rows_of};
 ghost use Rattle.words.specs.Values.{kind_of, number_within, workers_in, kind_in, number_in};
 ghost use Rattle.words.specs.Words.{Request, Decide, Check, Export, Proof, Axioms, Sample, HasWorkers};
-ghost use Rattle.words.specs.Words.{texts, asked, over_study, check_in, lrat_in, request_under, request_in, request_of};
+ghost use Rattle.words.specs.Words.{texts, asked, over_study, check_in, lrat_in, adopt_in, request_under, request_in, request_of};
 
 use crate::commands::Command;
 use crate::grammar::bench_command;
@@ -140,6 +140,19 @@ fn sample_in<'a>(matches: &ArgMatches<'a>) -> Option<Command<'a>>
     Some(Command::Sample { number })
 }
 
+/// `adopt STUDY PROOF`.
+fn adopt_in<'a>(matches: &ArgMatches<'a>) -> Option<Command<'a>>
+    ensures { option_map asked result ≡ adopt_in (rows_of (found_of matches.now)) }
+{
+    let proof = value_at(matches, "proof")?;
+    let (study, workers) = over_study(matches)?;
+    Some(Command::Adopt {
+        study,
+        proof,
+        workers,
+    })
+}
+
 /// The command of a name, with the values that were found.
 fn command_under<'a>(name: &str, matches: &ArgMatches<'a>) -> Option<Command<'a>>
     ensures { option_map asked result ≡ request_under name.now (rows_of (found_of matches.now)) }
@@ -152,6 +165,7 @@ fn command_under<'a>(name: &str, matches: &ArgMatches<'a>) -> Option<Command<'a>
         "lrat" => lrat_in(matches),
         "axioms" => axioms_in(matches),
         "sample" => sample_in(matches),
+        "adopt" => adopt_in(matches),
         _ => None,
     }
 }

@@ -33,6 +33,15 @@ fn told(alloc: Global, line: &str) -> Result<String, Fail> {
         Ok(Some(Command::Lrat { cnf, proof })) => Ok(format!(in alloc; "lrat [{cnf}] [{proof}]")?),
         Ok(Some(Command::Axioms { kind })) => Ok(format!(in alloc; "axioms {kind:?}")?),
         Ok(Some(Command::Sample { number })) => Ok(format!(in alloc; "sample {number}")?),
+        Ok(
+            Some(
+                Command::Adopt {
+                    study,
+                    proof,
+                    workers,
+                },
+            ),
+        ) => Ok(format!(in alloc; "adopt [{study}] [{proof}] {workers}")?),
         Ok(None) => Ok(format!(in alloc; "none")?),
         Err(_) => Ok(format!(in alloc; "no memory")?),
     }
@@ -79,7 +88,14 @@ fn commands(rt: HostRuntime) -> Result<(), Fail> {
     same(&rt, rt.alloc(), "proof -- -s", "proof [-s] 1")?;
     same(&rt, rt.alloc(), "lrat c p", "lrat [c] [p]")?;
     same(&rt, rt.alloc(), "sample 0", "sample 0")?;
-    same(&rt, rt.alloc(), "sample 4294967295", "sample 4294967295")
+    same(&rt, rt.alloc(), "sample 4294967295", "sample 4294967295")?;
+    same(&rt, rt.alloc(), "adopt s p", "adopt [s] [p] 1")?;
+    same(
+        &rt,
+        rt.alloc(),
+        "adopt --workers 16 s -- -p",
+        "adopt [s] [-p] 16",
+    )
 }
 
 #[test]
@@ -134,5 +150,8 @@ fn words_that_are_none(rt: HostRuntime) -> Result<(), Fail> {
     same(&rt, rt.alloc(), "sample +3", "none")?;
     same(&rt, rt.alloc(), "sample 007", "none")?;
     same(&rt, rt.alloc(), "sample 4294967296", "none")?;
-    same(&rt, rt.alloc(), "sample 18446744073709551617", "none")
+    same(&rt, rt.alloc(), "sample 18446744073709551617", "none")?;
+    same(&rt, rt.alloc(), "adopt s", "none")?;
+    same(&rt, rt.alloc(), "adopt s p r", "none")?;
+    same(&rt, rt.alloc(), "adopt s p --workers 0", "none")
 }

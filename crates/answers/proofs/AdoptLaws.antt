@@ -1,0 +1,129 @@
+-- What `adopt` prints holds, is confirmed, and comes where `lrat` confirms.
+use Rattle.std.proofs.Common.{◌≡◌, ◌≢◌, ◌∙◌, refl, sym, ap, subst, ℕ, ◌≤◌, ◌^◌, ◌⊎◌, inl, inr, List, length, codes, Option, None, Some, arith}
+use Rattle.edge.specs.Shelf.{Files}
+use Rattle.vocab.specs.Study.{Question}
+use Rattle.cnf.specs.declared.derivations.Line.{Line}
+use Rattle.cnf.specs.declared.derivations.LineFault.{LineFault}
+use Rattle.meaning.specs.Variables.{variable_count}
+use Rattle.verdicts.specs.declared.verdicts.Verdict.TheVariants.{Impossible}
+use Rattle.study.proofs.WholeStudies.{studies_whole}
+use Rattle.words.specs.Words.{Proof, Adopt, request_of}
+use Rattle.answers.specs.declared.runs.Run.{Run}
+use Rattle.answers.specs.Held.{most_proof_bytes, Holds}
+use Rattle.answers.specs.Studies.{GivesStudy}
+use Rattle.answers.specs.Grounding.{fault_of, OverClauses, clauses_refused, clauses_made}
+use Rattle.answers.specs.Evidence.{by_verdict}
+use Rattle.answers.specs.Export.{exported_formula}
+use Rattle.answers.specs.Proof.{Proves, IsProved}
+use Rattle.answers.specs.Lrat.{Said, said_of, of_derivation}
+use Rattle.answers.specs.Adopt.{IsRefutedBy, IsRetold, Adopts, proof_refused, proof_retold, IsAdopted}
+use Rattle.answers.specs.Devices.{Devices}
+use Rattle.answers.specs.Call.{IsCall, are_told}
+use Rattle.answers.specs.Laws.{HasNoFault, Wrote, AdoptsIt, WrittenProofsAreAdopted}
+use Rattle.answers.specs.RowLaws.{IsConclusive, IsAdoptedRight, AdoptedHolds, AdoptedAreConfirmed, EndsAsLrat, AdoptsAsLrat, ProvedAreAdopted, EnoughAdopts}
+use Rattle.answers.proofs.RowLemmas.{some_same, over_study, granted}
+use Rattle.answers.proofs.FitLemmas.{right_judged}
+use Rattle.answers.proofs.DecidedLaws.{impossible, conclusive, bare_conclusive}
+use Rattle.answers.proofs.ReportLaws.{reportable}
+use Rattle.answers.proofs.DeviceLaws.{written_at}
+use Rattle.answers.proofs.CallLaws.{settled_row, rest_of}
+use Rattle.answers.proofs.ExportLemmas.{export_read}
+use Rattle.answers.proofs.ConfirmedLaws.{not_faulty, refuting, said_accepted, said_of_written, row_written}
+
+-- ---- what is printed holds
+
+module _ (files : Files) (proof : List ℕ) (study : Question) (run : Run) (text : List ℕ) where
+  -- with status 0 a proof was retold
+  retold : run.status ≡ 0 → Adopts files proof study run text → (bytes : List ℕ) × (lines : List Line) × (files proof ≡ Some bytes) × IsRefutedBy study bytes lines × IsRetold study lines run text
+  retold zero_is (proof_refused bytes held one is bare) = let no : 0 ≡ 1 = sym zero_is ∙ bare.ends in absurd (omega (arith, no))
+  retold zero_is (proof_retold bytes lines held refutes told) = (bytes, lines, held, refutes, told)
+
+  adopted_right : (name bytes : List ℕ) → GivesStudy files name study → files proof ≡ Some bytes → run.status ≡ 0 → Adopts files proof study run text → IsAdoptedRight study bytes run text
+  adopted_right name bytes g held zero_is row =
+      let (bytes', lines, held', refutes, told) = retold zero_is row in
+      let f = told.found in
+      record {
+        core = told.core;
+        story = told.story;
+        witnesses = told.witnesses;
+        lines = lines;
+        told = f.told;
+        is = told.is;
+        holds = impossible study run.logs told.core told.story told.witnesses f.right f.backed f.logs (studies_whole g.bytes study g.read).1;
+        read = (subst (λ (b : List ℕ). IsRefutedBy study b lines) (some_same (files proof) bytes' bytes held' held) refutes).read;
+        named = told.named;
+      }
+
+  -- ---- it ends as `lrat` does
+
+  as_lrat : (bytes : List ℕ) → files proof ≡ Some bytes → Adopts files proof study run text → EndsAsLrat study bytes run text
+  as_lrat bytes held (proof_refused bytes' held' one is bare) =
+      subst (λ (b : List ℕ). EndsAsLrat study b run text) (some_same (files proof) bytes' bytes held' held) (record { ends = bare.ends ∙ sym one; refused = λ e. is })
+  as_lrat bytes held (proof_retold bytes' lines held' refutes told) =
+      let said : said_of (exported_formula study) bytes' ≡ of_derivation None =
+      said_accepted (exported_formula study) bytes' refutes.fits (record { lines = lines; read = refutes.read; accepted = refutes.accepted }) in
+      let ends : run.status ≡ 0 = told.found.ends in
+      subst (λ (b : List ℕ). EndsAsLrat study b run text) (some_same (files proof) bytes' bytes held' held) (record {
+        ends = ends ∙ ap (λ (s : Said). s.status) (sym said);
+        refused = λ one. let no : 0 ≡ 1 = sym ends ∙ one in absurd (omega (arith, no));
+      })
+
+  -- ---- a large limit
+
+  enough : 3 ^ variable_count study.size ≤ study.conflicts → Adopts files proof study run text → IsConclusive run
+  enough many (proof_refused bytes held one is bare) = bare_conclusive run 1 (λ no. absurd (omega (arith, no))) bare
+  enough many (proof_retold bytes lines held refutes told) = conclusive study run (Impossible told.core told.story told.witnesses) many (by_verdict told.found)
+
+  enough_row : 3 ^ variable_count study.size ≤ study.conflicts → OverClauses study run text (Adopts files proof study run text) → IsConclusive run
+  enough_row many (clauses_refused fault e t bare) = bare_conclusive run 3 (λ no. absurd (omega (arith, no))) bare
+  enough_row many (clauses_made e r) = enough many r
+
+pub adopted_hold : AdoptedHolds
+adopted_hold files name proof run text bytes study row g held zero_is =
+    adopted_right files proof study run text name bytes g held zero_is (granted files name run text (λ s. Adopts files proof s run text) study g zero_is row)
+
+pub adopted_confirmed : AdoptedAreConfirmed
+adopted_confirmed files name proof run text study row g zero_is fits =
+    let (bytes, lines, held, refutes, told) = retold files proof study run text zero_is (granted files name run text (λ s. Adopts files proof s run text) study g zero_is row) in
+    let f = told.found in
+    let verdict = Impossible told.core told.story told.witnesses in
+    (verdict, f.told, right_judged study text verdict (reportable files name study g) (record { claims_some = f.claims_some; right = f.right; is = told.is }) fits)
+
+pub adopted_as_lrat : AdoptsAsLrat
+adopted_as_lrat files name proof run text bytes study row g none held =
+    as_lrat files proof study run text bytes held (rest_of files name run text (λ s. Adopts files proof s run text) study g none row)
+
+pub enough_adopted : EnoughAdopts
+enough_adopted files name proof run text study row g many =
+    enough_row files proof study run text many (over_study files name run text (λ s. OverClauses s run text (Adopts files proof s run text)) study g row)
+
+-- ---- what `proof` writes is adopted
+
+pub proved_adopted : ProvedAreAdopted
+proved_adopted study proved files name' name proof run' run refutation text row' g' zero_is other row g holds =
+    let none : fault_of study ≡ None =
+    not_faulty study run' refutation (Proves study run' refutation) zero_is (over_study proved name' run' refutation (λ s. OverClauses s run' refutation (Proves s run' refutation)) study g' row') in
+    let (lines, refutes, is) = refuting proved name' study run' refutation g' zero_is other row' in
+    let said = said_of_written study refutation lines (export_read proved name' study g' none) refutes is holds.fits in
+    let ended = adopted_as_lrat files name proof run text refutation study row g none holds.held in
+    ended.ends ∙ ap (λ (s : Said). s.status) said
+
+module _ (study : Question) (refutation : List ℕ) (wrote : Wrote Proof study refutation) (other : refutation ≢ codes "c possible\n")
+    (words : List (List ℕ)) (d : Devices) (run : Run) (files : Files) (name proof : List ℕ) (workers : ℕ) (call : IsCall words d run) (told : d.told ≡ Some files)
+    (asked : request_of words ≡ Some (Adopt name proof workers)) (g : GivesStudy files name study) (holds : Holds files most_proof_bytes proof refutation) where
+  zero_there : (text : List ℕ) → IsAdopted files name proof run text → run.status ≡ 0
+  zero_there text row =
+      proved_adopted study wrote.files files wrote.name name proof wrote.run run refutation text (row_written Proof study refutation wrote) wrote.given wrote.done other row g holds
+
+  adopts_it : AdoptsIt words d run
+  adopts_it = record {
+    ends = λ low. let a = written_at words d run call (Some (Adopt name proof workers)) asked files (are_told told) low in zero_there a.0 a.1;
+    completes = λ calm. elim (settled_row words d run call calm (Some (Adopt name proof workers)) files asked told) [
+      | inl a ↦ inl (zero_there a.0 a.1)
+      | inr seven ↦ inr seven
+    ];
+  }
+
+pub proofs_adopted : WrittenProofsAreAdopted
+proofs_adopted study refutation wrote other words d run files name proof workers call told asked g holds =
+    adopts_it study refutation wrote other words d run files name proof workers call told asked g holds
