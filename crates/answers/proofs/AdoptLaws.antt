@@ -20,7 +20,7 @@ use Rattle.answers.specs.Adopt.{IsRefutedBy, IsRetold, Adopts, proof_refused, pr
 use Rattle.answers.specs.Devices.{Devices}
 use Rattle.answers.specs.Call.{IsCall, are_told}
 use Rattle.answers.specs.Laws.{HasNoFault, Wrote, AdoptsIt, WrittenProofsAreAdopted}
-use Rattle.answers.specs.RowLaws.{IsConclusive, IsAdoptedRight, AdoptedHolds, AdoptedAreConfirmed, EndsAsLrat, AdoptsAsLrat, ProvedAreAdopted, EnoughAdopts}
+use Rattle.answers.specs.RowLaws.{IsConclusive, IsAdoptedRight, AdoptedHolds, WrittenAdoptionsHold, AdoptedAreConfirmed, EndsAsLrat, AdoptsAsLrat, ProvedAreAdopted, EnoughAdopts}
 use Rattle.answers.proofs.RowLemmas.{some_same, over_study, granted}
 use Rattle.answers.proofs.FitLemmas.{right_judged}
 use Rattle.answers.proofs.DecidedLaws.{impossible, conclusive, bare_conclusive}
@@ -81,6 +81,11 @@ module _ (files : Files) (proof : List ℕ) (study : Question) (run : Run) (text
 pub adopted_hold : AdoptedHolds
 adopted_hold files name proof run text bytes study row g held zero_is =
     adopted_right files proof study run text name bytes g held zero_is (granted files name run text (λ s. Adopts files proof s run text) study g zero_is row)
+
+pub adoptions_hold : WrittenAdoptionsHold
+adoptions_hold words d run files name proof bytes workers study call told asked g held zero_is =
+    let a = written_at words d run call (Some (Adopt name proof workers)) asked files (are_told told) (omega (arith, zero_is)) in
+    (a.0, adopted_hold files name proof run a.0 bytes study a.1 g held zero_is, a.2)
 
 pub adopted_confirmed : AdoptedAreConfirmed
 adopted_confirmed files name proof run text study row g zero_is fits =

@@ -7,7 +7,7 @@ mod ClauseLaws
 mod OneAnswer
 mod DeviceLaws
 mod CallLaws
-mod LimitLemmas
+pub mod LimitLemmas
 mod RangeLemmas
 mod ExportLemmas
 mod ConfirmedLaws

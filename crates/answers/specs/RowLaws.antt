@@ -32,7 +32,7 @@ use Rattle.answers.specs.Held.{most_report_bytes, most_proof_bytes, Holds}
 use Rattle.answers.specs.Studies.{GivesStudy}
 use Rattle.answers.specs.Rules.{IsRuleFor, HasNoRule, Claims}
 use Rattle.answers.specs.Grounding.{all_clauses, fault_of}
-use Rattle.words.specs.Words.{Decide, request_of}
+use Rattle.words.specs.Words.{Decide, Adopt, request_of}
 use Rattle.answers.specs.Devices.{Devices}
 use Rattle.answers.specs.Call.{IsCall}
 use Rattle.answers.specs.Check.{judgement}
@@ -191,7 +191,16 @@ AdoptedHolds = (files : Files) (name proof : List ℕ) (run : Run) (text bytes :
     IsAdopted files name proof run text → GivesStudy files name study → files proof ≡ Some bytes →
     run.status ≡ 0 → IsAdoptedRight study bytes run text
 
--- and is, within the limit of reports, confirmed by `check` over the same study
+-- whatever study and proof are read, what a call of `adopt` has written with status 0 holds
+abbrev pub WrittenAdoptionsHold : Type 0
+WrittenAdoptionsHold =
+    (words : List (List ℕ)) (d : Devices) (run : Run) (files : Files) (name proof bytes : List ℕ) (workers : ℕ)
+    (study : Question) →
+    IsCall words d run → d.told ≡ Some files → request_of words ≡ Some (Adopt name proof workers) →
+    GivesStudy files name study → files proof ≡ Some bytes → run.status ≡ 0 →
+    (text : List ℕ) × IsAdoptedRight study bytes run text × Appends d.taken_before d.taken_now text
+
+-- what `adopt` prints with status 0 is, within the limit of reports, confirmed by `check` over the same study
 abbrev pub AdoptedAreConfirmed : Type 0
 AdoptedAreConfirmed =
     (files : Files) (name proof : List ℕ) (run : Run) (text : List ℕ) (study : Question) →

@@ -1,6 +1,6 @@
 //! What follows from the table of answers. Each law is the contract of a function that does nothing.
 
-ghost use Rattle.answers.specs.RowLaws.{AdoptedAreConfirmed, AdoptedHolds, AdoptsAsLrat, ConfirmedIsUnsatisfiable, DecidedAreConfirmed, DecidedHolds, EnoughAdopts, EnoughDecides, EnoughProves, ExportedSaysStudy, ProvedAreAdopted, ProvedAreConfirmed, ProvedHolds, RowsAreOne, SampledHolds, WrittenDecisionsHold};
+ghost use Rattle.answers.specs.RowLaws.{AdoptedAreConfirmed, AdoptedHolds, AdoptsAsLrat, ConfirmedIsUnsatisfiable, DecidedAreConfirmed, DecidedHolds, EnoughAdopts, EnoughDecides, EnoughProves, ExportedSaysStudy, ProvedAreAdopted, ProvedAreConfirmed, ProvedHolds, RowsAreOne, SampledHolds, WrittenAdoptionsHold, WrittenDecisionsHold};
 ghost use Rattle.answers.specs.Laws.{CheckedAreRight, ConfirmedHolds, ChecksAreAnswered, AnswersAreOne, UsageIsExact, LibraryIsWritten, RefusedLeavesUnopened, OtherWordsTouchNone, CallsAreComplete, WrittenProofsAreAdopted, WrittenProofsAreConfirmed};
 
 /// `check` confirms exactly the reports of right verdicts that claim something, within its limit.
@@ -107,6 +107,11 @@ pub fn written_proofs_are_confirmed()
 /// of its core.
 pub fn adopted_holds()
     ensures { AdoptedHolds }
+{}
+
+/// The same of what was written by a call of `adopt`.
+pub fn written_adoptions_hold()
+    ensures { WrittenAdoptionsHold }
 {}
 
 /// What `adopt` prints is, within the limit of reports, confirmed by `check`.

@@ -1,7 +1,8 @@
 -- `adopt`, from a derivation that was read to its report.
-use Rattle.std.proofs.Common.{◌≡◌, ◌≢◌, ◌∙◌, refl, sym, ap, subst, true, ℕ, List, [], ◌∷◌, Option, None, Some, IfSome, Result, Ok, Err, IfOk}
+use Rattle.std.proofs.Common.{◌≡◌, ◌≢◌, ◌∙◌, refl, sym, ap, subst, true, ℕ, List, [], ◌∷◌, Option, None, Some, IfSome, Result, Ok, Err, IfOk, ◌≤◌, arith}
 use Rattle.std.proofs.lemmas.Bool.{and_from}
 use Rattle.edge.specs.Shelf.{Files}
+use Rattle.vocab.specs.Size.{Extent}
 use Rattle.vocab.specs.Study.{Question}
 use Rattle.cnf.specs.declared.derivations.Line.{Line}
 use Rattle.cnf.specs.declared.derivations.LineFault.{LineFault}
@@ -31,6 +32,7 @@ use Rattle.bench.specs.Answers.{HasText, run_of, text_of}
 use Rattle.bench.specs.Derived.{IsDerivation, RefusesProof}
 use Rattle.bench.specs.Opened.{IsRead, Refuses}
 use Rattle.bench.specs.Retold.{IsJudged, lines_retold, line_refused}
+use Rattle.answers.proofs.LimitLemmas.{variables_few}
 use Rattle.bench.proofs.CheckLemmas.{given}
 use Rattle.bench.proofs.ClauseLemmas.{no_clauses}
 use Rattle.bench.proofs.DecideLemmas.{reported_text}
@@ -63,6 +65,14 @@ module _ (study : Question) (lines : List Line) (a : Adopted) (taken : IsTaken s
   report_text whole = reported_text study a.logs (Impossible a.core a.story a.witnesses) whole (right, (taken.told.tidy, taken.told.logged))
 
 -- ---- the proof
+
+-- a kind of the size of a study has its variables
+pub count_is : (study : Question) (size : Extent) (variables : ℕ) → study.size ≡ size → variables ≡ variable_count size → variables ≡ variable_count study.size
+count_is study size variables same is = is ∙ ap (λ (s : Extent). variable_count s) (sym same)
+
+-- which are few enough for a proof to be read over them
+pub variables_short : (study : Question) → IsReportable study → (variables : ℕ) → variables ≡ variable_count study.size → variables ≤ 10000000
+variables_short study whole variables is = let few = variables_few study.size whole.size whole.kind in omega (arith, few, is)
 
 module _ (told : Option Files) (proof : List ℕ) (study : Question) (variables : ℕ) (count : variables ≡ variable_count study.size) where
   -- a derivation that was read is judged

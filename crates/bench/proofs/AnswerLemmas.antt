@@ -37,6 +37,7 @@ may_want_memory (Some (Export study workers)) = refl
 may_want_memory (Some (Proof study workers)) = refl
 may_want_memory (Some (Lrat cnf proof)) = refl
 may_want_memory (Some (Sample number)) = refl
+may_want_memory (Some (Adopt study proof workers)) = refl
 
 pub may_be_cut : (request : Option Request) → IsTrue (list_any (λ n. n == 6) (statuses_of request))
 may_be_cut None = refl
@@ -47,6 +48,7 @@ may_be_cut (Some (Export study workers)) = refl
 may_be_cut (Some (Proof study workers)) = refl
 may_be_cut (Some (Lrat cnf proof)) = refl
 may_be_cut (Some (Sample number)) = refl
+may_be_cut (Some (Adopt study proof workers)) = refl
 
 module _ (request : Option Request) (told : Option Files) (left : Files) (faults : List ℕ → ℕ) where
   -- want of memory, where the shelf is as it was

@@ -4,7 +4,7 @@ use Rattle.clap.specs.Words.{Text}
 use Rattle.clap.proofs.OnLiterals.{clap_on_literals}
 use Rattle.words.specs.Values.{number_within, kind_of}
 use Rattle.words.specs.Words.{Decide, Check, Export, Proof, Lrat, Axioms, Sample, Adopt, request_of}
-use Rattle.words.specs.Laws.{IsPlain, PlainWords, WorkersWords}
+use Rattle.word_laws.specs.Laws.{IsPlain, PlainWords, WorkersWords}
 
 decide_read : (word : Text) → IsPlain word → request_of (codes "decide" ∷ word ∷ []) ≡ Some (Decide word 1)
 unfolding clap_on_literals request_of

@@ -2,7 +2,7 @@
 use Rattle.std.proofs.Common.{refl}
 use Rattle.clap.proofs.OnLiterals.{clap_on_literals}
 use Rattle.words.specs.Words.{request_of}
-use Rattle.words.specs.Laws.{OddWords}
+use Rattle.word_laws.specs.Laws.{OddWords}
 
 pub odd : OddWords
 unfolding clap_on_literals request_of

@@ -1,0 +1,2 @@
+mod OddWordLemmas
+mod WordLemmas
