@@ -3,8 +3,8 @@ use Rattle.std.specs.Prelude.{◌≡◌, ◌≢◌}
 use Rattle.verdicts.specs.declared.verdicts.Verdict.TheVariants.{Undecided}
 use Rattle.verdicts.specs.Judge.{Answer, Confirmed}
 use Rattle.verdicts.specs.Words.{answer_text}
-use Rattle.report.specs.declared.files.Worth.{Worth}
-use Rattle.report.specs.Files.{IsWorth}
+use Rattle.report_files.specs.declared.files.Worth.{Worth}
+use Rattle.report_files.specs.Files.{IsWorth}
 use Rattle.answer_text.specs.Said.{worth_text}
 
 -- what is said of a report is the line of the answer that its worth stands for; no report of an undecided search is confirmed

@@ -4,8 +4,8 @@ use Rattle.verdicts.specs.Numbers.{number_text}
 use Rattle.verdicts.specs.Words.{refusal_text}
 use Rattle.report_lines.specs.declared.places.Confirmed.{Confirmed}
 use Rattle.report_lines.specs.declared.places.Confirmed.TheVariants.{Possible, Impossible}
-use Rattle.report.specs.declared.files.Worth.{Worth}
-use Rattle.report.specs.declared.files.Worth.TheVariants as worth
+use Rattle.report_files.specs.declared.files.Worth.{Worth}
+use Rattle.report_files.specs.declared.files.Worth.TheVariants as worth
 
 -- the line of a report that is confirmed
 abbrev pub confirmed_text : Confirmed → List ℕ

@@ -3,7 +3,7 @@
 use crate::{LibraryLines, StudyLine, WorthLine, laws};
 use edge::{Failed, MemorySink, Sink};
 use lists::Items;
-use report::{Confirmed, Worth};
+use report_files::{Confirmed, Worth};
 use sorts::SortFault;
 use std::alloc::Global;
 use std::test::Fail;

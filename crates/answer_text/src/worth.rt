@@ -7,7 +7,7 @@ ghost use Rattle.verdicts.specs.Words.{refusal_text};
 ghost use Rattle.answer_text.specs.Said.{confirmed_text, worth_text};
 
 use edge::{Failed, Sink};
-use report::{Confirmed, Worth};
+use report_files::{Confirmed, Worth};
 use texts::{Number, Page, Raw, Text, Two};
 use verdicts::Refusal;
 use vocab::Name;

@@ -10,9 +10,9 @@ use Rattle.vocab.specs.Study.{Question}
 use Rattle.verdicts.specs.declared.verdicts.Verdict.TheVariants.{Possible, Impossible, Undecided}
 use Rattle.verdicts.specs.Judge.{Answer as Judgement, Confirmed, Faulty, TooLong}
 use Rattle.verdicts.specs.Words.{answer_text}
-use Rattle.report.specs.declared.files.Worth.{Worth}
-use Rattle.report.specs.declared.files.Worth.TheVariants as worth
-use Rattle.report.specs.Files.{IsWorth, IsWorthOf}
+use Rattle.report_files.specs.declared.files.Worth.{Worth}
+use Rattle.report_files.specs.declared.files.Worth.TheVariants as worth
+use Rattle.report_files.specs.Files.{IsWorth, IsWorthOf}
 use Rattle.words.specs.Words.{Check}
 use Rattle.answers.specs.declared.runs.Run.{Run}
 use Rattle.answers.specs.Runs.{IsBare}

@@ -1,8 +1,8 @@
 -- What is said with an answer: its status, what its search found, and its text.
 use Rattle.std.specs.Prelude.{◌≡◌, ◌≢◌, ℕ, List, [], codes, Option, Some, None, IsTrue}
 use Rattle.vocab.specs.declared.kinds.Kind.TheVariants.{Sets}
-use Rattle.report.specs.declared.files.Worth.{Worth}
-use Rattle.report.specs.declared.files.Worth.TheVariants as worth
+use Rattle.report_files.specs.declared.files.Worth.{Worth}
+use Rattle.report_files.specs.declared.files.Worth.TheVariants as worth
 use Rattle.search_logs.specs.declared.logs.SearchLog.{SearchLog}
 use Rattle.verdicts.specs.declared.verdicts.Verdict.{Verdict}
 use Rattle.verdicts.specs.declared.verdicts.Verdict.TheVariants.{Undecided}

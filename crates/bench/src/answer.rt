@@ -17,7 +17,7 @@ use cnf::{Derivation, LineFault};
 use edge::{Failed, Sink};
 use outcomes::{ChoiceKind, RankingKind};
 use profiles::Space;
-use report::Worth;
+use report_files::Worth;
 use report_text::pour_verdict;
 use search_logs::Logs;
 use std::alloc::Global;

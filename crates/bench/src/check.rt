@@ -4,7 +4,7 @@ ghost use Rattle.std.specs.Prelude.{◌≡◌, ◌≢◌, ◌≤◌, Some, IfSom
 ghost use Rattle.edge.specs.Faults.{Rose};
 ghost use Rattle.edge.specs.Shelf.{Files, NoneFell, OthersStay};
 ghost use Rattle.vocab.specs.declared.kinds.Kind.TheVariants.{Sets};
-ghost use Rattle.report.specs.Files.{IsWorthOf};
+ghost use Rattle.report_files.specs.Files.{IsWorthOf};
 ghost use Rattle.words.specs.Words.{Check};
 ghost use Rattle.answers.specs.Check.{IsJudged};
 ghost use Rattle.bench.specs.Answers.{HasText, run_of, status_of, text_of};
@@ -15,7 +15,7 @@ use crate::studies::{Opened, open_study};
 use edge::{Gate, Shelf};
 use outcomes::{ChoiceKind, RankingKind};
 use profiles::Space;
-use report::{FileFault, Worth, check_file};
+use report_files::{FileFault, Worth, check_file};
 use std::alloc::Global;
 use std::thread::Threads;
 use vocab::{Kind, Study};

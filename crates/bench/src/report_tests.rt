@@ -5,7 +5,7 @@ use edge::{Gate, Open};
 use lists::NoMemory;
 use outcomes::ChoiceKind;
 use profiles::Space;
-use report::{Confirmed, check_report};
+use report_files::{Confirmed, check_report};
 use std::alloc::Global;
 use std::sync::atomic::{AtomicU64, Ordering};
 use std::test::Fail;

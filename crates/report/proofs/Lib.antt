@@ -1,7 +1,3 @@
-pub mod PieceLemmas
-pub mod ReaderLemmas
-pub mod FileLemmas
-pub mod WorthLemmas
 pub mod TableLineLemmas
 pub mod TakingLemmas
 pub mod CheckerLemmas

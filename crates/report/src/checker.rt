@@ -39,8 +39,8 @@ fn end_of(place: Place, rest: &[u8], line: u32) -> Result<Confirmed, ReportFault
 /// every call.
 #[derive(Drop)]
 pub struct Checker<'a, K: OutcomeKind> {
-    pub(crate) subject: Subject<'a, K>,
-    pub(crate) progress: Progress,
+    pub subject: Subject<'a, K>,
+    pub progress: Progress,
 }
 
 impl<'a, K: OutcomeKind> Checker<'a, K> {
@@ -122,7 +122,7 @@ impl<'a, K: OutcomeKind> Checker<'a, K> {
     }
 
     /// What is answered of the report that has these lines, each with its line end, and then the rest.
-    pub(crate) fn conclude(&self, rest: &[u8]) -> Result<Confirmed, ReportFault>
+    pub fn conclude(&self, rest: &[u8]) -> Result<Confirmed, ReportFault>
         requires room { self.now.progress.lines ≤ 4294967294 }
         ensures value { (lines : List (List ℕ)) → StandsFor self.now.subject.study.now self.now.progress lines →
             Concludes (conclude (length lines + 1) rest.now (judge self.now.subject.study.now lines)) result }

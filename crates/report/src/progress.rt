@@ -5,8 +5,8 @@ use crate::readings::Reading;
 
 /// What a checker has of the lines that it was given: what they have given, how many they are, and their first fault.
 #[derive(Drop)]
-pub(crate) struct Progress {
+pub struct Progress {
     pub(crate) reading: Reading,
-    pub(crate) lines: u32,
-    pub(crate) fault: Option<ReportFault>,
+    pub lines: u32,
+    pub fault: Option<ReportFault>,
 }

@@ -10,9 +10,9 @@ use vocab::Study;
 #[derive(Drop)]
 pub struct Subject<'a, K: OutcomeKind> {
     pub(crate) alloc: Global,
-    pub(crate) kind: &'a K,
-    pub(crate) study: &'a Study,
-    pub(crate) workers: u8,
+    pub kind: &'a K,
+    pub study: &'a Study,
+    pub workers: u8,
     ghost some: { 1 ≤ workers },
     ghost few: { workers ≤ 16 },
     ghost size: { study.now.size ≡ K.size kind.now },

@@ -1,0 +1,73 @@
+-- What a reader has taken of a file.
+use Rattle.std.proofs.Common.{◌≡◌, refl, sym, ap, ◌∙◌, subst, ℕ, zero, suc, ◌+◌, ◌-◌, ◌<◌, ◌≤◌, List, [], ◌∷◌, ◌++◌, length, take, drop, arith, append_assoc, append-nil, Option, Some, None, take-append-drop, length-append}
+use Rattle.std.specs.Io.KnownBytes.{Consumes}
+use Rattle.edge.specs.Shelf.{Files, OthersStay, NoneFell}
+use Rattle.edge.proofs.Known.{Consumes-more}
+use Rattle.vocab.specs.Study.{Question}
+use Rattle.report.specs.declared.progress.Progress.{Progress}
+use Rattle.report_files.specs.Files.{HasTaken, most_report_bytes}
+use Rattle.report_files.specs.Pieces.{StandsForText}
+
+-- as much was read as there is no room for any more
+pub record HasReadSoFar (name : List ℕ) (left_before left_now : Files) (files_before files_now : Option Files) (faults_before faults_now : List ℕ → ℕ) (room : ℕ) (bytes : List ℕ) : Type 0 where
+  pub count : length bytes + room ≡ most_report_bytes
+  pub consumed : Consumes (left_before name) (left_now name) bytes
+  pub same : files_now ≡ files_before
+  pub others : OthersStay left_before left_now name
+  pub none_fell : NoneFell faults_before faults_now
+
+pub consumes_none : (known : Option (List ℕ)) → Consumes known known []
+consumes_none None = tt
+consumes_none (Some xs) = refl
+
+pub taken_none : (study : Question) (p : Progress) (held : List ℕ) → HasTaken study p p held held []
+taken_none study p held = λ text stands. subst (λ (t : List ℕ). StandsForText study p held t) (sym (append-nil text)) stands
+
+pub taken_more : (study : Question) (p q r : Progress) (held now next xs ys : List ℕ)
+    → HasTaken study p q held now xs → HasTaken study q r now next ys → HasTaken study p r held next (xs ++ ys)
+taken_more study p q r held now next xs ys one two = λ text stands. subst (λ (t : List ℕ). StandsForText study r next t) (append_assoc text xs ys) (two (text ++ xs) (one text stands))
+
+-- nothing came of a read
+pub consumes_end : (before now next : Option (List ℕ)) (bytes chunk : List ℕ) (count : ℕ) → count ≡ 0 → Consumes before now bytes → Consumes now next (take count chunk) → Consumes before next bytes
+consumes_end before now next bytes chunk count e h k =
+    subst (λ (xs : List ℕ). Consumes before next xs) (append-nil bytes) (Consumes-more before now next bytes [] h (subst (λ n. Consumes now next (take n chunk)) e k))
+
+take_take : (n m : ℕ) (xs : List ℕ) → n ≤ m → take n (take m xs) ≡ take n xs
+take_take zero m xs h = refl
+take_take (suc n) zero xs h = absurd (let bad : ⊥ = omega (arith, h) in bad)
+take_take (suc n) (suc m) [] h = refl
+take_take (suc n) (suc m) (x ∷ xs) h = ap (λ ys. x ∷ ys) (take_take n m xs (omega (arith, h)))
+
+take_part : (n m : ℕ) (xs : List ℕ) → n ≤ m → take m xs ≡ take n xs ++ drop n (take m xs)
+take_part n m xs h = sym (take-append-drop n (take m xs)) ∙ ap (λ ys. ys ++ drop n (take m xs)) (take_take n m xs h)
+
+length_taken : (n : ℕ) (xs : List ℕ) → n ≤ length xs → length (take n xs) ≡ n
+length_taken zero xs h = refl
+length_taken (suc n) [] h = absurd (let bad : ⊥ = omega (arith, h) in bad)
+length_taken (suc n) (x ∷ xs) h = ap suc (length_taken n xs (omega (arith, h)))
+
+-- more came of a read than there was room for
+pub consumes_too_many : (before now next : Option (List ℕ)) (bytes chunk : List ℕ) (count room : ℕ) → room < count → count ≤ length chunk → length bytes + room ≡ most_report_bytes
+    → Consumes before now bytes → Consumes now next (take count chunk)
+    → (more : List ℕ) × Consumes before next ((bytes ++ take room chunk) ++ more) × (0 < length more) × (length (bytes ++ take room chunk) ≡ most_report_bytes)
+consumes_too_many before now next bytes chunk count room less within total h k =
+    let parts : take count chunk ≡ take room chunk ++ drop room (take count chunk) = take_part room count chunk (omega (arith, less)) in
+    let whole : length (take count chunk) ≡ count = length_taken count chunk within in
+    let front : length (take room chunk) ≡ room = length_taken room chunk (omega (arith, less, within)) in
+    let sum : length (take count chunk) ≡ length (take room chunk) + length (drop room (take count chunk)) = ap length parts ∙ length-append (take room chunk) (drop room (take count chunk)) in
+    let total_now : length (bytes ++ take room chunk) ≡ length bytes + length (take room chunk) = length-append bytes (take room chunk) in (
+      drop room (take count chunk),
+      subst (λ (xs : List ℕ). Consumes before next xs) (ap (λ ys. bytes ++ ys) parts ∙ sym (append_assoc bytes (take room chunk) (drop room (take count chunk)))) (Consumes-more before now next bytes (take count chunk) h k),
+      omega (arith, sum, whole, front, less),
+      omega (arith, total_now, front, total),
+    )
+
+-- what came of a read is counted
+pub count_more : (bytes chunk : List ℕ) (count room : ℕ) → count ≤ room → count ≤ length chunk → length bytes + room ≡ most_report_bytes → length (bytes ++ take count chunk) + (room - count) ≡ most_report_bytes
+count_more bytes chunk count room fits within total =
+    let front : length (take count chunk) ≡ count = length_taken count chunk within in
+    let sum : length (bytes ++ take count chunk) ≡ length bytes + length (take count chunk) = length-append bytes (take count chunk) in
+    omega (arith, sum, front, total, fits)
+
+pub more_lines : (m n : ℕ) (bytes more : List ℕ) → n ≤ length bytes → m ≤ n + length more → m ≤ length (bytes ++ more)
+more_lines m n bytes more h k = let sum : length (bytes ++ more) ≡ length bytes + length more = length-append bytes more in omega (arith, sum, h, k)

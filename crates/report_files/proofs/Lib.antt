@@ -1,0 +1,4 @@
+pub mod PieceLemmas
+pub mod ReaderLemmas
+pub mod FileLemmas
+pub mod WorthLemmas

@@ -1,0 +1,157 @@
+-- What a report in a file is worth.
+use Rattle.std.proofs.Common.{◌≡◌, ◌≢◌, refl, sym, ap, ◌∙◌, subst, ℕ, zero, suc, ◌+◌, ◌<◌, ◌≤◌, inl, inr, true, false, List, [], ◌∷◌, ◌++◌, length, take, arith, cond, append-nil, append_assoc, Option, Some, None, is_some, lt-ltb, true≢false, Result, Ok, Err, length-append}
+use Rattle.std.specs.Prelude.{IfSome, IsSome}
+use Rattle.edge.specs.Shelf.{Files}
+use Rattle.std.proofs.lemmas.Bool.{cases_lt, le-ltb}
+use Rattle.std.specs.Io.KnownBytes.{Consumes, IsAtEnd}
+use Rattle.vocab.specs.Study.{Question}
+use Rattle.verdicts.specs.declared.refusals.Refusal.{Refusal}
+use Rattle.verdicts.specs.Lines.{Line}
+use Rattle.verdicts.specs.Places.{Standing, start}
+use Rattle.verdicts.specs.Faults.{fault_of}
+use Rattle.verdicts.specs.Judge.{Told, Good, Refused, advance, read_line, settle_at, settle, judge_from, judge, pieces, front, final, Answer, Confirmed as IsConfirmed, Faulty, TooLong, conclude, answer, beyond, answer_within}
+use Rattle.report_lines.specs.declared.places.Confirmed.{Confirmed}
+use Rattle.report.specs.declared.faults.ReportFault.{ReportFault}
+use Rattle.report.specs.declared.faults.ReportFault.TheVariants.{Line as AtLine}
+use Rattle.report_files.specs.declared.files.Ending.{Ending}
+use Rattle.report_files.specs.declared.files.Ending.TheVariants as ending
+use Rattle.report_files.specs.declared.files.Worth.{Worth}
+use Rattle.report_files.specs.declared.files.Worth.TheVariants as worth
+use Rattle.report.specs.declared.progress.Progress.{Progress}
+use Rattle.report.specs.Answers.{Concludes}
+use Rattle.report_files.specs.Files.{IsEndedAt, IsWorth, IsWorthOf, most_report_bytes}
+use Rattle.report.specs.Held.{StandsAs}
+use Rattle.report_files.specs.Pieces.{StandsForText}
+use Rattle.report_files.proofs.PieceLemmas.{front_more}
+
+-- ---- a fault stays
+
+judge_more : (study : Question) (n : ℕ) (s : Standing) (xs ys : List (List ℕ)) (m : ℕ) (word : Refusal) → judge_from study n s xs ≡ Refused m word → judge_from study n s (xs ++ ys) ≡ Refused m word
+judge_more study n s [] ys m word e = absurd (cc)
+judge_more study n s (x ∷ xs) ys m word e = by_line (read_line study s x) e (λ next h. judge_more study (n + 1) next xs ys m word h)
+  where
+    by_fault : (l : Line) (o : Option Refusal) → settle_at study n s l o (λ next. judge_from study (n + 1) next xs) ≡ Refused m word → ((next : Standing) → judge_from study (n + 1) next xs ≡ Refused m word → judge_from study (n + 1) next (xs ++ ys) ≡ Refused m word) → settle_at study n s l o (λ next. judge_from study (n + 1) next (xs ++ ys)) ≡ Refused m word
+    by_fault l None h later = later (advance study s l) h
+    by_fault l (Some w) h later = h
+
+    by_line : (o : Option Line) → settle study n s o (λ next. judge_from study (n + 1) next xs) ≡ Refused m word → ((next : Standing) → judge_from study (n + 1) next xs ≡ Refused m word → judge_from study (n + 1) next (xs ++ ys) ≡ Refused m word) → settle study n s o (λ next. judge_from study (n + 1) next (xs ++ ys)) ≡ Refused m word
+    by_line None h later = h
+    by_line (Some l) h later = by_fault l (fault_of study s l) h later
+
+fault_stays : (study : Question) (text more : List ℕ) (m : ℕ) (word : Refusal) → judge study (front (pieces text)) ≡ Refused m word → judge study (front (pieces (text ++ more))) ≡ Refused m word
+fault_stays study text more m word e =
+    let f = front_more text more in
+    ap (judge study) f.1 ∙ judge_more study 1 start (front (pieces text)) f.0 m word e
+
+-- ---- by length
+
+short_answer : (study : Question) (held : List ℕ) → length held ≤ most_report_bytes → answer_within most_report_bytes study held ≡ answer study held
+short_answer study held h = ap (λ b. cond b (beyond (judge study (front (pieces (take most_report_bytes held))))) (answer study held)) (le-ltb most_report_bytes (length held) h)
+
+long_answer : (study : Question) (held : List ℕ) → most_report_bytes < length held → answer_within most_report_bytes study held ≡ beyond (judge study (front (pieces (take most_report_bytes held))))
+long_answer study held h = ap (λ b. cond b (beyond (judge study (front (pieces (take most_report_bytes held))))) (answer study held)) (lt-ltb most_report_bytes (length held) h)
+
+-- the first bytes of a text have a faulty line
+faulty_answer : (study : Question) (bytes rest : List ℕ) (m : ℕ) (word : Refusal) → length bytes ≤ most_report_bytes → judge study (front (pieces bytes)) ≡ Refused m word → answer_within most_report_bytes study (bytes ++ rest) ≡ Faulty m word
+faulty_answer study bytes rest m word h e = elim (cases_lt most_report_bytes (length (bytes ++ rest))) [
+  | inl long ↦
+      let part = front_part bytes rest most_report_bytes h in
+      long_answer study (bytes ++ rest) long ∙ ap beyond (ap (λ t. judge study (front (pieces t))) part.1 ∙ fault_stays study bytes part.0 m word e)
+  | inr short ↦ short_answer study (bytes ++ rest) short ∙ ap (λ told. conclude (length (pieces (bytes ++ rest))) (final (pieces (bytes ++ rest))) told) (fault_stays study bytes rest m word e)
+]
+  where
+    front_part : (xs ys : List ℕ) (n : ℕ) → length xs ≤ n → (zs : List ℕ) × (take n (xs ++ ys) ≡ xs ++ zs)
+    front_part [] ys n h = (take n ys, refl)
+    front_part (x ∷ xs) ys n h = by_n n h (λ m l. front_part xs ys m l)
+      where
+        by_n : (n : ℕ) → length (x ∷ xs) ≤ n → ((m : ℕ) → length xs ≤ m → (zs : List ℕ) × (take m (xs ++ ys) ≡ xs ++ zs)) → (zs : List ℕ) × (take n (x ∷ (xs ++ ys)) ≡ x ∷ (xs ++ zs))
+        by_n zero h later = absurd (let bad : ⊥ = omega (arith, h) in bad)
+        by_n (suc m) h later = let r = later m (omega (arith, h)) in (r.0, ap (λ ws. x ∷ ws) r.1)
+
+-- ---- where the reading ended
+
+consumed_front : (left : Option (List ℕ)) (bytes held : List ℕ) → Consumes (Some held) left bytes → (rest : List ℕ) × (held ≡ bytes ++ rest)
+consumed_front None bytes held h = absurd h
+consumed_front (Some rest) bytes held h = (rest, h)
+
+whole_is : (known left : Option (List ℕ)) (fault : Option ReportFault) (bytes held : List ℕ) → IsEndedAt ending.Whole known left fault bytes → known ≡ Some held → (held ≡ bytes) × (length bytes ≤ most_report_bytes)
+whole_is known left fault bytes held h e = (at_end left (subst (λ k. Consumes k left bytes) e h.0) h.1, h.2)
+  where
+    at_end : (left : Option (List ℕ)) → Consumes (Some held) left bytes → IsAtEnd left → held ≡ bytes
+    at_end None c i = absurd c
+    at_end (Some rest) c i = c ∙ ap (λ r. bytes ++ r) i ∙ append-nil bytes
+
+pub concludes_ok : (a : Answer) (c : Confirmed) → Concludes a (Ok c) → IsWorth a (worth.Confirmed c)
+concludes_ok (IsConfirmed verdict) c h = let same : c ≡ _ = cc in ap worth.Confirmed same
+concludes_ok (Faulty n word) c h = absurd (cc)
+concludes_ok TooLong c h = absurd h
+
+pub concludes_line : (a : Answer) (m : ℕ) (word : Refusal) → Concludes a (Err (AtLine m word)) → IsWorth a (worth.Faulty m word)
+concludes_line (IsConfirmed verdict) m word h = absurd (cc)
+concludes_line (Faulty n w) m word h = let one : m ≡ n = cc in let two : word ≡ w = cc in ap (λ k. worth.Faulty k word) one ∙ ap (worth.Faulty n) two
+concludes_line TooLong m word h = absurd h
+
+module _ (study : Question) (p : Progress) (now : List ℕ) where
+  -- all was read
+  pub whole_worth : (e : Ending) (known left : Option (List ℕ)) (bytes held : List ℕ) (result : Result Confirmed ReportFault) (w : Worth)
+      → e ≡ ending.Whole → IsEndedAt e known left p.fault bytes → known ≡ Some held
+      → (Concludes (answer study bytes) result) → ((a : Answer) → Concludes a result → IsWorth a w) → IsWorth (answer_within most_report_bytes study held) w
+  whole_worth e known left bytes held result w same ended k concluded worth_of =
+      let parts = whole_is known left p.fault bytes held (subst (λ x. IsEndedAt x known left p.fault bytes) same ended) k in
+      let short : length held ≤ most_report_bytes = subst (λ t. length t ≤ most_report_bytes) (sym parts.0) parts.1 in
+      subst (λ a. IsWorth a w) (sym (short_answer study held short ∙ ap (answer study) parts.0)) (worth_of (answer study bytes) concluded)
+
+  -- a line is faulty
+  refused_is : (told : Told) (m : ℕ) (word : Refusal) → p.fault ≡ Some (AtLine m word) → StandsAs study p.fault p.reading told → told ≡ Refused m word
+  refused_is (Good s) m word e h = absurd (cc)
+  refused_is (Refused k w) m word e h = let one : k ≡ m = cc in let two : w ≡ word = cc in ap (λ i. Refused i w) one ∙ ap (Refused m) two
+
+  prefix_of : (e : Ending) (known left : Option (List ℕ)) (bytes held : List ℕ) → IsEndedAt e known left p.fault bytes → known ≡ Some held → (rest : List ℕ) × (held ≡ bytes ++ rest) × (length bytes ≤ most_report_bytes)
+  prefix_of ending.Whole known left bytes held h k = let f = consumed_front left bytes held (subst (λ x. Consumes x left bytes) k h.0) in (f.0, f.1, h.2)
+  prefix_of ending.Faulty known left bytes held h k = let f = consumed_front left bytes held (subst (λ x. Consumes x left bytes) k h.0) in (f.0, f.1, h.1)
+  prefix_of ending.TooLong known left bytes held h k =
+      let f = consumed_front left (bytes ++ h.0) held (subst (λ x. Consumes x left (bytes ++ h.0)) k h.1) in
+      (h.0 ++ f.0, f.1 ∙ append_assoc bytes h.0 f.0, omega (arith, h.3))
+
+  pub faulty_worth : (e : Ending) (known left : Option (List ℕ)) (bytes held : List ℕ) (m : ℕ) (word : Refusal)
+      → p.fault ≡ Some (AtLine m word) → IsEndedAt e known left p.fault bytes → known ≡ Some held → StandsForText study p now bytes
+      → IsWorth (answer_within most_report_bytes study held) (worth.Faulty m word)
+  faulty_worth e known left bytes held m word f ended k stands =
+      let parts = prefix_of e known left bytes held ended k in
+      let told = refused_is (judge study (front (pieces bytes))) m word f stands.0.1 in
+      subst (λ a. IsWorth a (worth.Faulty m word)) (sym (ap (answer_within most_report_bytes study) parts.1 ∙ faulty_answer study bytes parts.0 m word parts.2 told)) refl
+
+  -- the file goes on beyond the limit, and no line is faulty
+  faultless_is : (told : Told) → p.fault ≡ None → StandsAs study p.fault p.reading told → beyond told ≡ TooLong
+  faultless_is (Good s) e h = refl
+  faultless_is (Refused m word) e h = absurd (cc)
+
+  take_whole : (xs ys : List ℕ) (k : ℕ) → length xs ≡ k → take k (xs ++ ys) ≡ xs
+  take_whole [] ys k e = ap (λ i. take i ys) (sym e)
+  take_whole (x ∷ xs) ys k e = ap (λ i. take i (x ∷ (xs ++ ys))) (sym e) ∙ ap (λ zs. x ∷ zs) (take_whole xs ys (length xs) refl)
+
+  pub long_worth : (e : Ending) (known left : Option (List ℕ)) (bytes held : List ℕ)
+      → p.fault ≡ None → e ≢ ending.Whole → IsEndedAt e known left p.fault bytes → known ≡ Some held → StandsForText study p now bytes
+      → IsWorth (answer_within most_report_bytes study held) worth.TooLong
+  long_worth ending.Whole known left bytes held f differs ended k stands = absurd (differs refl)
+  long_worth ending.Faulty known left bytes held f differs ended k stands = absurd (let bad : false ≡ true = ap is_some (sym f) ∙ ended.2 in true≢false (sym bad))
+  long_worth ending.TooLong known left bytes held f differs ended k stands =
+      let front_of = consumed_front left (bytes ++ ended.0) held (subst (λ x. Consumes x left (bytes ++ ended.0)) k ended.1) in
+      let split : held ≡ bytes ++ (ended.0 ++ front_of.0) = front_of.1 ∙ append_assoc bytes ended.0 front_of.0 in
+      let sum : length held ≡ length bytes + length (ended.0 ++ front_of.0) = ap length split ∙ length-append bytes (ended.0 ++ front_of.0) in
+      let more : length (ended.0 ++ front_of.0) ≡ length ended.0 + length front_of.0 = length-append ended.0 front_of.0 in
+      let long : most_report_bytes < length held = omega (arith, sum, more, ended.2, ended.3) in
+      let front_is : take most_report_bytes held ≡ bytes = ap (take most_report_bytes) split ∙ take_whole bytes (ended.0 ++ front_of.0) most_report_bytes ended.3 in
+      subst (λ a. IsWorth a worth.TooLong) (sym (long_answer study held long ∙ ap (λ t. beyond (judge study (front (pieces t)))) front_is ∙ faultless_is (judge study (front (pieces bytes))) f stands.0.1)) refl
+
+-- the file that is told to be held is worth this
+pub file_worth : (told : Option Files) (study : Question) (name : List ℕ) (first : Option (List ℕ)) (w : Worth)
+    → IfSome told (λ files. IsSome (files name)) → IfSome told (λ files. first ≡ files name)
+    → ((held : List ℕ) → first ≡ Some held → IsWorth (answer_within most_report_bytes study held) w)
+    → IfSome told (λ files. IsWorthOf study files name w)
+file_worth None study name first w h s worth_of = tt
+file_worth (Some files) study name first w h s worth_of = by_held (files name) refl h
+  where
+    by_held : (o : Option (List ℕ)) → files name ≡ o → IsSome o → IsWorthOf study files name w
+    by_held None same some = absurd (true≢false (sym some))
+    by_held (Some held) same some = (held, same, worth_of held (s ∙ same))

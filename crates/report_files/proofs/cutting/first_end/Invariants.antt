@@ -1,0 +1,6 @@
+use Rattle.std.proofs.Common.{◌≡◌, true, take}
+use Rattle.report_files.specs.Cutting.{has_no_end}
+use Rattle.report_files.proofs.cutting.first_end.Given as goal
+
+abbrev pub invariant-loop-place : goal.invariant-loop-place
+invariant-loop-place l = has_no_end (take l.place l.text) ≡ true

@@ -1,0 +1,24 @@
+use Rattle.std.proofs.Common.{◌≡◌, sym, ap, subst, []}
+use Rattle.std.specs.Prelude.{IfSome}
+use Rattle.vocab.specs.Study.{Question}
+use Rattle.verdicts.specs.Judge.{answer_within}
+use Rattle.report_files.specs.Files.{IsWorth, IsWorthOf, most_report_bytes}
+use Rattle.report_files.specs.Pieces.{StandsForText}
+use Rattle.report_files.proofs.WorthLemmas.{file_worth}
+use Rattle.report_files.proofs.files.worth_of.Goals as goal
+
+-- src/files.rt:140:1
+pub returns-in-Ok-worth_at-clause-worth : goal.returns-in-Ok-worth_at-clause-worth
+returns-in-Ok-worth_at-clause-worth g c =
+    let old = c.args.reader.now in
+    let new = c.read_pieces.new.reader in
+    let study = old.checker.subject.study.now in
+    let read = c.in_ok-ending.ensures.read in
+    let taken : StandsForText study new.checker.progress new.held.items read.0 = read.2 [] c.requires.unread in
+    let stands : StandsForText new.checker.subject.study.now new.checker.progress new.held.items read.0 = rw (sym c.read_pieces.ensures.subject) at taken in
+    let same : new.checker.subject.study.now ≡ study = ap (λ s. s.study.now) c.read_pieces.ensures.subject in
+    let worth : IfSome (g.S.Shelf.files c.args.shelf.now) (λ files. IsWorthOf study files c.args.name.now c.in-Ok-worth_at.worth) =
+    file_worth (g.S.Shelf.files c.args.shelf.now) study c.args.name.now (g.S.Shelf.left c.rewind.new.self c.args.name.now) c.in-Ok-worth_at.worth c.in-Ok.ensures.held c.in-Ok.ensures.start
+    (λ held known. subst (λ (q : Question). IsWorth (answer_within most_report_bytes q held) c.in-Ok-worth_at.worth) same
+    (c.in-Ok-worth_at.ensures (g.S.Shelf.left c.rewind.new.self c.args.name.now) (g.S.Shelf.left c.read_pieces.new.shelf c.args.name.now) read.0 held read.1 known stands)) in
+    worth

@@ -1,0 +1,4 @@
+-- In reading order.
+pub mod Cutting
+pub mod Pieces
+pub mod Files

@@ -1,0 +1,191 @@
+//! Checks the report in a file.
+
+ghost use Rattle.std.specs.Prelude.{◌≡◌, ◌≤◌, List, ℕ, [], length, Option, Some, IfSome, IfOk, IsErrOf};
+ghost use Rattle.edge.specs.Faults.{Rose};
+ghost use Rattle.edge.specs.Shelf.{OthersStay, NoneFell};
+ghost use Rattle.verdicts.specs.Judge.{answer_within};
+ghost use Rattle.report_files.specs.Files.{HasTaken, IsEndedAt, IsWorth, IsWorthOf, most_report_bytes};
+ghost use Rattle.report.specs.Held.{IsReady};
+ghost use Rattle.report_files.specs.Pieces.{StandsForText};
+
+use crate::reader::Reader;
+use edge::{Failed, Gate, RewindFault, Shelf};
+use lists::NoMemory;
+use outcomes::OutcomeKind;
+use report::ReportFault;
+use report_lines::Confirmed;
+use std::alloc::Global;
+use std::thread::Threads;
+use verdicts::Refusal;
+use vocab::Study;
+
+/// What a report is worth: it is confirmed; a line, from 1, is its first faulty one; or it has more than 268,435,456 bytes,
+/// and no line that ends within them is faulty.
+#[derive(Clone, Copy, Debug, PartialEq, Eq)]
+pub enum Worth {
+    Confirmed(Confirmed),
+    Faulty { line: u32, refusal: Refusal },
+    TooLong,
+}
+
+/// Why a report in a file was not checked: the shelf failed, and has counted the fault under the name, or no memory was found.
+#[derive(Clone, Copy, Debug, PartialEq, Eq)]
+pub enum FileFault {
+    Failed,
+    NoMemory,
+}
+
+impl From<Failed> for FileFault {
+    ghost use Rattle.std.specs.Prelude.{◌≡◌};
+    ghost use Rattle.report_files.specs.declared.files.FileFault.TheVariants.{Failed as FileFailed};
+
+    ghost from_gives = { λ _ fault. fault ≡ FileFailed };
+
+    fn from(_: Failed) -> Self {
+        FileFault::Failed
+    }
+}
+
+impl From<NoMemory> for FileFault {
+    ghost use Rattle.std.specs.Prelude.{◌≡◌};
+    ghost use Rattle.report_files.specs.declared.files.FileFault.TheVariants.{NoMemory as FileWantsMemory};
+
+    ghost from_gives = { λ _ fault. fault ≡ FileWantsMemory };
+
+    fn from(_: NoMemory) -> Self {
+        FileFault::NoMemory
+    }
+}
+
+/// How the reading of a file ended: with all of it, at the limit, or at the first faulty line.
+#[derive(Clone, Copy, Debug, PartialEq, Eq)]
+pub(crate) enum Ending {
+    Whole,
+    TooLong,
+    Faulty,
+}
+
+/// As many bytes are asked for in one read.
+const CHUNK: usize = 65_536;
+
+/// The most bytes of a report.
+const MOST_BYTES: usize = 268_435_456;
+
+/// Gives the reader what is left under the name, piece by piece, up to the limit and no further than to the first faulty line.
+fn read_pieces<R: Threads + Sync, S: Shelf, K: OutcomeKind, G: Gate>(
+    rt: &R,
+    gate: &G,
+    reader: &mut Reader<K>,
+    shelf: &mut S,
+    name: &str,
+) -> Result<Ending, FileFault>
+    requires held { length reader.old.held.items ≤ 4097 }
+    requires lines { reader.old.checker.progress.lines ≡ 0 }
+    requires ready { IsReady reader.old.checker.subject.study.now reader.old.checker.progress }
+    ensures subject { reader.new.checker.subject ≡ reader.old.checker.subject }
+    ensures lines { IfOk result (λ _. reader.new.checker.progress.lines ≤ 268435456) }
+    ensures read { IfOk result (λ ending. (bytes : List ℕ) × IsEndedAt ending (S.left shelf.old name.now) (S.left shelf.new name.now) reader.new.checker.progress.fault bytes
+        × HasTaken reader.old.checker.subject.study.now reader.old.checker.progress reader.new.checker.progress reader.old.held.items reader.new.held.items bytes) }
+    ensures failed { IsErrOf result FileFault.Failed → Rose (S.faults shelf.old name.now) (S.faults shelf.new name.now) }
+    ensures same { S.files shelf.new ≡ S.files shelf.old }
+    ensures others { OthersStay (S.left shelf.old) (S.left shelf.new) name.now }
+    ensures none_fell { NoneFell (S.faults shelf.old) (S.faults shelf.new) }
+{
+    let mut chunk = [0u8; CHUNK];
+    let mut room = MOST_BYTES;
+    loop {
+        if reader.is_faulty() {
+            return Ok(Ending::Faulty);
+        }
+        let count = shelf.read(name, &mut chunk)?;
+        if count == 0 {
+            return Ok(Ending::Whole);
+        }
+        if count > room {
+            reader.piece(rt, gate, &chunk[..room])?;
+            return Ok(Ending::TooLong);
+        }
+        reader.piece(rt, gate, &chunk[..count])?;
+        room -= count;
+    }
+}
+
+/// What the report is worth whose reading ended so.
+fn worth_at<K: OutcomeKind>(reader: &Reader<K>, ending: Ending) -> Result<Worth, NoMemory>
+    requires lines { reader.now.checker.progress.lines ≤ 268435456 }
+    ensures { IfOk result (λ worth. (known : Option (List ℕ)) (left : Option (List ℕ)) (bytes held : List ℕ) →
+        IsEndedAt ending known left reader.now.checker.progress.fault bytes → known ≡ Some held →
+        StandsForText reader.now.checker.subject.study.now reader.now.checker.progress reader.now.held.items bytes →
+        IsWorth (answer_within most_report_bytes reader.now.checker.subject.study.now held) worth) }
+{
+    match ending {
+        Ending::Whole => match reader.end() {
+            Ok(confirmed) => Ok(Worth::Confirmed(confirmed)),
+            Err(ReportFault::Line { line, refusal }) => Ok(Worth::Faulty { line, refusal }),
+            Err(ReportFault::NoMemory) => Err(NoMemory),
+        },
+        _ => match reader.fault() {
+            None => Ok(Worth::TooLong),
+            Some(ReportFault::Line { line, refusal }) => Ok(Worth::Faulty { line, refusal }),
+            Some(ReportFault::NoMemory) => Err(NoMemory),
+        },
+    }
+}
+
+/// What the report under the name is worth to a reader that has read nothing.
+fn worth_of<R: Threads + Sync, S: Shelf, K: OutcomeKind, G: Gate>(
+    rt: &R,
+    gate: &G,
+    reader: &mut Reader<K>,
+    shelf: &mut S,
+    name: &str,
+) -> Result<Worth, FileFault>
+    requires held { length reader.old.held.items ≤ 4097 }
+    requires lines { reader.old.checker.progress.lines ≡ 0 }
+    requires ready { IsReady reader.old.checker.subject.study.now reader.old.checker.progress }
+    requires unread { StandsForText reader.old.checker.subject.study.now reader.old.checker.progress reader.old.held.items [] }
+    ensures worth { IfSome (S.files shelf.old) (λ files. IfOk result (IsWorthOf reader.old.checker.subject.study.now files name.now)) }
+    ensures failed { IsErrOf result FileFault.Failed → Rose (S.faults shelf.old name.now) (S.faults shelf.new name.now) }
+    ensures same { S.files shelf.new ≡ S.files shelf.old }
+    ensures others { OthersStay (S.left shelf.old) (S.left shelf.new) name.now }
+    ensures none_fell { NoneFell (S.faults shelf.old) (S.faults shelf.new) }
+{
+    match shelf.rewind(name) {
+        Ok(()) => {}
+        Err(RewindFault::Failed) => return Err(FileFault::Failed),
+        Err(RewindFault::NoMemory) => return Err(FileFault::NoMemory),
+    }
+    let ending = read_pieces(rt, gate, reader, shelf, name)?;
+    match worth_at(reader, ending) {
+        Ok(worth) => Ok(worth),
+        Err(NoMemory) => Err(FileFault::NoMemory),
+    }
+}
+
+/// What the report under the name is worth over the study. It is read in pieces of 65,536 bytes, and no further than to its
+/// first faulty line or to 268,435,456 bytes; of the report no more is held than a checker holds, and the front of a line
+/// that has not ended. The answer is the same for every number of workers, from 1 to 16.
+pub fn check_file<R: Threads + Sync, S: Shelf, K: OutcomeKind, G: Gate>(
+    rt: &R,
+    alloc: Global,
+    gate: &G,
+    workers: u8,
+    kind: &K,
+    study: &Study,
+    shelf: &mut S,
+    name: &str,
+) -> Result<Worth, FileFault>
+    requires some { 1 ≤ workers }
+    requires few { workers ≤ 16 }
+    requires size { study.now.size ≡ K.size kind.now }
+    ensures worth { IfSome (S.files shelf.old) (λ files. IfOk result (IsWorthOf study.now files name.now)) }
+    ensures failed { IsErrOf result FileFault.Failed → Rose (S.faults shelf.old name.now) (S.faults shelf.new name.now) }
+    ensures same { S.files shelf.new ≡ S.files shelf.old }
+    ensures others { OthersStay (S.left shelf.old) (S.left shelf.new) name.now }
+    ensures none_fell { NoneFell (S.faults shelf.old) (S.faults shelf.new) }
+{
+    match Reader::new(alloc, kind, study, workers) {
+        Ok(mut reader) => worth_of(rt, gate, &mut reader, shelf, name),
+        Err(NoMemory) => Err(FileFault::NoMemory),
+    }
+}

@@ -1,0 +1,10 @@
+//! Checks a report in pieces of its bytes, or in a file.
+#![tactic(auto)]
+
+mod cutting;
+mod files;
+mod reader;
+
+pub use files::{FileFault, Worth, check_file};
+pub use reader::{Reader, check_report};
+pub use report_lines::Confirmed;

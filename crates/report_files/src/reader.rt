@@ -1,0 +1,193 @@
+//! Reads a report in pieces of its bytes.
+
+ghost use Rattle.std.specs.Prelude.{◌≡◌, ◌≢◌, ◌+◌, ◌≤◌, ◌<◌, List, ℕ, [], ◌∷◌, ◌++◌, length, is_some, Err, IfOk, OnOk, ◌⊎◌};
+ghost use Rattle.verdicts.specs.Judge.{answer};
+ghost use Rattle.report.specs.Answers.{Concludes};
+ghost use Rattle.report.specs.Held.{StandsFor, IsReady};
+ghost use Rattle.report_files.specs.Pieces.{head_of, StandsForText};
+
+use crate::cutting::cut_word;
+use edge::Gate;
+use lists::NoMemory;
+use outcomes::OutcomeKind;
+use report::{Checker, ReportFault};
+use report_lines::Confirmed;
+use std::alloc::Global;
+use std::thread::Threads;
+use vocab::Study;
+
+/// As many bytes of a line as tell that it is too long.
+const HELD: usize = 4097;
+
+/// Checks a report that comes in pieces of its bytes, which may end anywhere. Of a line that has not ended it holds at most
+/// 4,097 bytes.
+#[derive(Drop)]
+pub struct Reader<'a, K: OutcomeKind> {
+    pub checker: Checker<'a, K>,
+    pub held: Vec<u8>,
+}
+
+/// Gives a line to the checker.
+fn give<R: Threads + Sync, G: Gate, K: OutcomeKind>(
+    rt: &R,
+    gate: &G,
+    checker: &mut Checker<K>,
+    line: &[u8],
+) -> Result<(), NoMemory>
+    requires room { checker.old.progress.lines < 4294967294 }
+    requires ready { IsReady checker.old.subject.study.now checker.old.progress }
+    ensures subject { checker.new.subject ≡ checker.old.subject }
+    ensures lines { checker.new.progress.lines ≡ checker.old.progress.lines + 1 }
+    ensures ready { IsReady checker.old.subject.study.now checker.new.progress }
+    ensures taken { OnOk result ((lines : List (List ℕ)) → StandsFor checker.old.subject.study.now checker.old.progress lines →
+        StandsFor checker.old.subject.study.now checker.new.progress (lines ++ line.now ∷ [])) }
+{
+    match checker.line(rt, gate, line) {
+        Ok(()) => Ok(()),
+        Err(ReportFault::Line { .. }) => Ok(()),
+        Err(ReportFault::NoMemory) => Err(NoMemory),
+    }
+}
+
+impl<'a, K: OutcomeKind> Reader<'a, K> {
+    /// A reader that has read nothing.
+    pub fn new(
+        alloc: Global,
+        kind: &'a K,
+        study: &'a Study,
+        workers: u8,
+    ) -> Result<Reader<'a, K>, NoMemory>
+        requires some { 1 ≤ workers }
+        requires few { workers ≤ 16 }
+        requires size { study.now.size ≡ K.size kind.now }
+        ensures study { IfOk result (λ reader. reader.checker.subject.study.now ≡ study.now) }
+        ensures kind { IfOk result (λ reader. reader.checker.subject.kind.now ≡ kind.now) }
+        ensures workers { IfOk result (λ reader. reader.checker.subject.workers ≡ workers) }
+        ensures lines { IfOk result (λ reader. reader.checker.progress.lines ≡ 0) }
+        ensures held { IfOk result (λ reader. length reader.held.items ≤ 4097) }
+        ensures stands { IfOk result (λ reader. StandsForText study.now reader.checker.progress reader.held.items []) }
+    {
+        let checker = Checker::new(alloc, kind, study, workers)?;
+        Ok(Reader {
+            checker,
+            held: Vec::new(alloc),
+        })
+    }
+
+    /// Holds the next bytes of a line that has not ended, as far as there is room.
+    fn hold(&mut self, piece: &[u8]) -> Result<(), NoMemory>
+        requires { length self.old.held.items ≤ 4097 }
+        ensures checker { self.new.checker ≡ self.old.checker }
+        ensures held { OnOk result (self.new.held.items ≡ head_of (self.old.held.items ++ piece.now)) }
+    {
+        let room = HELD - self.held.len();
+        let count = piece.len().min(room);
+        self.held.extend_from_slice(&piece[..count])?;
+        Ok(())
+    }
+
+    /// Ends the line that is held with this piece.
+    fn end_line<R: Threads + Sync, G: Gate>(
+        &mut self,
+        rt: &R,
+        gate: &G,
+        piece: &[u8],
+    ) -> Result<(), NoMemory>
+        requires held { length self.old.held.items ≤ 4097 }
+        requires room { self.old.checker.progress.lines < 4294967294 }
+        requires ready { IsReady self.old.checker.subject.study.now self.old.checker.progress }
+        ensures subject { self.new.checker.subject ≡ self.old.checker.subject }
+        ensures lines { OnOk result (self.new.checker.progress.lines ≡ self.old.checker.progress.lines + 1) }
+        ensures ready { OnOk result (IsReady self.old.checker.subject.study.now self.new.checker.progress) }
+        ensures ended { OnOk result (self.new.held.items ≡ []) }
+        ensures taken { OnOk result ((lines : List (List ℕ)) (rest : List ℕ) →
+            StandsFor self.old.checker.subject.study.now self.old.checker.progress lines →
+            self.old.held.items ≡ head_of rest →
+            StandsFor self.old.checker.subject.study.now self.new.checker.progress (lines ++ (rest ++ piece.now) ∷ [])) }
+    {
+        if self.held.is_empty() {
+            return give(rt, gate, &mut self.checker, piece);
+        }
+        self.hold(piece)?;
+        give(rt, gate, &mut self.checker, self.held.as_slice())?;
+        self.held.clear();
+        Ok(())
+    }
+
+    /// Takes the next bytes of the text.
+    pub fn piece<R: Threads + Sync, G: Gate>(
+        &mut self,
+        rt: &R,
+        gate: &G,
+        bytes: &[u8],
+    ) -> Result<(), NoMemory>
+        requires held { length self.old.held.items ≤ 4097 }
+        requires room { self.old.checker.progress.lines + length bytes.now < 4294967294 }
+        requires ready { IsReady self.old.checker.subject.study.now self.old.checker.progress }
+        ensures subject { self.new.checker.subject ≡ self.old.checker.subject }
+        ensures lines { OnOk result (self.new.checker.progress.lines ≤ self.old.checker.progress.lines + length bytes.now) }
+        ensures ready { OnOk result (IsReady self.old.checker.subject.study.now self.new.checker.progress) }
+        ensures held { OnOk result (length self.new.held.items ≤ 4097) }
+        ensures taken { OnOk result ((text : List ℕ) →
+            StandsForText self.old.checker.subject.study.now self.old.checker.progress self.old.held.items text →
+            StandsForText self.old.checker.subject.study.now self.new.checker.progress self.new.held.items (text ++ bytes.now)) }
+    {
+        let mut rest = bytes;
+        while let Some((line, after)) = cut_word(rest) {
+            self.end_line(rt, gate, line)?;
+            rest = after;
+        }
+        self.hold(rest)
+    }
+
+    /// The first fault, if there was one.
+    pub fn fault(&self) -> Option<ReportFault>
+        ensures { result ≡ self.now.checker.progress.fault }
+    {
+        self.checker.progress.fault
+    }
+
+    /// Whether a line was faulty, so that no byte after it plays a part.
+    pub fn is_faulty(&self) -> bool
+        ensures { result ≡ is_some self.now.checker.progress.fault }
+    {
+        self.checker.progress.fault.is_some()
+    }
+
+    /// What is answered of the text: Ok exactly where it is confirmed.
+    pub fn end(&self) -> Result<Confirmed, ReportFault>
+        requires room { self.now.checker.progress.lines ≤ 4294967294 }
+        ensures { (text : List ℕ) →
+            StandsForText self.now.checker.subject.study.now self.now.checker.progress self.now.held.items text →
+            Concludes (answer self.now.checker.subject.study.now text) result }
+    {
+        self.checker.conclude(self.held.as_slice())
+    }
+}
+
+/// What is answered of the text of a report over the study: Ok exactly where it is confirmed, and else its first faulty line
+/// with its refusal. Want of memory may come in place of both. The answer is the same for every number of workers, from 1 to
+/// 16.
+pub fn check_report<R: Threads + Sync, K: OutcomeKind, G: Gate>(
+    rt: &R,
+    alloc: Global,
+    gate: &G,
+    workers: u8,
+    kind: &K,
+    study: &Study,
+    text: &[u8],
+) -> Result<Confirmed, ReportFault>
+    requires some { 1 ≤ workers }
+    requires few { workers ≤ 16 }
+    requires size { study.now.size ≡ K.size kind.now }
+    requires room { length text.now < 4294967294 }
+    ensures { (result ≡ Err ReportFault.NoMemory) ⊎ Concludes (answer study.now text.now) result }
+{
+    match Reader::new(alloc, kind, study, workers) {
+        Ok(mut reader) => match reader.piece(rt, gate, text) {
+            Ok(()) => reader.end(),
+            Err(_) => Err(ReportFault::NoMemory),
+        },
+        Err(_) => Err(ReportFault::NoMemory),
+    }
+}
