@@ -8,12 +8,12 @@ use Rattle.vocab.specs.declared.kinds.Kind.{Kind}
 use Rattle.vocab.specs.Study.{Question}
 use Rattle.verdicts.specs.Report.{IsConfirmed}
 use Rattle.clause_text.specs.ReadDimacs.{Formula}
-use Rattle.study.specs.Sample.{IsSampleStudy}
+use Rattle.samples.specs.Sample.{IsSampleStudy}
 use Rattle.words.specs.Words.{Request, Decide, Check, Export, Proof, Lrat, Axioms, Sample, Adopt, request_of}
 use Rattle.answers.specs.declared.runs.Run.{Run}
 use Rattle.answers.specs.Held.{most_report_bytes}
 use Rattle.verdicts.specs.declared.verdicts.Verdict.{Verdict}
-use Rattle.study.proofs.OneAnswer.{samples_once}
+use Rattle.samples.proofs.Samples.{samples_once}
 use Rattle.answers.specs.Studies.{GivesStudy, OverStudy}
 use Rattle.answers.specs.Grounding.{fault_of, OverClauses, clauses_refused, clauses_made}
 use Rattle.answers.specs.Evidence.{Decides, by_verdict, by_limit}

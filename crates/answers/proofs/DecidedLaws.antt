@@ -20,8 +20,7 @@ use Rattle.verdicts.specs.declared.verdicts.Verdict.{Verdict}
 use Rattle.verdicts.specs.declared.verdicts.Verdict.TheVariants.{Possible, Impossible, Undecided}
 use Rattle.verdicts.specs.Report.{is_right, report_text}
 use Rattle.verdicts.specs.Laws.{is_rule_given}
-use Rattle.study.proofs.OneAnswer.{samples_once}
-use Rattle.study.proofs.Samples.{samples_sized}
+use Rattle.samples.proofs.Samples.{samples_once, samples_sized}
 use Rattle.study.proofs.WholeStudies.{studies_whole}
 use Rattle.search_logs.specs.declared.logs.SearchLog.{SearchLog}
 use Rattle.search_logs.specs.Spent.{has_place, IsOfAll, IsWithout, HaveEvidence, AreSpentLogs}

@@ -15,7 +15,7 @@ use Rattle.words.specs.Words.{Request, Decide, Check, Export, Proof, Lrat, Axiom
 use Rattle.answers.specs.declared.runs.Run.{Run}
 use Rattle.answers.specs.Held.{most_report_bytes, most_proof_bytes, Holds}
 use Rattle.clause_text.specs.ReadDimacs.{Formula}
-use Rattle.study.specs.Sample.{IsSampleStudy}
+use Rattle.samples.specs.Sample.{IsSampleStudy}
 use Rattle.answers.specs.Studies.{GivesStudy, RefusesStudy}
 use Rattle.answers.specs.Grounding.{fault_of}
 use Rattle.answers.specs.Export.{exported_formula}

@@ -20,7 +20,7 @@ use Rattle.verdicts.specs.declared.verdicts.Verdict.TheVariants.{Possible, Impos
 use Rattle.verdicts.specs.Judge.{Confirmed}
 use Rattle.verdicts.specs.Laws.{is_rule_given}
 use Rattle.verdicts.specs.Report.{report_text}
-use Rattle.study.specs.Sample.{IsSampleStudy}
+use Rattle.samples.specs.Sample.{IsSampleStudy}
 use Rattle.clause_text.specs.Lrat.{lrat_text}
 use Rattle.clause_text.specs.ReadDimacs.{Formula}
 use Rattle.clause_text.specs.ReadLrat.{read_lrat}

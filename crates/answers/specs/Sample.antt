@@ -2,7 +2,7 @@
 use Rattle.std.specs.Prelude.{◌≡◌, ℕ, List, [], ◌∷◌, ◌++◌, length, codes}
 use Rattle.std.specs.Fmt.{decimal}
 use Rattle.vocab.specs.Study.{Question}
-use Rattle.study.specs.Sample.{IsSampleStudy}
+use Rattle.samples.specs.Sample.{IsSampleStudy}
 use Rattle.meaning.specs.Texts.{kind_text}
 use Rattle.verdicts.specs.declared.verdicts.Verdict.{Verdict}
 use Rattle.verdicts.specs.Words.{claim_text}

@@ -5,7 +5,7 @@ use Rattle.edge.specs.Shelf.{Files}
 use Rattle.vocab.specs.declared.kinds.Kind.TheVariants.{Choice, Ranking, Sets}
 use Rattle.vocab.specs.Size.{Extent}
 use Rattle.vocab.specs.Study.{Question}
-use Rattle.study.specs.Sample.{sample_listing, IsSampleStudy}
+use Rattle.samples.specs.Sample.{sample_listing, IsSampleStudy}
 use Rattle.study.proofs.StudyKinds.{answer_size}
 use Rattle.words.specs.Words.{Request, Sample}
 use Rattle.search_logs.specs.declared.logs.SearchLog.{SearchLog}

@@ -108,7 +108,7 @@ pub fn sample<R: Threads + Sync, G: Gate>(
     ensures has_text { IfOk result HasText }
     ensures read { result ≢ Err Stop.ReadFault }
 {
-    let Ok(study) = study::sample(alloc, number) else {
+    let Ok(study) = samples::sample(alloc, number) else {
         return Err(Stop::NoMemory);
     };
     let crew = Crew {

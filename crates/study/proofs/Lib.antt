@@ -8,5 +8,4 @@ pub mod StudyKinds
 pub mod SoundAxioms
 pub mod NamedAxioms
 pub mod WholeStudies
-pub mod Samples
-pub mod NumberLemmas
+pub mod Fitting

@@ -12,7 +12,6 @@ use Rattle.study.specs.declared.faults.StudyFault.TheVariants as fault
 use Rattle.study.specs.Document.{document_of}
 use Rattle.study.specs.declared.listing.Listing.{Listing}
 use Rattle.study.specs.Sentences.{Worded, AreReadAs, study_of}
-use Rattle.study.specs.Sample.{sample_listing, IsSampleStudy}
 use Rattle.study.specs.Reading.{listing_in, IsUnread, IsAnswer, refused, read, IsAnswered, IsStudyOf}
 
 -- the first of some texts that read reads
@@ -107,7 +106,3 @@ one_answered (Err e) a b h k = h ∙ sym k
 -- bytes have at most one answer
 pub studies_once : (bytes : List ℕ) (a b : Result Question StudyFault) → IsStudyOf bytes a → IsStudyOf bytes b → a ≡ b
 studies_once bytes a b h k = one_answered (listing_in (document_of bytes)) a b h k
-
--- a number has at most one study
-pub samples_once : (n : ℕ) (a b : Question) → IsSampleStudy n a → IsSampleStudy n b → a ≡ b
-samples_once n a b h k = let same = one_of_listing (sample_listing n) (Ok a) (Ok b) h k in cc

@@ -56,7 +56,7 @@ impl Entry {
 }
 
 /// A text of its own with these bytes.
-pub(crate) fn copied(alloc: Global, bytes: &[u8]) -> Result<Text, NoMemory>
+pub fn copied(alloc: Global, bytes: &[u8]) -> Result<Text, NoMemory>
     ensures { IfOk result (λ text. text ≡ bytes.now) }
 {
     let mut text = Text::new(alloc);

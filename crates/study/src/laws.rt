@@ -1,7 +1,6 @@
-//! What holds of all bytes, and of the studies of numbers.
+//! What holds of all bytes.
 
 ghost use Rattle.study.specs.Laws.{AreWhole, HaveKinds, HaveOneAnswer};
-ghost use Rattle.study.specs.Sample.{SamplesAreStudies};
 
 /// Bytes have at most one answer, want of memory aside. So each refusal comes exactly where it is the first that holds.
 pub fn studies_have_one_answer()
@@ -16,9 +15,4 @@ pub fn studies_have_kinds()
 /// Each study that bytes give is one that the bench takes, at a size, and its axioms have names.
 pub fn studies_are_whole()
     ensures { AreWhole }
-{}
-
-/// Each number has exactly one study.
-pub fn samples_are_studies()
-    ensures { SamplesAreStudies }
 {}

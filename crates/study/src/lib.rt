@@ -1,4 +1,4 @@
-//! Reads a study, the question that the bench is asked, from the bytes of a TOML document.
+//! Reads a study, the question that the bench is asked, from the bytes of a TOML document, or from a listing.
 #![tactic(auto)]
 
 mod document;
@@ -8,12 +8,12 @@ mod faults;
 pub mod laws;
 mod limits;
 mod listing;
-mod numbers;
 mod reading;
 mod sentences;
 #[cfg(test)]
 mod tests;
 
+pub use entries::{Entries, Entry, copied};
 pub use faults::{StudyFault, Text};
-pub use numbers::sample;
-pub use reading::read_study;
+pub use listing::Listing;
+pub use reading::{answer_of, read_study};

@@ -17,10 +17,13 @@ use vocab::{Kind, Name, Size};
 
 /// A size, a limit on learned clauses, and axioms with their texts.
 #[derive(Drop)]
-pub(crate) struct Listing {
-    pub(crate) size: Size,
-    pub(crate) conflicts: u32,
-    pub(crate) axioms: Entries,
+pub struct Listing {
+    /// The voters, the alternatives and the rankings that may be cast.
+    pub size: Size,
+    /// The most clauses that a search may learn.
+    pub conflicts: u32,
+    /// The axioms, each with the text of its sentence.
+    pub axioms: Entries,
 }
 
 /// The most clauses that a search may learn.

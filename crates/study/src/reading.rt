@@ -32,8 +32,8 @@ fn study_of(alloc: Global, listing: &Listing, sentences: &[Written]) -> Result<S
     Ok(Study::new(size, listing.conflicts, axioms))
 }
 
-/// The study of a listing, or the first refusal of a text or a sentence.
-pub(crate) fn answer_of(alloc: Global, listing: &Listing) -> Result<Study, StudyFault>
+/// The study of a listing, whether bytes gave it or the caller made it, or the first refusal of a text or a sentence.
+pub fn answer_of(alloc: Global, listing: &Listing) -> Result<Study, StudyFault>
     requires { IsListing listing.now }
     ensures ok { IfOk result (λ study. IsAnswer listing.now (Ok study)) }
     ensures refused { IfErr result (λ fault. fault ≢ StudyFault.NoMemory → IsAnswer listing.now (Err fault)) }

@@ -2,7 +2,6 @@
 
 use crate::faults::StudyFault;
 use crate::limits::opened;
-use crate::numbers::sample;
 use crate::reading::read_study;
 use lists::Items;
 use sorts::SortFault;
@@ -360,42 +359,6 @@ fn alternatives_are_exchanged_where_all_rankings_may_be_cast(rt: HostRuntime) ->
     ] {
         let found = exchanged(rt.alloc(), ballots, absent)?;
         assert_eq!(rt; found.as_str(), want);
-    }
-    Ok(())
-}
-
-/// A number, and the kind, the numbers and the axioms of its study.
-const SAMPLES: &[(u32, &str)] = &[
-    (0, "choice 2 3 20000"),
-    (2, "choice 3 3 20000"),
-    (112, "choice 2 3 20000 onto non_dictatorship strategyproof"),
-    (29, "ranking 2 3 20000 pareto independence non_dictatorship"),
-    (
-        4_294_967_295,
-        "ranking 3 3 20000 pareto independence non_dictatorship anonymity neutrality",
-    ),
-];
-
-/// What the study of a number is.
-fn sampled(alloc: Global, number: u32) -> Result<String, Fail> {
-    let study = sample(alloc, number)?;
-    let mut text = String::from_str(
-        alloc,
-        match study.size().kind() {
-            Kind::Choice => "choice ",
-            Kind::Ranking => "ranking ",
-            Kind::Sets => "sets ",
-        },
-    )?;
-    text.push_str(shown(alloc, &study)?.as_str())?;
-    Ok(text)
-}
-
-#[test]
-fn numbers_have_studies(rt: HostRuntime) -> Result<(), Fail> {
-    for (number, want) in SAMPLES {
-        let found = sampled(rt.alloc(), *number)?;
-        assert_eq!(rt; found.as_str(), *want, "at {number}");
     }
     Ok(())
 }

@@ -1,9 +1,9 @@
 use Rattle.std.proofs.Common.{◌∙◌}
 use Rattle.std.proofs.lemmas.Bool.{eq-eqb, ne_eqb}
-use Rattle.study.specs.Sample.{sample_entries}
-use Rattle.study.proofs.NumberLemmas.{entry_taken, entry_left}
-use Rattle.study.proofs.numbers.entries_by.Goals.{then-left-eq1+in_ok-entry_at+in_ok-push, else-left-eq1}
-use Rattle.study.proofs.numbers.entries_by.Goals as goal
+use Rattle.samples.specs.Sample.{sample_entries}
+use Rattle.samples.proofs.NumberLemmas.{entry_taken, entry_left}
+use Rattle.samples.proofs.numbers.entries_by.Goals.{then-left-eq1+in_ok-entry_at+in_ok-push, else-left-eq1}
+use Rattle.samples.proofs.numbers.entries_by.Goals as goal
 
 pub loop-place-preserved : goal.loop-place-preserved
 loop-place-preserved c = elim c.if-left-eq1.branch [

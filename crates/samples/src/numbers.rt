@@ -2,15 +2,12 @@
 
 ghost use Rattle.std.specs.Prelude.{◌≡◌, ◌+◌, ◌/◌, ◌%◌, ◌<◌, get_or, length, IfOk};
 ghost use Rattle.vocab.specs.Size.{full_size};
-ghost use Rattle.study.specs.Sample.{sample_kind, sample_entries, entries_by, sample_listing, IsSampleStudy};
+ghost use Rattle.samples.specs.Sample.{sample_kind, sample_entries, entries_by, sample_listing, IsSampleStudy};
 
-use crate::entries::{Entries, Entry, copied};
-use crate::faults::StudyFault;
-use crate::listing::Listing;
-use crate::reading::answer_of;
 use axiom_library::{name_at, text_at};
 use lists::NoMemory;
 use std::alloc::Global;
+use study::{Entries, Entry, Listing, StudyFault, answer_of, copied};
 use vocab::{Kind, Size, Study};
 
 /// The kind of a number: its rules choose an alternative if it is even, and rank them if it is odd.

@@ -2,9 +2,9 @@ use Rattle.std.proofs.Common.{◌≡◌, ◌+◌, ◌/◌, ◌%◌, arith, pos, 
 use mir.Syntax.{w64}
 use mir.Val.{to_z, of_z}
 use Rattle.std.proofs.lemmas.Int.{to_z-of_z}
-use Rattle.study.specs.Sample.{sample_kind}
-use Rattle.study.proofs.NumberLemmas.{size_given}
-use Rattle.study.proofs.numbers.sample_size.Goals as goal
+use Rattle.samples.specs.Sample.{sample_kind}
+use Rattle.samples.proofs.NumberLemmas.{size_given}
+use Rattle.samples.proofs.numbers.sample_size.Goals as goal
 
 pub unwrap-requires : goal.unwrap-requires
 unwrap-requires c =

@@ -1,8 +1,8 @@
 use Rattle.std.proofs.Common.{rules, sym, subst, Ok, Err}
 use Rattle.study.specs.Listing.{IsListing}
 use Rattle.study.specs.Reading.{IsAnswer}
-use Rattle.study.proofs.NumberLemmas.{sample_whole, sample_not_refused}
-use Rattle.study.proofs.numbers.sample.Goals as goal
+use Rattle.samples.proofs.NumberLemmas.{sample_whole, sample_not_refused}
+use Rattle.samples.proofs.numbers.sample.Goals as goal
 
 pub answer_of-requires : goal.answer_of-requires
 answer_of-requires c = subst IsListing (sym c.in_ok-listing.ensures) (sample_whole c.args.number)

@@ -1,65 +1,28 @@
--- Each number has a study.
-use Rattle.std.proofs.Common.{◌≡◌, ◌≤◌, refl, sym, subst, ℕ, zero, suc, List, [], ◌∷◌, length, take, Bool, true, false, cond, true≢false, Result, Ok, Err, arith, lit≤, lit<}
-use Rattle.std.specs.Prelude.{◌+◌, ◌/◌, ◌%◌, ◌==◌, ◌&&◌, nat_le}
+-- Each number has exactly one study.
+use Rattle.std.proofs.Common.{◌≡◌, ◌≤◌, refl, sym, subst, ℕ, zero, suc, List, [], ◌∷◌, length, take, Bool, true, false, cond, Ok, arith, lit≤, lit<}
+use Rattle.std.specs.Prelude.{◌+◌, ◌/◌, ◌%◌, ◌==◌}
 use Rattle.std.specs.List.{AllByRecursion}
-use Rattle.std.proofs.lemmas.Bool.{and_parts}
 use Rattle.vocab.specs.declared.kinds.Kind.{Kind}
 use Rattle.vocab.specs.declared.kinds.Kind.TheVariants.{Choice, Ranking}
 use Rattle.vocab.specs.NamedDepth.{depth, quantifiers}
 use Rattle.vocab.specs.NamedTree.{NamedTree}
 use Rattle.vocab.specs.Size.{Extent, IsSize, full_size}
-use Rattle.vocab.specs.Sorted.{is_askable}
 use Rattle.vocab.specs.Study.{Question}
-use Rattle.vocab.specs.Titled.{Titled}
-use Rattle.vocab.specs.Tree.{Tree}
 use Rattle.syntax.specs.Canonical.{text_of}
 use Rattle.syntax.specs.Sentence.{IsSentence}
 use Rattle.syntax.proofs.RoundTrip.{tree_lexemes, writable_read}
-use Rattle.sorts.specs.declared.faults.SortFault.{SortFault}
 use Rattle.sorts.specs.Answers.{answer_of}
 use Rattle.sorts.specs.Scope.{sort_in}
 use Rattle.sorts.specs.Symbols.{predicate_of, function_of}
 use Rattle.axiom_library.specs.Library.{Entry, choice, ranking}
 use Rattle.axiom_library.proofs.Trees as trees
 use Rattle.axiom_library.proofs.Writing.{is_writable, writable_by_test}
-use Rattle.study.specs.declared.limits.Limit.{Limit}
-use Rattle.study.specs.declared.limits.Limit.TheVariants.{Instances, Body, Work}
-use Rattle.study.specs.Sentences.{Worded, AreReadAs, resolved_all, most_of, count_of, within, opened, study_of}
-use Rattle.study.specs.Reading.{IsAnswer, read}
-use Rattle.study.specs.Sample.{sample_kind, sample_entries, entries_by, sample_listing, IsSampleStudy, SamplesAreStudies}
-use Rattle.study.proofs.OneAnswer.{samples_once}
+use Rattle.study.proofs.Fitting.{Fits, is_fit, fits_by, AreFit, none_fit, more_fit, study_given}
+use Rattle.study.proofs.OneAnswer.{one_of_listing}
 use Rattle.study.proofs.StudyKinds.{answer_size}
+use Rattle.samples.specs.Sample.{sample_kind, sample_entries, entries_by, sample_listing, IsSampleStudy, SamplesAreStudies}
 
--- ---- an axiom at a size
-
--- its text reads as a sentence that is well sorted, may be asked and is within the limits
-record Fits (size : Extent) (e : Entry) : Type 0 where
-  tree : NamedTree
-  reads : IsSentence e.text tree
-  sentence : Tree
-  resolves : answer_of size tree ≡ Ok sentence
-  askable : is_askable size sentence ≡ true
-  few : (limit : Limit) → nat_le (count_of size limit sentence) (most_of limit) ≡ true
-
-abbrev is_few : Extent → Limit → Tree → Bool
-is_few size limit f = nat_le (count_of size limit f) (most_of limit)
-
-abbrev is_fit : Extent → Result Tree SortFault → Bool
-is_fit size (Ok f) = is_askable size f && (is_few size Instances f && (is_few size Body f && is_few size Work f))
-is_fit size (Err fault) = false
-
-each_few : (size : Extent) (f : Tree) → is_few size Instances f ≡ true → is_few size Body f ≡ true → is_few size Work f ≡ true → (limit : Limit) → is_few size limit f ≡ true
-each_few size f a b c Instances = a
-each_few size f a b c Body = b
-each_few size f a b c Work = c
-
-fits_by : (size : Extent) (e : Entry) (f : NamedTree) (r : Result Tree SortFault) → IsSentence e.text f → answer_of size f ≡ r → is_fit size r ≡ true → Fits size e
-fits_by size e f (Err fault) reads is fit = absurd (true≢false (sym fit))
-fits_by size e f (Ok t) reads is fit =
-    let a = and_parts (is_askable size t) _ fit in
-    let b = and_parts (is_few size Instances t) _ a.1 in
-    let c = and_parts (is_few size Body t) _ b.1 in
-    record { tree = f; reads = reads; sentence = t; resolves = is; askable = a.0; few = each_few size t b.0 c.0 c.1 }
+-- ---- the axioms of numbers, at each of their sizes
 
 -- at the sizes of two and of three voters
 record FitsBoth (kind : Kind) (e : Entry) : Type 0 where
@@ -122,46 +85,16 @@ rankings_fit = (
   ),
 )
 
--- ---- some axioms
+-- ---- those that a number chooses
 
--- the texts of all read as sentences that together pass each test
-record AreFit (size : Extent) (entries : List Entry) : Type 0 where
-  sentences : List Worded
-  axioms : List Titled
-  reads : AreReadAs entries sentences
-  resolves : resolved_all size sentences ≡ Ok axioms
-  askable : opened size axioms ≡ Ok tt
-  few : (limit : Limit) → within size limit axioms ≡ Ok tt
-
-module _ (size : Extent) where
-  none_fit : AreFit size []
-  none_fit = record { sentences = []; axioms = []; reads = tt; resolves = refl; askable = refl; few = λ limit. refl }
-
-  more_fit : (e : Entry) (entries : List Entry) → Fits size e → AreFit size entries → AreFit size (e ∷ entries)
-  more_fit e entries f all = record {
-    sentences = record { name = e.name; sentence = f.tree } ∷ all.sentences;
-    axioms = record { name = e.name; sentence = f.sentence } ∷ all.axioms;
-    reads = (refl, f.reads, all.reads);
-    resolves = rw (f.resolves, all.resolves) refl;
-    askable = rw f.askable all.askable;
-    few = λ limit. rw (f.few limit) (all.few limit);
-  }
-
-  -- so do those that a number chooses
-  chosen_fit : (digits : ℕ) (entries : List Entry) → AllByRecursion (Fits size) entries → AreFit size (entries_by digits entries)
-  chosen_fit digits [] all = none_fit
-  chosen_fit digits (e ∷ entries) all = by_digit (digits % 2 == 1) (chosen_fit (digits / 2) entries all.1)
-    where
-      by_digit : (b : Bool) → AreFit size (entries_by (digits / 2) entries) → AreFit size (cond b (e ∷ entries_by (digits / 2) entries) (entries_by (digits / 2) entries))
-      by_digit true rest = more_fit e _ all.0 rest
-      by_digit false rest = rest
-
-  sample_given : (conflicts : ℕ) (entries : List Entry) → AreFit size entries → (study : Question) × IsAnswer (record { size = size; conflicts = conflicts; axioms = entries }) (Ok study)
-  unfolding study_of
-  sample_given conflicts entries all = (record { size = size; conflicts = conflicts; axioms = all.axioms }, read all.sentences all.reads (sym given))
-    where
-      given : study_of size conflicts all.sentences ≡ Ok (record { size = size; conflicts = conflicts; axioms = all.axioms })
-      given = rw (all.resolves, all.askable, all.few Instances, all.few Body, all.few Work) refl
+-- they fit, as all do
+chosen_fit : (size : Extent) (digits : ℕ) (entries : List Entry) → AllByRecursion (Fits size) entries → AreFit size (entries_by digits entries)
+chosen_fit size digits [] all = none_fit size
+chosen_fit size digits (e ∷ entries) all = by_digit (digits % 2 == 1) (chosen_fit size (digits / 2) entries all.1)
+  where
+    by_digit : (b : Bool) → AreFit size (entries_by (digits / 2) entries) → AreFit size (cond b (e ∷ entries_by (digits / 2) entries) (entries_by (digits / 2) entries))
+    by_digit true rest = more_fit size e _ all.0 rest
+    by_digit false rest = rest
 
 -- ---- the study of a number
 
@@ -187,6 +120,11 @@ sample_size kind (suc zero) low = record {
 }
 sample_size kind (suc (suc more)) low = absurd (omega (arith, low))
 
+-- a number has at most one study
+pub samples_once : (n : ℕ) (a b : Question) → IsSampleStudy n a → IsSampleStudy n b → a ≡ b
+samples_once n a b h k = let same = one_of_listing (sample_listing n) (Ok a) (Ok b) h k in cc
+
+-- it is at a size
 pub samples_sized : (n : ℕ) (study : Question) → IsSampleStudy n study → IsSize study.size
 samples_sized n study sample = subst IsSize (sym (answer_size (sample_listing n) study sample)) (sample_size (sample_kind n) (n / 2 % 2) (omega arith))
 
@@ -212,5 +150,5 @@ pub samples_given : SamplesAreStudies
 samples_given n =
     let all = by_voters (sample_kind n) (sample_entries (sample_kind n)) (by_kind (n % 2 == 0)) (n / 2 % 2) (omega arith) in
     let size = full_size (sample_kind n) (2 + n / 2 % 2) 3 in
-    let given = sample_given size 20000 _ (chosen_fit size (n / 4) (sample_entries (sample_kind n)) all) in
+    let given = study_given size 20000 _ (chosen_fit size (n / 4) (sample_entries (sample_kind n)) all) in
     (given.0, given.1, λ other h. samples_once n other given.0 h given.1)

@@ -13,9 +13,9 @@ use Rattle.axiom_library.specs.Library.{Entry, choice, ranking}
 use Rattle.study.specs.declared.faults.StudyFault.{StudyFault}
 use Rattle.study.specs.Listing.{have_own_names, IsListing}
 use Rattle.study.specs.Reading.{IsAnswer}
-use Rattle.study.specs.Sample.{sample_kind, sample_entries, entries_by, sample_listing}
+use Rattle.samples.specs.Sample.{sample_kind, sample_entries, entries_by, sample_listing}
 use Rattle.study.proofs.OneAnswer.{one_of_listing}
-use Rattle.study.proofs.Samples.{samples_given}
+use Rattle.samples.proofs.Samples.{samples_given}
 
 -- two or three voters are a size
 pub size_given : (kind : Kind) (more : ℕ) → more ≤ 1 → size_of kind (pos (2 + more)) (pos 3) ≡ Ok (full_size kind (2 + more) 3)

@@ -1,0 +1,9 @@
+//! The studies of numbers, of which large sets are decided one by one.
+#![tactic(auto)]
+
+pub mod laws;
+mod numbers;
+#[cfg(test)]
+mod tests;
+
+pub use numbers::sample;
