@@ -9,13 +9,14 @@ ghost use Rattle.meaning.specs.StudyClauses.{study_clauses};
 ghost use Rattle.meaning.specs.Variables.{variable_count};
 ghost use Rattle.lrat_check.specs.Ranges.{has_next};
 ghost use Rattle.search_logs.specs.Spent.{all_places};
+ghost use Rattle.core_reduce.specs.Answers.{IsReduced};
 ghost use Rattle.adopt.specs.Told.{IsAdopted};
 ghost use Rattle.adopt.specs.Refused.{IsRefused};
 
 use crate::telling::{Adopted, tell};
 use clause_form::Ground;
 use cnf::{Derivation, LineFault};
-use core_reduce::reduce;
+use core_reduce::{Reduced, reduce};
 use lists::NoMemory;
 use lrat_check::{CheckFault, check};
 use outcomes::OutcomeKind;
@@ -28,6 +29,26 @@ use vocab::Study;
 pub enum AdoptFault {
     Proof { at: u32, fault: LineFault },
     NoMemory,
+}
+
+/// Reduces a refutation of the clauses of all axioms to a core that its hints name.
+fn reduce_all<K: OutcomeKind>(
+    alloc: Global,
+    kind: &K,
+    study: &Study,
+    clauses: Ground,
+    proof: &Derivation,
+) -> Result<Reduced, NoMemory>
+    requires size { study.now.size ≡ K.size kind.now }
+    requires clauses { clauses ≡ study_clauses study.now.size study.now.axioms (all_places study.now) }
+    requires accepted { IsAccepted (clauses_for study.now.size study.now.axioms (all_places study.now)) proof.now }
+    requires over { AreOver (variable_count study.now.size) proof.now }
+    requires few { length proof.now < 2 ^ 32 - 1 }
+    ensures { IfOk result (IsReduced study.now (all_places study.now) proof.now) }
+{
+    let all = all_places(alloc, study)?;
+    let reduced = reduce(alloc, kind, study, &all, clauses, proof)?;
+    Ok(reduced)
 }
 
 /// Adopts a proof that is accepted.
@@ -45,8 +66,7 @@ fn adopt_accepted<K: OutcomeKind>(
     requires few { length proof.now < 2 ^ 32 - 1 }
     ensures { IfOk result (IsAdopted study.now proof.now) }
 {
-    let all = all_places(alloc, study)?;
-    let reduced = reduce(alloc, kind, study, &all, clauses, proof)?;
+    let reduced = reduce_all(alloc, kind, study, clauses, proof)?;
     let adopted = tell(alloc, kind, study, reduced)?;
     Ok(adopted)
 }

@@ -1,21 +1,23 @@
 //! Proofs over the clauses of anonymity and neutrality, for two voters and two alternatives. Variables 1 and 2 say that a
 //! and b win at ab|ab, 3 and 4 at ab|ba, 5 and 6 at ba|ab, and 7 and 8 at ba|ba. The clauses 9 to 12 are anonymity's, and 13 to
-//! 20 neutrality's.
+//! 20 neutrality's. And a proof over two axioms for one voter and two alternatives, where variables 1 and 2 say that a stands above b
+//! at ab and ba.
 
 ghost use Rattle.std.specs.Prelude.{◌≡◌, ◌≤◌, [], ◌∷◌, length, IfOk, OnOk, IsTrue};
 ghost use Rattle.std.specs.List.{list_all};
-ghost use Rattle.vocab.specs.Tree.{tree_of, atom_tree, All, Same, Leaf};
+ghost use Rattle.vocab.specs.Size.{full_size};
+ghost use Rattle.vocab.specs.Tree.{tree_of, atom_tree, All, Not, Same, Leaf};
 ghost use Rattle.cnf.specs.Fresh.{AreOver};
 ghost use Rattle.lrat_check.specs.Ranges.{has_next};
 ghost use Rattle.meaning.proofs.WorkedExamples.{choice, anonymity, neutrality};
-ghost use Rattle.adopt.specs.Examples.{both, twenty, with_one_of, with_same, plain, negated, added, dropped};
+ghost use Rattle.adopt.specs.Examples.{both, twenty, with_one_of, with_same, plain, negated, added, dropped, above, always, hasty, four};
 
 use crate::{AdoptFault, Adopted, adopt};
 use clause_form::Ground;
 use cnf::{Clauses, Derivation, Ids, Line, LineFault, Lit, Lits, Step};
 use lists::NoMemory;
 use meaning::{Reason, StoryStep, Witness};
-use outcomes::ChoiceKind;
+use outcomes::{ChoiceKind, RankingKind};
 use profiles::Space;
 use std::alloc::Global;
 use std::test::Fail;
@@ -211,6 +213,80 @@ fn answer(alloc: Global, lines: &Derivation) -> Result<Box<Result<Adopted, Adopt
     Ok(Box::new(alloc, answer)?)
 }
 
+/// Rankings of one voter and two alternatives.
+fn one_and_two() -> Result<Size, Fail>
+    ensures { IfOk result (λ size. size ≡ full_size Kind.Ranking 1 2) }
+{
+    Ok(Size::check(Kind::Ranking, 1, 2).ok().ok_or("size")?)
+}
+
+/// At a profile a stands above b.
+fn is_above(alloc: Global, p: u32) -> Result<Box<Formula>, NoMemory>
+    ensures { IfOk result (λ f. tree_of f.value ≡ above p) }
+{
+    let above = Atom::Ranks(Term::Const(0), Term::Const(1), Term::Const(p));
+    Ok(Box::new(alloc, Formula::Leaf(above))?)
+}
+
+/// It does not at the first.
+fn never_above(alloc: Global) -> Result<Formula, NoMemory>
+    ensures { IfOk result (λ f. tree_of f ≡ Not (above 0)) }
+{
+    Ok(Formula::Not(is_above(alloc, 0)?))
+}
+
+/// It does at both, as it does at one and both agree.
+fn always_above(alloc: Global) -> Result<Formula, NoMemory>
+    ensures { IfOk result (λ f. tree_of f ≡ always) }
+{
+    let here = is_above(alloc, 0)?;
+    let agree = Box::new(alloc, Formula::Same(here, is_above(alloc, 1)?))?;
+    let here = is_above(alloc, 0)?;
+    let one = Box::new(alloc, Formula::Either(here, is_above(alloc, 1)?))?;
+    Ok(Formula::Both(agree, one))
+}
+
+/// The study of both, whose searches may learn one clause.
+fn hasty_study(alloc: Global) -> Result<Study, Fail>
+    ensures { IfOk result (λ study. study ≡ hasty) }
+{
+    let mut axioms = Axioms::new(alloc);
+    axioms.push(Axiom::new(Name::new(b"never").ok_or("name")?, never_above(alloc)?))?;
+    axioms.push(Axiom::new(Name::new(b"always").ok_or("name")?, always_above(alloc)?))?;
+    Ok(Study::new(one_and_two()?, 1, axioms))
+}
+
+/// Its clauses, each by instance 0.
+fn four_clauses(alloc: Global) -> Result<Clauses, Fail>
+    ensures { IfOk result (λ list. list ≡ four) }
+{
+    let mut list = Clauses::new(alloc);
+    list.push(&[Lit::new(1, false)], 4_294_967_296)?;
+    equal(&mut list, 1, 2, 8_589_934_592)?;
+    list.push(&[Lit::new(1, true), Lit::new(2, true)], 8_589_934_592)?;
+    Ok(list)
+}
+
+/// The empty clause by the first clause, the third and the fourth.
+fn one_line(alloc: Global) -> Result<Derivation, NoMemory>
+    ensures { IfOk result (λ lines. lines ≡ added 1 5 [] (1 ∷ 3 ∷ 4 ∷ []) ∷ []) }
+{
+    let mut lines = Derivation::new(alloc);
+    lines.push(adds(alloc, 1, 5, &[], &[1, 3, 4])?)?;
+    Ok(lines)
+}
+
+/// What comes of it.
+fn hasty_answer(alloc: Global) -> Result<Box<Result<Adopted, AdoptFault>>, Fail> {
+    let kind = RankingKind::new(Space::new(one_and_two()?));
+    let study = hasty_study(alloc)?;
+    let lines = one_line(alloc)?;
+    let list = four_clauses(alloc)?;
+    let made = Ground::new(list);
+    let answer = adopt(alloc, &kind, &study, made, &lines);
+    Ok(Box::new(alloc, answer)?)
+}
+
 /// A step by an axiom, at the instance of ab|ba, of two voters or alternatives, and of a.
 fn by_axiom(x: u8, axiom: u32) -> StoryStep {
     StoryStep {
@@ -252,6 +328,24 @@ fn is_of_both(answer: &Result<Adopted, AdoptFault>) -> bool {
         && adopted.logs.is_empty()
 }
 
+/// Both axioms are the core: the first has an open mark, of the one search that spent its limit, and the second a rule.
+fn has_open_mark(answer: &Result<Adopted, AdoptFault>) -> bool {
+    let Ok(adopted) = answer else {
+        return false;
+    };
+    let [first, second] = adopted.witnesses.as_slice() else {
+        return false;
+    };
+    let [log] = adopted.logs.as_slice() else {
+        return false;
+    };
+    adopted.core.as_slice() == [0, 1].as_slice()
+        && matches!(first, Witness::Open(1))
+        && matches!(second, Witness::Rule(_))
+        && log.chosen.as_slice() == [1].as_slice()
+        && log.lines.len() == 1
+}
+
 /// The proof is refused so.
 fn is_refused(answer: &Result<Adopted, AdoptFault>, at: u32, fault: LineFault) -> bool {
     let Err(refused) = answer else {
@@ -273,6 +367,13 @@ fn what_is_not_needed_plays_no_part(rt: HostRuntime) -> Result<(), Fail> {
     let lines = roundabout(rt.alloc())?;
     let answer = answer(rt.alloc(), &lines)?;
     assert!(rt; is_of_both(&answer));
+    Ok(())
+}
+
+#[test]
+fn spent_search_leaves_an_open_mark(rt: HostRuntime) -> Result<(), Fail> {
+    let answer = hasty_answer(rt.alloc())?;
+    assert!(rt; has_open_mark(&answer));
     Ok(())
 }
 

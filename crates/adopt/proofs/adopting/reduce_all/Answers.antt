@@ -2,7 +2,7 @@ use Rattle.std.proofs.Common.{◌≡◌, ℕ, true, List, length, sym, subst}
 use Rattle.meaning.specs.Cores.{is_core_from}
 use Rattle.meaning.specs.Space.{below}
 use Rattle.search_logs.proofs.PlaceLaws.{core_below}
-use Rattle.adopt.proofs.adopting.adopt_accepted.Goals as goal
+use Rattle.adopt.proofs.adopting.reduce_all.Goals as goal
 
 pub reduce-requires-clause-chosen : goal.reduce-requires-clause-chosen
 reduce-requires-clause-chosen g c = λ κs out.
