@@ -1,8 +1,8 @@
 #!/usr/bin/env bash
 # Holds the program against the reports beside the studies: over each study `decide` writes its report byte for byte and `check`
 # confirms it, and over studies/anonymity_neutrality.toml each report in studies/refused/ is refused with the line that
-# docs/FORMATS.md shows; of each impossible one `adopt` takes what `proof` writes, and `check` confirms its report. Where all is so,
-# nothing is written; else a line for each fault, and the status is 1.
+# docs/FORMATS.md shows. Over each study without a rule `adopt` takes what `proof` writes, and `check` confirms its report. Where all is
+# so, nothing is written; else a line for each fault, and the status is 1.
 # `export` of Arrow's axioms for four alternatives is the same with 1, 2 and 16 workers, a sample is the same line at each run, no words
 # end with status 2, and an absent study with status 5.
 # The program is the one that the launcher runs, which is proved and built first where a source is newer; with --built, as after `rt ci`,

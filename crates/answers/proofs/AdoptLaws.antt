@@ -1,5 +1,5 @@
 -- What `adopt` prints holds, is confirmed, and comes where `lrat` confirms.
-use Rattle.std.proofs.Common.{◌≡◌, ◌≢◌, ◌∙◌, refl, sym, ap, subst, ℕ, ◌≤◌, ◌^◌, ◌⊎◌, inl, inr, List, length, codes, Option, None, Some, arith}
+use Rattle.std.proofs.Common.{◌≡◌, ◌≢◌, ◌∙◌, refl, sym, ap, subst, ℕ, ◌≤◌, ◌^◌, ◌⊎◌, inl, inr, List, [], length, codes, Option, None, Some, arith}
 use Rattle.edge.specs.Shelf.{Files}
 use Rattle.vocab.specs.Study.{Question}
 use Rattle.cnf.specs.declared.derivations.Line.{Line}
@@ -13,21 +13,22 @@ use Rattle.answers.specs.Held.{most_proof_bytes, Holds}
 use Rattle.answers.specs.Studies.{GivesStudy}
 use Rattle.answers.specs.Grounding.{fault_of, OverClauses, clauses_refused, clauses_made}
 use Rattle.answers.specs.Evidence.{by_verdict}
-use Rattle.answers.specs.Export.{exported_formula}
+use Rattle.answers.specs.Export.{export_text, exported_formula}
 use Rattle.answers.specs.Proof.{Proves, IsProved}
-use Rattle.answers.specs.Lrat.{Said, said_of, of_derivation}
-use Rattle.answers.specs.Adopt.{IsRefutedBy, IsRetold, Adopts, proof_refused, proof_retold, IsAdopted}
+use Rattle.answers.specs.Lrat.{GivesFormula, Said, said_of, of_derivation, IsConfirmedBy, proof_judged}
+use Rattle.answers.specs.Adopt.{IsRefutedBy, IsRetold, Adopts, proof_refused, proof_retold, IsAdoption}
 use Rattle.answers.specs.Devices.{Devices}
 use Rattle.answers.specs.Call.{IsCall, are_told}
 use Rattle.answers.specs.Laws.{HasNoFault, Wrote, AdoptsIt, WrittenProofsAreAdopted}
-use Rattle.answers.specs.RowLaws.{IsConclusive, IsAdoptedRight, AdoptedHolds, WrittenAdoptionsHold, AdoptedAreConfirmed, EndsAsLrat, AdoptsAsLrat, ProvedAreAdopted, EnoughAdopts}
+use Rattle.answers.specs.RowLaws.{IsConclusive, IsAdoptedRight, AdoptedHolds, WrittenAdoptionsHold, AdoptedAreConfirmed, EndsAs, AdoptsAsLrat, ProvedAreAdopted, EnoughAdopts}
 use Rattle.answers.proofs.RowLemmas.{some_same, over_study, granted}
 use Rattle.answers.proofs.FitLemmas.{right_judged}
 use Rattle.answers.proofs.DecidedLaws.{impossible, conclusive, bare_conclusive}
 use Rattle.answers.proofs.ReportLaws.{reportable}
 use Rattle.answers.proofs.DeviceLaws.{written_at}
 use Rattle.answers.proofs.CallLaws.{settled_row, rest_of}
-use Rattle.answers.proofs.ExportLemmas.{export_read}
+use Rattle.answers.proofs.ExportLemmas.{IsReadAgain, export_read}
+use Rattle.answers.proofs.OneAnswer.{one_lrat}
 use Rattle.answers.proofs.ConfirmedLaws.{not_faulty, refuting, said_accepted, said_of_written, row_written}
 
 -- ---- what is printed holds
@@ -51,22 +52,26 @@ module _ (files : Files) (proof : List ℕ) (study : Question) (run : Run) (text
         is = told.is;
         holds = impossible study run.logs told.core told.story told.witnesses f.right f.backed f.logs (studies_whole g.bytes study g.read).1;
         read = (subst (λ (b : List ℕ). IsRefutedBy study b lines) (some_same (files proof) bytes' bytes held' held) refutes).read;
-        named = told.named;
+        cited = told.cited;
       }
 
   -- ---- it ends as `lrat` does
 
-  as_lrat : (bytes : List ℕ) → files proof ≡ Some bytes → Adopts files proof study run text → EndsAsLrat study bytes run text
-  as_lrat bytes held (proof_refused bytes' held' one is bare) =
-      subst (λ (b : List ℕ). EndsAsLrat study b run text) (some_same (files proof) bytes' bytes held' held) (record { ends = bare.ends ∙ sym one; refused = λ e. is })
-  as_lrat bytes held (proof_retold bytes' lines held' refutes told) =
+  -- what is said of the proof over the clauses of the study, by a run
+  abbrev EndsAsSaid : List ℕ → Type 0
+  EndsAsSaid bytes = (run.status ≡ (said_of (exported_formula study) bytes).status) × (run.status ≡ 1 → text ≡ (said_of (exported_formula study) bytes).text)
+
+  as_said : (bytes : List ℕ) → files proof ≡ Some bytes → Adopts files proof study run text → EndsAsSaid bytes
+  as_said bytes held (proof_refused bytes' held' one is bare) =
+      subst (λ (b : List ℕ). EndsAsSaid b) (some_same (files proof) bytes' bytes held' held) (bare.ends ∙ sym one, λ e. is)
+  as_said bytes held (proof_retold bytes' lines held' refutes told) =
       let said : said_of (exported_formula study) bytes' ≡ of_derivation None =
       said_accepted (exported_formula study) bytes' refutes.fits (record { lines = lines; read = refutes.read; accepted = refutes.accepted }) in
       let ends : run.status ≡ 0 = told.found.ends in
-      subst (λ (b : List ℕ). EndsAsLrat study b run text) (some_same (files proof) bytes' bytes held' held) (record {
-        ends = ends ∙ ap (λ (s : Said). s.status) (sym said);
-        refused = λ one. let no : 0 ≡ 1 = sym ends ∙ one in absurd (omega (arith, no));
-      })
+      subst (λ (b : List ℕ). EndsAsSaid b) (some_same (files proof) bytes' bytes held' held) (
+        ends ∙ ap (λ (s : Said). s.status) (sym said),
+        λ one. let no : 0 ≡ 1 = sym ends ∙ one in absurd (omega (arith, no)),
+      )
 
   -- ---- a large limit
 
@@ -94,9 +99,30 @@ adopted_confirmed files name proof run text study row g zero_is fits =
     let verdict = Impossible told.core told.story told.witnesses in
     (verdict, f.told, right_judged study text verdict (reportable files name study g) (record { claims_some = f.claims_some; right = f.right; is = told.is }) fits)
 
+adopted_as_said : (files : Files) (name proof : List ℕ) (run : Run) (text bytes : List ℕ) (study : Question) → IsAdoption files name proof run text → GivesStudy files name study
+    → fault_of study ≡ None → files proof ≡ Some bytes → EndsAsSaid files proof study run text bytes
+adopted_as_said files name proof run text bytes study row g none held =
+    as_said files proof study run text bytes held (rest_of files name run text (λ s. Adopts files proof s run text) study g none row)
+
+-- `lrat` says this over what `export` writes
+confirmed_as_said : (study : Question) (files : Files) (cnf proof : List ℕ) (run : Run) (text bytes : List ℕ) → IsReadAgain study → IsConfirmedBy files cnf proof run text
+    → files cnf ≡ Some (export_text study) → files proof ≡ Some bytes
+    → (run.status ≡ (said_of (exported_formula study) bytes).status) × (text ≡ (said_of (exported_formula study) bytes).text)
+confirmed_as_said study files cnf proof run text bytes again row exported held =
+    let said = said_of (exported_formula study) bytes in
+    let there : Run = record { status = said.status; verdict = None; logs = [] } in
+    let given : GivesFormula files cnf (exported_formula study) =
+    record { bytes = export_text study; holds = record { held = exported; fits = again.fits }; read = again.read } in
+    let same =
+    one_lrat files run there text said.text cnf proof row
+    (proof_judged (exported_formula study) bytes given held (record { ends = refl; no_verdict = refl; no_logs = refl }) refl) in
+    (ap (λ (r : Run). r.status) same.0, same.1)
+
 pub adopted_as_lrat : AdoptsAsLrat
-adopted_as_lrat files name proof run text bytes study row g none held =
-    as_lrat files proof study run text bytes held (rest_of files name run text (λ s. Adopts files proof s run text) study g none row)
+adopted_as_lrat study adopted confirmed name proof cnf proof' run run' text text' bytes row g none held row' exported held' =
+    let ended = adopted_as_said adopted name proof run text bytes study row g none held in
+    let said = confirmed_as_said study confirmed cnf proof' run' text' bytes (export_read adopted name study g none) row' exported held' in
+    record { status = ended.0 ∙ sym said.0; refusal = λ one. ended.1 one ∙ sym said.1 }
 
 pub enough_adopted : EnoughAdopts
 enough_adopted files name proof run text study row g many =
@@ -110,13 +136,13 @@ proved_adopted study proved files name' name proof run' run refutation text row'
     not_faulty study run' refutation (Proves study run' refutation) zero_is (over_study proved name' run' refutation (λ s. OverClauses s run' refutation (Proves s run' refutation)) study g' row') in
     let (lines, refutes, is) = refuting proved name' study run' refutation g' zero_is other row' in
     let said = said_of_written study refutation lines (export_read proved name' study g' none) refutes is holds.fits in
-    let ended = adopted_as_lrat files name proof run text refutation study row g none holds.held in
-    ended.ends ∙ ap (λ (s : Said). s.status) said
+    let ended = adopted_as_said files name proof run text refutation study row g none holds.held in
+    ended.0 ∙ ap (λ (s : Said). s.status) said
 
 module _ (study : Question) (refutation : List ℕ) (wrote : Wrote Proof study refutation) (other : refutation ≢ codes "c possible\n")
     (words : List (List ℕ)) (d : Devices) (run : Run) (files : Files) (name proof : List ℕ) (workers : ℕ) (call : IsCall words d run) (told : d.told ≡ Some files)
     (asked : request_of words ≡ Some (Adopt name proof workers)) (g : GivesStudy files name study) (holds : Holds files most_proof_bytes proof refutation) where
-  zero_there : (text : List ℕ) → IsAdopted files name proof run text → run.status ≡ 0
+  zero_there : (text : List ℕ) → IsAdoption files name proof run text → run.status ≡ 0
   zero_there text row =
       proved_adopted study wrote.files files wrote.name name proof wrote.run run refutation text (row_written Proof study refutation wrote) wrote.given wrote.done other row g holds
 

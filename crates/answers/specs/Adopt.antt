@@ -30,18 +30,18 @@ pub record IsRefutedBy (study : Question) (bytes : List ℕ) (lines : List Line)
   pub accepted : IsAccepted (all_clauses study) lines
 
 -- each axiom of a core has a clause that some hint of the derivation names
-abbrev pub AreNamed : Question → List Line → List ℕ → Type 0
-AreNamed study lines core =
+abbrev pub AreCited : Question → List Line → List ℕ → Type 0
+AreCited study lines core =
     IsTrue (list_all (is_axiom_cited (study_clauses study.size study.axioms (all_places study)) lines) core)
 
--- the run has found that no rule satisfies the axioms of a core, of which each is named; and the text is its
+-- the run has found that no rule satisfies the axioms of a core, of which each is cited; and the text is its
 -- report
 pub record IsRetold (study : Question) (lines : List Line) (run : Run) (text : List ℕ) : Type 0 where
   pub core : List ℕ
   pub story : List Lemma
   pub witnesses : List Witness
   pub found : IsFound study run (Impossible core story witnesses)
-  pub named : AreNamed study lines core
+  pub cited : AreCited study lines core
   pub is : text ≡ report_text study (Impossible core story witnesses)
 
 -- the proof of a file is refused, with what `lrat` says of it over what `export` writes; or it is retold
@@ -54,6 +54,6 @@ pub data Adopts (files : Files) (proof : List ℕ) (study : Question) (run : Run
       → IsRefutedBy study bytes lines → IsRetold study lines run text
       → Adopts files proof study run text
 
-abbrev pub IsAdopted : Files → List ℕ → List ℕ → Run → List ℕ → Type 0
-IsAdopted files name proof run text =
+abbrev pub IsAdoption : Files → List ℕ → List ℕ → Run → List ℕ → Type 0
+IsAdoption files name proof run text =
     OverStudy files name run text (λ study. OverClauses study run text (Adopts files proof study run text))

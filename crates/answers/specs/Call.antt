@@ -68,7 +68,7 @@ pub data AreFiles (told : Option Files) (names : List (List ℕ)) (files : Files
   none_read : names ≡ [] → AreFiles told names files
 
 -- a fault has its cause at the first file, and then no other was touched, or at the second where the first is
--- not refused
+-- taken
 pub data HasReadCause (request : Option Request) (told : Option Files) (left_before left_now : Files)
     (faults_before faults_now : List ℕ → ℕ) (names : List (List ℕ)) : Type 0 where
   at_first : (name : List ℕ) (others : List (List ℕ)) → names ≡ name ∷ others

@@ -11,7 +11,7 @@ use Rattle.answers.specs.Proof.{IsProved}
 use Rattle.answers.specs.Lrat.{IsConfirmedBy}
 use Rattle.answers.specs.Axioms.{IsListed}
 use Rattle.answers.specs.Sample.{IsSampled}
-use Rattle.answers.specs.Adopt.{IsAdopted}
+use Rattle.answers.specs.Adopt.{IsAdoption}
 
 -- A row for each request. Where a file that is needed is not held, no answer is lawful. The number of workers changes none.
 abbrev pub IsAnswer : Option Request → Files → Run → List ℕ → Type 0
@@ -23,7 +23,7 @@ IsAnswer (Some (Proof study workers)) files run text = IsProved files study run 
 IsAnswer (Some (Lrat cnf proof)) files run text = IsConfirmedBy files cnf proof run text
 IsAnswer (Some (Axioms kind)) files run text = IsListed kind run text
 IsAnswer (Some (Sample number)) files run text = IsSampled number run text
-IsAnswer (Some (Adopt study proof workers)) files run text = IsAdopted files study proof run text
+IsAnswer (Some (Adopt study proof workers)) files run text = IsAdoption files study proof run text
 
 -- this run and this text answer the words
 abbrev pub Lawful : List (List ℕ) → Files → Run → List ℕ → Type 0

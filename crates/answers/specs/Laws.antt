@@ -80,7 +80,8 @@ ChecksAreAnswered =
 
 -- ---- one answer
 
--- words whose answer leaves no choice: all but `decide`, `proof`, `sample` and `adopt`, of which several verdicts may be right
+-- words whose answer leaves no choice: all but `decide`, `proof`, `sample` and `adopt`, of which several verdicts
+-- may be right
 abbrev pub IsSettled : Option Request → Type 0
 IsSettled (Some (Decide study workers)) = ⊥
 IsSettled (Some (Proof study workers)) = ⊥
@@ -152,7 +153,10 @@ pub record HasNoFault (words : List (List ℕ)) (d : Devices) : Type 0 where
 abbrev pub IsDecidedOrWanting : Run → Type 0
 IsDecidedOrWanting run = (run.status ≡ 0) ⊎ ((run.status ≡ 4) ⊎ (run.status ≡ 7))
 
--- over a study that is read, with clauses within the limits, `decide` and `proof` end with status 0, 4 or 7, and `export` with 0 or 7; so does `sample` over the study of its number; a confirmed report within its limit over a study that is read ends with 0 or 7, and so does an accepted proof over clauses that are read or that `adopt` makes, and `axioms`; words that are no command end with 2 or 7
+-- over a study that is read, with clauses within the limits, `decide` and `proof` end with status 0, 4 or 7, and
+-- `export` with 0 or 7; so does `sample` over the study of its number; a confirmed report within its limit over a
+-- study that is read ends with 0 or 7, and so does an accepted proof over clauses that are read or that `adopt`
+-- makes, and `axioms`; words that are no command end with 2 or 7
 pub record AreAnswered (words : List (List ℕ)) (d : Devices) (run : Run) : Type 0 where
   pub decide : (files : Files) (name : List ℕ) (workers : ℕ) (study : Question) → d.told ≡ Some files → request_of words ≡ Some (Decide name workers)
       → GivesStudy files name study → fault_of study ≡ None → IsDecidedOrWanting run
@@ -168,10 +172,10 @@ pub record AreAnswered (words : List (List ℕ)) (d : Devices) (run : Run) : Typ
       → d.told ≡ Some files → request_of words ≡ Some (Check name report workers)
       → GivesStudy files name study → files report ≡ Some bytes → IsConfirmed study bytes
       → length bytes ≤ most_report_bytes → (run.status ≡ 0) ⊎ (run.status ≡ 7)
-  pub adopt : (files : Files) (name proof bytes : List ℕ) (workers : ℕ) (study : Question) → d.told ≡ Some files
-      → request_of words ≡ Some (Adopt name proof workers) → GivesStudy files name study → fault_of study ≡ None
-      → files proof ≡ Some bytes → (said_of (exported_formula study) bytes).status ≡ 0
-      → (run.status ≡ 0) ⊎ (run.status ≡ 7)
+  pub adopt : (files : Files) (name proof bytes : List ℕ) (workers : ℕ) (study : Question)
+      → d.told ≡ Some files → request_of words ≡ Some (Adopt name proof workers)
+      → GivesStudy files name study → fault_of study ≡ None → files proof ≡ Some bytes
+      → (said_of (exported_formula study) bytes).status ≡ 0 → (run.status ≡ 0) ⊎ (run.status ≡ 7)
   pub axioms : (kind : Kind) → request_of words ≡ Some (Axioms kind) → (run.status ≡ 0) ⊎ (run.status ≡ 7)
   pub usage : request_of words ≡ None → (run.status ≡ 2) ⊎ (run.status ≡ 7)
 

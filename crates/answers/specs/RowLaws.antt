@@ -36,12 +36,12 @@ use Rattle.words.specs.Words.{Decide, Adopt, request_of}
 use Rattle.answers.specs.Devices.{Devices}
 use Rattle.answers.specs.Call.{IsCall}
 use Rattle.answers.specs.Check.{judgement}
-use Rattle.answers.specs.Export.{export_text, exported_formula, IsExported}
+use Rattle.answers.specs.Export.{export_text, IsExported}
 use Rattle.answers.specs.Decide.{IsDecided}
 use Rattle.answers.specs.Proof.{IsProved}
-use Rattle.answers.specs.Lrat.{GivesFormula, IsConfirmedBy, said_of}
+use Rattle.answers.specs.Lrat.{GivesFormula, IsConfirmedBy}
 use Rattle.answers.specs.Sample.{summary_line, IsSampled}
-use Rattle.answers.specs.Adopt.{AreNamed, IsAdopted}
+use Rattle.answers.specs.Adopt.{AreCited, IsAdoption}
 
 -- ---- `export`
 
@@ -173,7 +173,7 @@ ProvedAreConfirmed =
 
 -- ---- `adopt`
 
--- an impossibility that holds, and its report; each axiom of its core is named by the derivation of the proof
+-- an impossibility that holds, and its report; the derivation of the proof cites each axiom of its core
 pub record IsAdoptedRight (study : Question) (bytes : List ℕ) (run : Run) (text : List ℕ) : Type 0 where
   pub core : List ℕ
   pub story : List Lemma
@@ -183,19 +183,19 @@ pub record IsAdoptedRight (study : Question) (bytes : List ℕ) (run : Run) (tex
   pub is : text ≡ report_text study (Impossible core story witnesses)
   pub holds : IsImpossible study run.logs core story witnesses
   pub read : read_lrat (variable_count study.size) bytes ≡ Ok lines
-  pub named : AreNamed study lines core
+  pub cited : AreCited study lines core
 
 -- whatever study and proof are read, what `adopt` prints with status 0 holds
 abbrev pub AdoptedHolds : Type 0
 AdoptedHolds = (files : Files) (name proof : List ℕ) (run : Run) (text bytes : List ℕ) (study : Question) →
-    IsAdopted files name proof run text → GivesStudy files name study → files proof ≡ Some bytes →
+    IsAdoption files name proof run text → GivesStudy files name study → files proof ≡ Some bytes →
     run.status ≡ 0 → IsAdoptedRight study bytes run text
 
 -- whatever study and proof are read, what a call of `adopt` has written with status 0 holds
 abbrev pub WrittenAdoptionsHold : Type 0
 WrittenAdoptionsHold =
-    (words : List (List ℕ)) (d : Devices) (run : Run) (files : Files) (name proof bytes : List ℕ) (workers : ℕ)
-    (study : Question) →
+    (words : List (List ℕ)) (d : Devices) (run : Run) (files : Files) (name proof bytes : List ℕ)
+    (workers : ℕ) (study : Question) →
     IsCall words d run → d.told ≡ Some files → request_of words ≡ Some (Adopt name proof workers) →
     GivesStudy files name study → files proof ≡ Some bytes → run.status ≡ 0 →
     (text : List ℕ) × IsAdoptedRight study bytes run text × Appends d.taken_before d.taken_now text
@@ -204,35 +204,41 @@ WrittenAdoptionsHold =
 abbrev pub AdoptedAreConfirmed : Type 0
 AdoptedAreConfirmed =
     (files : Files) (name proof : List ℕ) (run : Run) (text : List ℕ) (study : Question) →
-    IsAdopted files name proof run text → GivesStudy files name study → run.status ≡ 0 →
+    IsAdoption files name proof run text → GivesStudy files name study → run.status ≡ 0 →
     length text ≤ most_report_bytes →
     (verdict : Verdict) × (run.verdict ≡ Some verdict) × (judgement study text ≡ Confirmed verdict)
 
--- it ends as `lrat` does over what `export` writes, and refuses a proof with the line of `lrat`
-pub record EndsAsLrat (study : Question) (bytes : List ℕ) (run : Run) (text : List ℕ) : Type 0 where
-  pub ends : run.status ≡ (said_of (exported_formula study) bytes).status
-  pub refused : run.status ≡ 1 → text ≡ (said_of (exported_formula study) bytes).text
+-- it ends with this status, and refuses a proof with this text
+pub record EndsAs (run run' : Run) (text text' : List ℕ) : Type 0 where
+  pub status : run.status ≡ run'.status
+  pub refusal : run.status ≡ 1 → text ≡ text'
 
+-- over a study whose clauses are not refused `adopt` ends as `lrat` does over what `export` writes of it, for the
+-- same bytes of a proof
 abbrev pub AdoptsAsLrat : Type 0
-AdoptsAsLrat = (files : Files) (name proof : List ℕ) (run : Run) (text bytes : List ℕ) (study : Question) →
-    IsAdopted files name proof run text → GivesStudy files name study → fault_of study ≡ None →
-    files proof ≡ Some bytes → EndsAsLrat study bytes run text
+AdoptsAsLrat =
+    (study : Question) (adopted confirmed : Files) (name proof cnf proof' : List ℕ) (run run' : Run)
+    (text text' bytes : List ℕ) →
+    IsAdoption adopted name proof run text → GivesStudy adopted name study → fault_of study ≡ None →
+    adopted proof ≡ Some bytes →
+    IsConfirmedBy confirmed cnf proof' run' text' → confirmed cnf ≡ Some (export_text study) →
+    confirmed proof' ≡ Some bytes → EndsAs run run' text text'
 
--- what `proof` writes of a study with status 0 is adopted over files that hold it and give that study; but where
--- it writes that there is a rule, or a text that is too long
+-- what `proof` writes of a study with status 0 is adopted over files that hold it and give that study; but
+-- where it writes that there is a rule, or a text that is too long
 abbrev pub ProvedAreAdopted : Type 0
 ProvedAreAdopted =
     (study : Question) (proved files : Files) (name' name proof : List ℕ) (run' run : Run)
     (refutation text : List ℕ) →
     IsProved proved name' run' refutation → GivesStudy proved name' study → run'.status ≡ 0 →
     refutation ≢ codes "c possible\n" →
-    IsAdopted files name proof run text → GivesStudy files name study →
+    IsAdoption files name proof run text → GivesStudy files name study →
     Holds files most_proof_bytes proof refutation → run.status ≡ 0
 
 -- where the limit of a study is at least 3 to the number of its variables, no mark of `adopt` is open
 abbrev pub EnoughAdopts : Type 0
 EnoughAdopts = (files : Files) (name proof : List ℕ) (run : Run) (text : List ℕ) (study : Question) →
-    IsAdopted files name proof run text → GivesStudy files name study →
+    IsAdoption files name proof run text → GivesStudy files name study →
     3 ^ variable_count study.size ≤ study.conflicts → IsConclusive run
 
 -- ---- `sample`

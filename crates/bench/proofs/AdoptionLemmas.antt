@@ -14,7 +14,7 @@ use Rattle.clause_form.specs.declared.refusals.GroundFault.{GroundFault}
 use Rattle.clause_form.specs.declared.refusals.GroundFault.TheVariants.{NoMemory}
 use Rattle.clause_form.specs.Refusals.{IsRefused}
 use Rattle.adopt.specs.declared.telling.Adopted.{Adopted}
-use Rattle.adopt.specs.Told.{IsAdopted as IsTaken}
+use Rattle.adopt.specs.Told.{IsAdopted}
 use Rattle.words.specs.Words.{Adopt}
 use Rattle.answers.specs.declared.runs.Run.{Run}
 use Rattle.answers.specs.Runs.{IsBare}
@@ -23,15 +23,15 @@ use Rattle.answers.specs.Grounding.{all_clauses, fault_of, clauses_made}
 use Rattle.answers.specs.Export.{exported_formula}
 use Rattle.answers.specs.Evidence.{IsBacked}
 use Rattle.answers.specs.Lrat.{Said, said_of, of_derivation}
-use Rattle.answers.specs.Adopt.{IsRetold, Adopts, proof_refused, proof_retold, IsAdopted}
+use Rattle.answers.specs.Adopt.{IsRetold, Adopts, proof_refused, proof_retold, IsAdoption}
 use Rattle.answers.specs.Call.{AreFiles, are_told, none_read}
 use Rattle.bench.specs.declared.answer.Answer.{Answer}
 use Rattle.bench.specs.declared.answer.Answer.TheVariants as answer
 use Rattle.bench.specs.declared.answer.Stop.{Stop}
 use Rattle.bench.specs.Answers.{HasText, run_of, text_of}
-use Rattle.bench.specs.Derived.{IsDerivation, RefusesProof}
+use Rattle.bench.specs.GivenProof.{IsDerivation, RefusesProof}
 use Rattle.bench.specs.Opened.{IsRead, Refuses}
-use Rattle.bench.specs.Retold.{IsJudged, lines_retold, line_refused}
+use Rattle.bench.specs.Retold.{IsDerivationJudged, lines_retold, line_refused}
 use Rattle.answers.proofs.LimitLemmas.{variables_few}
 use Rattle.bench.proofs.CheckLemmas.{given}
 use Rattle.bench.proofs.ClauseLemmas.{no_clauses}
@@ -44,7 +44,7 @@ adopt_command name proof workers = record { two = refl; statuses = refl }
 
 -- ---- the report
 
-module _ (study : Question) (lines : List Line) (a : Adopted) (taken : IsTaken study lines a) where
+module _ (study : Question) (lines : List Line) (a : Adopted) (taken : IsAdopted study lines a) where
   abbrev report : Answer
   report = answer.Report study (Impossible a.core a.story a.witnesses) a.logs
 
@@ -57,7 +57,7 @@ module _ (study : Question) (lines : List Line) (a : Adopted) (taken : IsTaken s
     story = a.story;
     witnesses = a.witnesses;
     found = record { ends = refl; told = refl; claims_some = refl; right = right; backed = (taken.told.tidy, taken.told.logged); logs = taken.told.logs };
-    named = taken.cited;
+    cited = taken.cited;
     is = refl;
   }
 
@@ -76,7 +76,7 @@ variables_short study whole variables is = let few = variables_few study.size wh
 
 module _ (told : Option Files) (proof : List ℕ) (study : Question) (variables : ℕ) (count : variables ≡ variable_count study.size) where
   -- a derivation that was read is judged
-  pub lines_judged : (lines : List Line) (result : Result Answer Stop) → IsDerivation told proof variables lines → IfOk result (IsJudged study lines)
+  pub lines_judged : (lines : List Line) (result : Result Answer Stop) → IsDerivation told proof variables lines → IfOk result (IsDerivationJudged study lines)
       → IfOk result (λ answer. (files : Files) → told ≡ Some files → Adopts files proof study (run_of answer) (text_of answer))
   lines_judged lines (Err stop) read judged = tt
   lines_judged lines (Ok answer) read judged = λ files e. by_judgement files e judged
@@ -84,7 +84,7 @@ module _ (told : Option Files) (proof : List ℕ) (study : Question) (variables 
       is : (files : Files) → told ≡ Some files → IsDerivation told proof (variable_count study.size) lines
       is files e = subst (λ (n : ℕ). IsDerivation told proof n lines) count read
 
-      by_judgement : (files : Files) → told ≡ Some files → IsJudged study lines answer → Adopts files proof study (run_of answer) (text_of answer)
+      by_judgement : (files : Files) → told ≡ Some files → IsDerivationJudged study lines answer → Adopts files proof study (run_of answer) (text_of answer)
       by_judgement files e (lines_retold accepted retold) =
           let d = is files e in
           proof_retold d.bytes lines (d.held files e) (record { fits = d.fits; read = d.gives; accepted = accepted }) retold
@@ -116,7 +116,7 @@ module _ (told : Option Files) (name proof : List ℕ) where
   -- the proof is judged over its clauses
   pub adopted_rows : (study : Question) (result : Result Answer Stop) → IsRead told name study → fault_of study ≡ None
       → IfOk result (λ answer. (files : Files) → told ≡ Some files → Adopts files proof study (run_of answer) (text_of answer))
-      → (files : Files) → AreFiles told (name ∷ proof ∷ []) files → IfOk result (λ answer. IsAdopted files name proof (run_of answer) (text_of answer))
+      → (files : Files) → AreFiles told (name ∷ proof ∷ []) files → IfOk result (λ answer. IsAdoption files name proof (run_of answer) (text_of answer))
   adopted_rows study (Ok answer) read none judged files (are_told e) = study_given study (given told name proof study files read e) (clauses_made none (judged files e))
   adopted_rows study (Ok answer) read none judged files (none_read e) = absurd (cc)
   adopted_rows study (Err stop) read none judged files h = tt
@@ -124,12 +124,12 @@ module _ (told : Option Files) (name proof : List ℕ) where
   -- the clauses are refused
   pub clauses_row : (study : Question) (fault : GroundFault) → IsRead told name study → fault ≢ NoMemory → IsRefused fault (fault_of study)
       → (files : Files) → AreFiles told (name ∷ proof ∷ []) files
-      → IsAdopted files name proof (run_of (answer.NoClauses study fault)) (text_of (answer.NoClauses study fault))
+      → IsAdoption files name proof (run_of (answer.NoClauses study fault)) (text_of (answer.NoClauses study fault))
   clauses_row study fault read known is files (are_told e) = study_given study (given told name proof study files read e) (no_clauses study fault _ known is)
   clauses_row study fault read known is files (none_read e) = absurd (cc)
 
   -- the study is refused
   pub refused_row : (answer : Answer) → Refuses told name answer → (files : Files) → AreFiles told (name ∷ proof ∷ []) files
-      → IsAdopted files name proof (run_of answer) (text_of answer)
+      → IsAdoption files name proof (run_of answer) (text_of answer)
   refused_row answer refuses files (are_told e) = study_refused (refuses.line files e) refuses.bare
   refused_row answer refuses files (none_read e) = absurd (cc)

@@ -20,7 +20,7 @@ use Rattle.answers.specs.Call.{AreFiles, are_told, none_read}
 use Rattle.bench.specs.declared.answer.Answer.{Answer}
 use Rattle.bench.specs.declared.answer.Stop.{Stop}
 use Rattle.bench.specs.Answers.{run_of, status_of, text_of}
-use Rattle.bench.specs.Derived.{IsProofSaid}
+use Rattle.bench.specs.GivenProof.{IsProofSaid}
 use Rattle.bench.specs.Given.{IsCnf, RefusesCnf}
 use Rattle.bench.proofs.OpenLemmas.{if_some}
 use Rattle.bench.proofs.AnswerLemmas.{some_and}

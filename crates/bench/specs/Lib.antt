@@ -4,5 +4,5 @@ pub mod Answered
 pub mod Opened
 pub mod Found
 pub mod Given
-pub mod Derived
+pub mod GivenProof
 pub mod Retold

@@ -12,9 +12,9 @@ use Rattle.bench.specs.declared.answer.Answer.{Answer}
 use Rattle.bench.specs.Answers.{run_of, text_of}
 
 -- it is accepted and retold; or refused at its first faulty line
-pub data IsJudged (study : Question) (lines : List Line) (answer : Answer) : Type 0 where
+pub data IsDerivationJudged (study : Question) (lines : List Line) (answer : Answer) : Type 0 where
   lines_retold : IsAccepted (all_clauses study) lines → IsRetold study lines (run_of answer) (text_of answer)
-      → IsJudged study lines answer
+      → IsDerivationJudged study lines answer
   line_refused : (at : ℕ) (fault : LineFault) → first_fault (all_clauses study) lines ≡ Some (at, fault)
       → text_of answer ≡ proof_line at (line_fault_text fault) → IsBare (run_of answer) 1
-      → IsJudged study lines answer
+      → IsDerivationJudged study lines answer

@@ -16,10 +16,10 @@ ghost use Rattle.words.specs.Words.{Adopt};
 ghost use Rattle.answers.specs.Adopt.{Adopts, IsRetold};
 ghost use Rattle.bench.specs.Answers.{HasText, run_of, status_of, text_of};
 ghost use Rattle.bench.specs.Answered.{Answers};
-ghost use Rattle.bench.specs.Retold.{IsJudged};
+ghost use Rattle.bench.specs.Retold.{IsDerivationJudged};
 
 use crate::answer::{Answer, Stop};
-use crate::derivations::{Derived, open_derivation};
+use crate::derivations::{GivenProof, open_derivation};
 use crate::grounds::ground_study;
 use crate::studies::{Opened, open_study};
 use adopt::{AdoptFault, Adopted};
@@ -71,7 +71,7 @@ fn judge_lines<K: OutcomeKind>(
     requires over { AreOver (variable_count study.size) lines.now }
     requires numbers { IsTrue (list_all has_next lines.now) }
     requires few { length lines.now < 2 ^ 32 - 1 }
-    ensures judged { IfOk result (IsJudged study lines.now) }
+    ensures judged { IfOk result (IsDerivationJudged study lines.now) }
     ensures has_text { IfOk result HasText }
     ensures read { result ≢ Err Stop.ReadFault }
 {
@@ -103,8 +103,8 @@ fn judge_over<S: Shelf, K: OutcomeKind>(
     ensures others { OthersStay (S.left shelf.old) (S.left shelf.new) proof.now }
 {
     match open_derivation(alloc, shelf, proof, variables(kind)) {
-        Ok(Derived::Lines(lines)) => judge_lines(alloc, kind, study, clauses, &lines),
-        Ok(Derived::Refused(answer)) => Ok(answer),
+        Ok(GivenProof::Lines(lines)) => judge_lines(alloc, kind, study, clauses, &lines),
+        Ok(GivenProof::Refused(answer)) => Ok(answer),
         Err(stop) => Err(stop),
     }
 }

@@ -3,7 +3,7 @@
 ghost use Rattle.std.specs.Prelude.{◌≤◌, IfOk, IsErrOf};
 ghost use Rattle.edge.specs.Faults.{Rose};
 ghost use Rattle.edge.specs.Shelf.{OthersStay};
-ghost use Rattle.bench.specs.Derived.{IsDerived};
+ghost use Rattle.bench.specs.GivenProof.{IsGivenProof};
 
 use crate::answer::{Answer, Stop};
 use clause_text::{LratFault, read_lrat};
@@ -16,7 +16,7 @@ const MOST_PROOF_BYTES: u32 = 536_870_912;
 
 /// The derivation of a file, or the answer that refuses it.
 #[derive(Drop)]
-pub enum Derived {
+pub enum GivenProof {
     Lines(Derivation),
     Refused(Answer),
 }
@@ -27,22 +27,22 @@ pub fn open_derivation<S: Shelf>(
     shelf: &mut S,
     name: &str,
     variables: u32,
-) -> Result<Derived, Stop>
+) -> Result<GivenProof, Stop>
     requires { variables ≤ 10000000 }
-    ensures derived { IfOk result (IsDerived (S.files shelf.old) name.now variables) }
+    ensures derived { IfOk result (IsGivenProof (S.files shelf.old) name.now variables) }
     ensures fault { IsErrOf result Stop.ReadFault →
         Rose (S.faults shelf.old name.now) (S.faults shelf.new name.now) }
     ensures others { OthersStay (S.left shelf.old) (S.left shelf.new) name.now }
 {
     let bytes = match read_all(alloc, shelf, name, MOST_PROOF_BYTES) {
         Ok(bytes) => bytes,
-        Err(ReadFault::TooLong) => return Ok(Derived::Refused(Answer::LongProof)),
+        Err(ReadFault::TooLong) => return Ok(GivenProof::Refused(Answer::LongProof)),
         Err(ReadFault::Failed) => return Err(Stop::ReadFault),
         Err(ReadFault::NoMemory) => return Err(Stop::NoMemory),
     };
     match read_lrat(alloc, bytes.as_slice(), variables) {
-        Ok(lines) => Ok(Derived::Lines(lines)),
+        Ok(lines) => Ok(GivenProof::Lines(lines)),
         Err(LratFault::NoMemory) => Err(Stop::NoMemory),
-        Err(fault) => Ok(Derived::Refused(Answer::NoProof(fault))),
+        Err(fault) => Ok(GivenProof::Refused(Answer::NoProof(fault))),
     }
 }

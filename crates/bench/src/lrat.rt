@@ -9,11 +9,11 @@ ghost use Rattle.words.specs.Words.{Lrat};
 ghost use Rattle.answers.specs.Lrat.{of_reading};
 ghost use Rattle.bench.specs.Answers.{HasText, run_of, status_of, text_of};
 ghost use Rattle.bench.specs.Answered.{Answers};
-ghost use Rattle.bench.specs.Derived.{IsProofSaid};
+ghost use Rattle.bench.specs.GivenProof.{IsProofSaid};
 ghost use Rattle.bench.specs.Given.{IsGiven, IsSaid, formula_of};
 
 use crate::answer::{Answer, Stop};
-use crate::derivations::{Derived, open_derivation};
+use crate::derivations::{GivenProof, open_derivation};
 use clause_text::{CnfFault, Formulas, read_dimacs};
 use cnf::Derivation;
 use edge::{ReadFault, Shelf, read_all};
@@ -85,8 +85,8 @@ fn judge_proof<S: Shelf>(
     ensures others { OthersStay (S.left shelf.old) (S.left shelf.new) proof.now }
 {
     match open_derivation(alloc, shelf, proof, formulas.variables) {
-        Ok(Derived::Lines(lines)) => checked(alloc, formulas, &lines),
-        Ok(Derived::Refused(answer)) => Ok(answer),
+        Ok(GivenProof::Lines(lines)) => checked(alloc, formulas, &lines),
+        Ok(GivenProof::Refused(answer)) => Ok(answer),
         Err(stop) => Err(stop),
     }
 }

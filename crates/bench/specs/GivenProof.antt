@@ -13,12 +13,13 @@ use Rattle.answers.specs.Held.{most_proof_bytes}
 use Rattle.answers.specs.Lrat.{said_of}
 use Rattle.answers.specs.Runs.{IsBare}
 use Rattle.bench.specs.declared.answer.Answer.{Answer}
-use Rattle.bench.specs.declared.derivations.Derived.{Derived}
-use Rattle.bench.specs.declared.derivations.Derived.TheVariants as derived
+use Rattle.bench.specs.declared.derivations.GivenProof.{GivenProof}
+use Rattle.bench.specs.declared.derivations.GivenProof.TheVariants as given
 use Rattle.bench.specs.Answers.{HasText, run_of, text_of}
 
 -- the file of a proof is judged over clauses, and the text is what is said of it
-pub record IsProofSaid (files : Files) (proof : List ℕ) (formula : Formula) (run : Run) (text : List ℕ) : Type 0 where
+pub record IsProofSaid (files : Files) (proof : List ℕ) (formula : Formula) (run : Run) (text : List ℕ)
+    : Type 0 where
   pub bytes : List ℕ
   pub held : files proof ≡ Some bytes
   pub ends : IsBare run (said_of formula bytes).status
@@ -26,7 +27,8 @@ pub record IsProofSaid (files : Files) (proof : List ℕ) (formula : Formula) (r
 
 -- bytes within the limit give the derivation, which is in range; where the shelf tells its files, they are those
 -- of this name
-pub record IsDerivation (told : Option Files) (name : List ℕ) (variables : ℕ) (lines : List Line) : Type 0 where
+pub record IsDerivation (told : Option Files) (name : List ℕ) (variables : ℕ) (lines : List Line)
+    : Type 0 where
   pub bytes : List ℕ
   pub fits : length bytes ≤ most_proof_bytes
   pub gives : read_lrat variables bytes ≡ Ok lines
@@ -36,13 +38,15 @@ pub record IsDerivation (told : Option Files) (name : List ℕ) (variables : ℕ
   pub few : length lines < 2 ^ 32 - 1
 
 -- the answer refuses the proof with status 1, and as is said of it over any clauses where the shelf tells its files
-pub record RefusesProof (told : Option Files) (name : List ℕ) (variables : ℕ) (answer : Answer) : Type 0 where
+pub record RefusesProof (told : Option Files) (name : List ℕ) (variables : ℕ) (answer : Answer)
+    : Type 0 where
   pub bare : IsBare (run_of answer) 1
   pub has_text : HasText answer
   pub said : (files : Files) → told ≡ Some files → (clauses : List Clause)
-      → IsProofSaid files name (record { variables = variables; clauses = clauses }) (run_of answer) (text_of answer)
+      → IsProofSaid files name (record { variables = variables; clauses = clauses })
+      (run_of answer) (text_of answer)
 
 -- a derivation was read, or it is refused
-abbrev pub IsDerived : Option Files → List ℕ → ℕ → Derived → Type 0
-IsDerived told name variables (derived.Lines lines) = IsDerivation told name variables lines
-IsDerived told name variables (derived.Refused answer) = RefusesProof told name variables answer
+abbrev pub IsGivenProof : Option Files → List ℕ → ℕ → GivenProof → Type 0
+IsGivenProof told name variables (given.Lines lines) = IsDerivation told name variables lines
+IsGivenProof told name variables (given.Refused answer) = RefusesProof told name variables answer
