@@ -23,4 +23,5 @@ module _ (study : Question) where
   -- a proof over the clauses of all axioms is adopted: what is told is right, and each axiom of the core has a clause that a hint of the proof names
   pub record IsAdopted (proof : List Line) (a : Adopted) : Type 0 where
     pub told : IsTold a
-    pub cited : IsTrue (list_all (is_axiom_cited (study_clauses study.size study.axioms (all_places study)) proof) a.core)
+    pub cited : IsTrue (list_all
+        (is_axiom_cited (study_clauses study.size study.axioms (all_places study)) proof) a.core)

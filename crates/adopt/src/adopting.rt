@@ -41,7 +41,8 @@ fn reduce_all<K: OutcomeKind>(
 ) -> Result<Reduced, NoMemory>
     requires size { study.now.size ≡ K.size kind.now }
     requires clauses { clauses ≡ study_clauses study.now.size study.now.axioms (all_places study.now) }
-    requires accepted { IsAccepted (clauses_for study.now.size study.now.axioms (all_places study.now)) proof.now }
+    requires accepted { IsAccepted
+        (clauses_for study.now.size study.now.axioms (all_places study.now)) proof.now }
     requires over { AreOver (variable_count study.now.size) proof.now }
     requires few { length proof.now < 2 ^ 32 - 1 }
     ensures { IfOk result (IsReduced study.now (all_places study.now) proof.now) }
@@ -61,7 +62,8 @@ fn adopt_accepted<K: OutcomeKind>(
 ) -> Result<Adopted, NoMemory>
     requires size { study.now.size ≡ K.size kind.now }
     requires clauses { clauses ≡ study_clauses study.now.size study.now.axioms (all_places study.now) }
-    requires accepted { IsAccepted (clauses_for study.now.size study.now.axioms (all_places study.now)) proof.now }
+    requires accepted { IsAccepted
+        (clauses_for study.now.size study.now.axioms (all_places study.now)) proof.now }
     requires over { AreOver (variable_count study.now.size) proof.now }
     requires few { length proof.now < 2 ^ 32 - 1 }
     ensures { IfOk result (IsAdopted study.now proof.now) }
@@ -90,8 +92,10 @@ pub fn adopt<K: OutcomeKind>(
     requires numbers { IsTrue (list_all has_next proof.now) }
     requires few { length proof.now < 2 ^ 32 - 1 }
     ensures adopted { IfOk result (IsAdopted study.now proof.now) }
-    ensures accepted { OnOk result (IsAccepted (clauses_for study.now.size study.now.axioms (all_places study.now)) proof.now) }
-    ensures refused { IfErr result (λ fault. IsRefused fault (first_fault (clauses_for study.now.size study.now.axioms (all_places study.now)) proof.now)) }
+    ensures accepted { OnOk result (IsAccepted
+        (clauses_for study.now.size study.now.axioms (all_places study.now)) proof.now) }
+    ensures refused { IfErr result (λ fault. IsRefused fault
+        (first_fault (clauses_for study.now.size study.now.axioms (all_places study.now)) proof.now)) }
 {
     match check(alloc, clauses.clauses(), proof) {
         Ok(()) => match adopt_accepted(alloc, kind, study, clauses, proof) {

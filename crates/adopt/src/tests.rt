@@ -158,7 +158,8 @@ fn refutation(alloc: Global) -> Result<Derivation, NoMemory>
 /// The same by other ids, after a tautology, with a clause that is taken away and hints that it does not need.
 fn roundabout(alloc: Global) -> Result<Derivation, NoMemory>
     ensures { IfOk result (λ lines. lines ≡
-        added 2 30 (plain 1 ∷ negated 1 ∷ []) (99 ∷ []) ∷ added 3 33 (negated 3 ∷ []) (4 ∷ 9 ∷ 17 ∷ 6 ∷ 99 ∷ [])
+        added 2 30 (plain 1 ∷ negated 1 ∷ []) (99 ∷ []) ∷
+        added 3 33 (negated 3 ∷ []) (4 ∷ 9 ∷ 17 ∷ 6 ∷ 99 ∷ [])
         ∷ dropped 5 9 ∷ added 6 40 [] (33 ∷ 3 ∷ 11 ∷ 19 ∷ 6 ∷ []) ∷ added 7 1 [] [] ∷ []) }
 {
     let mut lines = Derivation::new(alloc);

@@ -24,7 +24,8 @@ module _ (size : Extent) (table : List ℕ) (a : Titled) where
 
   -- what was found is the least instance of these that is false of the rule, or none where all are true
   abbrev pub IsLeastFalse : ℕ → ℕ → Option ℕ → Type 0
-  IsLeastFalse from to found = MatchOption found (AreInstancesTrue size table a.sentence from to) (IsFirstFailure size table a.sentence from to)
+  IsLeastFalse from to found = MatchOption found (AreInstancesTrue size table a.sentence from to)
+      (IsFirstFailure size table a.sentence from to)
 
   -- what was found is the least instance of a piece that is false of the rule
   abbrev pub IsLeastOfPiece : ℕ → ℕ → ℕ → Option ℕ → Type 0

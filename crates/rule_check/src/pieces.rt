@@ -40,9 +40,11 @@ struct Pieces<'a, F> {
 impl<F: Fn(u64, u64) -> Option<u64> + Sync> Job for Pieces<'_, F> {
     type Part = Option<u64>;
 
-    ghost has = { λ job piece. (start_of job.from piece ≤ job.to) × F.pre job.find.now (start_of job.from piece) (end_of job.from job.to piece) };
+    ghost has = { λ job piece. (start_of job.from piece ≤ job.to) ×
+        F.pre job.find.now (start_of job.from piece) (end_of job.from job.to piece) };
 
-    ghost is_right = { λ job piece found. F.post job.find.now (start_of job.from piece) (end_of job.from job.to piece) found };
+    ghost is_right = { λ job piece found. F.post job.find.now (start_of job.from piece)
+        (end_of job.from job.to piece) found };
 
     fn part(&self, piece: u32) -> Result<Option<u64>, NoMemory> {
         let start = self.from + PIECE * u64::from(piece);
@@ -53,9 +55,11 @@ impl<F: Fn(u64, u64) -> Option<u64> + Sync> Job for Pieces<'_, F> {
 
 /// The first instance that was found, of the pieces of a round in order.
 fn first_found<K: OutcomeKind>(round: &Round<K>, parts: &Parts<Option<u64>>) -> Option<u64>
-    requires right { AreRight (IsLeastOfPiece (K.size round.now.kind.now) round.now.table.now round.now.named.now round.now.from round.now.to) 0 parts.now }
+    requires right { AreRight (IsLeastOfPiece (K.size round.now.kind.now) round.now.table.now
+        round.now.named.now round.now.from round.now.to) 0 parts.now }
     requires whole { round.now.to ≤ start_of round.now.from (length parts.now) }
-    ensures { IsLeastFalse (K.size round.now.kind.now) round.now.table.now round.now.named.now round.now.from round.now.to result }
+    ensures { IsLeastFalse (K.size round.now.kind.now) round.now.table.now round.now.named.now
+        round.now.from round.now.to result }
 {
     let _ = round;
     for piece in 0..parts.len() {
@@ -72,15 +76,18 @@ pub(crate) fn round_failure<R: Threads + Sync, K: OutcomeKind, G: Gate>(
     crew: &Crew<R, G>,
     round: &Round<K>,
 ) -> Result<Option<u64>, NoMemory>
-    requires can { CanBeTried (K.size round.now.kind.now) round.now.table.now round.now.named.now round.now.to }
+    requires can { CanBeTried (K.size round.now.kind.now) round.now.table.now round.now.named.now
+        round.now.to }
     requires rising { round.now.from ≤ round.now.to }
     requires short { round.now.to ≤ round.now.from + 1048576 }
-    ensures { IfOk result (λ found. IsLeastFalse (K.size round.now.kind.now) round.now.table.now round.now.named.now round.now.from round.now.to found) }
+    ensures { IfOk result (λ found. IsLeastFalse (K.size round.now.kind.now) round.now.table.now
+        round.now.named.now round.now.from round.now.to found) }
 {
     let (from, to) = (round.from, round.to);
     let find = |start: u64, end: u64| -> Option<u64>
         requires { CanBeTried (K.size round.now.kind.now) round.now.table.now round.now.named.now end }
-        ensures { IsLeastFalse (K.size round.entry.now.kind.now) round.entry.now.table.now round.entry.now.named.now start end result }
+        ensures { IsLeastFalse (K.size round.entry.now.kind.now) round.entry.now.table.now
+            round.entry.now.named.now start end result }
     { first_failure(round.kind, round.table, round.named, start, end) };
     let pieces = Pieces {
         find: &find,

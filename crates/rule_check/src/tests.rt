@@ -27,7 +27,8 @@ fn small_size() -> Result<Size, Fail>
 
 /// The axiom `same`, that each voter is itself.
 fn same(alloc: Global) -> Result<Axiom, Fail>
-    ensures { IfOk result (λ named. named ≡ record { name = codes "same"; sentence = All Sort.Voter (Leaf (Equal (Var 0) (Var 0))) }) }
+    ensures { IfOk result (λ named.
+        named ≡ record { name = codes "same"; sentence = All Sort.Voter (Leaf (Equal (Var 0) (Var 0))) }) }
 {
     let name = Name::new(b"same").ok_or("name")?;
     let same = Formula::Leaf(Atom::Equal(Term::Var(0), Term::Var(0)));
@@ -37,7 +38,11 @@ fn same(alloc: Global) -> Result<Axiom, Fail>
 /// The axiom `first`, that the first alternative wins at every profile, for each further profile and each ballot. It
 /// has 7,776 instances, of which 216 have one value of the first variable.
 fn first(alloc: Global) -> Result<Axiom, Fail>
-    ensures { IfOk result (λ named. named ≡ record { name = codes "first"; sentence = All Sort.Profile (All Sort.Profile (All Sort.Ballot (Leaf (WinsAt (Const 0) (Var 0))))) }) }
+    ensures { IfOk result (λ named.
+        named ≡ record {
+          name = codes "first";
+          sentence = All Sort.Profile (All Sort.Profile (All Sort.Ballot (Leaf (WinsAt (Const 0) (Var 0)))));
+        }) }
 {
     let name = Name::new(b"first").ok_or("name")?;
     let wins = Formula::Leaf(Atom::Wins(Term::Const(0), Term::Var(0)));

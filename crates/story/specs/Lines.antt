@@ -16,6 +16,8 @@ abbrev pub supposition_fault : Bool → List Literal → Literal → Option Stor
 supposition_fault final known l = option_or (unless (not final) Supposes) (literal_fault known l)
 
 -- the fault of a step: its literal must be new, and its reason must refute what is known with the opposite of the literal
-abbrev pub step_fault : Extent → List Titled → List ℕ → List Lemma → List Literal → StoryStep → Option StoryFault
+abbrev pub step_fault : Extent → List Titled → List ℕ → List Lemma → List Literal → StoryStep →
+    Option StoryFault
 step_fault size axioms core earlier known step =
-    option_or (literal_fault known step.literal) (reason_fault size axioms core earlier (known ++ opposite_of step.literal ∷ []) step.reason)
+    option_or (literal_fault known step.literal)
+        (reason_fault size axioms core earlier (known ++ opposite_of step.literal ∷ []) step.reason)

@@ -8,6 +8,7 @@ ghost use Rattle.meaning.specs.StoryFaults.{suppose_fault, steps_fault, lemma_fa
 ghost use Rattle.story.specs.Answers.{Answers};
 ghost use Rattle.story.specs.Conditions.{has_places, is_short};
 
+use crate::grounds::Grounds;
 use crate::lines::{suppose, take_step};
 use crate::reasons::refutes;
 use meaning::{Lemma, PlacedFault};
@@ -34,37 +35,39 @@ pub fn check_lemma<K: OutcomeKind>(
     requires earlier { IsTrue (list_all (has_literals (K.size kind.now)) earlier.now) }
     requires literals { IsTrue (has_literals (K.size kind.now) lemma.now) }
     requires short { IsTrue (is_short lemma.now) }
-    ensures fault { Answers result (lemma_fault (K.size kind.now) study.now.axioms core.now earlier.now final_one lemma.now) }
+    ensures fault { Answers result (lemma_fault (K.size kind.now) study.now.axioms core.now earlier.now
+        final_one lemma.now) }
     ensures size { board.new.size ≡ board.old.size }
     ensures cleared { board.new.literals ≡ [] }
 {
-    let answer = check_lines(kind, study, core, earlier, final_one, board, lemma);
+    let grounds = Grounds {
+        kind,
+        study,
+        core,
+        earlier,
+    };
+    let answer = check_lines(&grounds, final_one, board, lemma);
     board.clear();
     answer
 }
 
 /// The lines of a lemma, whose literals come on the board.
 fn check_lines<K: OutcomeKind>(
-    kind: &K,
-    study: &Study,
-    core: &Places,
-    earlier: &[Lemma],
+    grounds: &Grounds<K>,
     final_one: bool,
     board: &mut Board,
     lemma: &Lemma,
 ) -> Result<(), PlacedFault>
-    requires study { study.now.size ≡ K.size kind.now }
-    requires board { board.old.size ≡ K.size kind.now }
+    requires board { board.old.size ≡ K.size grounds.now.kind.now }
     requires cleared { board.old.literals ≡ [] }
-    requires core { IsTrue (has_places study.now.axioms core.now) }
-    requires earlier { IsTrue (list_all (has_literals (K.size kind.now)) earlier.now) }
-    requires literals { IsTrue (has_literals (K.size kind.now) lemma.now) }
+    requires literals { IsTrue (has_literals (K.size grounds.now.kind.now) lemma.now) }
     requires short { IsTrue (is_short lemma.now) }
-    ensures fault { Answers result (lemma_fault (K.size kind.now) study.now.axioms core.now earlier.now final_one lemma.now) }
+    ensures fault { Answers result (lemma_fault (K.size grounds.now.kind.now) grounds.now.study.now.axioms
+        grounds.now.core.now grounds.now.earlier.now final_one lemma.now) }
     ensures size { board.new.size ≡ board.old.size }
 {
     suppose_all(final_one, board, lemma.suppose.as_slice())?;
-    take_steps(kind, study, core, earlier, board, lemma)
+    take_steps(grounds, board, lemma)
 }
 
 /// The suppositions, which come on the empty board.
@@ -89,34 +92,43 @@ fn suppose_all(final_one: bool, board: &mut Board, literals: &[Literal]) -> Resu
 
 /// The steps and the last reason, after the suppositions.
 fn take_steps<K: OutcomeKind>(
-    kind: &K,
-    study: &Study,
-    core: &Places,
-    earlier: &[Lemma],
+    grounds: &Grounds<K>,
     board: &mut Board,
     lemma: &Lemma,
 ) -> Result<(), PlacedFault>
-    requires study { study.now.size ≡ K.size kind.now }
-    requires board { board.old.size ≡ K.size kind.now }
+    requires board { board.old.size ≡ K.size grounds.now.kind.now }
     requires supposed { board.old.literals ≡ lemma.now.suppose }
-    requires core { IsTrue (has_places study.now.axioms core.now) }
-    requires earlier { IsTrue (list_all (has_literals (K.size kind.now)) earlier.now) }
-    requires literals { IsTrue (has_literals (K.size kind.now) lemma.now) }
+    requires literals { IsTrue (has_literals (K.size grounds.now.kind.now) lemma.now) }
     requires short { IsTrue (is_short lemma.now) }
-    ensures fault { Answers result (steps_fault (K.size kind.now) study.now.axioms core.now earlier.now
-        lemma.now.last (length lemma.now.suppose + 1) lemma.now.suppose lemma.now.steps) }
+    ensures fault { Answers result (steps_fault (K.size grounds.now.kind.now) grounds.now.study.now.axioms
+        grounds.now.core.now grounds.now.earlier.now lemma.now.last (length lemma.now.suppose + 1)
+        lemma.now.suppose lemma.now.steps) }
     ensures size { board.new.size ≡ board.old.size }
 {
     let mut place = lemma.suppose.len() as u32 + 1;
     let steps = lemma.steps.as_slice();
     for step in steps {
-        match take_step(kind, study, core, earlier, board, step) {
+        match take_step(
+            grounds.kind,
+            grounds.study,
+            grounds.core,
+            grounds.earlier,
+            board,
+            step,
+        ) {
             Ok(()) => {}
             Err(fault) => return Err(PlacedFault { place, fault }),
         }
         place += 1;
     }
-    match refutes(kind, study, core, earlier, board, &lemma.last) {
+    match refutes(
+        grounds.kind,
+        grounds.study,
+        grounds.core,
+        grounds.earlier,
+        board,
+        &lemma.last,
+    ) {
         Ok(()) => Ok(()),
         Err(fault) => Err(PlacedFault { place, fault }),
     }

@@ -2,6 +2,7 @@
 //! variable and no search.
 #![tactic(auto)]
 
+mod grounds;
 mod lemmas;
 mod lines;
 mod reasons;

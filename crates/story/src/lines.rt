@@ -10,6 +10,7 @@ ghost use Rattle.story.specs.Answers.{Answers};
 ghost use Rattle.story.specs.Conditions.{has_places};
 ghost use Rattle.story.specs.Lines.{supposition_fault, step_fault};
 
+use crate::grounds::Grounds;
 use crate::reasons::refutes;
 use meaning::{Lemma, StoryFault, StoryStep};
 use outcomes::OutcomeKind;
@@ -51,7 +52,8 @@ pub fn take_step<K: OutcomeKind>(
     requires core { IsTrue (has_places study.now.axioms core.now) }
     requires earlier { IsTrue (list_all (has_literals (K.size kind.now)) earlier.now) }
     requires literal { IsTrue (is_literal (K.size kind.now) step.now.literal) }
-    ensures fault { Answers result (step_fault (K.size kind.now) study.now.axioms core.now earlier.now board.old.literals step.now) }
+    ensures fault { Answers result (step_fault (K.size kind.now) study.now.axioms core.now earlier.now
+        board.old.literals step.now) }
     ensures size { board.new.size ≡ board.old.size }
     ensures ok { OnOk result (board.new.literals ≡ board.old.literals ++ step.now.literal ∷ []) }
     ensures err { OnErr result (board.new.literals ≡ board.old.literals) }
@@ -59,34 +61,42 @@ pub fn take_step<K: OutcomeKind>(
     if is_decided(board, &step.literal) {
         return Err(StoryFault::Known);
     }
-    force(kind, study, core, earlier, board, step)?;
+    let grounds = Grounds {
+        kind,
+        study,
+        core,
+        earlier,
+    };
+    force(&grounds, board, step)?;
     board.add(&step.literal);
     Ok(())
 }
 
 /// Whether the reason of a step refutes the board with the opposite of the step's literal.
 fn force<K: OutcomeKind>(
-    kind: &K,
-    study: &Study,
-    core: &Places,
-    earlier: &[Lemma],
+    grounds: &Grounds<K>,
     board: &mut Board,
     step: &StoryStep,
 ) -> Result<(), StoryFault>
-    requires study { study.now.size ≡ K.size kind.now }
-    requires board { board.old.size ≡ K.size kind.now }
-    requires core { IsTrue (has_places study.now.axioms core.now) }
-    requires earlier { IsTrue (list_all (has_literals (K.size kind.now)) earlier.now) }
-    requires literal { IsTrue (is_literal (K.size kind.now) step.now.literal) }
+    requires board { board.old.size ≡ K.size grounds.now.kind.now }
+    requires literal { IsTrue (is_literal (K.size grounds.now.kind.now) step.now.literal) }
     requires fresh { IsFalse (is_decided board.old.literals step.now.literal) }
-    ensures fault { Answers result (reason_fault (K.size kind.now) study.now.axioms core.now earlier.now
+    ensures fault { Answers result (reason_fault (K.size grounds.now.kind.now) grounds.now.study.now.axioms
+        grounds.now.core.now grounds.now.earlier.now
         (board.old.literals ++ opposite_of step.now.literal ∷ []) step.now.reason) }
     ensures size { board.new.size ≡ board.old.size }
     ensures literals { board.new.literals ≡ board.old.literals }
 {
     let opposite = step.literal.opposite();
     board.add(&opposite);
-    let answer = refutes(kind, study, core, earlier, board, &step.reason);
+    let answer = refutes(
+        grounds.kind,
+        grounds.study,
+        grounds.core,
+        grounds.earlier,
+        board,
+        &step.reason,
+    );
     board.remove(&opposite);
     answer
 }

@@ -17,6 +17,7 @@ ghost use Rattle.meaning.specs.Written.{write_out};
 ghost use Rattle.story.specs.Answers.{Answers};
 ghost use Rattle.story.specs.Conditions.{has_places};
 
+use crate::grounds::Grounds;
 use meaning::{Lemma, Reason, StoryFault, Three};
 use outcomes::OutcomeKind;
 use vocab::{Axiom, Env, Formula, Literal, Places, Size, Study};
@@ -38,10 +39,17 @@ pub fn refutes<K: OutcomeKind>(
     requires board { board.now.size ≡ K.size kind.now }
     requires core { IsTrue (has_places study.now.axioms core.now) }
     requires earlier { IsTrue (list_all (has_literals (K.size kind.now)) earlier.now) }
-    ensures { Answers result (reason_fault (K.size kind.now) study.now.axioms core.now earlier.now board.now.literals reason.now) }
+    ensures { Answers result (reason_fault (K.size kind.now) study.now.axioms core.now earlier.now
+        board.now.literals reason.now) }
 {
+    let grounds = Grounds {
+        kind,
+        study,
+        core,
+        earlier,
+    };
     match reason {
-        Reason::Axiom(place, values) => by_axiom(kind, study, core, board, *place, values),
+        Reason::Axiom(place, values) => by_axiom(&grounds, board, *place, values),
         Reason::Outcome(p) => unless(excludes(kind, board, *p), StoryFault::NotForced),
         Reason::Lemma(place) => by_lemma(earlier, board, *place),
     }
@@ -56,25 +64,21 @@ fn unless(passes: bool, fault: StoryFault) -> Result<(), StoryFault>
 
 /// Whether an instance of an axiom of the core is false.
 fn by_axiom<K: OutcomeKind>(
-    kind: &K,
-    study: &Study,
-    core: &Places,
+    grounds: &Grounds<K>,
     board: &Board,
     place: u32,
     values: &Env,
 ) -> Result<(), StoryFault>
-    requires study { study.now.size ≡ K.size kind.now }
-    requires board { board.now.size ≡ K.size kind.now }
-    requires core { IsTrue (has_places study.now.axioms core.now) }
-    ensures { Answers result (option_or (unless (list_any (λ c. c == place) core.now) StoryFault.NotInCore)
-        (unless (is_instance_false (K.size kind.now) board.now.literals (slice_get study.now.axioms place) values.now) StoryFault.NotForced)) }
+    requires { board.now.size ≡ K.size grounds.now.kind.now }
+    ensures { Answers result (reason_fault (K.size grounds.now.kind.now) grounds.now.study.now.axioms
+        grounds.now.core.now grounds.now.earlier.now board.now.literals (Reason.Axiom place values.now)) }
 {
-    if !is_in(core, place) {
+    if !is_in(grounds.core, place) {
         return Err(StoryFault::NotInCore);
     }
-    let cited = study.axioms().get(place as usize);
+    let cited = grounds.study.axioms().get(place as usize);
     unless(
-        is_instance_false(kind, board, cited, values),
+        is_instance_false(grounds.kind, board, cited, values),
         StoryFault::NotForced,
     )
 }

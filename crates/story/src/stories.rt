@@ -9,6 +9,7 @@ ghost use Rattle.meaning.specs.declared.stories.Lemma.{Lemma};
 ghost use Rattle.story.specs.Answers.{Answers};
 ghost use Rattle.story.specs.Conditions.{has_places, is_short};
 
+use crate::grounds::Grounds;
 use crate::lemmas::check_lemma;
 use lists::Items;
 use meaning::laws::{accepted_story_has_no_rule, faultless_is_accepted};
@@ -35,73 +36,78 @@ pub fn check_story<K: OutcomeKind>(
     requires literals { IsTrue (list_all (has_literals (K.size kind.now)) story.now) }
     requires short { IsTrue (list_all is_short story.now) }
     requires few { length story.now ≤ 4294967295 }
-    ensures answer { (result ≡ Err StoryRefusal.NoMemory) ⊎ Answers result (story_refusal (K.size kind.now) study.now.axioms core.now story.now) }
+    ensures answer { (result ≡ Err StoryRefusal.NoMemory) ⊎
+        Answers result (story_refusal (K.size kind.now) study.now.axioms core.now story.now) }
     ensures accepted { OnOk result (IsTrue (is_story (K.size kind.now) study.now.axioms core.now story.now)) }
-    ensures no_rule { OnOk result ((table : List ℕ) → ¬ IsTrue (satisfies (K.size kind.now) study.now.axioms core.now table)) }
+    ensures no_rule { OnOk result ((table : List ℕ) →
+        ¬ IsTrue (satisfies (K.size kind.now) study.now.axioms core.now table)) }
 {
     faultless_is_accepted();
     accepted_story_has_no_rule();
+    let grounds = Grounds {
+        kind,
+        study,
+        core,
+        earlier: story.as_slice(),
+    };
     match Board::new(alloc, kind) {
-        Ok(mut board) => check_lemmas(kind, study, core, &mut board, story.as_slice()),
+        Ok(mut board) => check_lemmas(&grounds, &mut board),
         Err(_) => Err(StoryRefusal::NoMemory),
     }
 }
 
-/// Whether there is a lemma, each follows from the earlier ones, and the last supposes nothing.
-fn check_lemmas<K: OutcomeKind>(
-    kind: &K,
-    study: &Study,
-    core: &Places,
-    board: &mut Board,
-    story: &[Lemma],
-) -> Result<(), StoryRefusal>
-    requires study { study.now.size ≡ K.size kind.now }
-    requires board { board.old.size ≡ K.size kind.now }
+/// Whether there is a lemma, each follows from those before it, and the last supposes nothing.
+fn check_lemmas<K: OutcomeKind>(grounds: &Grounds<K>, board: &mut Board) -> Result<(), StoryRefusal>
+    requires board { board.old.size ≡ K.size grounds.now.kind.now }
     requires cleared { board.old.literals ≡ [] }
-    requires core { IsTrue (has_places study.now.axioms core.now) }
-    requires literals { IsTrue (list_all (has_literals (K.size kind.now)) story.now) }
-    requires short { IsTrue (list_all is_short story.now) }
-    requires few { length story.now ≤ 4294967295 }
-    ensures { Answers result (story_refusal (K.size kind.now) study.now.axioms core.now story.now) }
+    requires short { IsTrue (list_all is_short grounds.now.earlier.now) }
+    requires few { length grounds.now.earlier.now ≤ 4294967295 }
+    ensures { Answers result (story_refusal (K.size grounds.now.kind.now) grounds.now.study.now.axioms
+        grounds.now.core.now grounds.now.earlier.now) }
 {
+    let story = grounds.earlier;
     if story.is_empty() {
         return Err(StoryRefusal::Empty);
     }
     let last = story.len() - 1;
     for place in 0..last {
-        match check_next(kind, study, core, board, story, place, false) {
+        match check_next(grounds, board, place, false) {
             Ok(()) => {}
             Err(refusal) => return Err(refusal),
         }
     }
-    check_next(kind, study, core, board, story, last, true)
+    check_next(grounds, board, last, true)
 }
 
 /// Whether the lemma at a place follows from those before it.
 fn check_next<K: OutcomeKind>(
-    kind: &K,
-    study: &Study,
-    core: &Places,
+    grounds: &Grounds<K>,
     board: &mut Board,
-    story: &[Lemma],
     place: usize,
     final_one: bool,
 ) -> Result<(), StoryRefusal>
-    requires study { study.now.size ≡ K.size kind.now }
-    requires board { board.old.size ≡ K.size kind.now }
+    requires board { board.old.size ≡ K.size grounds.now.kind.now }
     requires cleared { board.old.literals ≡ [] }
-    requires core { IsTrue (has_places study.now.axioms core.now) }
-    requires literals { IsTrue (list_all (has_literals (K.size kind.now)) story.now) }
-    requires short { IsTrue (list_all is_short story.now) }
-    requires few { length story.now ≤ 4294967295 }
-    requires place { place < length story.now }
-    ensures fault { (lemma : Lemma) → slice_get story.now place ≡ Some lemma →
-        Answers result (next_refusal (K.size kind.now) study.now.axioms core.now (take place story.now) final_one lemma) }
+    requires short { IsTrue (list_all is_short grounds.now.earlier.now) }
+    requires few { length grounds.now.earlier.now ≤ 4294967295 }
+    requires place { place < length grounds.now.earlier.now }
+    ensures fault { (lemma : Lemma) → slice_get grounds.now.earlier.now place ≡ Some lemma →
+        Answers result (next_refusal (K.size grounds.now.kind.now) grounds.now.study.now.axioms
+        grounds.now.core.now (take place grounds.now.earlier.now) final_one lemma) }
     ensures size { board.new.size ≡ board.old.size }
     ensures cleared { board.new.literals ≡ [] }
 {
+    let story = grounds.earlier;
     let earlier = &story[..place];
-    match check_lemma(kind, study, core, earlier, final_one, board, &story[place]) {
+    match check_lemma(
+        grounds.kind,
+        grounds.study,
+        grounds.core,
+        earlier,
+        final_one,
+        board,
+        &story[place],
+    ) {
         Ok(()) => Ok(()),
         Err(fault) => Err(StoryRefusal::Lemma {
             lemma: place as u32,

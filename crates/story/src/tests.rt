@@ -70,7 +70,9 @@ fn neutral(alloc: Global) -> Result<Formula, Fail>
 }
 
 fn both(alloc: Global) -> Result<Axioms, Fail>
-    ensures { IfOk result (λ axioms. axioms ≡ record { name = codes "anonymity"; sentence = anonymity } ∷ record { name = codes "neutrality"; sentence = neutrality } ∷ []) }
+    ensures { IfOk result (λ axioms.
+        axioms ≡ record { name = codes "anonymity"; sentence = anonymity }
+        ∷ record { name = codes "neutrality"; sentence = neutrality } ∷ []) }
 {
     let mut axioms = Items::new(alloc);
     axioms.push(Axiom::new(Name::new(b"anonymity").ok_or("name")?, anonymous(alloc)?))?;

@@ -88,7 +88,8 @@ fn add_command<'a>(
     command: Result<Command<'a>, AllocError>,
     below: Result<Command<'a>, AllocError>,
 ) -> Result<Command<'a>, AllocError>
-    ensures { (app : App) (shape : Shape) → IfOk command.entry (λ c. app_of c ≡ app) → IfOk below.entry (IsLeaf shape) →
+    ensures { (app : App) (shape : Shape) → IfOk command.entry (λ c. app_of c ≡ app) →
+        IfOk below.entry (IsLeaf shape) →
         IfOk result (λ c. app_of c ≡ with_subcommand app shape) }
 {
     command?.subcommand(below?)

@@ -71,7 +71,8 @@ fn number_in(matches: &ArgMatches<'_>) -> Option<u32>
 /// The study and the number of workers.
 fn over_study<'a>(matches: &ArgMatches<'a>) -> Option<(&'a str, u8)>
     ensures { (make : Text → ℕ → Request) →
-        option_map (λ found. make found.0.now found.1) result ≡ over_study make (rows_of (found_of matches.now)) }
+        option_map (λ found. make found.0.now found.1) result ≡
+        over_study make (rows_of (found_of matches.now)) }
 {
     let study = value_at(matches, "study")?;
     let workers = workers_in(matches)?;
