@@ -27,7 +27,8 @@ use vocab::Study;
 /// What is answered where no line is faulty, of a place and of what follows the last line end, with the number of the line
 /// that it would be.
 fn end_of(place: Place, rest: &[u8], line: u32) -> Result<Confirmed, ReportFault>
-    ensures { (p : WantedPlace) → place ≡ held_place p → p ≢ AtNothing Undecided → Concludes (at_end line rest.now p) result }
+    ensures { (p : WantedPlace) → place ≡ held_place p → p ≢ AtNothing Undecided →
+        Concludes (at_end line rest.now p) result }
 {
     match place {
         Place::AtNothing(Some(claim)) if rest.is_empty() => Ok(claim),
@@ -90,7 +91,8 @@ impl<'a, K: OutcomeKind> Checker<'a, K> {
         ensures subject { self.new.subject ≡ self.old.subject }
         ensures lines { self.new.progress.lines ≡ self.old.progress.lines + 1 }
         ensures ready { IsReady self.old.subject.study.now self.new.progress }
-        ensures lasts { (fault : ReportFault) → self.old.progress.fault ≡ Some fault → self.new.progress.fault ≡ Some fault }
+        ensures lasts { (fault : ReportFault) →
+            self.old.progress.fault ≡ Some fault → self.new.progress.fault ≡ Some fault }
         ensures wanting { MatchResult result
             (λ _. self.new.progress.fault ≢ Some ReportFault.NoMemory)
             (λ _. self.new.progress.fault ≡ Some ReportFault.NoMemory) }
@@ -142,8 +144,10 @@ impl<'a, K: OutcomeKind> Checker<'a, K> {
         ensures lines { self.new.progress.lines ≡ self.old.progress.lines + 1 }
         ensures ready { IsReady self.old.subject.study.now self.new.progress }
         ensures told { result ≡ told_of self.new.progress.fault }
-        ensures lasts { (fault : ReportFault) → self.old.progress.fault ≡ Some fault → self.new.progress.fault ≡ Some fault }
-        ensures taken { (lines : List (List ℕ)) → StandsFor self.old.subject.study.now self.old.progress lines →
+        ensures lasts { (fault : ReportFault) →
+            self.old.progress.fault ≡ Some fault → self.new.progress.fault ≡ Some fault }
+        ensures taken { (lines : List (List ℕ)) →
+            StandsFor self.old.subject.study.now self.old.progress lines →
             self.new.progress.fault ≢ Some ReportFault.NoMemory →
             StandsFor self.old.subject.study.now self.new.progress (lines ++ text.now ∷ []) }
     {
@@ -164,9 +168,11 @@ impl<'a, K: OutcomeKind> Checker<'a, K> {
     /// What is answered of the report that has these lines, each with its line end, and then the rest.
     pub fn conclude(&self, rest: &[u8]) -> Result<Confirmed, ReportFault>
         requires room { self.now.progress.lines ≤ 4294967294 }
-        ensures value { (lines : List (List ℕ)) → StandsFor self.now.subject.study.now self.now.progress lines →
+        ensures value { (lines : List (List ℕ)) →
+            StandsFor self.now.subject.study.now self.now.progress lines →
             Concludes (conclude (length lines + 1) rest.now (judge self.now.subject.study.now lines)) result }
-        ensures wanting { self.now.progress.fault ≡ Some ReportFault.NoMemory → result ≡ Err ReportFault.NoMemory }
+        ensures wanting { self.now.progress.fault ≡ Some ReportFault.NoMemory →
+            result ≡ Err ReportFault.NoMemory }
     {
         match self.progress.fault {
             Some(fault) => Err(fault),
@@ -178,15 +184,20 @@ impl<'a, K: OutcomeKind> Checker<'a, K> {
     /// Before the line `end` was read, the line after the last is refused as `Form`.
     pub fn finish(&self) -> Result<Confirmed, ReportFault>
         requires room { self.now.progress.lines ≤ 4294967294 }
-        ensures value { (lines : List (List ℕ)) → StandsFor self.now.subject.study.now self.now.progress lines →
+        ensures value { (lines : List (List ℕ)) →
+            StandsFor self.now.subject.study.now self.now.progress lines →
             Concludes (conclude (length lines + 1) [] (judge self.now.subject.study.now lines)) result }
-        ensures right { (lines : List (List ℕ)) → StandsFor self.now.subject.study.now self.now.progress lines →
+        ensures right { (lines : List (List ℕ)) →
+            StandsFor self.now.subject.study.now self.now.progress lines →
             ConfirmsRight self.now.subject.study.now (ended lines) result }
-        ensures all { (lines : List (List ℕ)) → StandsFor self.now.subject.study.now self.now.progress lines →
+        ensures all { (lines : List (List ℕ)) →
+            StandsFor self.now.subject.study.now self.now.progress lines →
             IsTrue (list_all has_no_end lines) → ConfirmsAll self.now.subject.study.now (ended lines) result }
-        ensures no_rule { (lines : List (List ℕ)) → StandsFor self.now.subject.study.now self.now.progress lines →
+        ensures no_rule { (lines : List (List ℕ)) →
+            StandsFor self.now.subject.study.now self.now.progress lines →
             ConfirmsTrue self.now.subject.study.now result }
-        ensures wanting { self.now.progress.fault ≡ Some ReportFault.NoMemory → result ≡ Err ReportFault.NoMemory }
+        ensures wanting { self.now.progress.fault ≡ Some ReportFault.NoMemory →
+            result ≡ Err ReportFault.NoMemory }
     {
         // Its contract says that the size of the study is one that the bench takes.
         kinds_have_sizes(self.subject.kind);
