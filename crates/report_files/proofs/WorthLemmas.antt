@@ -186,6 +186,10 @@ pub if_ok : {T E : Type 0} {P Q : T → Type 0} (result : Result T E) → IfOk r
 if_ok (Ok x) h f = f x h
 if_ok (Err e) h f = tt
 
+pub if_some : {T : Type 0} {P Q : T → Type 0} (o : Option T) → IfSome o P → ((x : T) → P x → Q x) → IfSome o Q
+if_some None h f = tt
+if_some (Some x) h f = f x h
+
 -- ---- what is confirmed of a file
 
 some_confirmed : (o : Option Confirmed) (c : Confirmed) (w : Worth) → w ≡ worth.Confirmed c → IsSomeAnd o (λ claim. w ≡ worth.Confirmed claim) → o ≡ Some c
