@@ -1,5 +1,7 @@
 -- One more line.
-use Rattle.std.proofs.Common.{◌≡◌, ◌≢◌, refl, sym, subst, ℕ, ◌+◌, ◌⊎◌, inl, inr, List, [], ◌∷◌, ◌++◌, length, Option, Some, None, option_map, arith, length-append}
+use Rattle.std.proofs.Common.{◌≡◌, ◌≢◌, refl, sym, subst, ℕ, ◌+◌, ◌⊎◌, inl, inr, List, [], ◌∷◌, ◌++◌, length, Option, Some, None, option_map, Result, Ok, Err, arith, length-append}
+use Rattle.std.specs.Prelude.{MatchResult, OnOk}
+use Rattle.lists.specs.declared.memory.NoMemory.{NoMemory as Wanting}
 use Rattle.vocab.specs.Study.{Question}
 use Rattle.meaning.specs.declared.stories.Lemma.{Lemma}
 use Rattle.verdicts.specs.declared.refusals.Refusal.{Refusal}
@@ -31,6 +33,11 @@ is_wanting : (fault : Option ReportFault) → (fault ≡ Some NoMemory) ⊎ (fau
 is_wanting None = inr (λ e. absurd (cc))
 is_wanting (Some NoMemory) = inl refl
 is_wanting (Some (AtLine line word)) = inr (λ e. absurd (cc))
+
+-- what follows where memory sufficed
+pub kept : {P : Type 0} (fault : Option ReportFault) (result : Result (Unit {0}) Wanting) → MatchResult result (λ _. fault ≢ Some NoMemory) (λ _. fault ≡ Some NoMemory) → (fault ≢ Some NoMemory → P) → OnOk result P
+kept fault (Ok x) other f = f other
+kept fault (Err e) wanting f = tt
 
 -- so many lines, with this fault and reading
 abbrev pub at : ℕ → Option ReportFault → Reading → Progress

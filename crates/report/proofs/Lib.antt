@@ -3,3 +3,4 @@ pub mod TakingLemmas
 pub mod CheckerLemmas
 pub mod WitnessLineLemmas
 pub mod StoryLineLemmas
+pub mod AnswerLemmas

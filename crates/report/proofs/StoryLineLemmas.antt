@@ -1,5 +1,5 @@
 -- What a reading stands for in lemmas.
-use Rattle.std.proofs.Common.{◌≡◌, refl, sym, ap, ap₂, ◌∙◌, subst, ℕ, ◌≤◌, inl, inr, Bool, true, false, not, List, [], ◌∷◌, ◌++◌, map, length, Option, Some, None, option_map, arith, append_assoc, append-nil, length-append, cond, min, ltb-true}
+use Rattle.std.proofs.Common.{◌≡◌, refl, sym, ap, ap₂, ◌∙◌, subst, ℕ, ◌<◌, ◌≤◌, inl, inr, Bool, true, false, not, List, [], ◌∷◌, ◌++◌, map, length, Option, Some, None, option_map, arith, append_assoc, append-nil, length-append, cond, min, ltb-true}
 use Rattle.std.specs.Prelude.{slice_get, nat_lt, ◌==◌, ◌^◌, ◌-◌}
 use Rattle.std.specs.Option.{option_or}
 use Rattle.std.specs.List.{list_all}
@@ -25,6 +25,7 @@ use Rattle.verdicts.specs.Lines.{Suppose, So, Clash}
 use Rattle.verdicts.specs.Places.{Place, AtSuppose, AtLemma, Standing}
 use Rattle.verdicts.specs.Faults.{refusal_of, known_of, is_last_lemma, cite_fault, fault_of}
 use Rattle.verdicts.specs.Judge.{after_witness, after_lemma, advance}
+use Rattle.verdicts.proofs.FewLaws.{lemmas_few}
 use Rattle.verdicts.proofs.JudgeLaws.{good_holds}
 use Rattle.verdicts.proofs.RangeLaws.{are_supposed, good_in_range}
 use Rattle.verdicts.proofs.SoundLaws.{Holds}
@@ -113,6 +114,12 @@ module _ (study : Question) (r : Reading) where
   earlier_there i size es same slice =
       let here = have_literals study r.earlier i.standing.earlier i.stands.earlier i.stands.alone (good_in_range study i.standing i.lines i.good).earlier in
       ap₂ (λ (n : Extent) (ls : List Lemma). list_all (has_literals n) ls) (sym same) slice ∙ here
+
+  -- there is room for one lemma more
+  pub few_earlier : IsRead study r → length r.earlier < 4294967295
+  few_earlier i =
+      let same : length r.earlier ≡ length i.standing.earlier = lengths_same study r.earlier i.standing.earlier i.stands.earlier in
+      omega (arith, same, lemmas_few study i.lines i.standing i.good, i.few)
 
   module _ (s : Standing) (h : Stands study r s) where
     few_lemmas : length r.earlier ≡ length s.earlier

@@ -19,7 +19,7 @@ use Rattle.verdicts.specs.Judge.{witness_place, after_witness}
 use Rattle.verdicts.proofs.RangeLaws.{good_in_range}
 use Rattle.report_lines.specs.declared.places.Place.{Place as HeldPlace}
 use Rattle.report_lines.specs.declared.places.Place.TheVariants as place
-use Rattle.report_lines.specs.declared.places.Confirmed.TheVariants as confirmed
+use Rattle.verdicts.specs.declared.verdicts.Confirmed.TheVariants as confirmed
 use Rattle.report_lines.specs.Held.{held_place, held_number}
 use Rattle.report.specs.declared.readings.Reading.{Reading}
 use Rattle.report.specs.Held.{Stands, IsRead}
@@ -88,8 +88,8 @@ module _ (study : Question) (r : Reading) where
     pub to_witness : (k : ℕ) → next_core s ≡ Some k → Stands study (record r { place = place.AtWitness }) (after_witness s)
     to_witness k e = moved place.AtWitness _ (sym (ap (λ o. held_place (witness_place o (Impossible s.core s.earlier s.witnesses))) e))
 
-    pub to_end : next_core s ≡ None → Stands study (record r { place = place.AtEnd confirmed.Impossible }) (after_witness s)
-    to_end e = moved (place.AtEnd confirmed.Impossible) _ (sym (ap (λ o. held_place (witness_place o (Impossible s.core s.earlier s.witnesses))) e))
+    pub to_end : next_core s ≡ None → Stands study (record r { place = place.AtEnd (Some confirmed.Impossible) }) (after_witness s)
+    to_end e = moved (place.AtEnd (Some confirmed.Impossible)) _ (sym (ap (λ o. held_place (witness_place o (Impossible s.core s.earlier s.witnesses))) e))
 
   -- what comes next at the standing that is known
   pub next_there_now : (i : IsRead study r) → slice_get r.core r.witnesses ≡ next_core i.standing

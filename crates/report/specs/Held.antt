@@ -1,5 +1,5 @@
 -- What a checker of reports holds, and what it stands for.
-use Rattle.std.specs.Prelude.{◌≡◌, ℕ, ◌≤◌, ◌==◌, ◌⊎◌, IsTrue, List, map, length, Option, Some, None}
+use Rattle.std.specs.Prelude.{◌≡◌, ℕ, ◌<◌, ◌≤◌, ◌==◌, ◌⊎◌, IsTrue, List, map, length, Option, Some, None}
 use Rattle.std.specs.List.{list_all}
 use Rattle.vocab.specs.declared.literals.Literal.{Literal}
 use Rattle.vocab.specs.Study.{Question}
@@ -31,9 +31,10 @@ pub record Stands (study : Question) (r : Reading) (s : Standing) : Type 0 where
   pub known : r.board.literals ≡ known_of s
   pub witnesses : r.witnesses ≡ length s.witnesses
 
--- the lines of some report that is right so far have given what is held
+-- the lines of some report that is right so far have given what is held, and one more line has a number
 pub record IsRead (study : Question) (r : Reading) : Type 0 where
   pub lines : List (List ℕ)
+  pub few : length lines < 4294967295
   pub standing : Standing
   pub good : judge study lines ≡ Good standing
   pub stands : Stands study r standing

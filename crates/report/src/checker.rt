@@ -1,10 +1,12 @@
 //! Checks a report line by line.
 
-ghost use Rattle.std.specs.Prelude.{◌≡◌, ◌≢◌, ◌+◌, ◌≤◌, ◌<◌, List, ℕ, [], ◌∷◌, ◌++◌, length, Some, Err, IfOk};
-ghost use Rattle.verdicts.specs.Judge.{judge, conclude, at_end};
-ghost use Rattle.verdicts.specs.Places.{Place as WantedPlace};
+ghost use Rattle.std.specs.Prelude.{◌≡◌, ◌≢◌, ◌+◌, ◌≤◌, ◌<◌, List, ℕ, [], ◌∷◌, ◌++◌, length, Some, Err, IfOk, OnOk, MatchResult, IsTrue};
+ghost use Rattle.std.specs.List.{list_all};
+ghost use Rattle.verdicts.specs.declared.verdicts.Verdict.TheVariants.{Undecided};
+ghost use Rattle.verdicts.specs.Judge.{judge, conclude, at_end, has_no_end, ended};
+ghost use Rattle.verdicts.specs.Places.{Place as WantedPlace, AtNothing};
 ghost use Rattle.report_lines.specs.Held.{held_place};
-ghost use Rattle.report.specs.Answers.{told_of, Concludes};
+ghost use Rattle.report.specs.Answers.{told_of, Concludes, ConfirmsRight, ConfirmsAll, ConfirmsTrue};
 ghost use Rattle.report.specs.Held.{StandsFor, IsReady};
 
 use crate::faults::ReportFault;
@@ -15,19 +17,21 @@ use crew::Crew;
 use edge::Gate;
 use lists::NoMemory;
 use outcomes::OutcomeKind;
-use report_lines::{Confirmed, Place};
+use outcomes::laws::kinds_have_sizes;
+use report_lines::Place;
 use std::alloc::Global;
 use std::thread::Threads;
-use verdicts::Refusal;
+use verdicts::{Confirmed, Refusal};
 use vocab::Study;
 
 /// What is answered where no line is faulty, of a place and of what follows the last line end, with the number of the line
 /// that it would be.
 fn end_of(place: Place, rest: &[u8], line: u32) -> Result<Confirmed, ReportFault>
-    ensures { (p : WantedPlace) → place ≡ held_place p → Concludes (at_end line rest.now p) result }
+    ensures { (p : WantedPlace) → place ≡ held_place p → p ≢ AtNothing Undecided →
+        Concludes (at_end line rest.now p) result }
 {
     match place {
-        Place::AtNothing(claim) if rest.is_empty() => Ok(claim),
+        Place::AtNothing(Some(claim)) if rest.is_empty() => Ok(claim),
         _ => Err(ReportFault::Line {
             line,
             refusal: Refusal::Form,
@@ -74,6 +78,58 @@ impl<'a, K: OutcomeKind> Checker<'a, K> {
         Ok(Checker { subject, progress })
     }
 
+    /// Takes the next line, without its line end. Err is want of memory alone, now or before; what is wrong with a line is
+    /// kept.
+    pub fn take<R: Threads + Sync, G: Gate>(
+        &mut self,
+        rt: &R,
+        gate: &G,
+        text: &[u8],
+    ) -> Result<(), NoMemory>
+        requires room { self.old.progress.lines < 4294967294 }
+        requires ready { IsReady self.old.subject.study.now self.old.progress }
+        ensures subject { self.new.subject ≡ self.old.subject }
+        ensures lines { self.new.progress.lines ≡ self.old.progress.lines + 1 }
+        ensures ready { IsReady self.old.subject.study.now self.new.progress }
+        ensures lasts { (fault : ReportFault) →
+            self.old.progress.fault ≡ Some fault → self.new.progress.fault ≡ Some fault }
+        ensures wanting { MatchResult result
+            (λ _. self.new.progress.fault ≢ Some ReportFault.NoMemory)
+            (λ _. self.new.progress.fault ≡ Some ReportFault.NoMemory) }
+        ensures taken { OnOk result ((lines : List (List ℕ)) →
+            StandsFor self.old.subject.study.now self.old.progress lines →
+            StandsFor self.old.subject.study.now self.new.progress (lines ++ text.now ∷ [])) }
+    {
+        self.progress.lines += 1;
+        match self.progress.fault {
+            Some(_) => self.sufficed(),
+            None => {
+                let crew = Crew {
+                    rt,
+                    gate,
+                    workers: self.subject.workers,
+                };
+                self.progress.fault = self
+                    .progress
+                    .reading
+                    .judge(&crew, &self.subject, self.progress.lines, text);
+                self.sufficed()
+            }
+        }
+    }
+
+    /// Whether memory sufficed so far.
+    fn sufficed(&self) -> Result<(), NoMemory>
+        ensures { MatchResult result
+            (λ _. self.now.progress.fault ≢ Some ReportFault.NoMemory)
+            (λ _. self.now.progress.fault ≡ Some ReportFault.NoMemory) }
+    {
+        match self.progress.fault {
+            Some(ReportFault::NoMemory) => Err(NoMemory),
+            _ => Ok(()),
+        }
+    }
+
     /// Takes the next line, without its line end. Ok comes exactly where no line so far is faulty; else the first faulty one
     /// is answered. After want of memory that is the answer to every call.
     pub fn line<R: Threads + Sync, G: Gate>(
@@ -88,27 +144,15 @@ impl<'a, K: OutcomeKind> Checker<'a, K> {
         ensures lines { self.new.progress.lines ≡ self.old.progress.lines + 1 }
         ensures ready { IsReady self.old.subject.study.now self.new.progress }
         ensures told { result ≡ told_of self.new.progress.fault }
-        ensures lasts { (fault : ReportFault) → self.old.progress.fault ≡ Some fault → self.new.progress.fault ≡ Some fault }
-        ensures taken { (lines : List (List ℕ)) → StandsFor self.old.subject.study.now self.old.progress lines →
+        ensures lasts { (fault : ReportFault) →
+            self.old.progress.fault ≡ Some fault → self.new.progress.fault ≡ Some fault }
+        ensures taken { (lines : List (List ℕ)) →
+            StandsFor self.old.subject.study.now self.old.progress lines →
             self.new.progress.fault ≢ Some ReportFault.NoMemory →
             StandsFor self.old.subject.study.now self.new.progress (lines ++ text.now ∷ []) }
     {
-        self.progress.lines += 1;
-        match self.progress.fault {
-            Some(fault) => Err(fault),
-            None => {
-                let crew = Crew {
-                    rt,
-                    gate,
-                    workers: self.subject.workers,
-                };
-                self.progress.fault = self
-                    .progress
-                    .reading
-                    .judge(&crew, &self.subject, self.progress.lines, text);
-                self.told()
-            }
-        }
+        self.take(rt, gate, text)?;
+        self.told()
     }
 
     /// What is answered of the lines so far.
@@ -124,9 +168,11 @@ impl<'a, K: OutcomeKind> Checker<'a, K> {
     /// What is answered of the report that has these lines, each with its line end, and then the rest.
     pub fn conclude(&self, rest: &[u8]) -> Result<Confirmed, ReportFault>
         requires room { self.now.progress.lines ≤ 4294967294 }
-        ensures value { (lines : List (List ℕ)) → StandsFor self.now.subject.study.now self.now.progress lines →
+        ensures value { (lines : List (List ℕ)) →
+            StandsFor self.now.subject.study.now self.now.progress lines →
             Concludes (conclude (length lines + 1) rest.now (judge self.now.subject.study.now lines)) result }
-        ensures wanting { self.now.progress.fault ≡ Some ReportFault.NoMemory → result ≡ Err ReportFault.NoMemory }
+        ensures wanting { self.now.progress.fault ≡ Some ReportFault.NoMemory →
+            result ≡ Err ReportFault.NoMemory }
     {
         match self.progress.fault {
             Some(fault) => Err(fault),
@@ -138,10 +184,23 @@ impl<'a, K: OutcomeKind> Checker<'a, K> {
     /// Before the line `end` was read, the line after the last is refused as `Form`.
     pub fn finish(&self) -> Result<Confirmed, ReportFault>
         requires room { self.now.progress.lines ≤ 4294967294 }
-        ensures value { (lines : List (List ℕ)) → StandsFor self.now.subject.study.now self.now.progress lines →
+        ensures value { (lines : List (List ℕ)) →
+            StandsFor self.now.subject.study.now self.now.progress lines →
             Concludes (conclude (length lines + 1) [] (judge self.now.subject.study.now lines)) result }
-        ensures wanting { self.now.progress.fault ≡ Some ReportFault.NoMemory → result ≡ Err ReportFault.NoMemory }
+        ensures right { (lines : List (List ℕ)) →
+            StandsFor self.now.subject.study.now self.now.progress lines →
+            ConfirmsRight self.now.subject.study.now (ended lines) result }
+        ensures all { (lines : List (List ℕ)) →
+            StandsFor self.now.subject.study.now self.now.progress lines →
+            IsTrue (list_all has_no_end lines) → ConfirmsAll self.now.subject.study.now (ended lines) result }
+        ensures no_rule { (lines : List (List ℕ)) →
+            StandsFor self.now.subject.study.now self.now.progress lines →
+            ConfirmsTrue self.now.subject.study.now result }
+        ensures wanting { self.now.progress.fault ≡ Some ReportFault.NoMemory →
+            result ≡ Err ReportFault.NoMemory }
     {
+        // Its contract says that the size of the study is one that the bench takes.
+        kinds_have_sizes(self.subject.kind);
         self.conclude(b"")
     }
 }

@@ -15,7 +15,7 @@ ghost use Rattle.report.specs.Taken.{Took};
 use crate::readings::Reading;
 use crate::subject::Subject;
 use outcomes::OutcomeKind;
-use report_lines::{Confirmed, Place};
+use report_lines::Place;
 use verdicts::Refusal;
 use vocab::{Kind, Study};
 
@@ -111,12 +111,11 @@ impl Reading {
         self.pass(false, Refusal::Undecided, Place::AtLimit)
     }
 
-    /// Takes the limit of a search that found nothing. The line before it is refused, so that no verdict rests on the claim
-    /// that the place has.
+    /// Takes the limit of a search that found nothing, which claims nothing.
     pub(crate) fn take_limit(&mut self) -> Option<Refusal>
         ensures { (study : Question) (s : Standing) (n : ℕ) → Stands study self.old s → Took study s (LimitIs n) self.new result }
     {
-        self.place = Place::AtEnd(Confirmed::Impossible);
+        self.place = Place::AtEnd(None);
         None
     }
 

@@ -16,5 +16,5 @@ mod witness_lines;
 pub use checker::Checker;
 pub use faults::ReportFault;
 pub use progress::Progress;
-pub use report_lines::Confirmed;
 pub use subject::Subject;
+pub use verdicts::{Confirmed, Refusal, Verdict};

@@ -1,6 +1,6 @@
 //! Takes the lines of lemmas.
 
-ghost use Rattle.std.specs.Prelude.{◌≡◌, ◌+◌, ◌∷◌, ◌++◌, [], IsTrue, OnOk};
+ghost use Rattle.std.specs.Prelude.{◌≡◌, ◌+◌, ◌<◌, ◌∷◌, ◌++◌, [], length, IsTrue, OnOk};
 ghost use Rattle.meaning.specs.Literals.{is_literal};
 ghost use Rattle.meaning.specs.declared.stories.Reason.{Reason as StoryReason};
 ghost use Rattle.vocab.specs.Study.{Question};
@@ -122,9 +122,9 @@ impl Reading {
         self.earlier.as_slice().len() as u64 + 1 == self.count
     }
 
-    /// Puts the present lemma to the earlier ones, and forgets what it knew. Where no reason could have its number, none is
-    /// put there, as where memory is wanting.
+    /// Puts the present lemma to the earlier ones, and forgets what it knew.
     fn end_lemma(&mut self, alloc: Global, last: Reason) -> Result<(), NoMemory>
+        requires room { length self.old.earlier < 4294967295 }
         ensures { (s : Standing) (study : Question) (wanted : StoryReason) → Stands study self.old s →
             OnOk result (Stands study self.new (record s {
               earlier = s.earlier ++ record { suppose = s.suppose; steps = s.steps; last = wanted } ∷ [];
@@ -132,9 +132,6 @@ impl Reading {
               steps = [];
             })) }
     {
-        if self.earlier.len() >= u32::MAX as usize {
-            return Err(NoMemory);
-        }
         let suppose = replace(&mut self.suppose, Items::new(alloc));
         let steps = Items::new(alloc);
         self.earlier.push(Lemma {

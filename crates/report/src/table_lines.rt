@@ -19,11 +19,11 @@ use crew::Crew;
 use edge::Gate;
 use lists::{Items, NoMemory};
 use outcomes::OutcomeKind;
-use report_lines::{Confirmed, Place};
+use report_lines::Place;
 use rule_check::check_rule;
 use std::alloc::Global;
 use std::thread::Threads;
-use verdicts::Refusal;
+use verdicts::{Confirmed, Refusal};
 use vocab::Table;
 
 /// The places of all axioms.
@@ -123,7 +123,7 @@ impl Reading {
         let places = all_places(subject.alloc, subject.study.axioms().len())?;
         let fault = check(crew, subject, &self.rows, places.as_slice())?;
         if fault.is_none() {
-            self.place = Place::AtEnd(Confirmed::Possible);
+            self.place = Place::AtEnd(Some(Confirmed::Possible));
         }
         Ok(fault)
     }

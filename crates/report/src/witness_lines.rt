@@ -14,8 +14,8 @@ ghost use Rattle.report.specs.Taken.{Took};
 use crate::readings::Reading;
 use crate::subject::Subject;
 use outcomes::OutcomeKind;
-use report_lines::{Confirmed, Place};
-use verdicts::Refusal;
+use report_lines::Place;
+use verdicts::{Confirmed, Refusal};
 use vocab::Name;
 
 impl Reading {
@@ -36,7 +36,7 @@ impl Reading {
     {
         match self.next_core() {
             Some(_) => self.place = Place::AtWitness,
-            None => self.place = Place::AtEnd(Confirmed::Impossible),
+            None => self.place = Place::AtEnd(Some(Confirmed::Impossible)),
         }
     }
 

@@ -2,3 +2,4 @@ pub mod PieceLemmas
 pub mod ReaderLemmas
 pub mod FileLemmas
 pub mod WorthLemmas
+pub mod TextLemmas

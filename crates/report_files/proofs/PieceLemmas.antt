@@ -5,7 +5,7 @@ use Rattle.std.specs.List.{onto_first}
 use Rattle.std.proofs.lemmas.Bool.{and_parts, not-true}
 use Rattle.std.proofs.lemmas.List.Splits.{slice_split-cons_no}
 use Rattle.verdicts.specs.Judge.{pieces, front, final}
-use Rattle.report_files.specs.Cutting.{has_no_end}
+use Rattle.verdicts.specs.Judge.{has_no_end}
 
 -- ---- the front of a list
 

@@ -8,7 +8,7 @@ use Rattle.verdicts.specs.Places.{Place, Standing, start, wanted}
 use Rattle.verdicts.specs.Judge.{Told, Good, Refused, read_line, settle, judge, pieces, front, final, at_end, conclude, answer}
 use Rattle.verdicts.proofs.StepLaws.{told_more, judge_snoc}
 use Rattle.report.specs.declared.progress.Progress.{Progress}
-use Rattle.report_files.specs.Cutting.{has_no_end}
+use Rattle.verdicts.specs.Judge.{has_no_end}
 use Rattle.report.specs.Held.{StandsAs, StandsFor}
 use Rattle.report_files.specs.Pieces.{head_of, StandsForText}
 use Rattle.report_files.proofs.PieceLemmas.{take_more, front_ended, final_ended, front_going, final_going, pieces_count}

@@ -1,25 +1,34 @@
 -- What a report in a file is worth.
 use Rattle.std.proofs.Common.{◌≡◌, ◌≢◌, refl, sym, ap, ◌∙◌, subst, ℕ, zero, suc, ◌+◌, ◌<◌, ◌≤◌, inl, inr, true, false, List, [], ◌∷◌, ◌++◌, length, take, arith, cond, append-nil, append_assoc, Option, Some, None, is_some, lt-ltb, true≢false, Result, Ok, Err, length-append}
-use Rattle.std.specs.Prelude.{IfSome, IsSome}
+use Rattle.std.specs.Prelude.{◌^◌, IfOk, IfSome, IsSome, IsSomeAnd}
 use Rattle.edge.specs.Shelf.{Files}
 use Rattle.std.proofs.lemmas.Bool.{cases_lt, le-ltb}
 use Rattle.std.specs.Io.KnownBytes.{Consumes, IsAtEnd}
+use Rattle.vocab.specs.Size.{IsSize}
 use Rattle.vocab.specs.Study.{Question}
 use Rattle.verdicts.specs.declared.refusals.Refusal.{Refusal}
+use Rattle.verdicts.specs.declared.verdicts.Verdict.{Verdict}
+use Rattle.verdicts.specs.Claims.{claim_of}
+use Rattle.verdicts.specs.Report.{lemma_count}
+use Rattle.verdicts.proofs.ClaimLaws.{right_claims, within_limit}
+use Rattle.verdicts.proofs.JudgeLaws.{judge_sound}
+use Rattle.verdicts.proofs.LineEndLaws.{lemmas_fit}
+use Rattle.verdicts.proofs.ReportLaws.{right_is_confirmed}
 use Rattle.verdicts.specs.Lines.{Line}
 use Rattle.verdicts.specs.Places.{Standing, start}
 use Rattle.verdicts.specs.Faults.{fault_of}
 use Rattle.verdicts.specs.Judge.{Told, Good, Refused, advance, read_line, settle_at, settle, judge_from, judge, pieces, front, final, Answer, Confirmed as IsConfirmed, Faulty, TooLong, conclude, answer, beyond, answer_within}
-use Rattle.report_lines.specs.declared.places.Confirmed.{Confirmed}
+use Rattle.verdicts.specs.declared.verdicts.Confirmed.{Confirmed}
 use Rattle.report.specs.declared.faults.ReportFault.{ReportFault}
 use Rattle.report.specs.declared.faults.ReportFault.TheVariants.{Line as AtLine}
 use Rattle.report_files.specs.declared.files.Ending.{Ending}
 use Rattle.report_files.specs.declared.files.Ending.TheVariants as ending
+use Rattle.report_files.specs.declared.files.FileFault.{FileFault}
 use Rattle.report_files.specs.declared.files.Worth.{Worth}
 use Rattle.report_files.specs.declared.files.Worth.TheVariants as worth
 use Rattle.report.specs.declared.progress.Progress.{Progress}
 use Rattle.report.specs.Answers.{Concludes}
-use Rattle.report_files.specs.Files.{IsEndedAt, IsWorth, IsWorthOf, most_report_bytes}
+use Rattle.report_files.specs.Files.{IsEndedAt, IsWorth, IsWorthOf, IsClaimedIn, FileIsRight, RightIsConfirmed, ConfirmedHolds, most_report_bytes}
 use Rattle.report.specs.Held.{StandsAs}
 use Rattle.report_files.specs.Pieces.{StandsForText}
 use Rattle.report_files.proofs.PieceLemmas.{front_more}
@@ -81,13 +90,27 @@ whole_is known left fault bytes held h e = (at_end left (subst (λ k. Consumes k
     at_end None c i = absurd c
     at_end (Some rest) c i = c ∙ ap (λ r. bytes ++ r) i ∙ append-nil bytes
 
+abbrev confirms : Confirmed → Result Confirmed ReportFault
+confirms c = Ok c
+
+abbrev refuses : ℕ → Refusal → Result Confirmed ReportFault
+refuses m word = Err (AtLine m word)
+
+some_worth : (o : Option Confirmed) (c : Confirmed) → IsSomeAnd o (λ claim. confirms c ≡ Ok claim) → IsSomeAnd o (λ claim. worth.Confirmed c ≡ worth.Confirmed claim)
+some_worth None c h = absurd h
+some_worth (Some a) c h = let same : c ≡ a = cc in ap worth.Confirmed same
+
 pub concludes_ok : (a : Answer) (c : Confirmed) → Concludes a (Ok c) → IsWorth a (worth.Confirmed c)
-concludes_ok (IsConfirmed verdict) c h = let same : c ≡ _ = cc in ap worth.Confirmed same
+concludes_ok (IsConfirmed verdict) c h = some_worth (claim_of verdict) c h
 concludes_ok (Faulty n word) c h = absurd (cc)
 concludes_ok TooLong c h = absurd h
 
 pub concludes_line : (a : Answer) (m : ℕ) (word : Refusal) → Concludes a (Err (AtLine m word)) → IsWorth a (worth.Faulty m word)
-concludes_line (IsConfirmed verdict) m word h = absurd (cc)
+concludes_line (IsConfirmed verdict) m word h = absurd (none_claimed (claim_of verdict) h)
+  where
+    none_claimed : (o : Option Confirmed) → IsSomeAnd o (λ claim. refuses m word ≡ Ok claim) → ⊥
+    none_claimed None h = h
+    none_claimed (Some a) h = cc
 concludes_line (Faulty n w) m word h = let one : m ≡ n = cc in let two : word ≡ w = cc in ap (λ k. worth.Faulty k word) one ∙ ap (worth.Faulty n) two
 concludes_line TooLong m word h = absurd h
 
@@ -102,10 +125,6 @@ module _ (study : Question) (p : Progress) (now : List ℕ) where
       subst (λ a. IsWorth a w) (sym (short_answer study held short ∙ ap (answer study) parts.0)) (worth_of (answer study bytes) concluded)
 
   -- a line is faulty
-  refused_is : (told : Told) (m : ℕ) (word : Refusal) → p.fault ≡ Some (AtLine m word) → StandsAs study p.fault p.reading told → told ≡ Refused m word
-  refused_is (Good s) m word e h = absurd (cc)
-  refused_is (Refused k w) m word e h = let one : k ≡ m = cc in let two : w ≡ word = cc in ap (λ i. Refused i w) one ∙ ap (Refused m) two
-
   prefix_of : (e : Ending) (known left : Option (List ℕ)) (bytes held : List ℕ) → IsEndedAt e known left p.fault bytes → known ≡ Some held → (rest : List ℕ) × (held ≡ bytes ++ rest) × (length bytes ≤ most_report_bytes)
   prefix_of ending.Whole known left bytes held h k = let f = consumed_front left bytes held (subst (λ x. Consumes x left bytes) k h.0) in (f.0, f.1, h.2)
   prefix_of ending.Faulty known left bytes held h k = let f = consumed_front left bytes held (subst (λ x. Consumes x left bytes) k h.0) in (f.0, f.1, h.1)
@@ -113,13 +132,18 @@ module _ (study : Question) (p : Progress) (now : List ℕ) where
       let f = consumed_front left (bytes ++ h.0) held (subst (λ x. Consumes x left (bytes ++ h.0)) k h.1) in
       (h.0 ++ f.0, f.1 ∙ append_assoc bytes h.0 f.0, omega (arith, h.3))
 
-  pub faulty_worth : (e : Ending) (known left : Option (List ℕ)) (bytes held : List ℕ) (m : ℕ) (word : Refusal)
-      → p.fault ≡ Some (AtLine m word) → IsEndedAt e known left p.fault bytes → known ≡ Some held → StandsForText study p now bytes
-      → IsWorth (answer_within most_report_bytes study held) (worth.Faulty m word)
-  faulty_worth e known left bytes held m word f ended k stands =
-      let parts = prefix_of e known left bytes held ended k in
-      let told = refused_is (judge study (front (pieces bytes))) m word f stands.0.1 in
-      subst (λ a. IsWorth a (worth.Faulty m word)) (sym (ap (answer_within most_report_bytes study) parts.1 ∙ faulty_answer study bytes parts.0 m word parts.2 told)) refl
+  pub faulty_worth : (e : Ending) (known left : Option (List ℕ)) (bytes held : List ℕ) (fault : ReportFault) (w : Worth)
+      → p.fault ≡ Some fault → IsEndedAt e known left p.fault bytes → known ≡ Some held → StandsForText study p now bytes
+      → ((a : Answer) → Concludes a (Err fault) → IsWorth a w) → IsWorth (answer_within most_report_bytes study held) w
+  faulty_worth e known left bytes held fault w f ended k stands worth_of = by_told (judge study (front (pieces bytes))) refl stands.0.1
+    where
+      by_told : (told : Told) → judge study (front (pieces bytes)) ≡ told → StandsAs study p.fault p.reading told → IsWorth (answer_within most_report_bytes study held) w
+      by_told (Good s) told h = let wrong : Some fault ≡ None = sym f ∙ h.0 in absurd (cc)
+      by_told (Refused m word) told h =
+          let same : Some fault ≡ Some (AtLine m word) = sym f ∙ h in
+          let fault_is : fault ≡ AtLine m word = cc in
+          let parts = prefix_of e known left bytes held ended k in
+          subst (λ a. IsWorth a w) (sym (ap (answer_within most_report_bytes study) parts.1 ∙ faulty_answer study bytes parts.0 m word parts.2 told)) (worth_of (Faulty m word) (ap Err fault_is))
 
   -- the file goes on beyond the limit, and no line is faulty
   faultless_is : (told : Told) → p.fault ≡ None → StandsAs study p.fault p.reading told → beyond told ≡ TooLong
@@ -155,3 +179,61 @@ file_worth (Some files) study name first w h s worth_of = by_held (files name) r
     by_held : (o : Option (List ℕ)) → files name ≡ o → IsSome o → IsWorthOf study files name w
     by_held None same some = absurd (true≢false (sym some))
     by_held (Some held) same some = (held, same, worth_of held (s ∙ same))
+
+-- ---- what is worth what
+
+pub if_ok : {T E : Type 0} {P Q : T → Type 0} (result : Result T E) → IfOk result P → ((x : T) → P x → Q x) → IfOk result Q
+if_ok (Ok x) h f = f x h
+if_ok (Err e) h f = tt
+
+pub if_some : {T : Type 0} {P Q : T → Type 0} (o : Option T) → IfSome o P → ((x : T) → P x → Q x) → IfSome o Q
+if_some None h f = tt
+if_some (Some x) h f = f x h
+
+-- ---- what is confirmed of a file
+
+some_confirmed : (o : Option Confirmed) (c : Confirmed) (w : Worth) → w ≡ worth.Confirmed c → IsSomeAnd o (λ claim. w ≡ worth.Confirmed claim) → o ≡ Some c
+some_confirmed None c w e h = absurd h
+some_confirmed (Some a) c w e h = let same : a ≡ c = cc in ap Some same
+
+confirmed_some : (o : Option Confirmed) (c : Confirmed) (w : Worth) → o ≡ Some c → IsSomeAnd o (λ claim. w ≡ worth.Confirmed claim) → w ≡ worth.Confirmed c
+confirmed_some None c w e h = absurd h
+confirmed_some (Some a) c w e h = let same : a ≡ c = cc in h ∙ ap worth.Confirmed same
+
+-- the verdict whose claim it is
+worth_claim : (a : Answer) (c : Confirmed) (w : Worth) → w ≡ worth.Confirmed c → IsWorth a w → (v : Verdict) × (a ≡ IsConfirmed v) × (claim_of v ≡ Some c)
+worth_claim (IsConfirmed v) c w e h = (v, refl, some_confirmed (claim_of v) c w e h)
+worth_claim (Faulty n word) c w e h = absurd (cc)
+worth_claim TooLong c w e h = absurd (cc)
+
+module _ (study : Question) (files : Files) (name : List ℕ) where
+  claimed_in : (w : Worth) (claim : Confirmed) → w ≡ worth.Confirmed claim → IsWorthOf study files name w → IsClaimedIn study files name claim
+  claimed_in w claim e (held, at, is) =
+      let found = worth_claim (answer_within most_report_bytes study held) claim w e is in
+      let within = (within_limit most_report_bytes study held found.0).0 found.1 in
+      record {
+        bytes = held;
+        held = at;
+        fits = within.0;
+        right = record { verdict = found.0; report = judge_sound study held found.0 within.1; claims = found.2 };
+      }
+
+  pub file_right : (result : Result Worth FileFault) → IfOk result (IsWorthOf study files name) → FileIsRight study files name result
+  file_right (Ok w) h claim e = let same : w ≡ worth.Confirmed claim = cc in claimed_in w claim same h
+  file_right (Err fault) h claim e = absurd (cc)
+
+  same_bytes : (o : Option (List ℕ)) (xs ys : List ℕ) → o ≡ Some xs → o ≡ Some ys → xs ≡ ys
+  same_bytes o xs ys e f = cc
+
+  pub right_file : (result : Result Worth FileFault) → IfOk result (IsWorthOf study files name) → RightIsConfirmed study files name result
+  right_file (Err fault) h is claim c = tt
+  right_file (Ok w) (held, at, is_worth) is claim c =
+      let same : c.bytes ≡ held = same_bytes (files name) c.bytes held c.held at in
+      let v = c.right.verdict in
+      let few : lemma_count v < 2 ^ 64 = omega (arith, lemmas_fit study c.bytes v c.right.report, c.fits) in
+      let confirmed : answer_within most_report_bytes study c.bytes ≡ IsConfirmed v = (within_limit most_report_bytes study c.bytes v).1 (c.fits, right_is_confirmed study is c.bytes v c.right.report few) in
+      let worth_is : IsWorth (answer_within most_report_bytes study c.bytes) w = subst (λ (xs : List ℕ). IsWorth (answer_within most_report_bytes study xs) w) (sym same) is_worth in
+      confirmed_some (claim_of v) claim w c.right.claims (subst (λ (a : Answer). IsWorth a w) confirmed worth_is)
+
+  pub file_holds : (result : Result Worth FileFault) → IsSize study.size → FileIsRight study files name result → ConfirmedHolds study result
+  file_holds result size right = λ claim e. let c = right claim e in right_claims study size c.bytes claim c.right

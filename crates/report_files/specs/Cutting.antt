@@ -1,11 +1,7 @@
 -- Cutting a text at its first line end.
-use Rattle.std.specs.Prelude.{◌≡◌, ℕ, ◌<◌, ◌==◌, Bool, true, not, List, ◌∷◌, ◌++◌, take, length, slice_index, Option, MatchOption}
-use Rattle.std.specs.List.{list_all}
+use Rattle.std.specs.Prelude.{◌≡◌, ℕ, ◌<◌, true, List, ◌∷◌, ◌++◌, take, length, slice_index, Option, MatchOption}
+use Rattle.verdicts.specs.Judge.{has_no_end}
 use denote.Ref.{Bor}
-
--- no byte is a line end
-abbrev pub has_no_end : List ℕ → Bool
-has_no_end text = list_all (λ c. not (c == 10)) text
 
 -- the first line end of a text stands at this place
 pub record IsFirstEnd (text : List ℕ) (place : ℕ) : Type 0 where

@@ -1,7 +1,8 @@
 //! Cuts a text at its first line end.
 
 ghost use Rattle.std.specs.Prelude.{◌≡◌, true, MatchOption};
-ghost use Rattle.report_files.specs.Cutting.{IsWordCut, IsFirstEnd, has_no_end};
+ghost use Rattle.verdicts.specs.Judge.{has_no_end};
+ghost use Rattle.report_files.specs.Cutting.{IsWordCut, IsFirstEnd};
 
 /// The place of the first line end.
 fn first_end(text: &[u8]) -> Option<usize>

@@ -3,20 +3,21 @@
 ghost use Rattle.std.specs.Prelude.{◌≡◌, ◌≤◌, List, ℕ, [], length, Option, Some, IfSome, IfOk, IsErrOf};
 ghost use Rattle.edge.specs.Faults.{Rose};
 ghost use Rattle.edge.specs.Shelf.{OthersStay, NoneFell};
-ghost use Rattle.verdicts.specs.Judge.{answer_within};
-ghost use Rattle.report_files.specs.Files.{HasTaken, IsEndedAt, IsWorth, IsWorthOf, most_report_bytes};
+ghost use Rattle.verdicts.specs.Judge.{Answer, answer_within};
+ghost use Rattle.report.specs.Answers.{Concludes};
 ghost use Rattle.report.specs.Held.{IsReady};
+ghost use Rattle.report_files.specs.Files.{HasTaken, IsEndedAt, IsWorth, IsWorthOf, FileIsRight, RightIsConfirmed, ConfirmedHolds, most_report_bytes};
 ghost use Rattle.report_files.specs.Pieces.{StandsForText};
 
 use crate::reader::Reader;
 use edge::{Failed, Gate, RewindFault, Shelf};
 use lists::NoMemory;
 use outcomes::OutcomeKind;
+use outcomes::laws::kinds_have_sizes;
 use report::ReportFault;
-use report_lines::Confirmed;
 use std::alloc::Global;
 use std::thread::Threads;
-use verdicts::Refusal;
+use verdicts::{Confirmed, Refusal};
 use vocab::Study;
 
 /// What a report is worth: it is confirmed; a line, from 1, is its first faulty one; or it has more than 268,435,456 bytes,
@@ -26,6 +27,19 @@ pub enum Worth {
     Confirmed(Confirmed),
     Faulty { line: u32, refusal: Refusal },
     TooLong,
+}
+
+impl Worth {
+    /// What a report is worth of which this is answered, unless memory was wanting.
+    fn of(answer: Result<Confirmed, ReportFault>) -> Result<Worth, NoMemory>
+        ensures { IfOk result (λ worth. (a : Answer) → Concludes a answer → IsWorth a worth) }
+    {
+        match answer {
+            Ok(claim) => Ok(Worth::Confirmed(claim)),
+            Err(ReportFault::Line { line, refusal }) => Ok(Worth::Faulty { line, refusal }),
+            Err(ReportFault::NoMemory) => Err(NoMemory),
+        }
+    }
 }
 
 /// Why a report in a file was not checked: the shelf failed, and has counted the fault under the name, or no memory was found.
@@ -54,6 +68,20 @@ impl From<NoMemory> for FileFault {
 
     fn from(_: NoMemory) -> Self {
         FileFault::NoMemory
+    }
+}
+
+impl From<RewindFault> for FileFault {
+    ghost use Rattle.std.specs.Prelude.{◌≡◌};
+    ghost use Rattle.report_files.specs.Files.{file_fault};
+
+    ghost from_gives = { λ rewind fault. fault ≡ file_fault rewind };
+
+    fn from(fault: RewindFault) -> Self {
+        match fault {
+            RewindFault::Failed => FileFault::Failed,
+            RewindFault::NoMemory => FileFault::NoMemory,
+        }
     }
 }
 
@@ -119,15 +147,10 @@ fn worth_at<K: OutcomeKind>(reader: &Reader<K>, ending: Ending) -> Result<Worth,
         IsWorth (answer_within most_report_bytes reader.now.checker.subject.study.now held) worth) }
 {
     match ending {
-        Ending::Whole => match reader.end() {
-            Ok(confirmed) => Ok(Worth::Confirmed(confirmed)),
-            Err(ReportFault::Line { line, refusal }) => Ok(Worth::Faulty { line, refusal }),
-            Err(ReportFault::NoMemory) => Err(NoMemory),
-        },
+        Ending::Whole => Worth::of(reader.end()),
         _ => match reader.fault() {
             None => Ok(Worth::TooLong),
-            Some(ReportFault::Line { line, refusal }) => Ok(Worth::Faulty { line, refusal }),
-            Some(ReportFault::NoMemory) => Err(NoMemory),
+            Some(fault) => Worth::of(Err(fault)),
         },
     }
 }
@@ -150,16 +173,10 @@ fn worth_of<R: Threads + Sync, S: Shelf, K: OutcomeKind, G: Gate>(
     ensures others { OthersStay (S.left shelf.old) (S.left shelf.new) name.now }
     ensures none_fell { NoneFell (S.faults shelf.old) (S.faults shelf.new) }
 {
-    match shelf.rewind(name) {
-        Ok(()) => {}
-        Err(RewindFault::Failed) => return Err(FileFault::Failed),
-        Err(RewindFault::NoMemory) => return Err(FileFault::NoMemory),
-    }
+    shelf.rewind(name)?;
     let ending = read_pieces(rt, gate, reader, shelf, name)?;
-    match worth_at(reader, ending) {
-        Ok(worth) => Ok(worth),
-        Err(NoMemory) => Err(FileFault::NoMemory),
-    }
+    let worth = worth_at(reader, ending)?;
+    Ok(worth)
 }
 
 /// What the report under the name is worth over the study. It is read in pieces of 65,536 bytes, and no further than to its
@@ -179,11 +196,16 @@ pub fn check_file<R: Threads + Sync, S: Shelf, K: OutcomeKind, G: Gate>(
     requires few { workers ≤ 16 }
     requires size { study.now.size ≡ K.size kind.now }
     ensures worth { IfSome (S.files shelf.old) (λ files. IfOk result (IsWorthOf study.now files name.now)) }
+    ensures right { IfSome (S.files shelf.old) (λ files. FileIsRight study.now files name.now result) }
+    ensures all { IfSome (S.files shelf.old) (λ files. RightIsConfirmed study.now files name.now result) }
+    ensures no_rule { IfSome (S.files shelf.old) (λ _. ConfirmedHolds study.now result) }
     ensures failed { IsErrOf result FileFault.Failed → Rose (S.faults shelf.old name.now) (S.faults shelf.new name.now) }
     ensures same { S.files shelf.new ≡ S.files shelf.old }
     ensures others { OthersStay (S.left shelf.old) (S.left shelf.new) name.now }
     ensures none_fell { NoneFell (S.faults shelf.old) (S.faults shelf.new) }
 {
+    // Its contract says that the size of the study is one that the bench takes.
+    kinds_have_sizes(kind);
     match Reader::new(alloc, kind, study, workers) {
         Ok(mut reader) => worth_of(rt, gate, &mut reader, shelf, name),
         Err(NoMemory) => Err(FileFault::NoMemory),

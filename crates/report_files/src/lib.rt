@@ -7,4 +7,3 @@ mod reader;
 
 pub use files::{FileFault, Worth, check_file};
 pub use reader::{Reader, check_report};
-pub use report_lines::Confirmed;

@@ -2,7 +2,7 @@
 
 ghost use Rattle.std.specs.Prelude.{◌≡◌, ◌≢◌, ◌+◌, ◌≤◌, ◌<◌, List, ℕ, [], ◌∷◌, ◌++◌, length, is_some, Err, IfOk, OnOk, ◌⊎◌};
 ghost use Rattle.verdicts.specs.Judge.{answer};
-ghost use Rattle.report.specs.Answers.{Concludes};
+ghost use Rattle.report.specs.Answers.{Concludes, ConfirmsRight, ConfirmsAll, ConfirmsTrue};
 ghost use Rattle.report.specs.Held.{StandsFor, IsReady};
 ghost use Rattle.report_files.specs.Pieces.{head_of, StandsForText};
 
@@ -10,10 +10,11 @@ use crate::cutting::cut_word;
 use edge::Gate;
 use lists::NoMemory;
 use outcomes::OutcomeKind;
+use outcomes::laws::kinds_have_sizes;
 use report::{Checker, ReportFault};
-use report_lines::Confirmed;
 use std::alloc::Global;
 use std::thread::Threads;
+use verdicts::Confirmed;
 use vocab::Study;
 
 /// As many bytes of a line as tell that it is too long.
@@ -25,28 +26,6 @@ const HELD: usize = 4097;
 pub struct Reader<'a, K: OutcomeKind> {
     pub checker: Checker<'a, K>,
     pub held: Vec<u8>,
-}
-
-/// Gives a line to the checker.
-fn give<R: Threads + Sync, G: Gate, K: OutcomeKind>(
-    rt: &R,
-    gate: &G,
-    checker: &mut Checker<K>,
-    line: &[u8],
-) -> Result<(), NoMemory>
-    requires room { checker.old.progress.lines < 4294967294 }
-    requires ready { IsReady checker.old.subject.study.now checker.old.progress }
-    ensures subject { checker.new.subject ≡ checker.old.subject }
-    ensures lines { checker.new.progress.lines ≡ checker.old.progress.lines + 1 }
-    ensures ready { IsReady checker.old.subject.study.now checker.new.progress }
-    ensures taken { OnOk result ((lines : List (List ℕ)) → StandsFor checker.old.subject.study.now checker.old.progress lines →
-        StandsFor checker.old.subject.study.now checker.new.progress (lines ++ line.now ∷ [])) }
-{
-    match checker.line(rt, gate, line) {
-        Ok(()) => Ok(()),
-        Err(ReportFault::Line { .. }) => Ok(()),
-        Err(ReportFault::NoMemory) => Err(NoMemory),
-    }
 }
 
 impl<'a, K: OutcomeKind> Reader<'a, K> {
@@ -106,10 +85,10 @@ impl<'a, K: OutcomeKind> Reader<'a, K> {
             StandsFor self.old.checker.subject.study.now self.new.checker.progress (lines ++ (rest ++ piece.now) ∷ [])) }
     {
         if self.held.is_empty() {
-            return give(rt, gate, &mut self.checker, piece);
+            return self.checker.take(rt, gate, piece);
         }
         self.hold(piece)?;
-        give(rt, gate, &mut self.checker, self.held.as_slice())?;
+        self.checker.take(rt, gate, self.held.as_slice())?;
         self.held.clear();
         Ok(())
     }
@@ -181,13 +160,18 @@ pub fn check_report<R: Threads + Sync, K: OutcomeKind, G: Gate>(
     requires few { workers ≤ 16 }
     requires size { study.now.size ≡ K.size kind.now }
     requires room { length text.now < 4294967294 }
-    ensures { (result ≡ Err ReportFault.NoMemory) ⊎ Concludes (answer study.now text.now) result }
+    ensures value { (result ≡ Err ReportFault.NoMemory) ⊎ Concludes (answer study.now text.now) result }
+    ensures right { ConfirmsRight study.now text.now result }
+    ensures all { (result ≡ Err ReportFault.NoMemory) ⊎ ConfirmsAll study.now text.now result }
+    ensures no_rule { ConfirmsTrue study.now result }
 {
+    // Its contract says that the size of the study is one that the bench takes.
+    kinds_have_sizes(kind);
     match Reader::new(alloc, kind, study, workers) {
         Ok(mut reader) => match reader.piece(rt, gate, text) {
             Ok(()) => reader.end(),
-            Err(_) => Err(ReportFault::NoMemory),
+            Err(NoMemory) => Err(ReportFault::NoMemory),
         },
-        Err(_) => Err(ReportFault::NoMemory),
+        Err(NoMemory) => Err(ReportFault::NoMemory),
     }
 }

@@ -6,24 +6,15 @@ use Rattle.std.specs.Str.{bytes_eq}
 use Rattle.vocab.specs.Study.{Question}
 use Rattle.meaning.specs.declared.stories.Reason.{Reason}
 use Rattle.meaning.specs.declared.stories.Reason.TheVariants.{Axiom as ByAxiom, Outcome as ByOutcome, Lemma as ByLemma}
-use Rattle.verdicts.specs.declared.verdicts.Verdict.{Verdict}
-use Rattle.verdicts.specs.declared.verdicts.Verdict.TheVariants.{Possible, Impossible, Undecided}
 use Rattle.verdicts.specs.Texts.{words_of}
 use Rattle.verdicts.specs.Lines.{Line, Title, KindIs, VotersAre, AlternativesAre, AxiomsAre, SaysPossible, SaysImpossible, SaysUndecided, LimitIs, RuleOf, Row, CoreIs, LemmasAre, Heading, Suppose, So, Clash, WithRule, WithOpen, End}
 use Rattle.verdicts.specs.Places.{Place, AtTitle, AtKind, AtVoters, AtAlternatives, AtAxioms, AtVerdict, AtLimit, AtRule, AtRow, AtCore, AtLemmas, AtLemma, AtSuppose, AtStep, AtWitness, AtWitnessRow, AtEnd, AtNothing}
+use Rattle.verdicts.specs.Claims.{claim_of}
 use Rattle.verdicts.specs.Faults.{places_of, is_core}
-use Rattle.report_lines.specs.declared.places.Confirmed.{Confirmed}
-use Rattle.report_lines.specs.declared.places.Confirmed.TheVariants as confirmed
 use Rattle.report_lines.specs.declared.places.Place.{Place as HeldPlace}
 use Rattle.report_lines.specs.declared.places.Place.TheVariants as place
 use Rattle.report_lines.specs.declared.lines.Line.{Line as HeldLine}
 use Rattle.report_lines.specs.declared.lines.Line.TheVariants as held
-
--- what a verdict claims; undecided claims nothing, and is never confirmed
-abbrev pub claim_of : Verdict → Confirmed
-claim_of (Possible table) = confirmed.Possible
-claim_of (Impossible core story witnesses) = confirmed.Impossible
-claim_of Undecided = confirmed.Impossible
 
 -- a place, of whose verdict the claim alone is held
 abbrev pub held_place : Place → HeldPlace

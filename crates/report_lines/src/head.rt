@@ -1,6 +1,6 @@
 //! Lines of the study, and of the verdict.
 
-ghost use Rattle.std.specs.Prelude.{◌≡◌, ℕ, option_map};
+ghost use Rattle.std.specs.Prelude.{◌≡◌, ℕ, Option, option_map};
 ghost use Rattle.vocab.specs.Study.{Question};
 ghost use Rattle.verdicts.specs.Numbers.{read_number};
 ghost use Rattle.verdicts.specs.Texts.{words_of};
@@ -11,8 +11,9 @@ ghost use Rattle.report_lines.specs.Wanted.{held_wanted};
 use crate::lines::Line;
 use crate::names::{are_all_axioms, are_core};
 use crate::numbers::read_number;
-use crate::places::{Confirmed, Place};
+use crate::places::Place;
 use crate::words::{after_first, are_names, first_keyed, is_same};
+use verdicts::Confirmed;
 use vocab::{Kind, Study};
 
 /// The first line.
@@ -116,7 +117,7 @@ pub(crate) fn read_core_line(study: &Study, text: &[u8]) -> Option<Line>
 
 /// The last line.
 pub(crate) fn read_end(text: &[u8]) -> Option<Line>
-    ensures { (study : Question) (number : ℕ) (claim : Confirmed) → result ≡ held_wanted study (Place.AtEnd claim) number (words_of text.now) }
+    ensures { (study : Question) (number : ℕ) (claim : Option Confirmed) → result ≡ held_wanted study (Place.AtEnd claim) number (words_of text.now) }
 {
     if is_same(text, b"end") {
         Some(Line::End)

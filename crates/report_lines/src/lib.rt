@@ -17,7 +17,7 @@ mod words;
 
 pub use core_line::read_core;
 pub use lines::Line;
-pub use places::{Confirmed, Place};
+pub use places::Place;
 pub use reading::read_line;
 
 #[cfg(test)]

@@ -1,13 +1,9 @@
 //! The places of the grammar of reports.
 
-/// What a confirmed report says: that a rule satisfies all axioms, or that none does.
-#[derive(Clone, Copy, Debug, PartialEq, Eq)]
-pub enum Confirmed {
-    Possible,
-    Impossible,
-}
+use verdicts::Confirmed;
 
-/// A place of the grammar, by the line that is wanted next. Where all of the verdict is read, the place tells which it is.
+/// A place of the grammar, by the line that is wanted next. Where all of the verdict is read, the place tells what it
+/// claims, if it claims something.
 #[derive(Clone, Copy, Debug, PartialEq, Eq)]
 pub enum Place {
     AtTitle,
@@ -26,6 +22,6 @@ pub enum Place {
     AtStep,
     AtWitness,
     AtWitnessRow,
-    AtEnd(Confirmed),
-    AtNothing(Confirmed),
+    AtEnd(Option<Confirmed>),
+    AtNothing(Option<Confirmed>),
 }

@@ -12,6 +12,7 @@ use outcomes::ChoiceKind;
 use profiles::Space;
 use std::alloc::Global;
 use std::test::Fail;
+use verdicts::Confirmed;
 use vocab::{Atom, Axiom, Axioms, Env, Formula, Kind, Literal, Name, Size, Sort, Study, Term};
 
 fn two_and_two() -> Result<Size, Fail>
@@ -145,7 +146,7 @@ fn rules_are_read(rt: HostRuntime) -> Result<(), Fail> {
     assert!(rt;
         says(
             alloc,
-            Place::AtEnd(Confirmed::Possible),
+            Place::AtEnd(Some(Confirmed::Possible)),
             "end",
             Some(Line::End)
         )?
@@ -162,7 +163,14 @@ fn other_lines_are_not_read(rt: HostRuntime) -> Result<(), Fail> {
     assert!(rt; says(alloc, Place::AtStep, "clash by lemma 0", None)?);
     assert!(rt; says(alloc, Place::AtSuppose, "suppose a>b@ab|ab", None)?);
     assert!(rt; says(alloc, Place::AtRow, "ba|ba ab", None)?);
-    assert!(rt; says(alloc, Place::AtNothing(Confirmed::Possible), "end", None)?);
+    assert!(rt;
+        says(
+            alloc,
+            Place::AtNothing(Some(Confirmed::Possible)),
+            "end",
+            None
+        )?
+    );
     Ok(())
 }
 

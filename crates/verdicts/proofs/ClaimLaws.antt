@@ -1,5 +1,5 @@
 -- What a confirmed report claims holds.
-use Rattle.std.proofs.Common.{◌≡◌, refl, sym, subst, true≢false, eqb-true, filter, ap, ◌∙◌, ℕ, ◌+◌, ◌≤◌, ◌↔◌, inl, inr, cond, take, lt-ltb, le-ltb, Bool, true, false, not, ◌&&◌, List, [], ◌∷◌, length, arith, ltb-true}
+use Rattle.std.proofs.Common.{◌≡◌, refl, sym, subst, true≢false, eqb-true, filter, ap, ◌∙◌, ℕ, ◌+◌, ◌≤◌, ◌↔◌, inl, inr, cond, take, lt-ltb, le-ltb, Bool, true, false, not, ◌&&◌, List, [], ◌∷◌, length, Some, arith, ltb-true}
 use Rattle.std.specs.Cmp.Lexicographic.{pointwise}
 use Rattle.std.specs.Prelude.{◌==◌, nat_lt, slice_get}
 use Rattle.std.specs.List.{list_all, list_any}
@@ -15,7 +15,11 @@ use Rattle.meaning.specs.Stories.{is_story}
 use Rattle.meaning.specs.Cores.{is_core_from, is_witness}
 use Rattle.meaning.proofs.SpaceLaws.{all_at}
 use Rattle.meaning.proofs.StoryLaws.{no_rule}
-use Rattle.verdicts.specs.declared.verdicts.Verdict.TheVariants.{Possible, Impossible}
+use Rattle.verdicts.specs.declared.verdicts.Confirmed.{Confirmed as Claim}
+use Rattle.verdicts.specs.declared.verdicts.Confirmed.TheVariants.{Possible as PossibleClaim, Impossible as ImpossibleClaim}
+use Rattle.verdicts.specs.declared.verdicts.Verdict.TheVariants.{Possible, Impossible, Undecided}
+use Rattle.verdicts.specs.Report.{is_right}
+use Rattle.verdicts.specs.Claims.{HasNoRule, claim_of, IsClaimed, IsImpossible, ClaimHolds}
 use Rattle.verdicts.specs.declared.verdicts.Verdict.{Verdict}
 use Rattle.verdicts.specs.Judge.{Told, Good, Refused, judge, pieces, front, Confirmed, answer, beyond, answer_within}
 use Rattle.verdicts.specs.Laws.{is_rule_given, IsRuleConfirmed, IsImpossibilityConfirmed, IsCoreConfirmed}
@@ -42,6 +46,12 @@ rule_without study whole (c ∷ core) (Rule table ∷ witnesses) k h given here 
       | inr later ↦ rule_without study whole core witnesses k p.1 given later
     ]
 
+-- where no rule satisfies a core, none satisfies all axioms
+none_of_all : (study : Question) (core : List ℕ) → HasNoRule study core → is_core_from 0 (length study.axioms) core ≡ true → HasNoRule study (below (length study.axioms))
+none_of_all study core none places table all =
+    let r = and_parts (is_rule study.size table) _ all in
+    none table (and_from _ _ r.0 (core_from_all (λ k. is_axiom_true study.size table (slice_get study.axioms k)) (length study.axioms) 0 core r.1 places))
+
 module _ (study : Question) (taken : IsSize study.size) (text : List ℕ) where
   rule_holds : (table : List ℕ) → IsRuleConfirmed study text table
   rule_holds table e = (judge_sound study text (Possible table) e).right
@@ -50,12 +60,8 @@ module _ (study : Question) (taken : IsSize study.size) (text : List ℕ) where
   impossibility_holds core story witnesses e table =
       let p = and_parts (is_story study.size study.axioms core story) _ (judge_sound study text (Impossible core story witnesses) e).right in
       let q = and_parts (is_core_from 0 (length study.axioms) core) _ p.1 in
-      let none = no_rule study.size taken study.axioms core story p.0 table in (
-        none,
-        λ all.
-            let r = and_parts (is_rule study.size table) _ all in
-            none (and_from _ _ r.0 (core_from_all (λ k. is_axiom_true study.size table (slice_get study.axioms k)) (length study.axioms) 0 core r.1 q.0)),
-      )
+      let none = no_rule study.size taken study.axioms core story p.0 in
+      (none table, none_of_all study core none q.0 table)
 
   core_holds : (core : List ℕ) (story : List Lemma) (witnesses : List Witness) → IsCoreConfirmed study text core story witnesses
   core_holds core story witnesses e given k here =
@@ -81,3 +87,20 @@ within_limit limit study text verdict = (
     not_beyond : (told : Told) → beyond told ≡ Confirmed verdict → ⊥
     not_beyond (Good s) e = cc
     not_beyond (Refused n word) e = cc
+
+same_claim : (a b : Claim) → Some a ≡ Some b → a ≡ b
+same_claim a b e = cc
+
+-- what the report of a right verdict claims holds
+pub right_claims : (study : Question) → IsSize study.size → (text : List ℕ) (claim : Claim) → IsClaimed study text claim → ClaimHolds study claim
+right_claims study taken text claim c = by_verdict c.verdict c.report.right c.claims
+  where
+    by_verdict : (v : Verdict) → is_right study v ≡ true → claim_of v ≡ Some claim → ClaimHolds study claim
+    by_verdict (Possible table) right e = subst (ClaimHolds study) (same_claim PossibleClaim claim e) (table, right)
+    by_verdict (Impossible core story witnesses) right e =
+        let p = and_parts (is_story study.size study.axioms core story) _ right in
+        let q = and_parts (is_core_from 0 (length study.axioms) core) _ p.1 in
+        let none = no_rule study.size taken study.axioms core story p.0 in
+        let impossible : IsImpossible study = record { core = core; places = q.0; none = none; none_for_all = none_of_all study core none q.0 } in
+        subst (ClaimHolds study) (same_claim ImpossibleClaim claim e) impossible
+    by_verdict Undecided right e = absurd (cc)

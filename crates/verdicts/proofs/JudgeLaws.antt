@@ -12,7 +12,7 @@ use Rattle.verdicts.specs.Report.{IsReport}
 use Rattle.verdicts.specs.Places.{Place, AtNothing, Standing, start, wanted}
 use Rattle.verdicts.specs.declared.refusals.Refusal.{Refusal}
 use Rattle.verdicts.specs.Faults.{fault_of}
-use Rattle.verdicts.specs.Judge.{advance, read_line, Told, Good, Refused, settle_at, settle, judge_from, judge, pieces, front, final, Confirmed, at_end, conclude, answer}
+use Rattle.verdicts.specs.Judge.{advance, read_line, Told, Good, Refused, settle_at, settle, judge_from, judge, ended, pieces, front, final, Confirmed, at_end, conclude, answer}
 use Rattle.verdicts.proofs.LineLaws.{wanted_read}
 use Rattle.verdicts.proofs.FitLaws.{Fits, wanted_fits}
 use Rattle.verdicts.proofs.SoundLaws.{Holds, printed, IsIdle, HasRead, step_read_so}
@@ -58,10 +58,6 @@ pub conclude_is : (n : ℕ) (rest : List ℕ) (told : Told) (v : Verdict) → co
 conclude_is n rest (Refused line word) v e = absurd (cc)
 conclude_is n rest (Good s) v e = let r = at_end_is n rest s.place v e in (s, refl, r.0, r.1)
 
--- lines, each with its end
-abbrev pub ended : List (List ℕ) → List ℕ
-ended texts = flat_map (λ text. text ++ 10 ∷ []) texts
-
 pub joined_pieces : (ps : List (List ℕ)) → 0 < length ps → join_with_byte 10 ps ≡ ended (front ps) ++ final ps
 joined_pieces [] h = absurd (omega (arith, h))
 joined_pieces (x ∷ []) h = refl
@@ -77,21 +73,35 @@ pub ended_map : (study : Question) (ls : List Line) → ended (map (line_text st
 ended_map study [] = refl
 ended_map study (l ∷ ls) = ap (λ t. (line_text study l ++ 10 ∷ []) ++ t) (ended_map study ls)
 
+module _ (study : Question) where
+  idle : IsIdle study start
+  idle = record { rows = refl; earlier = refl; suppose = refl; steps = refl; witnesses = refl }
+
+  -- lines that the judge reads to their end are those of the report of a right verdict
+  pub lines_sound : (lines : List (List ℕ)) (s : Standing) (v : Verdict) → judge study lines ≡ Good s → s.place ≡ AtNothing v → IsReport study v (ended lines)
+  lines_sound lines s v e place =
+      let r = ran study 1 start s lines [] (idle, refl) e in
+      let read = subst (λ p. Holds study p s × (printed study p s ≡ r.0)) place r.1 in
+      let right = read.0 in
+      record {
+        claims_some = right.2;
+        right = right.0;
+        is = ap ended r.2 ∙ ended_map study r.0 ∙ ap (flat_map (λ line. line_text study line ++ 10 ∷ [])) (sym read.1);
+      }
+
+  pub concluded_sound : (n : ℕ) (lines : List (List ℕ)) (v : Verdict) → conclude n [] (judge study lines) ≡ Confirmed v → IsReport study v (ended lines)
+  concluded_sound n lines v e =
+      let c = conclude_is n [] (judge study lines) v e in
+      lines_sound lines c.0 v c.1 c.3
+
 pub judge_sound : (study : Question) (text : List ℕ) (v : Verdict) → answer study text ≡ Confirmed v → IsReport study v text
 judge_sound study text v e =
     let c = conclude_is (length (pieces text)) (final (pieces text)) (judge study (front (pieces text))) v e in
-    let idle : IsIdle study start = record { rows = refl; earlier = refl; suppose = refl; steps = refl; witnesses = refl } in
-    let r = ran study 1 start c.0 (front (pieces text)) [] (idle, refl) c.1 in
-    let read = subst (λ p. Holds study p c.0 × (printed study p c.0 ≡ r.0)) c.3 r.1 in
-    let right = read.0 in
-    record {
-      claims_some = right.2;
-      right = right.0;
-      is = text_pieces text ∙ ap (λ rest. ended (front (pieces text)) ++ rest) c.2 ∙ append-nil (ended (front (pieces text))) ∙ ap ended r.2 ∙ ended_map study r.0 ∙ ap (flat_map (λ line. line_text study line ++ 10 ∷ [])) (sym read.1);
-    }
+    let whole : text ≡ ended (front (pieces text)) =
+    text_pieces text ∙ ap (λ rest. ended (front (pieces text)) ++ rest) c.2 ∙ append-nil (ended (front (pieces text))) in
+    subst (λ (t : List ℕ). IsReport study v t) (sym whole) (lines_sound study (front (pieces text)) c.0 v c.1 c.3)
 
 -- what holds of the parts after lines without a fault
 pub good_holds : (study : Question) (s : Standing) (texts : List (List ℕ)) → judge study texts ≡ Good s → Holds study s.place s
 good_holds study s texts e =
-    let idle : IsIdle study start = record { rows = refl; earlier = refl; suppose = refl; steps = refl; witnesses = refl } in
-    (ran study 1 start s texts [] (idle, refl) e).1.0
+    (ran study 1 start s texts [] (idle study, refl) e).1.0

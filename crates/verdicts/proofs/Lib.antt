@@ -18,3 +18,5 @@ pub mod ReportLaws
 pub mod ClaimLaws
 pub mod StepLaws
 pub mod RangeLaws
+pub mod FewLaws
+pub mod LineEndLaws

@@ -11,13 +11,13 @@ use Rattle.verdicts.specs.declared.verdicts.Verdict.{Verdict}
 use Rattle.verdicts.specs.declared.refusals.Refusal.TheVariants.{Form}
 use Rattle.verdicts.specs.Report.{lemma_count, report_lines, report_text, has_text, is_right, IsReport, IsConfirmed}
 use Rattle.verdicts.specs.Places.{Place, AtTitle, AtKind, AtVoters, AtAlternatives, AtAxioms, AtVerdict, AtLimit, AtRule, AtRow, AtCore, AtLemmas, AtLemma, AtSuppose, AtStep, AtWitness, AtWitnessRow, AtEnd, AtNothing, Standing, start, wanted}
-use Rattle.verdicts.specs.Judge.{advance, Good, read_line, judge_from, judge, pieces, front, final, Confirmed, Faulty, at_end, conclude, answer}
+use Rattle.verdicts.specs.Judge.{advance, Good, read_line, judge_from, judge, ended, pieces, front, final, Confirmed, Faulty, at_end, conclude, answer}
 use Rattle.verdicts.specs.Laws.{IsReportable, IsShort}
 use Rattle.verdicts.proofs.RightLaws.{right_has_text}
 use Rattle.verdicts.proofs.WordLaws.{lacks, split_ended}
 use Rattle.verdicts.proofs.FitLaws.{Fits}
 use Rattle.verdicts.proofs.ReadLaws.{is_plain, wanted_is, words_are, line_lacks}
-use Rattle.verdicts.proofs.JudgeLaws.{ended, ended_map}
+use Rattle.verdicts.proofs.JudgeLaws.{ended_map}
 use Rattle.verdicts.proofs.CompleteLaws.{Runs, report_run}
 use Rattle.verdicts.proofs.FaultLaws.{past}
 use Rattle.verdicts.proofs.ShortLaws.{is_short, report_short}
@@ -27,7 +27,7 @@ use Rattle.meaning.proofs.TestLaws.{list_all-both}
 abbrev short : List ℕ → Bool
 short line = not (nat_lt 4096 (length line))
 
-front_snoc : (xs : List (List ℕ)) (y : List ℕ) → front (xs ++ y ∷ []) ≡ xs
+pub front_snoc : (xs : List (List ℕ)) (y : List ℕ) → front (xs ++ y ∷ []) ≡ xs
 front_snoc [] y = refl
 front_snoc (x ∷ []) y = refl
 front_snoc (x ∷ z ∷ xs) y = ap (λ ws. x ∷ ws) (front_snoc (z ∷ xs) y)
@@ -37,7 +37,7 @@ front_more [] q y ys = refl
 front_more (x ∷ []) q y ys = refl
 front_more (x ∷ z ∷ xs) q y ys = ap (λ ws. x ∷ ws) (front_more (z ∷ xs) q y ys)
 
-final_snoc : (xs : List (List ℕ)) (y : List ℕ) → final (xs ++ y ∷ []) ≡ y
+pub final_snoc : (xs : List (List ℕ)) (y : List ℕ) → final (xs ++ y ∷ []) ≡ y
 final_snoc [] y = refl
 final_snoc (x ∷ []) y = refl
 final_snoc (x ∷ z ∷ xs) y = final_snoc (z ∷ xs) y
@@ -70,7 +70,7 @@ module _ (study : Question) (is : IsReportable study) where
   texts_of v = map (line_text study) (report_lines study v)
 
   -- the pieces of a report with something after it
-  report_pieces : (text rest : List ℕ) (v : Verdict) → IsReport study v text → pieces (text ++ rest) ≡ texts_of v ++ pieces rest
+  pub report_pieces : (text rest : List ℕ) (v : Verdict) → IsReport study v text → pieces (text ++ rest) ≡ texts_of v ++ pieces rest
   report_pieces text rest v r =
       let run = report_run study is true v (λ _. r.claims_some) (λ _. r.right) (right_has_text study is v r.right) in
       ap (λ t. pieces (t ++ rest)) (r.is ∙ sym (ended_map study (report_lines study v))) ∙ split_ended 10 (texts_of v) rest (lines_lack true start run.0 (report_lines study v) run.1)

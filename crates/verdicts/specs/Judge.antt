@@ -1,6 +1,6 @@
 -- The first faulty line of a report, or the verdict that is confirmed.
-use Rattle.std.specs.Prelude.{ℕ, ◌+◌, ◌==◌, nat_lt, List, [], ◌∷◌, ◌++◌, length, take, Option, Some, None, if◌then◌else◌}
-use Rattle.std.specs.List.{slice_split}
+use Rattle.std.specs.Prelude.{ℕ, ◌+◌, ◌==◌, Bool, nat_lt, not, List, [], ◌∷◌, ◌++◌, length, take, Option, Some, None, if◌then◌else◌}
+use Rattle.std.specs.List.{flat_map, list_all, slice_split}
 use Rattle.std.specs.Option.{unwrap_or, option_map_or}
 use Rattle.vocab.specs.declared.kinds.Sort.TheVariants.{Profile}
 use Rattle.vocab.specs.Size.{sort_count}
@@ -100,6 +100,14 @@ module _ (study : Question) where
   judge texts = judge_from 1 start texts
 
 -- ---- a whole text
+
+-- no byte is a line end
+abbrev pub has_no_end : List ℕ → Bool
+has_no_end text = list_all (λ b. not (b == 10)) text
+
+-- the text of lines, each with its line end
+abbrev pub ended : List (List ℕ) → List ℕ
+ended lines = flat_map (λ line. line ++ 10 ∷ []) lines
 
 -- the pieces of a text between its line ends: each but the last is a line with its end
 abbrev pub pieces : List ℕ → List (List ℕ)

@@ -15,12 +15,14 @@ use Rattle.meaning.specs.Truth.{is_axiom_true, satisfies}
 use Rattle.meaning.specs.Instances.{IsFirstFailure}
 use Rattle.verdicts.specs.declared.refusals.Refusal.{Refusal}
 use Rattle.verdicts.specs.declared.refusals.Refusal.TheVariants.{Form, Fails}
+use Rattle.verdicts.specs.declared.verdicts.Confirmed.{Confirmed as Claim}
 use Rattle.verdicts.specs.declared.verdicts.Verdict.{Verdict}
 use Rattle.verdicts.specs.declared.verdicts.Verdict.TheVariants.{Possible, Impossible}
 use Rattle.verdicts.specs.Report.{lemma_count, has_text, report_text, is_right, IsReport, IsConfirmed}
+use Rattle.verdicts.specs.Claims.{IsClaimed, ClaimHolds}
 use Rattle.verdicts.specs.Places.{Standing}
 use Rattle.verdicts.specs.Faults.{table_fault}
-use Rattle.verdicts.specs.Judge.{Good, Refused, line_fault, judge, Confirmed, Faulty, answer, answer_within, pieces}
+use Rattle.verdicts.specs.Judge.{Good, Refused, line_fault, judge, has_no_end, ended, Confirmed, Faulty, conclude, answer, answer_within, pieces}
 
 -- what the laws ask of a study: the bench takes it, at a size of a kind whose outcomes have texts, and its axioms have names
 pub record IsReportable (study : Question) : Type 0 where
@@ -56,6 +58,19 @@ IsJudgeSound = (study : Question) (text : List ℕ) (verdict : Verdict) → answ
 -- the judge confirms the report of each right verdict, where a machine word counts its lemmas
 abbrev pub IsJudgeComplete : Type 0
 IsJudgeComplete = (study : Question) → IsReportable study → (text : List ℕ) (verdict : Verdict) → IsReport study verdict text → lemma_count verdict < 2 ^ 64 → answer study text ≡ Confirmed verdict
+
+-- lines none of which has a line end within it are answered as the text that has them, each with its line end
+abbrev pub LinesAreAnswered : Type 0
+LinesAreAnswered = (study : Question) (lines : List (List ℕ)) → IsTrue (list_all has_no_end lines) →
+    answer study (ended lines) ≡ conclude (length lines + 1) [] (judge study lines)
+
+-- lines without a fault have given at most as many lemmas as they are
+abbrev pub LemmasAreFew : Type 0
+LemmasAreFew = (study : Question) (lines : List (List ℕ)) (s : Standing) → judge study lines ≡ Good s → length s.earlier ≤ length lines
+
+-- what the report of a right verdict claims holds
+abbrev pub RightClaimsHold : Type 0
+RightClaimsHold = (study : Question) → IsSize study.size → (text : List ℕ) (claim : Claim) → IsClaimed study text claim → ClaimHolds study claim
 
 -- a confirmed rule satisfies all axioms of the study
 abbrev pub IsRuleConfirmed : Question → List ℕ → List ℕ → Type 0

@@ -3,6 +3,7 @@ pub mod Numbers
 pub mod Texts
 pub mod Lines
 pub mod Report
+pub mod Claims
 pub mod Reading
 pub mod Places
 pub mod Faults

@@ -1,6 +1,6 @@
 //! What holds of reports. Each law is the contract of a function that does nothing.
 
-ghost use Rattle.verdicts.specs.Laws.{AreTextsDistinct, ConfirmedClaimsHold, ConfirmedWithinLimit, CutReportsAreForm, FaultsAreFirst, HasNoConfirmedPrefix, IsJudgeComplete, IsJudgeSound, LinesAreShort, RightVerdictsHaveTexts, TableFaultsAreFirst};
+ghost use Rattle.verdicts.specs.Laws.{AreTextsDistinct, ConfirmedClaimsHold, ConfirmedWithinLimit, CutReportsAreForm, FaultsAreFirst, HasNoConfirmedPrefix, IsJudgeComplete, IsJudgeSound, LemmasAreFew, LinesAreAnswered, LinesAreShort, RightClaimsHold, RightVerdictsHaveTexts, TableFaultsAreFirst};
 
 /// Each right verdict has a text: all that it names is in range.
 pub fn right_verdicts_have_texts()
@@ -25,6 +25,21 @@ pub fn judge_is_sound()
 /// The judge confirms the report of each right verdict with fewer than 2^64 lemmas.
 pub fn judge_is_complete()
     ensures { IsJudgeComplete }
+{}
+
+/// Lines without a line end within them are answered as the text that has them, each with its line end.
+pub fn lines_are_answered()
+    ensures { LinesAreAnswered }
+{}
+
+/// Lines without a fault have given at most as many lemmas as they are.
+pub fn lemmas_are_few()
+    ensures { LemmasAreFew }
+{}
+
+/// What the report of a right verdict claims holds.
+pub fn right_claims_hold()
+    ensures { RightClaimsHold }
 {}
 
 /// A confirmed rule satisfies all axioms; no rule satisfies the core of a confirmed impossibility, and where no mark

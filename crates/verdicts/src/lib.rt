@@ -6,4 +6,4 @@ mod refusals;
 mod verdicts;
 
 pub use refusals::Refusal;
-pub use verdicts::Verdict;
+pub use verdicts::{Confirmed, Verdict};

@@ -1,4 +1,4 @@
-//! Verdicts on a study.
+//! Verdicts on a study, and what is confirmed of them.
 
 use lists::Items;
 use meaning::{Lemma, Witness};
@@ -15,4 +15,11 @@ pub enum Verdict {
         witnesses: Items<Witness>,
     },
     Undecided,
+}
+
+/// What a confirmed report says: that a rule satisfies all axioms, or that none does.
+#[derive(Clone, Copy, Debug, PartialEq, Eq)]
+pub enum Confirmed {
+    Possible,
+    Impossible,
 }

@@ -1,5 +1,5 @@
 use Rattle.std.proofs.Common.{◌≡◌, true, take}
-use Rattle.report_files.specs.Cutting.{has_no_end}
+use Rattle.verdicts.specs.Judge.{has_no_end}
 use Rattle.report_files.proofs.cutting.first_end.Given as goal
 
 abbrev pub invariant-loop-place : goal.invariant-loop-place

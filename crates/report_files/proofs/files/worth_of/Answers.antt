@@ -8,8 +8,8 @@ use Rattle.report_files.proofs.WorthLemmas.{file_worth}
 use Rattle.report_files.proofs.files.worth_of.Goals as goal
 
 -- src/files.rt:140:1
-pub returns-in-Ok-worth_at-clause-worth : goal.returns-in-Ok-worth_at-clause-worth
-returns-in-Ok-worth_at-clause-worth g c =
+pub returns-clause-worth : goal.returns-clause-worth
+returns-clause-worth g c =
     let old = c.args.reader.now in
     let new = c.read_pieces.new.reader in
     let study = old.checker.subject.study.now in
@@ -17,8 +17,8 @@ returns-in-Ok-worth_at-clause-worth g c =
     let taken : StandsForText study new.checker.progress new.held.items read.0 = read.2 [] c.requires.unread in
     let stands : StandsForText new.checker.subject.study.now new.checker.progress new.held.items read.0 = rw (sym c.read_pieces.ensures.subject) at taken in
     let same : new.checker.subject.study.now ≡ study = ap (λ s. s.study.now) c.read_pieces.ensures.subject in
-    let worth : IfSome (g.S.Shelf.files c.args.shelf.now) (λ files. IsWorthOf study files c.args.name.now c.in-Ok-worth_at.worth) =
-    file_worth (g.S.Shelf.files c.args.shelf.now) study c.args.name.now (g.S.Shelf.left c.rewind.new.self c.args.name.now) c.in-Ok-worth_at.worth c.in-Ok.ensures.held c.in-Ok.ensures.start
-    (λ held known. subst (λ (q : Question). IsWorth (answer_within most_report_bytes q held) c.in-Ok-worth_at.worth) same
-    (c.in-Ok-worth_at.ensures (g.S.Shelf.left c.rewind.new.self c.args.name.now) (g.S.Shelf.left c.read_pieces.new.shelf c.args.name.now) read.0 held read.1 known stands)) in
+    let worth : IfSome (g.S.Shelf.files c.args.shelf.now) (λ files. IsWorthOf study files c.args.name.now c.in_ok-worth.worth) =
+    file_worth (g.S.Shelf.files c.args.shelf.now) study c.args.name.now (g.S.Shelf.left c.rewind.new.self c.args.name.now) c.in_ok-worth.worth c.in_ok-rewind.ensures.held c.in_ok-rewind.ensures.start
+    (λ held known. subst (λ (q : Question). IsWorth (answer_within most_report_bytes q held) c.in_ok-worth.worth) same
+    (c.in_ok-worth.ensures (g.S.Shelf.left c.rewind.new.self c.args.name.now) (g.S.Shelf.left c.read_pieces.new.shelf c.args.name.now) read.0 held read.1 known stands)) in
     worth

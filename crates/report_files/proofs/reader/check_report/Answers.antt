@@ -1,13 +1,15 @@
 use Rattle.std.proofs.Common.{◌≡◌, ◌∙◌, sym, subst, ap, [], inr}
+use Rattle.vocab.specs.Size.{Extent, IsSize}
 use Rattle.vocab.specs.Study.{Question}
 use Rattle.verdicts.specs.Judge.{answer}
 use Rattle.report.specs.Answers.{Concludes}
+use Rattle.report.proofs.AnswerLemmas.{true_if_right}
 use Rattle.report_files.specs.Pieces.{StandsForText}
+use Rattle.report_files.proofs.TextLemmas.{text_right, text_all}
 use Rattle.report_files.proofs.reader.check_report.Goals as goal
 
--- src/reader.rt:188:1
-pub returns-in-Ok-piece : goal.returns-in-Ok-piece
-returns-in-Ok-piece g c =
+pub returns-in-Ok-piece-clause-value : goal.returns-in-Ok-piece-clause-value
+returns-in-Ok-piece-clause-value g c =
     let before = c.in-Ok.reader in
     let after = c.piece.new.self in
     let first : StandsForText before.checker.subject.study.now before.checker.progress before.held.items [] =
@@ -18,3 +20,14 @@ returns-in-Ok-piece g c =
     rw (sym c.piece.ensures.subject) at read in
     let study : after.checker.subject.study.now ≡ c.args.study.now = ap (λ s. s.study.now) c.piece.ensures.subject ∙ c.in-Ok.ensures.study in
     inr (subst (λ (q : Question). Concludes (answer q c.args.text.now) c.end.result) study (c.end.ensures c.args.text.now whole))
+
+pub returns-in-Ok-piece-clause-right : goal.returns-in-Ok-piece-clause-right
+returns-in-Ok-piece-clause-right g c = text_right c.args.study.now c.args.text.now c.end.result (returns-in-Ok-piece-clause-value g c)
+
+pub returns-in-Ok-piece-clause-all : goal.returns-in-Ok-piece-clause-all
+returns-in-Ok-piece-clause-all g c = text_all c.args.study.now c.args.text.now c.end.result c.requires.room (returns-in-Ok-piece-clause-value g c)
+
+pub returns-in-Ok-piece-clause-no_rule : goal.returns-in-Ok-piece-clause-no_rule
+returns-in-Ok-piece-clause-no_rule g c =
+    let size : IsSize c.args.study.now.size = subst (λ (n : Extent). IsSize n) (sym c.requires.size) c.kinds_have_sizes.ensures.is_size in
+    true_if_right c.args.study.now c.args.text.now c.end.result size (returns-in-Ok-piece-clause-right g c)

@@ -4,7 +4,7 @@ use Rattle.vocab.specs.Size.{Extent}
 use Rattle.meaning.specs.StoryFaults.{reason_fault}
 use Rattle.verdicts.specs.Faults.{fault_of}
 use Rattle.verdicts.specs.Lines.{Clash}
-use Rattle.report.proofs.StoryLineLemmas.{refused, accepted, earlier_there, clash_fault_is, told}
+use Rattle.report.proofs.StoryLineLemmas.{refused, accepted, earlier_there, few_earlier, clash_fault_is, told}
 use Rattle.report.proofs.WitnessLineLemmas.{in_range}
 use Rattle.report.proofs.readings.Reading.take_clash.Goals as goal
 
@@ -14,6 +14,9 @@ refutes-requires-clause-core g c κs within = in_range c.args.subject.now.study.
 pub refutes-requires-clause-earlier : goal.refutes-requires-clause-earlier
 refutes-requires-clause-earlier g c κs within =
     earlier_there c.args.subject.now.study.now c.args.self.now c.requires.read (g.K.OutcomeKind.size c.args.subject.now.kind.now) c.as_slice.result.now c.args.subject.now.size c.as_slice.ensures
+
+pub end_lemma-requires : goal.end_lemma-requires
+end_lemma-requires g c = record { room = few_earlier c.args.subject.now.study.now c.args.self.now c.requires.read }
 
 pub returns-in-Err : goal.returns-in-Err
 returns-in-Err g c = λ s wanted h at held.
