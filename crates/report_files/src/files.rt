@@ -206,8 +206,6 @@ pub fn check_file<R: Threads + Sync, S: Shelf, K: OutcomeKind, G: Gate>(
 {
     // Its contract says that the size of the study is one that the bench takes.
     kinds_have_sizes(kind);
-    match Reader::new(alloc, kind, study, workers) {
-        Ok(mut reader) => worth_of(rt, gate, &mut reader, shelf, name),
-        Err(NoMemory) => Err(FileFault::NoMemory),
-    }
+    let mut reader = Reader::new(alloc, kind, study, workers)?;
+    worth_of(rt, gate, &mut reader, shelf, name)
 }
