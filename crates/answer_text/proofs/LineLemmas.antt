@@ -1,5 +1,5 @@
 -- The lines of the library, and those of answers.
-use Rattle.std.proofs.Common.{refl, ap, ℕ, zero, suc, ◌<◌, length, List, [], ◌∷◌, get_or, slice_get, IsSomeAnd, arith}
+use Rattle.std.proofs.Common.{ap, ℕ, zero, suc, ◌<◌, length, List, [], ◌∷◌, get_or, slice_get, IsSomeAnd, arith}
 use Rattle.verdicts.specs.declared.verdicts.Verdict.TheVariants.{Possible, Impossible, Undecided}
 use Rattle.verdicts.specs.Judge.{Confirmed, Faulty, TooLong}
 use Rattle.answer_text.specs.Laws.{AreLinesOfAnswers}
@@ -12,8 +12,8 @@ at_place P (x ∷ xs) zero d within h = h
 at_place P (x ∷ xs) (suc i) d within h = at_place P xs i d (omega arith) h
 
 pub lines_of_answers : AreLinesOfAnswers
-lines_of_answers (Confirmed (Possible table)) w some is = ap worth_text is
-lines_of_answers (Confirmed (Impossible core story witnesses)) w some is = ap worth_text is
-lines_of_answers (Confirmed Undecided) w some is = absurd (some refl)
-lines_of_answers (Faulty line word) w some is = ap worth_text is
-lines_of_answers TooLong w some is = ap worth_text is
+lines_of_answers (Confirmed (Possible table)) w is = ap worth_text is
+lines_of_answers (Confirmed (Impossible core story witnesses)) w is = ap worth_text is
+lines_of_answers (Confirmed Undecided) w is = absurd is
+lines_of_answers (Faulty line word) w is = ap worth_text is
+lines_of_answers TooLong w is = ap worth_text is

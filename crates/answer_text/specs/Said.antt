@@ -2,8 +2,8 @@
 use Rattle.std.specs.Prelude.{ℕ, List, [], ◌∷◌, ◌++◌, codes}
 use Rattle.verdicts.specs.Numbers.{number_text}
 use Rattle.verdicts.specs.Words.{refusal_text}
-use Rattle.report_lines.specs.declared.places.Confirmed.{Confirmed}
-use Rattle.report_lines.specs.declared.places.Confirmed.TheVariants.{Possible, Impossible}
+use Rattle.verdicts.specs.declared.verdicts.Confirmed.{Confirmed}
+use Rattle.verdicts.specs.declared.verdicts.Confirmed.TheVariants.{Possible, Impossible}
 use Rattle.report_files.specs.declared.files.Worth.{Worth}
 use Rattle.report_files.specs.declared.files.Worth.TheVariants as worth
 

@@ -3,14 +3,14 @@
 use crate::{LibraryLines, StudyLine, WorthLine, laws};
 use edge::{Failed, MemorySink, Sink};
 use lists::Items;
-use report_files::{Confirmed, Worth};
+use report_files::Worth;
 use sorts::SortFault;
 use std::alloc::Global;
 use std::test::Fail;
 use study::StudyFault;
 use syntax::SyntaxFault;
 use texts::{Text, write_text};
-use verdicts::Refusal;
+use verdicts::{Confirmed, Refusal};
 use vocab::{Kind, Name, SizeFault};
 
 fn written<T: Text>(text: &T, alloc: Global) -> Result<Vec<u8>, Fail>

@@ -7,9 +7,9 @@ ghost use Rattle.verdicts.specs.Words.{refusal_text};
 ghost use Rattle.answer_text.specs.Said.{confirmed_text, worth_text};
 
 use edge::{Failed, Sink};
-use report_files::{Confirmed, Worth};
+use report_files::Worth;
 use texts::{Number, Page, Raw, Text, Two};
-use verdicts::Refusal;
+use verdicts::{Confirmed, Refusal};
 use vocab::Name;
 
 /// Adds `fails`, the name of an axiom and the number of an instance.

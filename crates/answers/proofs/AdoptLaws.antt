@@ -1,9 +1,8 @@
 -- What `adopt` prints holds, is confirmed, and comes where `lrat` confirms.
-use Rattle.std.proofs.Common.{◌≡◌, ◌≢◌, ◌∙◌, refl, sym, ap, subst, ℕ, ◌≤◌, ◌^◌, ◌⊎◌, inl, inr, List, [], length, codes, Option, None, Some, arith}
+use Rattle.std.proofs.Common.{◌≡◌, ◌≢◌, ◌∙◌, refl, sym, ap, subst, ℕ, ◌≤◌, ◌^◌, inl, inr, List, [], codes, None, Some, arith}
 use Rattle.edge.specs.Shelf.{Files}
 use Rattle.vocab.specs.Study.{Question}
 use Rattle.cnf.specs.declared.derivations.Line.{Line}
-use Rattle.cnf.specs.declared.derivations.LineFault.{LineFault}
 use Rattle.meaning.specs.Variables.{variable_count}
 use Rattle.verdicts.specs.declared.verdicts.Verdict.TheVariants.{Impossible}
 use Rattle.study.proofs.WholeStudies.{studies_whole}
@@ -14,13 +13,13 @@ use Rattle.answers.specs.Studies.{GivesStudy}
 use Rattle.answers.specs.Grounding.{fault_of, OverClauses, clauses_refused, clauses_made}
 use Rattle.answers.specs.Evidence.{by_verdict}
 use Rattle.answers.specs.Export.{export_text, exported_formula}
-use Rattle.answers.specs.Proof.{Proves, IsProved}
+use Rattle.answers.specs.Proof.{Proves}
 use Rattle.answers.specs.Lrat.{GivesFormula, Said, said_of, of_derivation, IsConfirmedBy, proof_judged}
 use Rattle.answers.specs.Adopt.{IsRefutedBy, IsRetold, Adopts, proof_refused, proof_retold, IsAdoption}
 use Rattle.answers.specs.Devices.{Devices}
 use Rattle.answers.specs.Call.{IsCall, are_told}
-use Rattle.answers.specs.Laws.{HasNoFault, Wrote, AdoptsIt, WrittenProofsAreAdopted}
-use Rattle.answers.specs.RowLaws.{IsConclusive, IsAdoptedRight, AdoptedHolds, WrittenAdoptionsHold, AdoptedAreConfirmed, EndsAs, AdoptsAsLrat, ProvedAreAdopted, EnoughAdopts}
+use Rattle.answers.specs.Laws.{Wrote, AdoptsIt, WrittenProofsAreAdopted}
+use Rattle.answers.specs.RowLaws.{IsConclusive, IsAdoptedRight, AdoptedHolds, WrittenAdoptionsHold, AdoptedAreConfirmed, AdoptsAsLrat, ProvedAreAdopted, EnoughAdopts}
 use Rattle.answers.proofs.RowLemmas.{some_same, over_study, granted}
 use Rattle.answers.proofs.FitLemmas.{right_judged}
 use Rattle.answers.proofs.DecidedLaws.{impossible, conclusive, bare_conclusive}

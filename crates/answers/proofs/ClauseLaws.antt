@@ -22,7 +22,7 @@ use Rattle.search_logs.specs.Spent.{all_places}
 use Rattle.answers.specs.declared.runs.Run.{Run}
 use Rattle.answers.specs.Held.{most_proof_bytes}
 use Rattle.answers.specs.Studies.{GivesStudy}
-use Rattle.answers.specs.Rules.{IsRuleFor, HasNoRule}
+use Rattle.verdicts.specs.Claims.{IsRuleFor, HasNoRule}
 use Rattle.answers.specs.Grounding.{all_clauses}
 use Rattle.answers.specs.Export.{IsWritten}
 use Rattle.answers.specs.Proof.{Proves, refuted, possible, undecided}

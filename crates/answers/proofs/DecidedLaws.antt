@@ -28,7 +28,7 @@ use Rattle.answers.specs.declared.runs.Run.{Run}
 use Rattle.answers.specs.Runs.{IsBare}
 use Rattle.answers.specs.Grounding.{OverClauses, clauses_refused, clauses_made}
 use Rattle.answers.specs.Evidence.{IsBacked, IsFound, Decides, by_verdict, by_limit}
-use Rattle.answers.specs.Rules.{Claims}
+use Rattle.verdicts.specs.Claims.{Claims}
 use Rattle.answers.specs.Decide.{IsReported}
 use Rattle.answers.specs.Proof.{Proves, refuted, possible, undecided}
 use Rattle.answers.specs.Sample.{IsSummed}

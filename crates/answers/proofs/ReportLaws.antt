@@ -17,7 +17,7 @@ use Rattle.answers.specs.declared.runs.Run.{Run}
 use Rattle.answers.specs.Held.{most_report_bytes}
 use Rattle.answers.specs.Studies.{GivesStudy}
 use Rattle.answers.specs.Check.{IsJudged, judgement, status_of}
-use Rattle.answers.specs.Rules.{Claims}
+use Rattle.verdicts.specs.Claims.{Claims}
 use Rattle.answers.specs.Decide.{IsReported}
 use Rattle.answers.specs.Laws.{CheckedAreRight}
 use Rattle.answers.specs.RowLaws.{DecidedAreConfirmed}

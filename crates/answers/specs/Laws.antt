@@ -20,7 +20,7 @@ use Rattle.answers.specs.Studies.{GivesStudy, RefusesStudy}
 use Rattle.answers.specs.Grounding.{fault_of}
 use Rattle.answers.specs.Export.{exported_formula}
 use Rattle.answers.specs.Lrat.{GivesFormula, said_of}
-use Rattle.answers.specs.Rules.{Claims}
+use Rattle.verdicts.specs.Claims.{Claims}
 use Rattle.answers.specs.Usage.{usage_line}
 use Rattle.answers.specs.Check.{judgement, status_of}
 use Rattle.answers.specs.Axioms.{library_text}

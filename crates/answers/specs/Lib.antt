@@ -3,7 +3,6 @@ pub mod Runs
 pub mod Held
 pub mod StudyLines
 pub mod Studies
-pub mod Rules
 pub mod Grounding
 pub mod Usage
 pub mod Check

@@ -30,7 +30,7 @@ use Rattle.answers.specs.declared.runs.Run.{Run}
 use Rattle.answers.specs.Runs.{IsBare}
 use Rattle.answers.specs.Held.{most_report_bytes, most_proof_bytes, Holds}
 use Rattle.answers.specs.Studies.{GivesStudy}
-use Rattle.answers.specs.Rules.{IsRuleFor, HasNoRule, Claims}
+use Rattle.verdicts.specs.Claims.{IsRuleFor, HasNoRule, Claims}
 use Rattle.answers.specs.Grounding.{all_clauses, fault_of}
 use Rattle.words.specs.Words.{Decide, Adopt, request_of}
 use Rattle.answers.specs.Devices.{Devices}

@@ -28,7 +28,7 @@ use Rattle.report_files.specs.declared.files.Worth.{Worth}
 use Rattle.report_files.specs.declared.files.Worth.TheVariants as worth
 use Rattle.report.specs.declared.progress.Progress.{Progress}
 use Rattle.report.specs.Answers.{Concludes}
-use Rattle.report_files.specs.Files.{IsEndedAt, IsWorth, IsWorthOf, IsClaimedIn, FileIsRight, RightIsConfirmed, ConfirmedHolds, most_report_bytes}
+use Rattle.report_files.specs.Files.{IsEndedAt, IsWorth, IsWorthOf, IsClaimedIn, FileIsRight, FileIsConfirmed, FileHolds, most_report_bytes}
 use Rattle.report.specs.Held.{StandsAs}
 use Rattle.report_files.specs.Pieces.{StandsForText}
 use Rattle.report_files.proofs.PieceLemmas.{front_more}
@@ -225,7 +225,7 @@ module _ (study : Question) (files : Files) (name : List ℕ) where
   same_bytes : (o : Option (List ℕ)) (xs ys : List ℕ) → o ≡ Some xs → o ≡ Some ys → xs ≡ ys
   same_bytes o xs ys e f = cc
 
-  pub right_file : (result : Result Worth FileFault) → IfOk result (IsWorthOf study files name) → RightIsConfirmed study files name result
+  pub right_file : (result : Result Worth FileFault) → IfOk result (IsWorthOf study files name) → FileIsConfirmed study files name result
   right_file (Err fault) h is claim c = tt
   right_file (Ok w) (held, at, is_worth) is claim c =
       let same : c.bytes ≡ held = same_bytes (files name) c.bytes held c.held at in
@@ -235,5 +235,5 @@ module _ (study : Question) (files : Files) (name : List ℕ) where
       let worth_is : IsWorth (answer_within most_report_bytes study c.bytes) w = subst (λ (xs : List ℕ). IsWorth (answer_within most_report_bytes study xs) w) (sym same) is_worth in
       confirmed_some (claim_of v) claim w c.right.claims (subst (λ (a : Answer). IsWorth a w) confirmed worth_is)
 
-  pub file_holds : (result : Result Worth FileFault) → IsSize study.size → FileIsRight study files name result → ConfirmedHolds study result
+  pub file_holds : (result : Result Worth FileFault) → IsSize study.size → FileIsRight study files name result → FileHolds study result
   file_holds result size right = λ claim e. let c = right claim e in right_claims study size c.bytes claim c.right

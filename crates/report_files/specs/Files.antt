@@ -63,10 +63,11 @@ FileIsRight study files name result =
     (claim : Confirmed) → result ≡ Ok (worth.Confirmed claim) → IsClaimedIn study files name claim
 
 -- the claim of each such file is confirmed, unless the file is not read or memory is wanting
-abbrev pub RightIsConfirmed : Question → Files → List ℕ → Result Worth FileFault → Type 0
-RightIsConfirmed study files name result =
-    IsReportable study → (claim : Confirmed) → IsClaimedIn study files name claim → IfOk result (λ w. w ≡ worth.Confirmed claim)
+abbrev pub FileIsConfirmed : Question → Files → List ℕ → Result Worth FileFault → Type 0
+FileIsConfirmed study files name result =
+    IsReportable study → (claim : Confirmed) → IsClaimedIn study files name claim →
+    IfOk result (λ w. w ≡ worth.Confirmed claim)
 
 -- what is confirmed holds: some rule satisfies all axioms, or none satisfies those of some core
-abbrev pub ConfirmedHolds : Question → Result Worth FileFault → Type 0
-ConfirmedHolds study result = (claim : Confirmed) → result ≡ Ok (worth.Confirmed claim) → ClaimHolds study claim
+abbrev pub FileHolds : Question → Result Worth FileFault → Type 0
+FileHolds study result = (claim : Confirmed) → result ≡ Ok (worth.Confirmed claim) → ClaimHolds study claim

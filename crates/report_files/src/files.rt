@@ -6,7 +6,7 @@ ghost use Rattle.edge.specs.Shelf.{OthersStay, NoneFell};
 ghost use Rattle.verdicts.specs.Judge.{Answer, answer_within};
 ghost use Rattle.report.specs.Answers.{Concludes};
 ghost use Rattle.report.specs.Held.{IsReady};
-ghost use Rattle.report_files.specs.Files.{HasTaken, IsEndedAt, IsWorth, IsWorthOf, FileIsRight, RightIsConfirmed, ConfirmedHolds, most_report_bytes};
+ghost use Rattle.report_files.specs.Files.{HasTaken, IsEndedAt, IsWorth, IsWorthOf, FileIsRight, FileIsConfirmed, FileHolds, most_report_bytes};
 ghost use Rattle.report_files.specs.Pieces.{StandsForText};
 
 use crate::reader::Reader;
@@ -197,8 +197,8 @@ pub fn check_file<R: Threads + Sync, S: Shelf, K: OutcomeKind, G: Gate>(
     requires size { study.now.size ≡ K.size kind.now }
     ensures worth { IfSome (S.files shelf.old) (λ files. IfOk result (IsWorthOf study.now files name.now)) }
     ensures right { IfSome (S.files shelf.old) (λ files. FileIsRight study.now files name.now result) }
-    ensures all { IfSome (S.files shelf.old) (λ files. RightIsConfirmed study.now files name.now result) }
-    ensures no_rule { IfSome (S.files shelf.old) (λ _. ConfirmedHolds study.now result) }
+    ensures all { IfSome (S.files shelf.old) (λ files. FileIsConfirmed study.now files name.now result) }
+    ensures no_rule { IfSome (S.files shelf.old) (λ _. FileHolds study.now result) }
     ensures failed { IsErrOf result FileFault.Failed → Rose (S.faults shelf.old name.now) (S.faults shelf.new name.now) }
     ensures same { S.files shelf.new ≡ S.files shelf.old }
     ensures others { OthersStay (S.left shelf.old) (S.left shelf.new) name.now }
@@ -206,8 +206,6 @@ pub fn check_file<R: Threads + Sync, S: Shelf, K: OutcomeKind, G: Gate>(
 {
     // Its contract says that the size of the study is one that the bench takes.
     kinds_have_sizes(kind);
-    match Reader::new(alloc, kind, study, workers) {
-        Ok(mut reader) => worth_of(rt, gate, &mut reader, shelf, name),
-        Err(NoMemory) => Err(FileFault::NoMemory),
-    }
+    let mut reader = Reader::new(alloc, kind, study, workers)?;
+    worth_of(rt, gate, &mut reader, shelf, name)
 }

@@ -167,11 +167,7 @@ pub fn check_report<R: Threads + Sync, K: OutcomeKind, G: Gate>(
 {
     // Its contract says that the size of the study is one that the bench takes.
     kinds_have_sizes(kind);
-    match Reader::new(alloc, kind, study, workers) {
-        Ok(mut reader) => match reader.piece(rt, gate, text) {
-            Ok(()) => reader.end(),
-            Err(NoMemory) => Err(ReportFault::NoMemory),
-        },
-        Err(NoMemory) => Err(ReportFault::NoMemory),
-    }
+    let mut reader = Reader::new(alloc, kind, study, workers)?;
+    reader.piece(rt, gate, text)?;
+    reader.end()
 }

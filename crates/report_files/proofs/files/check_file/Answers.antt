@@ -6,23 +6,23 @@ use Rattle.report_files.specs.Files.{IsWorthOf}
 use Rattle.report_files.proofs.WorthLemmas.{if_some, file_right, right_file, file_holds}
 use Rattle.report_files.proofs.files.check_file.Goals as goal
 
-pub returns-in-Ok-clause-worth : goal.returns-in-Ok-clause-worth
-returns-in-Ok-clause-worth g c =
+pub returns-clause-worth : goal.returns-clause-worth
+returns-clause-worth g c =
     subst (λ (q : Question). IfSome (g.S.Shelf.files c.args.shelf.now) (λ files. IfOk c.worth_of.result (IsWorthOf q files c.args.name.now)))
-    c.in-Ok.ensures.study c.worth_of.ensures.worth
+    c.in_ok-reader.ensures.study c.worth_of.ensures.worth
 
-pub returns-in-Ok-clause-right : goal.returns-in-Ok-clause-right
-returns-in-Ok-clause-right g c =
-    if_some (g.S.Shelf.files c.args.shelf.now) (returns-in-Ok-clause-worth g c) (λ files h.
+pub returns-clause-right : goal.returns-clause-right
+returns-clause-right g c =
+    if_some (g.S.Shelf.files c.args.shelf.now) (returns-clause-worth g c) (λ files h.
     file_right c.args.study.now files c.args.name.now c.worth_of.result h)
 
-pub returns-in-Ok-clause-all : goal.returns-in-Ok-clause-all
-returns-in-Ok-clause-all g c =
-    if_some (g.S.Shelf.files c.args.shelf.now) (returns-in-Ok-clause-worth g c) (λ files h.
+pub returns-clause-all : goal.returns-clause-all
+returns-clause-all g c =
+    if_some (g.S.Shelf.files c.args.shelf.now) (returns-clause-worth g c) (λ files h.
     right_file c.args.study.now files c.args.name.now c.worth_of.result h)
 
-pub returns-in-Ok-clause-no_rule : goal.returns-in-Ok-clause-no_rule
-returns-in-Ok-clause-no_rule g c =
+pub returns-clause-no_rule : goal.returns-clause-no_rule
+returns-clause-no_rule g c =
     let size : IsSize c.args.study.now.size = subst (λ (n : Extent). IsSize n) (sym c.requires.size) c.kinds_have_sizes.ensures.is_size in
-    if_some (g.S.Shelf.files c.args.shelf.now) (returns-in-Ok-clause-right g c) (λ files h.
+    if_some (g.S.Shelf.files c.args.shelf.now) (returns-clause-right g c) (λ files h.
     file_holds c.args.study.now files c.args.name.now c.worth_of.result size h)

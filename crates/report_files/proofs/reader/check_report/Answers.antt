@@ -8,26 +8,26 @@ use Rattle.report_files.specs.Pieces.{StandsForText}
 use Rattle.report_files.proofs.TextLemmas.{text_right, text_all}
 use Rattle.report_files.proofs.reader.check_report.Goals as goal
 
-pub returns-in-Ok-piece-clause-value : goal.returns-in-Ok-piece-clause-value
-returns-in-Ok-piece-clause-value g c =
-    let before = c.in-Ok.reader in
+pub returns-clause-value : goal.returns-clause-value
+returns-clause-value g c =
+    let before = c.in_ok-reader.reader in
     let after = c.piece.new.self in
     let first : StandsForText before.checker.subject.study.now before.checker.progress before.held.items [] =
-    rw (sym c.in-Ok.ensures.study) at c.in-Ok.ensures.stands in
+    rw (sym c.in_ok-reader.ensures.study) at c.in_ok-reader.ensures.stands in
     let read : StandsForText before.checker.subject.study.now after.checker.progress after.held.items c.args.text.now =
-    c.in-Ok-piece.ensures.taken [] first in
+    c.in_ok-piece.ensures.taken [] first in
     let whole : StandsForText after.checker.subject.study.now after.checker.progress after.held.items c.args.text.now =
     rw (sym c.piece.ensures.subject) at read in
-    let study : after.checker.subject.study.now ≡ c.args.study.now = ap (λ s. s.study.now) c.piece.ensures.subject ∙ c.in-Ok.ensures.study in
+    let study : after.checker.subject.study.now ≡ c.args.study.now = ap (λ s. s.study.now) c.piece.ensures.subject ∙ c.in_ok-reader.ensures.study in
     inr (subst (λ (q : Question). Concludes (answer q c.args.text.now) c.end.result) study (c.end.ensures c.args.text.now whole))
 
-pub returns-in-Ok-piece-clause-right : goal.returns-in-Ok-piece-clause-right
-returns-in-Ok-piece-clause-right g c = text_right c.args.study.now c.args.text.now c.end.result (returns-in-Ok-piece-clause-value g c)
+pub returns-clause-right : goal.returns-clause-right
+returns-clause-right g c = text_right c.args.study.now c.args.text.now c.end.result (returns-clause-value g c)
 
-pub returns-in-Ok-piece-clause-all : goal.returns-in-Ok-piece-clause-all
-returns-in-Ok-piece-clause-all g c = text_all c.args.study.now c.args.text.now c.end.result c.requires.room (returns-in-Ok-piece-clause-value g c)
+pub returns-clause-all : goal.returns-clause-all
+returns-clause-all g c = text_all c.args.study.now c.args.text.now c.end.result c.requires.room (returns-clause-value g c)
 
-pub returns-in-Ok-piece-clause-no_rule : goal.returns-in-Ok-piece-clause-no_rule
-returns-in-Ok-piece-clause-no_rule g c =
+pub returns-clause-no_rule : goal.returns-clause-no_rule
+returns-clause-no_rule g c =
     let size : IsSize c.args.study.now.size = subst (λ (n : Extent). IsSize n) (sym c.requires.size) c.kinds_have_sizes.ensures.is_size in
-    true_if_right c.args.study.now c.args.text.now c.end.result size (returns-in-Ok-piece-clause-right g c)
+    true_if_right c.args.study.now c.args.text.now c.end.result size (returns-clause-right g c)
