@@ -38,13 +38,13 @@ dropped at id = record { at = at; step = Drop (id ∷ []) }
 abbrev pub with_one_of : ClauseList → (one other origin : ℕ) → ClauseList
 with_one_of list one other origin =
     with_clause (with_clause list (plain one ∷ plain other ∷ []) origin)
-        (negated one ∷ negated other ∷ []) origin
+    (negated one ∷ negated other ∷ []) origin
 
 -- both are, or neither
 abbrev pub with_same : ClauseList → (one other origin : ℕ) → ClauseList
 with_same list one other origin =
     with_clause (with_clause list (negated one ∷ plain other ∷ []) origin)
-        (plain one ∷ negated other ∷ []) origin
+    (plain one ∷ negated other ∷ []) origin
 
 abbrev pub frames : ClauseList
 frames = with_one_of (with_one_of (with_one_of (with_one_of no_clauses 1 2 0) 3 4 1) 5 6 2) 7 8 3
@@ -57,7 +57,7 @@ anonymous = with_same (with_same frames 3 5 4294967306) 4 6 4294967307
 abbrev pub twenty : ClauseList
 twenty =
     with_same (with_same (with_same (with_same anonymous 1 8 8589934594) 2 7 8589934595)
-        3 6 8589934602) 4 5 8589934603
+    3 6 8589934602) 4 5 8589934603
 
 -- ---- one voter and two alternatives, where variables 1 and 2 say that a stands above b at the profiles ab and ba
 
@@ -81,4 +81,4 @@ hasty = record {
 abbrev pub four : ClauseList
 four =
     with_clause (with_same (with_clause no_clauses (negated 1 ∷ []) 4294967296) 1 2 8589934592)
-        (plain 1 ∷ plain 2 ∷ []) 8589934592
+    (plain 1 ∷ plain 2 ∷ []) 8589934592

@@ -20,4 +20,4 @@ abbrev pub step_fault : Extent → List Titled → List ℕ → List Lemma → L
     Option StoryFault
 step_fault size axioms core earlier known step =
     option_or (literal_fault known step.literal)
-        (reason_fault size axioms core earlier (known ++ opposite_of step.literal ∷ []) step.reason)
+    (reason_fault size axioms core earlier (known ++ opposite_of step.literal ∷ []) step.reason)
