@@ -1,5 +1,5 @@
 -- `check`, from what each part promises to what the command does.
-use Rattle.std.proofs.Common.{◌≡◌, ◌≢◌, ◌∙◌, sym, refl, subst, ℕ, ◌≤◌, true, false, true≢false, List, [], ◌∷◌, Option, None, Some, IfSome, Result, Ok, Err, IfOk, IsErrOf, arith, eq-eqb, zero, suc}
+use Rattle.std.proofs.Common.{◌≡◌, ◌≢◌, ◌∙◌, sym, refl, subst, ℕ, ◌≤◌, List, [], ◌∷◌, Option, None, Some, IfSome, Result, Ok, Err, IfOk, IsErrOf, arith, eq-eqb, zero, suc}
 use Rattle.std.specs.Prelude.{◌==◌}
 use Rattle.std.specs.List.{list_any}
 use Rattle.std.specs.Str.{bytes_eq}
@@ -19,7 +19,6 @@ use Rattle.answers.specs.Runs.{IsBare}
 use Rattle.answers.specs.Studies.{GivesStudy, study_refused, study_given}
 use Rattle.answers.specs.Check.{IsChecked, IsJudged, judgement, status_of as judged_status}
 use Rattle.answers.specs.Call.{AreFiles, are_told, none_read}
-use Rattle.answers.proofs.ReportLaws.{confirmed_report}
 use Rattle.bench.specs.declared.answer.Answer.{Answer}
 use Rattle.bench.specs.declared.answer.Answer.TheVariants.{Judged}
 use Rattle.bench.specs.declared.answer.Stop.{Stop}
@@ -31,24 +30,23 @@ use Rattle.bench.proofs.PairLemmas.{IsPairCommand}
 
 -- ---- what is said of a report
 
-module _ (study : Question) (bytes : List ℕ) where
-  abbrev SaidAs : Judgement → Worth → Type 0
-  SaidAs a w = (worth_status w ≡ judged_status a) × (worth_text w ≡ answer_text a)
+abbrev SaidAs : Judgement → Worth → Type 0
+SaidAs a w = (worth_status w ≡ judged_status a) × (worth_text w ≡ answer_text a)
 
-  -- what is said for what a report is worth is what the judge answers
-  by_judgement : (a : Judgement) (w : Worth) → judgement study bytes ≡ a → IsWorth a w → SaidAs a w
-  by_judgement (Confirmed (Possible table)) w e is = subst (λ (x : Worth). SaidAs (Confirmed (Possible table)) x) (sym is) (refl, refl)
-  by_judgement (Confirmed (Impossible core story witnesses)) w e is = subst (λ (x : Worth). SaidAs (Confirmed (Impossible core story witnesses)) x) (sym is) (refl, refl)
-  by_judgement (Confirmed Undecided) w e is = absurd (true≢false (sym (confirmed_report study bytes Undecided e).0.claims_some))
-  by_judgement (Faulty line word) w e is = subst (λ (x : Worth). SaidAs (Faulty line word) x) (sym is) (refl, refl)
-  by_judgement TooLong w e is = subst (λ (x : Worth). SaidAs TooLong x) (sym is) (refl, refl)
+-- what is said for what a report is worth is what the judge answers
+by_judgement : (a : Judgement) (w : Worth) → IsWorth a w → SaidAs a w
+by_judgement (Confirmed (Possible table)) w is = subst (λ (x : Worth). SaidAs (Confirmed (Possible table)) x) (sym is) (refl, refl)
+by_judgement (Confirmed (Impossible core story witnesses)) w is = subst (λ (x : Worth). SaidAs (Confirmed (Impossible core story witnesses)) x) (sym is) (refl, refl)
+by_judgement (Confirmed Undecided) w is = absurd is
+by_judgement (Faulty line word) w is = subst (λ (x : Worth). SaidAs (Faulty line word) x) (sym is) (refl, refl)
+by_judgement TooLong w is = subst (λ (x : Worth). SaidAs TooLong x) (sym is) (refl, refl)
 
 -- the judgement of a report in a file that may be told
 pub judged_file : (told : Option Files) (study : Question) (report : List ℕ) (w : Worth) → IfSome told (λ files. IsWorthOf study files report w)
     → (files : Files) → told ≡ Some files → IsJudged files report study (run_of (Judged w)) (text_of (Judged w))
 judged_file told study report w is files e =
     let (bytes, held, worth_is) = if_some told (λ files. IsWorthOf study files report w) files is e in
-    let said = by_judgement study bytes (judgement study bytes) w refl worth_is in
+    let said = by_judgement (judgement study bytes) w worth_is in
     record { bytes = bytes; held = held; ends = record { ends = said.0; no_verdict = refl; no_logs = refl }; is = said.1 }
 
 -- its status is at most 1
