@@ -16,6 +16,7 @@ use crate::analysis::analyze;
 use crate::lines::line;
 use crate::order::Order;
 use crate::restarts::Restarts;
+use crate::seen::Seen;
 use cnf::{Bits, Clauses, Derivation, Lit};
 use lists::{Items, NoMemory};
 use propagate::{Outcome, Trail};
@@ -107,7 +108,10 @@ fn search_clauses(
 {
     let mut trail = Trail::new(alloc, clauses, variables)?;
     let mut order = Order::new(alloc, variables)?;
-    let search = search_from(alloc, clauses, &mut trail, &mut order, variables, limit)?;
+    let mut seen = Seen::new(alloc, variables)?;
+    let search = search_from(
+        alloc, clauses, &mut trail, &mut order, &mut seen, variables, limit,
+    )?;
     Ok(search)
 }
 
@@ -117,11 +121,13 @@ fn search_from(
     clauses: &Clauses,
     trail: &mut Trail,
     order: &mut Order,
+    seen: &mut Seen,
     variables: u32,
     limit: u32,
 ) -> Result<Search, NoMemory>
     requires searching { IsSearching clauses.now.clauses variables trail.old [] }
     requires all { HasAll trail.old order.old variables }
+    requires seen { length seen.old ≡ variables }
     requires few { variables < 2 ^ 31 }
     requires limit { limit ≤ 1000000 }
     ensures { IfOk result (Answers clauses.now.clauses variables limit) }
@@ -137,7 +143,7 @@ fn search_from(
                     return Ok(Search::Refuted(lines));
                 }
                 learn(
-                    alloc, clauses, trail, order, variables, conflict, &mut lines,
+                    alloc, clauses, trail, order, seen, variables, conflict, &mut lines,
                 )?;
                 if restarts.is_due() {
                     go_back(trail, order, variables, 0);
@@ -315,23 +321,26 @@ fn learn(
     clauses: &Clauses,
     trail: &mut Trail,
     order: &mut Order,
+    seen: &mut Seen,
     variables: u32,
     conflict: u32,
     lines: &mut Derivation,
 ) -> Result<(), NoMemory>
     requires searching { IsSearching clauses.now.clauses variables trail.old lines.old }
+    requires seen { length seen.old ≡ variables }
     requires level { 0 < trail.old.level }
     requires conflict { conflict < length trail.old.clauses }
     requires falsified { IsTrue (is_falsified (known trail.old) (clause_at trail.old conflict)) }
     requires room { length lines.old < 1000000 }
     requires all { HasAll trail.old order.old variables }
     ensures all { OnOk result (HasAll trail.new order.new variables) }
+    ensures seen { OnOk result (length seen.new ≡ variables) }
     ensures searching { OnOk result (IsSearching clauses.now.clauses variables trail.new lines.new) }
     ensures one_more { OnOk result (length lines.new ≡ length lines.old + 1) }
 {
     let number = lines.len() as u32 + 1;
     let id = clauses.len() as u64 + number as u64;
-    let lesson = analyze(alloc, trail, variables, conflict)?;
+    let lesson = analyze(alloc, trail, seen, conflict)?;
     raise_all(order, lesson.clause.as_slice(), variables);
     go_back(trail, order, variables, lesson.level);
     trail.learn(lesson.clause.as_slice())?;
