@@ -1,11 +1,12 @@
 #!/usr/bin/env bash
 # Seconds for the search of crate `cdcl` on lists of clauses, against the same algorithm in plain Rust built by `rustc -O`
 # (measure/watched.rs) and against `minisat` and `cadical`, where they are installed: random lists of three literals a clause near the
-# threshold, over 150 and 200 variables, with and without an assignment; pigeons in one hole fewer, also among 1,000,000 variables; and what `export` writes for two studies of two voters and four
-# alternatives: the axioms of Arrow, and `onto`, `strategyproof` and `non_dictatorship`. On a list over 120 variables the
-# plain one is compared with the search that scans all clauses at each step (measure/search.rs). The search and the plain one are timed
-# without the reading of the list, a stock solver with it; each runs 5 times in turn, and the shortest run counts. The answers and the
-# numbers of lines are compared too, so that the search and the plain one do the same work.
+# threshold, over 150 and 200 variables, with and without an assignment; pigeons in one hole fewer, also among 1,000,000 variables;
+# and what `export` writes for two studies of two voters and four alternatives: the axioms of Arrow, and `onto`, `strategyproof` and
+# `non_dictatorship`. On a list over 120 variables the plain one is compared with the search that scans all clauses at each step
+# (measure/search.rs). The search and the plain one are timed without the reading of the list, a stock solver with it; each runs 5
+# times in turn, and the shortest run counts. The answers and the numbers of lines are compared too, so that the search and the plain
+# one do the same work.
 # The search is called by a program that is proved and built in a copy of the repository.
 # The last lines are `ratio scanning R`, the plain one by the scanning one; `ratio studies R`, the search by
 # `minisat` on the study where that is more; and `ratio watched R`, the search by the plain one over all lists.
