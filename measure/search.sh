@@ -1,60 +1,35 @@
 #!/usr/bin/env bash
-# Seconds for the search of crate `cdcl` on random lists of clauses of three literals, 530 over 120 variables and 660 over 150, against
-# two searches in plain Rust built by `rustc -O`: the one that scans all clauses at each step and decides the least variable
-# (measure/search.rs), on the first list alone, since the second takes it minutes; and the one of the crate itself, which
-# watches two literals of each clause and decides by activity (measure/watched.rs). Each runs 5 times, and the shortest run
-# counts. The answers are compared too: with the crate's own algorithm also the number of lines, so that it is the same work.
+# Seconds for the search of crate `cdcl` on lists of clauses, against the same algorithm in plain Rust built by `rustc -O`
+# (measure/watched.rs) and against `minisat` and `cadical`, where they are installed: random lists of three literals a clause near the
+# threshold, over 150 and 200 variables, with and without an assignment; pigeons in one hole fewer, also among 1,000,000 variables;
+# and what `export` writes for two studies of two voters and four alternatives: the axioms of Arrow, and `onto`, `strategyproof` and
+# `non_dictatorship`. On a list over 120 variables the plain one is compared with the search that scans all clauses at each step
+# (measure/search.rs). The search and the plain one are timed without the reading of the list, a stock solver with it; each runs 5
+# times in turn, and the shortest run counts. The answers and the numbers of lines are compared too, so that the search and the plain
+# one do the same work.
 # The search is called by a program that is proved and built in a copy of the repository.
-# The last lines are `ratio scanning R` and `ratio watched R`: the seconds of the search by those of each.
+# The last lines are `ratio scanning R`, the plain one by the scanning one; `ratio studies R`, the search by
+# `minisat` on the study where that is more; and `ratio watched R`, the search by the plain one over all lists.
 set -eu
 . "$(dirname -- "$(readlink -f -- "${BASH_SOURCE[0]}")")/setup.sh"
-copy_crates lists cnf propagate cdcl
-echo "search_calls: lists cnf propagate cdcl" >>"$work/copy/crates.txt"
+build_program
+copy_crates lists cnf edge propagate cdcl
+echo "search_calls: lists cnf edge propagate cdcl" >>"$work/copy/crates.txt"
 mkdir -p "$work/copy/crates/search_calls/src"
 cat >"$work/copy/crates/search_calls/src/main.rt" <<'RT'
-// The answers and the nanoseconds of two searches.
+// The answer to the clauses of the file input.cnf, the number of its lines or of its true variables, and the nanoseconds of the search.
 #![tactic(auto)]
 
-ghost use Rattle.std.specs.Prelude.{◌<◌, ◌≤◌, ◌^◌};
+ghost use Rattle.std.specs.Prelude.{◌<◌, ◌≤◌, ◌^◌, length};
 
 use cdcl::{Search, solve};
 use cnf::{Bits, Clauses, Lit};
+use edge::{FileShelf, read_all};
 use lists::{Items, NoMemory};
 use propagate::stay_within;
 use std::alloc::Global;
 use std::io;
 use std::time::Instant;
-
-fn next(state: u64) -> u64 {
-    let a = state ^ (state.wrapping_shl(13));
-    let b = a ^ (a.wrapping_shr(7));
-    b ^ (b.wrapping_shl(17))
-}
-
-fn pick(state: u64) -> u64 {
-    state >> 33
-}
-
-fn random(alloc: Global, variables: u32, count: u32) -> Result<Clauses, NoMemory>
-    requires some { 1 ≤ variables }
-    requires few { variables < 2 ^ 31 }
-{
-    let mut clauses = Clauses::new(alloc);
-    let mut state: u64 = 88172645463325252;
-    for _ in 0..count {
-        let mut clause = Items::new(alloc);
-        for _ in 0..3u32 {
-            state = next(state);
-            let variable = (pick(state) % variables as u64) as u32 + 1;
-            state = next(state);
-            clause.push(Lit::new(variable, pick(state) % 2 == 1))?;
-        }
-        if clauses.push(clause.as_slice(), 0).is_err() {
-            return Err(NoMemory);
-        }
-    }
-    Ok(clauses)
-}
 
 fn trues(bits: &Bits, variables: u32) -> u32
     requires { variables < 2 ^ 31 }
@@ -74,52 +49,141 @@ fn answer(alloc: Global, clauses: &Clauses, variables: u32) -> Result<(&'static 
     if !stay_within(clauses, variables) {
         return Err(NoMemory);
     }
-    match solve(alloc, clauses, variables, 100_000)? {
+    match solve(alloc, clauses, variables, 1_000_000)? {
         Search::Found(bits) => Ok(("found", trues(&bits, variables))),
-        Search::Refuted(lines) => Ok(("refuted", (lines.len() % 1_000_000) as u32)),
-        Search::Spent(lines) => Ok(("spent", (lines.len() % 1_000_000) as u32)),
+        Search::Refuted(lines) => Ok(("refuted", (lines.len() % 10_000_000) as u32)),
+        Search::Spent(lines) => Ok(("spent", (lines.len() % 10_000_000) as u32)),
     }
 }
 
-fn line(rt: &HostRuntime, variables: u32, count: u32) -> io::Result<()>
-    requires some { 1 ≤ variables }
-    requires few { variables < 2 ^ 31 }
-{
-    let Ok(clauses) = random(rt.alloc(), variables, count) else {
-        return Ok(());
-    };
-    let start = Instant::now(rt)?;
-    let Ok((name, number)) = answer(rt.alloc(), &clauses, variables) else {
-        return Ok(());
-    };
-    let spent = start.elapsed(rt)?.as_nanos();
-    println!(rt; "{name} {number} {spent}")?;
-    Ok(())
+/// The clauses of numbers after the first line, each clause ended by 0.
+fn clauses_of(alloc: Global, bytes: &[u8]) -> Result<Clauses, NoMemory> {
+    let mut clauses = Clauses::new(alloc);
+    let mut clause = Items::new(alloc);
+    let mut body = false;
+    let mut number: u32 = 0;
+    let mut positive = true;
+    let mut inside = false;
+    for byte in bytes {
+        let b = *byte;
+        if !body {
+            body = b == b'\n';
+        } else if b == b'-' {
+            positive = false;
+        } else if b >= b'0' && b <= b'9' {
+            number = number.wrapping_mul(10).wrapping_add((b - b'0') as u32) % 100_000_000;
+            inside = true;
+        } else if inside {
+            if number == 0 {
+                if clauses.push(clause.as_slice(), 0).is_err() {
+                    return Err(NoMemory);
+                }
+                clause = Items::new(alloc);
+            } else if number < 100_000_000 {
+                clause.push(Lit::new(number, positive))?;
+            }
+            number = 0;
+            positive = true;
+            inside = false;
+        }
+    }
+    Ok(clauses)
+}
+
+/// The greatest variable.
+fn most(clauses: &Clauses) -> u32 {
+    let mut most = 0;
+    for k in 0..clauses.len() {
+        for lit in clauses.get(k) {
+            most = most.max(lit.variable());
+        }
+    }
+    most
 }
 
 fn main(rt: HostRuntime) -> io::Result<()> {
-    line(&rt, 120, 530)?;
-    line(&rt, 150, 660)
+    let alloc = rt.alloc();
+    let mut shelf = FileShelf::new(&rt);
+    let Ok(text) = read_all(alloc, &mut shelf, "input.cnf", 100_000_000) else {
+        return Ok(());
+    };
+    let Ok(clauses) = clauses_of(alloc, text.as_slice()) else {
+        return Ok(());
+    };
+    let variables = most(&clauses);
+    if variables >= 2_147_483_648 {
+        return Ok(());
+    }
+    let start = Instant::now(&rt)?;
+    let Ok((name, number)) = answer(alloc, &clauses, variables) else {
+        return Ok(());
+    };
+    let spent = start.elapsed(&rt)?.as_nanos();
+    println!(rt; "{name} {number} {spent}")?;
+    Ok(())
 }
 RT
-(cd "$work/copy/crates/search_calls" && rt run >"$work/run.log" 2>&1) || { tail -20 "$work/run.log"; exit 1; }
+(cd "$work/copy/crates/search_calls" && printf 'p cnf 1 1\n1 0\n' >input.cnf && rt run >"$work/run.log" 2>&1) || { tail -20 "$work/run.log"; exit 1; }
 rustc -O --edition 2021 -o "$work/scanning" "$root/measure/search.rs"
 rustc -O --edition 2021 -o "$work/watched" "$root/measure/watched.rs"
-python3 - "$work/copy/crates/search_calls/out/search_calls" "$work/scanning" "$work/watched" <<'PY'
-import subprocess, sys
-def shortest(*words):
-    best = None
+cat >"$work/choice.toml" <<'TOML'
+kind = "choice"
+voters = 2
+alternatives = 4
+axioms = ["onto", "strategyproof", "non_dictatorship"]
+TOML
+"$program" export "$root/studies/arrow_four.toml" >"$work/arrow_four.cnf"
+"$program" export "$work/choice.toml" >"$work/choice_four.cnf"
+python3 - "$work" <<'PY'
+import os, random, resource, shutil, subprocess, sys
+work = sys.argv[1]
+def write(name, variables, clauses):
+    with open("%s/%s.cnf" % (work, name), "w") as file:
+        file.write("p cnf %d %d\n" % (variables, len(clauses)))
+        for clause in clauses: file.write(" ".join(map(str, clause)) + " 0\n")
+def three(name, variables, count, seed):
+    draw = random.Random(seed)
+    write(name, variables, [[v * draw.choice((1, -1)) for v in draw.sample(range(1, variables + 1), 3)] for _ in range(count)])
+def pigeons(name, holes, more=[]):
+    at = lambda pigeon, hole: pigeon * holes + hole + 1
+    some = [[at(pigeon, hole) for hole in range(holes)] for pigeon in range(holes + 1)]
+    write(name, 1000000 if more else holes * (holes + 1), some + more + [[-at(one, hole), -at(other, hole)] for one in range(holes + 1) for other in range(one) for hole in range(holes)])
+threes = [(150, 640, seed) for seed in (2, 4, 9, 10)] + [(200, 853, seed) for seed in (0, 7, 21)]
+for variables, count, seed in threes: three("random_%d_%d" % (variables, seed), variables, count, seed)
+pigeons("pigeons_7", 7); pigeons("pigeons_8", 8); pigeons("pigeons_7_wide", 7, [[1000000, 999999]])
+def seconds_of_user(words, ends):
+    before = resource.getrusage(resource.RUSAGE_CHILDREN).ru_utime
+    status = subprocess.run(words, stdout=subprocess.DEVNULL, stderr=subprocess.DEVNULL).returncode
+    assert status in ends, (words, status)
+    return resource.getrusage(resource.RUSAGE_CHILDREN).ru_utime - before
+def run(solver, name):
+    file = "%s/%s.cnf" % (work, name)
+    if solver == "search":
+        shutil.copy(file, work + "/copy/crates/search_calls/input.cnf")
+        words = subprocess.run([work + "/copy/crates/search_calls/out/search_calls"], cwd=work + "/copy/crates/search_calls", capture_output=True, text=True, check=True).stdout.split()
+    elif solver == "watched":
+        words = subprocess.run([work + "/watched", file], capture_output=True, text=True, check=True).stdout.split()
+    else:
+        return None, seconds_of_user([solver, "-q", file] if solver == "cadical" else [solver, file], (10, 20))
+    return words[:2], int(words[2]) / 1e9
+stock = [name for name in ("minisat", "cadical") if shutil.which(name)]
+totals, studies = {"search": 0, "watched": 0}, []
+names = ["random_%d_%d" % (variables, seed) for variables, _, seed in threes] + ["pigeons_7", "pigeons_8", "pigeons_7_wide", "arrow_four", "choice_four"]
+for name in names:
+    best, said = {}, {}
     for _ in range(5):
-        lines = [line.split() for line in subprocess.run(words, capture_output=True, text=True, check=True).stdout.splitlines()]
-        now = [(name, number, int(spent)) for name, number, spent in lines]
-        best = now if best is None else [min(a, b, key=lambda row: row[2]) for a, b in zip(best, now)]
-    return best
-ours, scanning, watched = shortest(sys.argv[1]), shortest(sys.argv[2]), shortest(sys.argv[3], "120", "530", "150", "660")
-assert len(ours) == 2 and [row[:2] for row in ours] == [row[:2] for row in watched], (ours, watched)
-assert ours[0][0] == scanning[0][0], (ours, scanning)
-for variables, row, plain in zip((120, 150), ours, watched):
-    print("%d variables: %s %s, search %.4f s, watched %.4f s" % (variables, row[0], row[1], row[2] / 1e9, plain[2] / 1e9))
-print("120 variables: scanning %s %s, %.4f s" % (scanning[0][0], scanning[0][1], scanning[0][2] / 1e9))
-print("ratio scanning %.4f" % (ours[0][2] / scanning[0][2]))
-print("ratio watched %.2f" % (sum(row[2] for row in ours) / sum(row[2] for row in watched)))
+        for solver in ["search", "watched"] + stock:
+            said[solver], spent = run(solver, name)
+            best[solver] = min(spent, best.get(solver, spent))
+    assert said["search"] == said["watched"], (name, said)
+    for solver in totals: totals[solver] += best[solver]
+    if name.endswith("_four") and "minisat" in best: studies.append(best["search"] / best["minisat"])
+    print("%s: %s; %s" % (name, " ".join(said["search"]), ", ".join("%s %.4f s" % pair for pair in best.items())))
+# the list of measure/search.rs, by its own generator
+plain = min((subprocess.run([work + "/scanning"], capture_output=True, text=True, check=True).stdout.split() for _ in range(3)), key=lambda row: int(row[2]))
+same = min((subprocess.run([work + "/watched", "120", "530"], capture_output=True, text=True, check=True).stdout.split() for _ in range(3)), key=lambda row: int(row[2]))
+assert plain[0] == same[0], (plain, same)
+print("ratio scanning %.4f" % (int(same[2]) / int(plain[2])))
+if studies: print("ratio studies %.2f" % max(studies))
+print("ratio watched %.2f" % (totals["search"] / totals["watched"]))
 PY

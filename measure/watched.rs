@@ -1,8 +1,8 @@
 // The search of crate `cdcl` in plain Rust, the same algorithm step by step: each clause of two different literals or more is
 // watched at two of them, the watchers of a literal are a linked list, the variable of greatest activity is decided with the sign
 // that it last had, the clause of the first unique implication point is learned, and the search begins anew after 64 times the next
-// number of Luby's series. For each number of variables and of clauses that it is given, it prints the answer and the nanoseconds of
-// the search over a random list. measure/refutation.rs takes the lines of a refutation from it.
+// number of Luby's series. For the clauses of a file, or for random lists by pairs of a number of variables and one of clauses, it prints
+// the answer and the nanoseconds of the search. measure/refutation.rs takes the lines of a refutation from it.
 use std::time::Instant;
 
 #[derive(Clone, Copy, PartialEq, Eq)]
@@ -429,17 +429,41 @@ pub fn random(variables: u32, count: u32, mut state: u64) -> (Store, u64) {
 
 pub const SEED: u64 = 88172645463325252;
 
+// The clauses of a text, and the greatest of their variables.
+fn read(text: &str) -> (Store, u32) {
+    let (mut clauses, mut clause, mut most) = (Store::new(), Vec::new(), 0);
+    for word in text.lines().filter(|line| !line.starts_with(['c', 'p'])).flat_map(str::split_whitespace) {
+        let number: i32 = word.parse().unwrap();
+        if number == 0 {
+            clauses.push(&clause);
+            clause.clear();
+        } else {
+            most = most.max(number.unsigned_abs());
+            clause.push(Lit::new(number.unsigned_abs(), number > 0));
+        }
+    }
+    (clauses, most)
+}
+
+fn tell(clauses: &Store, variables: u32, limit: u32) {
+    let start = Instant::now();
+    let answer = match solve(clauses, variables, limit) {
+        Answer::Found(number) => format!("found {number}"),
+        Answer::Refuted(lines) => format!("refuted {}", lines.len()),
+        Answer::Spent(lines) => format!("spent {}", lines.len()),
+    };
+    println!("{answer} {}", start.elapsed().as_nanos());
+}
+
 fn main() {
-    let sizes: Vec<u32> = std::env::args().skip(1).map(|word| word.parse().unwrap()).collect();
+    let words: Vec<String> = std::env::args().skip(1).collect();
+    if let [file] = words.as_slice() {
+        let (clauses, variables) = read(&std::fs::read_to_string(file).unwrap());
+        return tell(&clauses, variables, 1_000_000);
+    }
+    let sizes: Vec<u32> = words.iter().map(|word| word.parse().unwrap()).collect();
     for size in sizes.chunks(2) {
-        let (variables, count) = (size[0], size[1]);
-        let (clauses, _) = random(variables, count, SEED);
-        let start = Instant::now();
-        let answer = match solve(&clauses, variables, 100_000) {
-            Answer::Found(number) => format!("found {number}"),
-            Answer::Refuted(lines) => format!("refuted {}", lines.len()),
-            Answer::Spent(lines) => format!("spent {}", lines.len()),
-        };
-        println!("{answer} {}", start.elapsed().as_nanos());
+        let (clauses, _) = random(size[0], size[1], SEED);
+        tell(&clauses, size[0], 100_000);
     }
 }
