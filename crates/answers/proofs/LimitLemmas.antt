@@ -1,5 +1,5 @@
 -- Clauses that are not refused are within the limits of a list, over few variables.
-use Rattle.std.proofs.Common.{◌≡◌, ◌≢◌, refl, sym, ◌∙◌, ap, subst, ℕ, ◌+◌, ◌*◌, ◌≤◌, Bool, true, false, List, [], ◌∷◌, ◌++◌, map, length, length-append, append-nil, append_assoc, Option, None, Some, arith, le-ltb, ltb-false}
+use Rattle.std.proofs.Common.{◌≡◌, refl, sym, ◌∙◌, ap, subst, ℕ, ◌+◌, ◌*◌, ◌≤◌, Bool, true, false, List, [], ◌∷◌, ◌++◌, map, length, length-append, append-nil, append_assoc, Option, None, Some, arith, le-ltb, ltb-false}
 use Rattle.std.specs.Prelude.{nat_lt, sum_by, if◌then◌else◌}
 use Rattle.std.specs.List.{flat_map}
 use Rattle.std.specs.Option.{option_or}
@@ -7,9 +7,8 @@ use Rattle.std.proofs.lemmas.Bool.{or_parts, or_from}
 use Rattle.std.proofs.lemmas.List.{map-append}
 use Rattle.std.proofs.lemmas.List.Sums.{sum_by-append}
 use Rattle.std.proofs.lemmas.Nat.{mul-le}
-use Rattle.vocab.specs.declared.kinds.Kind.TheVariants.{Sets}
 use Rattle.vocab.specs.declared.kinds.Sort.TheVariants.{Profile}
-use Rattle.vocab.specs.Size.{Extent, IsSize, sort_count}
+use Rattle.vocab.specs.Size.{HasOutcomes, Extent, IsSize, sort_count}
 use Rattle.vocab.specs.Study.{Question}
 use Rattle.vocab.specs.Titled.{Titled}
 use Rattle.cnf.specs.Sat.{Clause}
@@ -93,14 +92,14 @@ second_none None second h = h
 second_none (Some fault) second h = absurd (cc)
 
 -- clauses that are not refused are within the limits of a list
-pub clauses_few : (study : Question) → IsSize study.size → study.size.kind ≢ Sets → fault_of study ≡ None → AreFew (all_clauses study)
+pub clauses_few : (study : Question) → IsSize study.size → HasOutcomes study.size.kind → fault_of study ≡ None → AreFew (all_clauses study)
 clauses_few study size known none =
-    let small = frames_small study.size (record { is_size = size; not_sets = known }) in
+    let small = frames_small study.size (record { is_size = size; has_outcomes = known }) in
     full_nowhere study.size study.axioms [] (all_places study) (all_frames study.size small study.axioms size.few_profiles)
     (second_none (first_wide study.size study.axioms (all_places study)) (first_full study.size study.axioms [] (all_places study)) none)
 
 -- there are few variables
-pub variables_few : (size : Extent) → IsSize size → size.kind ≢ Sets → variable_count size ≤ 200000
+pub variables_few : (size : Extent) → IsSize size → HasOutcomes size.kind → variable_count size ≤ 200000
 variables_few size is known =
-    let small = frames_small size (record { is_size = is; not_sets = known }) in
+    let small = frames_small size (record { is_size = is; has_outcomes = known }) in
     mul-le (sort_count size Profile) (bits size.kind size.alternatives) 20000 10 is.few_profiles small.few_bits

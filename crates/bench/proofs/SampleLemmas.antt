@@ -3,7 +3,7 @@ use Rattle.std.proofs.Common.{◌≡◌, ◌≢◌, ◌∙◌, refl, ap, subst, 
 use Rattle.std.specs.Prelude.{◌==◌, ◌%◌}
 use Rattle.edge.specs.Shelf.{Files}
 use Rattle.vocab.specs.declared.kinds.Kind.TheVariants.{Choice, Ranking, Sets}
-use Rattle.vocab.specs.Size.{Extent}
+use Rattle.vocab.specs.Size.{HasOutcomes, Extent}
 use Rattle.vocab.specs.Study.{Question}
 use Rattle.samples.specs.Sample.{sample_listing, IsSampleStudy}
 use Rattle.study.proofs.StudyKinds.{answer_size}
@@ -37,7 +37,7 @@ summed n clauses study logs verdict count v spent = record {
 }
 
 -- the study of a number is of rules that choose, or of rules that rank
-pub sample_known : (n : ℕ) (study : Question) → IsSampleStudy n study → study.size.kind ≢ Sets
+pub sample_known : (n : ℕ) (study : Question) → IsSampleStudy n study → HasOutcomes study.size.kind
 sample_known n study sample = λ sets. by_parity (n % 2 == 0) (sym (ap (λ (size : Extent). size.kind) (answer_size (sample_listing n) study sample)) ∙ sets)
   where
     by_parity : (b : Bool) → cond b Choice Ranking ≡ Sets → ⊥

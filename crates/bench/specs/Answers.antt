@@ -1,6 +1,5 @@
 -- What is said with an answer: its status, what its search found, and its text.
-use Rattle.std.specs.Prelude.{◌≡◌, ◌≢◌, ℕ, List, [], codes, Option, Some, None, IsTrue}
-use Rattle.vocab.specs.declared.kinds.Kind.TheVariants.{Sets}
+use Rattle.std.specs.Prelude.{◌≡◌, ℕ, List, [], codes, Option, Some, None, IsTrue}
 use Rattle.report_files.specs.declared.files.Worth.{Worth}
 use Rattle.report_files.specs.declared.files.Worth.TheVariants as worth
 use Rattle.search_logs.specs.declared.logs.SearchLog.{SearchLog}
@@ -21,6 +20,7 @@ use Rattle.answers.specs.Axioms.{library_text}
 use Rattle.answers.specs.Sample.{summary_text}
 use Rattle.bench.specs.declared.answer.Answer.{Answer}
 use Rattle.bench.specs.declared.answer.Answer.TheVariants as answer
+use Rattle.vocab.specs.Size.{HasOutcomes}
 
 -- what a report is worth: 0 where it is confirmed, and 1 where it is refused
 abbrev pub worth_status : Worth → ℕ
@@ -90,5 +90,5 @@ text_of (answer.Summary number study clauses verdict logs) = summary_text number
 
 -- the report of a verdict has a text where all that the verdict names is in range
 abbrev pub HasText : Answer → Type 0
-HasText (answer.Report study verdict logs) = (study.size.kind ≢ Sets) × IsTrue (has_text study verdict)
+HasText (answer.Report study verdict logs) = (HasOutcomes study.size.kind) × IsTrue (has_text study verdict)
 HasText a = Unit {0}

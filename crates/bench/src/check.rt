@@ -1,6 +1,6 @@
 //! The command `check`: reads a study, and then a report over it.
 
-ghost use Rattle.std.specs.Prelude.{◌≡◌, ◌≢◌, ◌≤◌, Some, IfSome, IfOk, IsErrOf};
+ghost use Rattle.std.specs.Prelude.{◌≡◌, ◌≤◌, Some, IfSome, IfOk, IsErrOf};
 ghost use Rattle.edge.specs.Faults.{Rose};
 ghost use Rattle.edge.specs.Shelf.{Files, NoneFell, OthersStay};
 ghost use Rattle.vocab.specs.declared.kinds.Kind.TheVariants.{Sets};
@@ -9,6 +9,7 @@ ghost use Rattle.words.specs.Words.{Check};
 ghost use Rattle.answers.specs.Check.{IsJudged};
 ghost use Rattle.bench.specs.Answers.{HasText, run_of, status_of, text_of};
 ghost use Rattle.bench.specs.Answered.{Answers};
+ghost use Rattle.vocab.specs.Size.{HasOutcomes};
 
 use crate::answer::{Answer, Stop};
 use crate::studies::{Opened, open_study};
@@ -32,7 +33,7 @@ fn check_by_kind<R: Threads + Sync, S: Shelf, G: Gate>(
 ) -> Result<Worth, FileFault>
     requires some { 1 ≤ workers }
     requires few { workers ≤ 16 }
-    requires known { study.now.size.kind ≢ Sets }
+    requires known { HasOutcomes study.now.size.kind }
     ensures worth { IfSome (S.files shelf.old) (λ files. IfOk result (IsWorthOf study.now files report.now)) }
     ensures failed { IsErrOf result FileFault.Failed →
         Rose (S.faults shelf.old report.now) (S.faults shelf.new report.now) }
@@ -64,7 +65,7 @@ fn judge_report<R: Threads + Sync, S: Shelf, G: Gate>(
 ) -> Result<Answer, Stop>
     requires some { 1 ≤ workers }
     requires few { workers ≤ 16 }
-    requires known { study.now.size.kind ≢ Sets }
+    requires known { HasOutcomes study.now.size.kind }
     ensures judged { IfOk result (λ answer. (files : Files) → S.files shelf.old ≡ Some files →
         IsJudged files report.now study.now (run_of answer) (text_of answer)) }
     ensures status { IfOk result (λ answer. status_of answer ≤ 1) }

@@ -8,6 +8,7 @@ ghost use Rattle.answers.specs.Export.{IsWritten};
 ghost use Rattle.answers.specs.Grounding.{OverClauses};
 ghost use Rattle.bench.specs.Answers.{HasText, run_of, text_of};
 ghost use Rattle.bench.specs.Answered.{Answers};
+ghost use Rattle.vocab.specs.Size.{HasOutcomes};
 
 use crate::answer::{Answer, Stop};
 use crate::grounds::ground_all;
@@ -52,7 +53,7 @@ fn export_study<R: Threads + Sync, G: Gate>(
     crew: &Crew<R, G>,
     study: Study,
 ) -> Result<Answer, Stop>
-    requires known { study.size.kind ≢ Sets }
+    requires known { HasOutcomes study.size.kind }
     ensures row { IfOk result (λ answer. OverClauses study (run_of answer) (text_of answer)
         (IsWritten study (run_of answer) (text_of answer))) }
     ensures has_text { IfOk result HasText }

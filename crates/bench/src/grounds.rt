@@ -1,11 +1,12 @@
 //! The clauses of all axioms of a study.
 
-ghost use Rattle.std.specs.Prelude.{◌≡◌, ◌≢◌, None, IfOk, IfErr};
+ghost use Rattle.std.specs.Prelude.{◌≡◌, None, IfOk, IfErr};
 ghost use Rattle.vocab.specs.declared.kinds.Kind.TheVariants.{Sets};
 ghost use Rattle.clause_form.specs.Refusals.{IsRefused};
 ghost use Rattle.meaning.specs.StudyClauses.{study_clauses};
 ghost use Rattle.search_logs.specs.Spent.{all_places};
 ghost use Rattle.answers.specs.Grounding.{fault_of};
+ghost use Rattle.vocab.specs.Size.{HasOutcomes};
 
 use clause_form::{Ground, GroundFault};
 use crew::Crew;
@@ -43,7 +44,7 @@ pub fn ground_study<R: Threads + Sync, G: Gate>(
     crew: &Crew<R, G>,
     study: &Study,
 ) -> Result<Ground, GroundFault>
-    requires known { study.now.size.kind ≢ Sets }
+    requires known { HasOutcomes study.now.size.kind }
     ensures clauses { IfOk result (λ made. made ≡
         study_clauses study.now.size study.now.axioms (all_places study.now)) }
     ensures none { IfOk result (λ made. fault_of study.now ≡ None) }

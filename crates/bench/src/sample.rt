@@ -6,6 +6,7 @@ ghost use Rattle.core_reduce.specs.Answers.{IsAnswer};
 ghost use Rattle.answers.specs.Grounding.{OverClauses, all_clauses};
 ghost use Rattle.answers.specs.Sample.{IsSampled, IsSummed};
 ghost use Rattle.bench.specs.Answers.{HasText, run_of, text_of};
+ghost use Rattle.vocab.specs.Size.{HasOutcomes};
 
 use crate::answer::{Answer, Stop};
 use crate::decide::verdict_of;
@@ -83,7 +84,7 @@ fn sample_study<R: Threads + Sync, G: Gate>(
     number: u32,
     study: Study,
 ) -> Result<Answer, Stop>
-    requires known { study.size.kind ≢ Sets }
+    requires known { HasOutcomes study.size.kind }
     ensures row { IfOk result (λ answer. OverClauses study (run_of answer) (text_of answer)
         (IsSummed number study (run_of answer) (text_of answer))) }
     ensures has_text { IfOk result HasText }

@@ -1,5 +1,5 @@
 -- The rule of bits that satisfy the clauses of some axioms satisfies these.
-use Rattle.std.proofs.Common.{◌≡◌, ◌≢◌, sym, ◌∙◌, ap, subst, ℕ, zero, suc, ◌+◌, ◌*◌, ◌<◌, ◌≤◌, Bool, true, ◌&&◌, List, [], ◌∷◌, ◌++◌, length, arith, eqb-true, mul-le-mul_right, length-append, ◌⊎◌, inl, inr}
+use Rattle.std.proofs.Common.{◌≡◌, sym, ◌∙◌, ap, subst, ℕ, zero, suc, ◌+◌, ◌*◌, ◌<◌, ◌≤◌, Bool, true, ◌&&◌, List, [], ◌∷◌, ◌++◌, length, arith, eqb-true, mul-le-mul_right, length-append, ◌⊎◌, inl, inr}
 use Rattle.std.specs.Prelude.{◌==◌, nat_lt, slice_get, slice_index}
 use Rattle.std.specs.List.{list_all, flat_map}
 use Rattle.std.proofs.lemmas.Bool.{and_parts}
@@ -9,7 +9,7 @@ use Rattle.std.proofs.lemmas.List.Folds.{list_all-map, list_all-append}
 use Rattle.vocab.specs.declared.kinds.Kind.{Kind}
 use Rattle.vocab.specs.declared.kinds.Kind.TheVariants.{Choice, Ranking, Sets}
 use Rattle.vocab.specs.declared.kinds.Sort.TheVariants.{Profile}
-use Rattle.vocab.specs.Size.{Extent, sort_count, outcome_count}
+use Rattle.vocab.specs.Size.{HasOutcomes, Extent, sort_count, outcome_count}
 use Rattle.vocab.specs.Study.{is_sentence}
 use Rattle.vocab.specs.Titled.{Titled}
 use Rattle.cnf.specs.Sat.{Clause, is_clause_true, is_satisfied}
@@ -53,7 +53,7 @@ module _ (size : Extent) (axioms : List Titled) (chosen : List ℕ) (v : ℕ →
       sym (list_all-map t (λ (c : Clause). record { clause = c; origin = Frame p }) (clauses_of size (frame_of size size.kind p)))
       ∙ all_at (λ q. list_all t (from_frame size q)) (sort_count size Profile) 0 p each (omega arith) (omega (arith, lt))
 
-module _ (size : Extent) (known_kind : size.kind ≢ Sets) (v : ℕ → Bool) where
+module _ (size : Extent) (known_kind : HasOutcomes size.kind) (v : ℕ → Bool) where
   -- the bits of a rule at a profile are those of its outcome
   bits_at : (table : List ℕ) → AreBitsOf size table v → (p : ℕ) → p < sort_count size Profile → AreBitsAt size p (slice_index table p) v
   bits_at table same p lt i low high =

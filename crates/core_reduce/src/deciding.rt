@@ -1,7 +1,6 @@
 //! The decision of a study, and the reduction of a given proof.
 
-ghost use Rattle.std.specs.Prelude.{◌≡◌, ◌≢◌, ◌<◌, ◌≤◌, ◌-◌, ◌^◌, length, IfOk, IsTrue};
-ghost use Rattle.vocab.specs.declared.kinds.Kind.TheVariants.{Sets};
+ghost use Rattle.std.specs.Prelude.{◌≡◌, ◌<◌, ◌≤◌, ◌-◌, ◌^◌, length, IfOk, IsTrue};
 ghost use Rattle.cnf.specs.Derived.{IsAccepted};
 ghost use Rattle.cnf.specs.Fresh.{AreOver};
 ghost use Rattle.meaning.specs.Cores.{is_core_from};
@@ -12,6 +11,7 @@ ghost use Rattle.std.specs.List.{AllByRecursion};
 ghost use Rattle.search_logs.specs.Spent.{all_places, IsSpentLog};
 ghost use Rattle.core_reduce.specs.Answers.{IsAnswer, IsReduced, IsRefutation};
 ghost use Rattle.core_reduce.specs.Reducing.{IsReducing, IsFrom};
+ghost use Rattle.vocab.specs.Size.{HasOutcomes};
 
 use crate::answers::{Answer, Finding, Reduced, Refutation, Witnesses};
 use crate::leaving::places_kept;
@@ -74,7 +74,7 @@ fn start(
 fn finish(alloc: Global, study: &Study, reduction: Reduction) -> Result<Reduced, NoMemory>
     requires reducing { IsReducing study.now reduction }
     requires whole { length reduction.core ≤ length reduction.witnesses.items }
-    requires known { study.now.size.kind ≢ Sets }
+    requires known { HasOutcomes study.now.size.kind }
     ensures refutation { IfOk result (λ r. IsRefutation study.now r.logs r.refutation) }
     ensures logs { IfOk result (λ r. AllByRecursion (IsSpentLog study.now) r.logs) }
     ensures core { IfOk result (λ r. r.refutation.core ≡ reduction.core) }

@@ -7,7 +7,7 @@ use Rattle.std.specs.List.{AllByRecursion, flat_map, list_all, list_any}
 use Rattle.std.specs.Prelude.{◌==◌, IsTrue, nat_lt, slice_get}
 use Rattle.vocab.specs.Limits.{bases_of, instance_count}
 use Rattle.vocab.specs.Literal.{has, opposite_of, profile_of, same_literal}
-use Rattle.vocab.specs.Size.{Extent, outcome_count, sort_count}
+use Rattle.vocab.specs.Size.{HasOutcomes, Extent, outcome_count, sort_count}
 use Rattle.vocab.specs.Sorted.{is_sorted}
 use Rattle.vocab.specs.Study.{is_sentence}
 use Rattle.vocab.specs.Titled.{Titled}
@@ -205,7 +205,7 @@ module _ (size : Extent) (p : ℕ) (in_p : p < sort_count size Profile) where
         | inr g ↦ rows_fail o known rows h e.1 g f.1
       ]
 
-  excluded : size.kind ≢ Sets → (known : List Literal) → some_false known (frame_of size size.kind p) ≡ true → is_outcome_excluded size known p ≡ true
+  excluded : HasOutcomes size.kind → (known : List Literal) → some_false known (frame_of size size.kind p) ≡ true → is_outcome_excluded size known p ≡ true
   excluded n known k = ap not (false_from_ne_true _ (λ t.
       let r = any_at (λ o. list_all (holds_of size o) (filter (λ l. profile_of l == p) known)) (outcome_count size.kind size.alternatives) 0 t in
       let in_o : r.0 < outcome_count size.kind size.alternatives = omega (arith, r.2) in
@@ -218,7 +218,7 @@ All-firsts P seen [] h = tt
 All-firsts P seen (s ∷ ss) h =
     elim (list_any (pointwise same_lit s.clause) seen) as (λ b. AllByRecursion P (cond b (firsts seen ss) (s ∷ firsts (s.clause ∷ seen) ss))) [ true ↦ All-firsts P seen ss h.1 | false ↦ (h.0, All-firsts P (s.clause ∷ seen) ss h.1) ]
 
-module _ (size : Extent) (known_kind : size.kind ≢ Sets) (axioms : List Titled) (sentences : list_all (is_sentence size) axioms ≡ true) (chosen : List ℕ) (known : List Literal) (all_known : list_all (is_literal size) known ≡ true) (no_pair : HasNoPair known) where
+module _ (size : Extent) (known_kind : HasOutcomes size.kind) (axioms : List Titled) (sentences : list_all (is_sentence size) axioms ≡ true) (chosen : List ℕ) (known : List Literal) (all_known : list_all (is_literal size) known ≡ true) (no_pair : HasNoPair known) where
   abbrev Told : Sourced → Type 0
   Told s = is_falsified (map (lit_of size) known) s.clause ≡ true → RefuteOrigin size axioms chosen known s.origin
 
@@ -257,7 +257,7 @@ module _ (size : Extent) (known_kind : size.kind ≢ Sets) (axioms : List Titled
       (All-flat_map Told (from_frame size) (below (sort_count size Profile)) (all_numbers _ (sort_count size Profile) 0 (λ p lt. frame_told p (omega (arith, lt)))))
       (All-flat_map Told (λ (k : ℕ). from_axiom size k (slice_get axioms k)) chosen (everywhere_told chosen (λ k h. h)))
 
-pub have_reasons : (size : Extent) → size.kind ≢ Sets → (axioms : List Titled) → list_all (is_sentence size) axioms ≡ true → (chosen : List ℕ) →
+pub have_reasons : (size : Extent) → HasOutcomes size.kind → (axioms : List Titled) → list_all (is_sentence size) axioms ≡ true → (chosen : List ℕ) →
     (known : List Literal) → list_all (is_literal size) known ≡ true → HasNoPair known →
     AllByRecursion (λ (s : Sourced). is_falsified (map (lit_of size) known) s.clause ≡ true → RefuteOrigin size axioms chosen known s.origin) (study_clauses size axioms chosen)
 have_reasons size n axioms sentences chosen known all_known no_pair = study_told size n axioms sentences chosen known all_known no_pair

@@ -1,5 +1,5 @@
 -- The assignments that satisfy the clauses of a study are the bits of the rules that satisfy its axioms.
-use Rattle.std.proofs.Common.{◌&&◌, ◌+◌, ◌<◌, Bool, List, ap, ap₂, arith, eq-eqb, false, length, lt-ltb, ltb-true, not, refl, subst, suc, sym, true, zero, ℕ, ◌↔◌, ◌∙◌, ◌∷◌, ◌≡◌, ◌≢◌, ◌≤◌, ◌||◌, []}
+use Rattle.std.proofs.Common.{◌&&◌, ◌+◌, ◌<◌, Bool, List, ap, ap₂, arith, eq-eqb, false, length, lt-ltb, ltb-true, not, refl, subst, suc, sym, true, zero, ℕ, ◌↔◌, ◌∙◌, ◌∷◌, ◌≡◌, ◌≤◌, ◌||◌, []}
 use Rattle.std.proofs.lemmas.Bool.{and_from, and_parts}
 use Rattle.std.proofs.lemmas.List.Folds.{list_all-map}
 use Rattle.std.proofs.lemmas.List.Recursion.{and_from_places}
@@ -9,7 +9,7 @@ use Rattle.std.specs.Prelude.{◌==◌, IsTrue, nat_le, nat_lt, slice_get, slice
 use Rattle.vocab.specs.Formula.{quantifier_depth}
 use Rattle.vocab.specs.Limits.{instance_count}
 use Rattle.vocab.specs.Literal.{profile_of}
-use Rattle.vocab.specs.Size.{Extent, outcome_count, sort_count}
+use Rattle.vocab.specs.Size.{HasOutcomes, Extent, outcome_count, sort_count}
 use Rattle.vocab.specs.Sorted.{is_sorted}
 use Rattle.vocab.specs.Study.{is_sentence}
 use Rattle.vocab.specs.Titled.{Titled}
@@ -92,7 +92,7 @@ evaluate-same v u (And a b) h = ap₂ (λ x y. x && y) (evaluate-same v u a h.0)
 evaluate-same v u (Or a b) h = ap₂ (λ x y. x || y) (evaluate-same v u a h.0) (evaluate-same v u b h.1)
 evaluate-same v u (Iff a b) h = ap₂ beq (evaluate-same v u a h.0) (evaluate-same v u b h.1)
 
-module _ (size : Extent) (known_kind : size.kind ≢ Sets) (v : ℕ → Bool) where
+module _ (size : Extent) (known_kind : HasOutcomes size.kind) (v : ℕ → Bool) where
   -- ---- one axiom
 
   instances-same : (table : List ℕ) → HasValues size table v → (sentence : Tree) → is_sorted size [] sentence ≡ true → list_all (λ k. evaluate (literal_under size v) (instance_of size sentence k)) (below (instance_count size sentence)) ≡ is_true_at size table sentence []
@@ -156,7 +156,7 @@ module _ (size : Extent) (known_kind : size.kind ≢ Sets) (v : ℕ → Bool) wh
         satisfy_study size known_kind axioms h chosen v ∙ and_from _ _ (frames_from r.0 e.0 r.2) (axioms-same r.0 r.2 axioms h chosen in_range ∙ e.1),
   )
 
-pub are_rules : (size : Extent) → size.kind ≢ Sets → (axioms : List Titled) → list_all (is_sentence size) axioms ≡ true →
+pub are_rules : (size : Extent) → HasOutcomes size.kind → (axioms : List Titled) → list_all (is_sentence size) axioms ≡ true →
     (chosen : List ℕ) → list_all (λ k. nat_lt k (length axioms)) chosen ≡ true → (v : ℕ → Bool) →
     IsTrue (is_satisfied v (clauses_for size axioms chosen)) ↔ ((table : List ℕ) × IsTrue (satisfies size axioms chosen table) × AreBitsOf size table v)
 are_rules size n axioms h chosen in_range v =
@@ -167,7 +167,7 @@ are_rules size n axioms h chosen in_range v =
           ways.1 (r.0, r.1, values_from_bits size r.0 rule n v r.2),
     )
 
-pub are_satisfiable : (size : Extent) → size.kind ≢ Sets → (axioms : List Titled) → list_all (is_sentence size) axioms ≡ true →
+pub are_satisfiable : (size : Extent) → HasOutcomes size.kind → (axioms : List Titled) → list_all (is_sentence size) axioms ≡ true →
     (chosen : List ℕ) → list_all (λ k. nat_lt k (length axioms)) chosen ≡ true →
     ((v : ℕ → Bool) × IsTrue (is_satisfied v (clauses_for size axioms chosen))) ↔ ((table : List ℕ) × IsTrue (satisfies size axioms chosen table))
 are_satisfiable size n axioms h chosen in_range = (

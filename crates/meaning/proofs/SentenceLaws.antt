@@ -4,11 +4,10 @@ use Rattle.std.specs.List.{list_all}
 use Rattle.std.specs.Cmp.Lexicographic.{pointwise}
 use Rattle.std.specs.Prelude.{nat_lt, nat_le, slice_get}
 use Rattle.std.proofs.lemmas.Bool.{and_parts, and_from}
-use Rattle.vocab.specs.declared.kinds.Kind.TheVariants.{Sets}
 use Rattle.vocab.specs.declared.kinds.Sort.{Sort}
 use Rattle.vocab.specs.Formula.{prefix_of, body_of, quantifier_depth}
 use Rattle.vocab.specs.Limits.{bases_of, instance_count}
-use Rattle.vocab.specs.Size.{Extent, sort_count}
+use Rattle.vocab.specs.Size.{HasOutcomes, Extent, sort_count}
 use Rattle.vocab.specs.Sorted.{is_sorted, are_of_sorts}
 use Rattle.vocab.specs.Study.{is_sentence}
 use Rattle.vocab.specs.Titled.{Titled}
@@ -47,7 +46,7 @@ module _ (size : Extent) where
   sorted_at (a ∷ axioms) (suc k) h = sorted_at axioms k (and_parts (is_sentence size a) (list_all (is_sentence size) axioms) h).1
 
   -- the literals of an instance are literals of the size
-  pub instance_literals : size.kind ≢ Sets → (sentence : Tree) → is_sorted size [] sentence ≡ true → (k : ℕ) → k < instance_count size sentence → AllFacts (λ l. is_literal size l ≡ true) (instance_of size sentence k)
+  pub instance_literals : HasOutcomes size.kind → (sentence : Tree) → is_sorted size [] sentence ≡ true → (k : ℕ) → k < instance_count size sentence → AllFacts (λ l. is_literal size l ≡ true) (instance_of size sentence k)
   instance_literals n sentence h k lt =
       let values = digits_of (bases_of size sentence) k in
       let suited = suited_from (prefix_of sentence) values ((are_numbered (bases_of size sentence)).digits k lt) in

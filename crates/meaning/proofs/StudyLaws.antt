@@ -7,13 +7,12 @@ use Rattle.std.specs.List.{flat_map, list_all, list_any}
 use Rattle.std.specs.Prelude.{nat_lt, slice_get}
 use Rattle.vocab.specs.Limits.{instance_count}
 use Rattle.vocab.specs.Literal.{opposite_of}
-use Rattle.vocab.specs.Size.{Extent, sort_count}
+use Rattle.vocab.specs.Size.{HasOutcomes, Extent, sort_count}
 use Rattle.vocab.specs.Sorted.{is_sorted}
 use Rattle.vocab.specs.Study.{is_sentence}
 use Rattle.vocab.specs.Titled.{Titled}
 use Rattle.vocab.specs.Tree.{Tree}
 use Rattle.vocab.specs.declared.kinds.Kind.{Kind}
-use Rattle.vocab.specs.declared.kinds.Kind.TheVariants.{Sets}
 use Rattle.vocab.specs.declared.kinds.Sort.TheVariants.{Profile}
 use Rattle.vocab.specs.declared.literals.Literal.{Literal}
 use Rattle.cnf.proofs.LitLaws.{same_lit-equal}
@@ -119,7 +118,7 @@ module _ (size : Extent) (v : ℕ → Bool) where
   proper : (w : Written) → AllFacts (λ l. is_literal size l ≡ true) w → IsProper (literal_under size v) w
   proper w h = AllFacts-map _ _ w (literal_under-opposite size.kind) h
 
-  module _ (known_kind : size.kind ≢ Sets) where
+  module _ (known_kind : HasOutcomes size.kind) where
     true-instance : (sentence : Tree) → is_sorted size [] sentence ≡ true → (k : ℕ) → k < instance_count size sentence → is_satisfied v (clauses_of size (plus (instance_of size sentence k))) ≡ evaluate (literal_under size v) (instance_of size sentence k)
     true-instance sentence h k lt =
         let facts = instance_literals size known_kind sentence h k lt in
@@ -149,6 +148,6 @@ module _ (size : Extent) (v : ℕ → Bool) where
         (list_all-flat_map (λ (s : Sourced). is_clause_true v s.clause) (λ a. from_axiom size a (slice_get axioms a)) chosen
         ∙ list_all-ext _ _ chosen (λ a. true-axiom a (slice_get axioms a) (sorted_at size axioms a h)))
 
-pub satisfy_study : (size : Extent) → size.kind ≢ Sets → (axioms : List Titled) → list_all (is_sentence size) axioms ≡ true → (chosen : List ℕ) (v : ℕ → Bool) →
+pub satisfy_study : (size : Extent) → HasOutcomes size.kind → (axioms : List Titled) → list_all (is_sentence size) axioms ≡ true → (chosen : List ℕ) (v : ℕ → Bool) →
     is_satisfied v (clauses_for size axioms chosen) ≡ (is_frame_true size v && list_all (λ k. are_instances_true size v (slice_get axioms k)) chosen)
 satisfy_study size known_kind axioms h chosen v = true-study size v known_kind axioms h chosen

@@ -6,7 +6,7 @@ use Rattle.std.proofs.lemmas.Nat.{div-mul-add, div_below, mod-mul-add, mod_below
 use Rattle.std.specs.List.{list_all}
 use Rattle.std.specs.Prelude.{nat_lt}
 use Rattle.vocab.specs.Literal.{has, opposite_of, profile_of, same_literal}
-use Rattle.vocab.specs.Size.{Extent, sort_count}
+use Rattle.vocab.specs.Size.{HasOutcomes, Extent, sort_count}
 use Rattle.vocab.specs.declared.kinds.Kind.{Kind}
 use Rattle.vocab.specs.declared.kinds.Kind.TheVariants.{Choice, Ranking, Sets}
 use Rattle.vocab.specs.declared.kinds.Sort.TheVariants.{Profile}
@@ -139,7 +139,7 @@ module _ (size : Extent) where
 
   -- ---- from variables to literals
 
-  literal_right : (k : Kind) → k ≢ Sets → (v : ℕ) (sign : Bool) → v < sort_count size Profile * bits k size.alternatives → is_literal_of size k (literal_at size k v sign) ≡ true
+  literal_right : (k : Kind) → HasOutcomes k → (v : ℕ) (sign : Bool) → v < sort_count size Profile * bits k size.alternatives → is_literal_of size k (literal_at size k v sign) ≡ true
   literal_right Choice n v sign lt =
       let m = size.alternatives in
       let positive : 0 < m = positive_right _ m v lt in
@@ -161,7 +161,7 @@ module _ (size : Extent) where
       ]
   literal_right Sets n v sign lt = absurd (n refl)
 
-  lit_of_literal : (k : Kind) → k ≢ Sets → (v : ℕ) (sign : Bool) → v < sort_count size Profile * bits k size.alternatives → lit_of size (literal_at size k v sign) ≡ record { variable = v + 1; positive = sign }
+  lit_of_literal : (k : Kind) → HasOutcomes k → (v : ℕ) (sign : Bool) → v < sort_count size Profile * bits k size.alternatives → lit_of size (literal_at size k v sign) ≡ record { variable = v + 1; positive = sign }
   lit_of_literal Choice n v sign lt =
       let m = size.alternatives in
       let e : v / m * m + v % m + 1 ≡ v + 1 = ap (λ (x : ℕ). x + 1) (div-add-mod' v m) in
@@ -217,7 +217,7 @@ module _ (size : Extent) where
   profile_at Sets p v sign low high =
       let e = quotient p size.alternatives v low high in elim sign as (λ s. profile_of (literal_at size Sets v s) ≡ p) [ true ↦ e | false ↦ e ]
 
-pub are_variables : (size : Extent) → size.kind ≢ Sets → AreVariables size
+pub are_variables : (size : Extent) → HasOutcomes size.kind → AreVariables size
 are_variables size n = record {
   in_range = lit-in size size.kind;
   literal = λ s low high. literal_right size size.kind n (s.variable - 1) s.positive (omega (arith, low, high));

@@ -1,12 +1,11 @@
 -- Bits of outcomes and the literals that hold of them, and frames as clauses.
-use Rattle.std.proofs.Common.{◌≡◌, ◌≢◌, refl, sym, ap, subst, ◌∙◌, ℕ, ◌+◌, ◌*◌, ◌-◌, ◌<◌, ◌≤◌, Bool, true, false, not, arith, mul-le-mul_right}
+use Rattle.std.proofs.Common.{◌≡◌, refl, sym, ap, subst, ◌∙◌, ℕ, ◌+◌, ◌*◌, ◌-◌, ◌<◌, ◌≤◌, Bool, true, false, not, arith, mul-le-mul_right}
 use Rattle.std.specs.Bool.{beq}
 use Rattle.std.specs.List.{list_all, list_any}
-use Rattle.vocab.specs.declared.kinds.Kind.TheVariants.{Sets}
 use Rattle.vocab.specs.declared.kinds.Sort.TheVariants.{Profile}
 use Rattle.vocab.specs.declared.literals.Literal.{Literal}
 use Rattle.vocab.specs.Literal.{opposite_of}
-use Rattle.vocab.specs.Size.{Extent, sort_count, outcome_count}
+use Rattle.vocab.specs.Size.{HasOutcomes, Extent, sort_count, outcome_count}
 use Rattle.cnf.specs.Sat.{is_lit_true, is_satisfied}
 use Rattle.cnf.specs.Signed.{Signed}
 use Rattle.meaning.specs.Laws.{AreOf, literal_under}
@@ -32,7 +31,7 @@ not_not false = refl
 pub variable_in : (p count n i : ℕ) → p < count → i ≤ (p + 1) * n → i ≤ count * n
 variable_in p count n i in_p high = let next : p + 1 ≤ count = omega (arith, in_p) in omega (arith, high, mul-le-mul_right n next)
 
-module _ (size : Extent) (known_kind : size.kind ≢ Sets) (p : ℕ) (in_p : p < sort_count size Profile) (v : ℕ → Bool) where
+module _ (size : Extent) (known_kind : HasOutcomes size.kind) (p : ℕ) (in_p : p < sort_count size Profile) (v : ℕ → Bool) where
   module _ (o : ℕ) (in_o : o < outcome_count size.kind size.alternatives) where
     -- the bit of a literal's variable, by its sign
     bit_is : (l : Literal) → is_literal size l ≡ true → (k : ℕ) (sign : Bool) → literal_at size size.kind k sign ≡ l → beq (holds_of size o (literal_at size size.kind k true)) sign ≡ holds_of size o l
@@ -67,7 +66,7 @@ module _ (size : Extent) (known_kind : size.kind ≢ Sets) (p : ℕ) (in_p : p <
   frame_satisfied : is_satisfied v (frame_clauses size p) ≡ list_all (list_any (literal_under size v)) (frame_of size size.kind p)
   frame_satisfied = true-clauses_of size v (frame_of size size.kind p)
 
-pub says_one_outcome : (size : Extent) → size.kind ≢ Sets → FramesSayOneOutcome size
+pub says_one_outcome : (size : Extent) → HasOutcomes size.kind → FramesSayOneOutcome size
 says_one_outcome size known_kind p in_p = record {
   each = λ v o in_o same.
       frame_satisfied size known_kind p in_p v
@@ -80,5 +79,5 @@ says_one_outcome size known_kind p in_p = record {
       (is_frame size known_kind p in_p).one (literal_under size v) o q in_o in_q (from_bits size known_kind p in_p v o in_o same_o) (from_bits size known_kind p in_p v q in_q same_q);
 }
 
-pub say_literals : (size : Extent) → size.kind ≢ Sets → BitsSayLiterals size
+pub say_literals : (size : Extent) → HasOutcomes size.kind → BitsSayLiterals size
 say_literals size known_kind p o in_p in_o v same l in_l here = from_bits size known_kind p in_p v o in_o same l in_l here

@@ -1,12 +1,12 @@
 -- Texts of outcomes.
-use Rattle.std.proofs.Common.{◌≡◌, ◌≢◌, refl, ap, ℕ, ◌<◌, ◌≤◌, Bool, true, List, [], map, length, arith, le-leb}
+use Rattle.std.proofs.Common.{◌≡◌, refl, ap, ℕ, ◌<◌, ◌≤◌, Bool, true, List, [], map, length, arith, le-leb}
 use Rattle.std.specs.Prelude.{slice_index}
 use Rattle.std.specs.List.{list_all}
 use Rattle.std.proofs.lemmas.Bool.{and_from}
 use Rattle.vocab.specs.declared.kinds.Kind.{Kind}
 use Rattle.vocab.specs.declared.kinds.Kind.TheVariants.{Choice, Ranking, Sets}
 use Rattle.vocab.specs.Name.{is_lower}
-use Rattle.vocab.specs.Size.{Extent, IsSize, factorial, outcome_count}
+use Rattle.vocab.specs.Size.{HasOutcomes, Extent, IsSize, factorial, outcome_count}
 use Rattle.meaning.specs.Space.{rankings, ranking}
 use Rattle.meaning.specs.Texts.{letter, outcome_text_of}
 use Rattle.meaning.proofs.SpaceLaws.{all_at, length-rankings}
@@ -26,7 +26,7 @@ module _ (size : Extent) (is_size : IsSize size) where
   abbrev IsText : List ℕ → Type 0
   IsText text = (1 ≤ length text) × (length text ≤ 5) × (list_all is_lower text ≡ true)
 
-  text_of : (k : Kind) → k ≢ Sets → (o : ℕ) → o < outcome_count k size.alternatives → IsText (outcome_text_of size k o)
+  text_of : (k : Kind) → HasOutcomes k → (o : ℕ) → o < outcome_count k size.alternatives → IsText (outcome_text_of size k o)
   text_of Choice n o in_o =
       let few = is_size.few_alternatives in
       (omega arith, omega arith, and_from _ _ (and_from _ _ (le-leb 97 (letter o) (omega arith)) (le-leb (letter o) 122 (omega (arith, few, in_o)))) refl)
@@ -37,15 +37,15 @@ module _ (size : Extent) (is_size : IsSize size) where
       (omega (arith, some, long), omega (arith, few, long), rankings_have_letters size.alternatives o few in_o)
   text_of Sets n o in_o = absurd (n refl)
 
-  other_text : (k : Kind) → k ≢ Sets → (o q : ℕ) → o < outcome_count k size.alternatives → q < outcome_count k size.alternatives → outcome_text_of size k o ≡ outcome_text_of size k q → o ≡ q
+  other_text : (k : Kind) → HasOutcomes k → (o q : ℕ) → o < outcome_count k size.alternatives → q < outcome_count k size.alternatives → outcome_text_of size k o ≡ outcome_text_of size k q → o ≡ q
   other_text Choice n o q in_o in_q e = let f : letter o ≡ letter q = ap (λ t. slice_index t 0) e in omega (arith, f)
   other_text Ranking n o q in_o in_q e = (have_texts_of_their_own size is_size).rankings o q in_o in_q e
   other_text Sets n o q in_o in_q e = absurd (n refl)
 
 pub have_texts_of_letters : (size : Extent) → IsSizeWithLiterals size → HaveTextsOfLetters size
 have_texts_of_letters size h = record {
-  some_letter = λ o in_o. (text_of size h.is_size size.kind h.not_sets o in_o).0;
-  few_letters = λ o in_o. (text_of size h.is_size size.kind h.not_sets o in_o).1;
-  letters = λ o in_o. (text_of size h.is_size size.kind h.not_sets o in_o).2;
-  distinct = other_text size h.is_size size.kind h.not_sets;
+  some_letter = λ o in_o. (text_of size h.is_size size.kind h.has_outcomes o in_o).0;
+  few_letters = λ o in_o. (text_of size h.is_size size.kind h.has_outcomes o in_o).1;
+  letters = λ o in_o. (text_of size h.is_size size.kind h.has_outcomes o in_o).2;
+  distinct = other_text size h.is_size size.kind h.has_outcomes;
 }

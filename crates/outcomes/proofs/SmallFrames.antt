@@ -1,12 +1,12 @@
 -- Frames are small, and have the variables of their profile alone.
-use Rattle.std.proofs.Common.{◌≡◌, ◌≢◌, refl, sym, subst, ◌∙◌, ℕ, zero, suc, ◌+◌, ◌*◌, ◌<◌, ◌≤◌, Bool, true, false, ◌&&◌, List, length, arith, lit≤, le-leb}
+use Rattle.std.proofs.Common.{◌≡◌, refl, sym, subst, ◌∙◌, ℕ, zero, suc, ◌+◌, ◌*◌, ◌<◌, ◌≤◌, Bool, true, false, ◌&&◌, List, length, arith, lit≤, le-leb}
 use Rattle.std.specs.Prelude.{nat_le, sum_by}
 use Rattle.std.specs.List.{list_all}
 use Rattle.std.proofs.lemmas.Bool.{and_from}
 use Rattle.std.proofs.lemmas.List.Folds.{list_all-map}
 use Rattle.vocab.specs.declared.kinds.Kind.{Kind}
 use Rattle.vocab.specs.declared.kinds.Kind.TheVariants.{Choice, Ranking, Sets}
-use Rattle.vocab.specs.Size.{Extent}
+use Rattle.vocab.specs.Size.{HasOutcomes, Extent}
 use Rattle.cnf.specs.Sat.{Clause}
 use Rattle.cnf.specs.Signed.{Signed}
 use Rattle.meaning.specs.Space.{below}
@@ -85,7 +85,7 @@ module _ (size : Extent) where
   IsSmallFrame k p =
       IsSmall (clauses_of size (frame_of size k p)) × (list_all (list_all (is_at p (bits k size.alternatives))) (clauses_of size (frame_of size k p)) ≡ true)
 
-  small_frame : (k : Kind) → k ≢ Sets → size.alternatives ≤ 5 → (p : ℕ) → IsSmallFrame k p
+  small_frame : (k : Kind) → HasOutcomes k → size.alternatives ≤ 5 → (p : ℕ) → IsSmallFrame k p
   small_frame Choice n few p =
       let m = size.alternatives in
       let Small : List Clause → Type 0 = λ rows. IsSmall rows × (list_all (list_all (is_at p m)) rows ≡ true) in
@@ -106,7 +106,7 @@ frames_small size h =
     let few = h.is_size.few_alternatives in
     record {
       few_bits = few_bits size.kind size.alternatives few;
-      own_variables = λ p. (small_frame size size.kind h.not_sets few p).1;
-      few_clauses = λ p. (small_frame size size.kind h.not_sets few p).0.0;
-      few_literals = λ p. (small_frame size size.kind h.not_sets few p).0.1;
+      own_variables = λ p. (small_frame size size.kind h.has_outcomes few p).1;
+      few_clauses = λ p. (small_frame size size.kind h.has_outcomes few p).0.0;
+      few_literals = λ p. (small_frame size size.kind h.has_outcomes few p).0.1;
     }

@@ -1,12 +1,11 @@
 -- What holds of every kind of outcomes: the statements of the laws.
-use Rattle.std.specs.Prelude.{◌≡◌, ◌≢◌, ℕ, ◌<◌, ◌≤◌, Bool, length, sum_by, IsTrue}
+use Rattle.std.specs.Prelude.{◌≡◌, ℕ, ◌<◌, ◌≤◌, Bool, length, sum_by, IsTrue}
 use Rattle.std.specs.List.{list_all}
-use Rattle.vocab.specs.declared.kinds.Kind.TheVariants.{Sets}
 use Rattle.vocab.specs.declared.kinds.Sort.TheVariants.{Profile}
 use Rattle.vocab.specs.declared.literals.Literal.{Literal}
 use Rattle.vocab.specs.Literal.{profile_of}
 use Rattle.vocab.specs.Name.{is_lower}
-use Rattle.vocab.specs.Size.{Extent, IsSize, sort_count, outcome_count}
+use Rattle.vocab.specs.Size.{HasOutcomes, Extent, IsSize, sort_count, outcome_count}
 use Rattle.cnf.specs.Sat.{is_lit_true, is_satisfied}
 use Rattle.meaning.specs.Literals.{is_literal}
 use Rattle.meaning.specs.Texts.{outcome_text}
@@ -18,7 +17,7 @@ use Rattle.outcomes.specs.OutcomeBits.{AreBitsAt, is_lit_at}
 -- the size is one that the bench takes, of a kind that has literals
 pub record IsSizeWithLiterals (size : Extent) : Type 0 where
   pub is_size : IsSize size
-  pub not_sets : size.kind ≢ Sets
+  pub has_outcomes : HasOutcomes size.kind
 
 -- the clauses of a profile's frame say that its bits are those of exactly one outcome
 pub record SaysOneOutcome (size : Extent) (p : ℕ) : Type 0 where

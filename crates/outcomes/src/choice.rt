@@ -96,7 +96,7 @@ impl OutcomeKind for ChoiceKind {
         }
     }
 
-    ghost not_sets = { λ k e. let same : k.space.kind ≡ Choice = k.chooses in Prim.cc };
+    ghost has_outcomes = { λ k e. let same : k.space.kind ≡ Choice = k.chooses in Prim.cc };
 
     ghost is_size = { λ k. k.whole };
 }

@@ -1,9 +1,8 @@
 //! Kinds of outcomes.
 
 ghost use Rattle.std.specs.Prelude.{◌≡◌, ◌≢◌, ℕ, ◌+◌, ◌*◌, ◌<◌, ◌≤◌, length, Err, OnOk, IsTrue, IfSome, IfNone};
-ghost use Rattle.vocab.specs.declared.kinds.Kind.TheVariants.{Sets};
 ghost use Rattle.vocab.specs.declared.kinds.Sort.TheVariants.{Profile};
-ghost use Rattle.vocab.specs.Size.{Extent, IsSize, sort_count, outcome_count};
+ghost use Rattle.vocab.specs.Size.{HasOutcomes, Extent, IsSize, sort_count, outcome_count};
 ghost use Rattle.cnf.specs.Assignment.{value_of};
 ghost use Rattle.cnf.specs.Sat.{is_satisfied};
 ghost use Rattle.meaning.specs.Literals.{is_literal};
@@ -56,12 +55,13 @@ pub trait OutcomeKind: Sync {
         requires high { lit.variable ≤ variable_count (size self.now) }
         ensures { result ≡ literal_of (size self.now) lit };
 
-    /// Appends the clauses of the frame of profile p, with p as their origin. Refused where one of them is; the list
-    /// may then have some of them.
+    /// Appends the clauses of the frame of profile p, with p as their origin. Refused as full exactly where with all of
+    /// them the list would pass a limit; after a refusal the list may have some of them.
     fn frame(&self, p: u32, out: &mut Clauses) -> Result<(), PushFault>
         requires { p < sort_count (size self.now) Profile }
         ensures ok { OnOk result (out.new ≡ with_clauses out.old (frame_clauses (size self.now) p) p) }
-        ensures full { result ≡ Err PushFault.Full → IsFullForAll out.old (frame_clauses (size self.now) p) };
+        ensures full { result ≡ Err PushFault.Full → IsFullForAll out.old (frame_clauses (size self.now) p) }
+        ensures fits { OnOk result (¬ IsFullForAll out.old (frame_clauses (size self.now) p)) };
 
     /// The text of an outcome.
     fn text(&self, outcome: u32) -> Name
@@ -74,7 +74,7 @@ pub trait OutcomeKind: Sync {
         ensures none { IfNone result ((o : ℕ) → o < outcome_count (size self.now).kind (size self.now).alternatives → text.now ≢ outcome_text (size self.now) o) };
 
     /// The kind has literals.
-    ghost not_sets: { (k : Self) → (size k).kind ≢ Sets };
+    ghost has_outcomes: { (k : Self) → HasOutcomes (size k).kind };
 
     /// The size is one that the bench takes.
     ghost is_size: { (k : Self) → IsSize (size k) };

@@ -94,7 +94,7 @@ impl OutcomeKind for RankingKind {
         place_of(self.space.size().alternatives(), text)
     }
 
-    ghost not_sets = { λ k e. let same : k.space.kind ≡ Ranking = k.ranks in Prim.cc };
+    ghost has_outcomes = { λ k e. let same : k.space.kind ≡ Ranking = k.ranks in Prim.cc };
 
     ghost is_size = { λ k. k.whole };
 }

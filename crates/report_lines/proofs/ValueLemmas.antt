@@ -3,7 +3,7 @@ use Rattle.std.proofs.Common.{length, get_or, ◌⊎◌, inl, inr, ◌≡◌, �
 use Rattle.vocab.specs.declared.kinds.Kind.{Kind}
 use Rattle.vocab.specs.declared.kinds.Kind.TheVariants.{Choice, Ranking, Sets}
 use Rattle.vocab.specs.declared.kinds.Sort.TheVariants.{Voter, Alt, Ballot, Profile}
-use Rattle.vocab.specs.Size.{Extent, IsSize, ballot_count, sort_count, outcome_count}
+use Rattle.vocab.specs.Size.{HasOutcomes, Extent, IsSize, ballot_count, sort_count, outcome_count}
 use Rattle.meaning.specs.Space.{below}
 use Rattle.meaning.specs.Texts.{letter, ballot_text, profile_text, outcome_text}
 use Rattle.profiles.proofs.TableLemmas.{factorial_small}
@@ -48,7 +48,7 @@ module _ (size : Extent) (is : IsSize size) (text : List ℕ) where
   ballot_is (Some b) h k = found (ballot_text size) (ballot_count size) b text (ballots_same size is) h.0 h.1
   ballot_is None h k = missing (ballot_text size) (ballot_count size) text k
 
-  pub outcome_found : size.kind ≢ Sets → (o : ℕ) → (o < outcome_count size.kind size.alternatives) × (text ≡ outcome_text size o) → Some o ≡ read_outcome size text
+  pub outcome_found : HasOutcomes size.kind → (o : ℕ) → (o < outcome_count size.kind size.alternatives) × (text ≡ outcome_text size o) → Some o ≡ read_outcome size text
   outcome_found n o h = found (outcome_text size) (outcome_count size.kind size.alternatives) o text (outcomes_same size is n) h.0 h.1
 
   pub outcome_missing : ((o : ℕ) → o < outcome_count size.kind size.alternatives → text ≢ outcome_text size o) → None ≡ read_outcome size text

@@ -9,6 +9,7 @@ use Rattle.vocab.specs.NamedTree as tree
 use Rattle.vocab.specs.NamedTree.{NamedTermTree, NamedTermTrees, NamedTree}
 use Rattle.vocab.specs.Size.{Extent, sort_count}
 use Rattle.meaning.specs.Space.{below, ranking, is_above, prefers, better, casts, majority, exchanged, with_ballot, with_voters_swapped, with_alts_swapped}
+use Rattle.meaning.specs.Truth.{wins_in}
 use Rattle.sorts.specs.declared.symbols.Function.{Function}
 use Rattle.sorts.specs.declared.symbols.Function.TheVariants.{With, SwapVoters, SwapAlts, Swap}
 use Rattle.sorts.specs.declared.symbols.Predicate.{Predicate}
@@ -39,7 +40,7 @@ module _ (size : Extent) where
   is_said_truly table (Some Better) (b ∷ x ∷ y ∷ []) = better size b x y
   is_said_truly table (Some Casts) (i ∷ b ∷ p ∷ []) = casts size i b p
   is_said_truly table (Some Majority) (x ∷ y ∷ p ∷ []) = majority size x y p
-  is_said_truly table (Some Wins) (x ∷ p ∷ []) = slice_index table p == x
+  is_said_truly table (Some Wins) (x ∷ p ∷ []) = wins_in size.kind (slice_index table p) x
   is_said_truly table (Some Ranks) (x ∷ y ∷ p ∷ []) = is_above (ranking size.alternatives (slice_index table p)) x y
   is_said_truly table _ _ = false
 

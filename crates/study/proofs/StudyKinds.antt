@@ -1,12 +1,12 @@
 -- The kind of a study that bytes give.
-use Rattle.std.proofs.Common.{◌≡◌, ◌≢◌, refl, sym, ◌∙◌, ap, subst, ℕ, List, [], Bool, true, false, Option, None, Some, Result, Ok, Err, codes}
+use Rattle.std.proofs.Common.{◌≡◌, refl, sym, ◌∙◌, ap, subst, ℕ, List, [], Bool, true, false, Option, None, Some, Result, Ok, Err, codes}
 use Rattle.std.specs.Prelude.{if◌then◌else◌, ℤ, nat_abs, nat_le}
 use Rattle.std.specs.Option.{ok_or}
 use Rattle.std.specs.Str.{bytes_eq}
 use Rattle.toml.specs.Data.{Data, string, Members, get_member}
 use Rattle.vocab.specs.declared.kinds.Kind.{Kind}
-use Rattle.vocab.specs.declared.kinds.Kind.TheVariants.{Choice, Ranking, Sets}
-use Rattle.vocab.specs.Size.{Extent, all_ballots, sort_count}
+use Rattle.vocab.specs.declared.kinds.Kind.TheVariants.{Choice, Ranking}
+use Rattle.vocab.specs.Size.{HasOutcomes, Extent, all_ballots, sort_count}
 use Rattle.vocab.specs.declared.kinds.Sort.TheVariants.{Profile}
 use Rattle.vocab.specs.SizeFault.{extent_of, has_domain, is_between, size_of}
 use Rattle.vocab.specs.Study.{Question}
@@ -29,33 +29,33 @@ some_value None e x h = absurd (cc)
 some_value (Some y) e x h = let same : y ≡ x = cc in ap Some same
 
 -- a word for a kind is one of two
-two_kinds : (choice ranking : Bool) (k : Kind) → (if choice then Some Choice else if ranking then Some Ranking else None) ≡ Some k → k ≢ Sets
+two_kinds : (choice ranking : Bool) (k : Kind) → (if choice then Some Choice else if ranking then Some Ranking else None) ≡ Some k → HasOutcomes k
 two_kinds true r k h = λ sets. cc
 two_kinds false true k h = λ sets. cc
 two_kinds false false k h = absurd (cc)
 
-kind_named : (o : Option Data) (k : Kind) → kind_of o ≡ Some k → k ≢ Sets
+kind_named : (o : Option Data) (k : Kind) → kind_of o ≡ Some k → HasOutcomes k
 kind_named (Some (string text)) k h = two_kinds (bytes_eq text (codes "choice")) (bytes_eq text (codes "ranking")) k h
 kind_named None k h = absurd (cc)
 kind_named _ k h = absurd (cc)
 
-head_kind : (document : Members) (h : Head) → head_of document ≡ Ok h → h.kind ≢ Sets
+head_kind : (document : Members) (h : Head) → head_of document ≡ Ok h → HasOutcomes h.kind
 unfolding head_of
 head_kind document h e =
     let kind = came_from _ (ok_or (kind_of (get_member (codes "kind") document)) (codes "kind")) h e in
     let voters = came_from _ (ok_or (integer_of (get_member (codes "voters") document)) (codes "voters")) h kind.after in
     let alternatives = came_from _ (ok_or (integer_of (get_member (codes "alternatives") document)) (codes "alternatives")) h voters.after in
     let conflicts = came_from _ (ok_or (conflicts_of (get_member (codes "conflicts") document)) (codes "conflicts")) h alternatives.after in
-    subst (λ (x : Head). x.kind ≢ Sets) (ok_once conflicts.after) (kind_named (get_member (codes "kind") document) kind.value (some_value _ _ kind.value kind.first))
+    subst (λ (x : Head). HasOutcomes x.kind) (ok_once conflicts.after) (kind_named (get_member (codes "kind") document) kind.value (some_value _ _ kind.value kind.first))
 
-draft_kind : (document : Members) (d : Draft) → draft_of document ≡ Ok d → d.head.kind ≢ Sets
+draft_kind : (document : Members) (d : Draft) → draft_of document ≡ Ok d → HasOutcomes d.head.kind
 unfolding draft_of
 draft_kind document d e =
     let head = came_from _ (head_of document) d e in
     let axioms = came_from _ (ok_or (axioms_of (get_member (codes "axioms") document)) (codes "axioms")) d head.after in
     let sentences = came_from _ (sentences_of (get_member (codes "sentences") document)) d axioms.after in
     let others = came_from _ (known_keys document) d sentences.after in
-    subst (λ (x : Draft). x.head.kind ≢ Sets) (ok_once others.after) (head_kind document head.value head.first)
+    subst (λ (x : Draft). HasOutcomes x.head.kind) (ok_once others.after) (head_kind document head.value head.first)
 
 -- a step that was refused in other words came through before
 pub known : {A E F : Type 0} (f : E → F) (r : Result A E) (x : A) → refused_as f r ≡ Ok x → r ≡ Ok x
@@ -96,11 +96,11 @@ pub answer_size : (listing : Listing) (q : Question) → IsAnswer listing (Ok q)
 answer_size listing q (refused name reason unread e) = absurd (cc)
 answer_size listing q (read sentences all e) = study_size listing.size listing.conflicts sentences q (sym e)
 
-document_kind : (document : Option Members) (q : Question) → IsAnswered (listing_in document) (Ok q) → q.size.kind ≢ Sets
+document_kind : (document : Option Members) (q : Question) → IsAnswered (listing_in document) (Ok q) → HasOutcomes q.size.kind
 document_kind None q h = absurd (let e : Ok q ≡ Err fault.Toml = h in cc)
 document_kind (Some document) q h = cases (listing_in (Some document)) refl h
   where
-    cases : (r : Result Listing StudyFault) → listing_in (Some document) ≡ r → IsAnswered r (Ok q) → q.size.kind ≢ Sets
+    cases : (r : Result Listing StudyFault) → listing_in (Some document) ≡ r → IsAnswered r (Ok q) → HasOutcomes q.size.kind
     cases (Err e) is given = absurd (cc)
     cases (Ok listing) is given =
         let draft = came_from listing_of (refused_as fault.Key (draft_of document)) listing is in

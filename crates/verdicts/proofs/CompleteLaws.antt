@@ -14,7 +14,7 @@ use Rattle.vocab.specs.declared.kinds.Sort.TheVariants.{Profile}
 use Rattle.vocab.specs.declared.literals.Literal.{Literal}
 use Rattle.vocab.specs.Literal.{opposite_of}
 use Rattle.vocab.specs.Name.{is_name}
-use Rattle.vocab.specs.Size.{sort_count, outcome_count}
+use Rattle.vocab.specs.Size.{HasOutcomes, sort_count, outcome_count}
 use Rattle.vocab.specs.Study.{Question}
 use Rattle.vocab.specs.Titled.{Titled}
 use Rattle.meaning.specs.declared.stories.Reason.{Reason}
@@ -66,7 +66,7 @@ same_self Choice = refl
 same_self Ranking = refl
 same_self Sets = refl
 
-plain_kind : (k : Kind) → k ≢ Sets → is_plain (KindIs k) ≡ true
+plain_kind : (k : Kind) → HasOutcomes k → is_plain (KindIs k) ≡ true
 plain_kind Choice h = refl
 plain_kind Ranking h = refl
 plain_kind Sets h = absurd (h refl)

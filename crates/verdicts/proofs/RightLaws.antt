@@ -10,7 +10,7 @@ use Rattle.vocab.specs.declared.kinds.Kind.TheVariants.{Choice, Ranking, Sets}
 use Rattle.vocab.specs.declared.kinds.Sort.TheVariants.{Profile}
 use Rattle.vocab.specs.declared.literals.Literal.{Literal}
 use Rattle.vocab.specs.Literal.{opposite_of, profile_of}
-use Rattle.vocab.specs.Size.{sort_count, outcome_count}
+use Rattle.vocab.specs.Size.{HasOutcomes, sort_count, outcome_count}
 use Rattle.vocab.specs.Study.{Question}
 use Rattle.vocab.specs.Titled.{Titled}
 use Rattle.meaning.specs.declared.cores.Witness.{Witness}
@@ -55,7 +55,7 @@ module _ (study : Question) (is : IsReportable study) where
   abbrev pub is_sound_lemma : ℕ → Lemma → Bool
   is_sound_lemma n lemma = list_all (is_literal study.size) lemma.suppose && list_all (is_sound_step n) lemma.steps && is_sound_reason n lemma.last
 
-  some_outcome : (k : Kind) → k ≢ Sets → 0 < outcome_count k study.size.alternatives
+  some_outcome : (k : Kind) → HasOutcomes k → 0 < outcome_count k study.size.alternatives
   some_outcome Choice h = omega (arith, is.size.some_alternative)
   some_outcome Ranking h = factorial_pos study.size.alternatives
   some_outcome Sets h = absurd (h refl)

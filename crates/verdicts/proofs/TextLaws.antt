@@ -14,7 +14,7 @@ use Rattle.vocab.specs.declared.literals.Literal.TheVariants.{Wins, Loses, Above
 use Rattle.vocab.specs.Name.{is_digit, is_lower, is_name_byte, is_name}
 use Rattle.vocab.specs.Literal.{profile_of}
 use Rattle.std.proofs.lemmas.List.{get_or-map, length-replicate, length-map}
-use Rattle.vocab.specs.Size.{Extent, IsSize, ballot_count, ballot_places, cast_count, factorial, sort_count, outcome_count}
+use Rattle.vocab.specs.Size.{HasOutcomes, Extent, IsSize, ballot_count, ballot_places, cast_count, factorial, sort_count, outcome_count}
 use Rattle.vocab.specs.Study.{have_own_names}
 use Rattle.vocab.specs.Titled.{Titled}
 use Rattle.vocab.specs.Limits.{product}
@@ -207,7 +207,7 @@ module _ (size : Extent) (is : IsSize size) where
       some_cast : (k : ℕ) → 0 < length (map (cast_text size) (casts_of size k))
       some_cast k = omega (arith, length_digits (cast_bases size) k, length-map (casts_of size k) (cast_text size), length-replicate size.voters (cast_count size), is.some_voter)
 
-  outcomes_same_of : (k : Kind) (o u : ℕ) → k ≢ Sets → o < outcome_count k m → u < outcome_count k m → outcome_text_of size k o ≡ outcome_text_of size k u → o ≡ u
+  outcomes_same_of : (k : Kind) (o u : ℕ) → HasOutcomes k → o < outcome_count k m → u < outcome_count k m → outcome_text_of size k o ≡ outcome_text_of size k u → o ≡ u
   outcomes_same_of Choice o u n h k e = omega (arith, head_same (letter o) (letter u) [] [] e)
   outcomes_same_of Ranking o u n h k e = rankings_same o u h k e
   outcomes_same_of Sets o u n h k e = absurd (n refl)
@@ -217,7 +217,7 @@ module _ (size : Extent) (is : IsSize size) where
   outcome_word_of Ranking o = letters_word (ranking m o)
   outcome_word_of Sets o = refl
 
-  pub outcomes_same : size.kind ≢ Sets → (o u : ℕ) → o < outcome_count size.kind m → u < outcome_count size.kind m → outcome_text size o ≡ outcome_text size u → o ≡ u
+  pub outcomes_same : HasOutcomes size.kind → (o u : ℕ) → o < outcome_count size.kind m → u < outcome_count size.kind m → outcome_text size o ≡ outcome_text size u → o ≡ u
   outcomes_same n o u h k e = outcomes_same_of size.kind o u n h k e
 
   pub values_same : (s : Sort) (v w : ℕ) → v < sort_count size s → w < sort_count size s → value_text size s v ≡ value_text size s w → v ≡ w

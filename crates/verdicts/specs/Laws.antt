@@ -1,10 +1,9 @@
 -- What holds of reports: the statements of the laws. Each is proved as the contract of a function of the same name in src/laws.rt.
 use Rattle.std.specs.Prelude.{◌≡◌, ◌≢◌, ℕ, ◌<◌, ◌≤◌, ◌+◌, ◌^◌, ◌==◌, ◌↔◌, Bool, true, false, nat_lt, not, filter, List, [], ◌∷◌, ◌++◌, length, slice_get, Some, None, IsTrue}
 use Rattle.std.specs.List.{list_all, list_any}
-use Rattle.vocab.specs.declared.kinds.Kind.TheVariants.{Sets}
 use Rattle.vocab.specs.Limits.{instance_count}
 use Rattle.vocab.specs.Name.{is_name}
-use Rattle.vocab.specs.Size.{IsSize}
+use Rattle.vocab.specs.Size.{HasOutcomes, IsSize}
 use Rattle.vocab.specs.Study.{Question, IsStudy}
 use Rattle.vocab.specs.Titled.{Titled}
 use Rattle.meaning.specs.declared.cores.Witness.{Witness}
@@ -28,7 +27,7 @@ use Rattle.verdicts.specs.Judge.{Good, Refused, line_fault, judge, has_no_end, e
 pub record IsReportable (study : Question) : Type 0 where
   pub taken : IsStudy study
   pub size : IsSize study.size
-  pub kind : study.size.kind ≢ Sets
+  pub kind : HasOutcomes study.size.kind
   pub names : IsTrue (list_all (λ a. is_name a.name) study.axioms)
 
 -- ---- texts of verdicts

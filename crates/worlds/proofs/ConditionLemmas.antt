@@ -9,7 +9,7 @@ use Rattle.vocab.specs.declared.kinds.Sort.{Sort}
 use Rattle.vocab.specs.declared.kinds.Sort.TheVariants.{Voter, Alt, Ballot, Profile}
 use Rattle.vocab.specs.declared.literals.Literal.TheVariants.{Wins, Above}
 use Rattle.vocab.specs.Formula.{quantifier_depth}
-use Rattle.vocab.specs.Size.{has_all_ballots, Extent, sort_count}
+use Rattle.vocab.specs.Size.{HasOutcomes, has_all_ballots, Extent, sort_count}
 use Rattle.vocab.specs.Sorted.{same_sort, all_sorts, is_option_sort, has_winners, is_of_sort, is_sorted, are_of_sorts}
 use Rattle.vocab.specs.Study.{is_sentence}
 use Rattle.vocab.specs.Titled.{Titled}
@@ -145,7 +145,7 @@ module _ (size : Extent) where
   -- ---- literals
 
   -- rules whose outcome has winners choose, where sets are left out, and the others rank
-  choice_kind : (k : Kind) → k ≢ Sets → has_winners k ≡ true → k ≡ Choice
+  choice_kind : (k : Kind) → HasOutcomes k → has_winners k ≡ true → k ≡ Choice
   choice_kind Choice ne h = refl
   choice_kind Ranking ne h = absurd (true≢false (sym h))
   choice_kind Sets ne h = absurd (ne refl)
@@ -156,7 +156,7 @@ module _ (size : Extent) where
   ranking_kind Sets h = absurd (true≢false (sym h))
 
   -- an atom on winners is a literal of the size
-  pub wins_literal : (x y : TermTree) (env : List ℕ) → size.kind ≢ Sets → IsAtomAt size (WinsAt x y) env → is_literal size (Wins (value size env x) (value size env y)) ≡ true
+  pub wins_literal : (x y : TermTree) (env : List ℕ) → HasOutcomes size.kind → IsAtomAt size (WinsAt x y) env → is_literal size (Wins (value size env x) (value size env y)) ≡ true
   wins_literal x p env ne h =
       let r = h.sorts in
       let parts = wins_parts x p env h in
@@ -177,7 +177,7 @@ module _ (size : Extent) where
       (and_from _ _ (and_from _ _ (and_from _ _ (lt-ltb _ _ (value_in_range Alt x env parts.0)) (lt-ltb _ _ (value_in_range Alt y env parts.1))) (ap not ne)) (lt-ltb _ _ (value_in_range Profile p env parts.2)))
 
   -- a literal that is made of the values of the terms
-  pub wins_taken : (x p : TermTree) (env : List ℕ) (a q : ℕ) → a ≡ value size env x → q ≡ value size env p → size.kind ≢ Sets → IsAtomAt size (WinsAt x p) env → is_literal size (Wins a q) ≡ true
+  pub wins_taken : (x p : TermTree) (env : List ℕ) (a q : ℕ) → a ≡ value size env x → q ≡ value size env p → HasOutcomes size.kind → IsAtomAt size (WinsAt x p) env → is_literal size (Wins a q) ≡ true
   wins_taken x p env a q ea eq ne h = rw (ea, eq) (wins_literal x p env ne h)
 
   pub ranks_taken : (x y p : TermTree) (env : List ℕ) (a b q : ℕ) → a ≡ value size env x → b ≡ value size env y → q ≡ value size env p → IsAtomAt size (Ranks x y p) env → (a ≡ b → ⊥) → is_literal size (Above a b q) ≡ true

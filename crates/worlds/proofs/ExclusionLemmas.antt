@@ -8,7 +8,7 @@ use Rattle.vocab.specs.declared.kinds.Kind.TheVariants.{Choice, Ranking, Sets}
 use Rattle.vocab.specs.declared.kinds.Sort.TheVariants.{Profile}
 use Rattle.vocab.specs.declared.literals.Literal.{Literal}
 use Rattle.vocab.specs.Literal.{same_literal, has, profile_of}
-use Rattle.vocab.specs.Size.{Extent, IsSize, sort_count, outcome_count}
+use Rattle.vocab.specs.Size.{HasOutcomes, Extent, IsSize, sort_count, outcome_count}
 use Rattle.cnf.specs.Signed.{Signed}
 use Rattle.meaning.specs.Literals.{is_literal}
 use Rattle.meaning.specs.Stories.{is_outcome_excluded}
@@ -61,7 +61,7 @@ module _ (t q : Literal → Bool) where
 
 -- ---- outcomes and variables
 
-some_outcome : (k : Kind) (m : ℕ) → k ≢ Sets → 1 ≤ m → 0 < outcome_count k m
+some_outcome : (k : Kind) (m : ℕ) → HasOutcomes k → 1 ≤ m → 0 < outcome_count k m
 some_outcome Choice m ne h = h
 some_outcome Ranking m ne h = factorial_pos m
 some_outcome Sets m ne h = absurd (ne refl)
@@ -110,7 +110,7 @@ module _ (size : Extent) (known : List Literal) (outcome p : ℕ) where
       signs w true e = subst (λ u. is_failing (record { variable = u; positive = true }) ≡ false) (sym e) upright
       signs w false e = subst (λ u. is_failing (record { variable = u; positive = false }) ≡ false) (sym e) turned
 
-  module _ (ne : size.kind ≢ Sets) where
+  module _ (ne : HasOutcomes size.kind) where
     pub checked_all : list_all (is_literal size) known ≡ true → AreChecked (p * bits size.kind size.alternatives + bits size.kind size.alternatives) →
         list_all (holds_of size outcome) (filter (λ l. profile_of l == p) known) ≡ true
     checked_all ours all = all_kept (holds_of size outcome) (λ l. profile_of l == p) known (λ l m here.
@@ -133,7 +133,7 @@ module _ (size : Extent) (known : List Literal) (outcome p : ℕ) where
         false_from_ne_true _ (λ e. both_ways _ (not-true _ parts.1) (of_kept (holds_of size outcome) (λ l. profile_of l == p) known (literal_of size s) e parts.0 at_p))
 
 -- at a profile that there is not no literal is known, and so no outcome is excluded
-pub excluded_nowhere : (size : Extent) → IsSize size → size.kind ≢ Sets → (known : List Literal) (p : ℕ) → list_all (is_literal size) known ≡ true → sort_count size Profile ≤ p → is_outcome_excluded size known p ≡ false
+pub excluded_nowhere : (size : Extent) → IsSize size → HasOutcomes size.kind → (known : List Literal) (p : ℕ) → list_all (is_literal size) known ≡ true → sort_count size Profile ≤ p → is_outcome_excluded size known p ≡ false
 excluded_nowhere size valid ne known p ours far =
     let some = some_outcome size.kind size.alternatives ne valid.some_alternative in
     ap not (any_holds (λ o. list_all (holds_of size o) (filter (λ l. profile_of l == p) known)) (outcome_count size.kind size.alternatives) 0 some

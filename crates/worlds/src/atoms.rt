@@ -1,7 +1,6 @@
 //! Atoms, evaluated: a truth value where the rule does not matter, and else a literal.
 
-ghost use Rattle.std.specs.Prelude.{◌≡◌, ◌≢◌, IsTrue, IfOk, IfErr, ◌==◌};
-ghost use Rattle.vocab.specs.declared.kinds.Kind.TheVariants.{Sets};
+ghost use Rattle.std.specs.Prelude.{◌≡◌, IsTrue, IfOk, IfErr, ◌==◌};
 ghost use Rattle.vocab.specs.declared.literals.Literal.{Literal};
 ghost use Rattle.vocab.specs.Tree.{AtomTree, Equal, Prefers, Better, Casts, Majority, WinsAt, Ranks, atom_tree, term_tree};
 ghost use Rattle.meaning.specs.Literals.{is_literal};
@@ -10,6 +9,7 @@ ghost use Rattle.meaning.specs.Truth.{value};
 ghost use Rattle.meaning.specs.Written.{write_atom};
 ghost use Rattle.worlds.specs.Conditions.{IsAtomAt};
 ghost use Rattle.worlds.specs.Meanings.{SameMeaning};
+ghost use Rattle.vocab.specs.Size.{HasOutcomes};
 
 use crate::algebra::Algebra;
 use crate::terms::value;
@@ -23,7 +23,7 @@ pub(crate) fn eval_atom<A: Algebra>(
     env: &Env,
     algebra: &mut A,
 ) -> Result<A::V, A::Stop>
-    requires kind { space.now.kind ≢ Sets }
+    requires kind { HasOutcomes space.now.kind }
     requires fits { IsAtomAt space.now (atom_tree atom.now) env.now }
     requires takes { (l : Literal) → IsTrue (is_literal space.now l) → A.takes algebra.old l }
     ensures ok { IfOk result (λ v. A.stands algebra.old v (write_atom space.now env.now (atom_tree atom.now))) }
@@ -96,7 +96,7 @@ fn has_majority(space: &Space, x: &Term, y: &Term, p: &Term, env: &Env) -> bool
 
 /// The literal that an alternative wins at a profile.
 fn wins(space: &Space, x: &Term, p: &Term, env: &Env) -> Literal
-    requires kind { space.now.kind ≢ Sets }
+    requires kind { HasOutcomes space.now.kind }
     requires fits { IsAtomAt space.now (WinsAt (term_tree x.now) (term_tree p.now)) env.now }
     ensures value { result ≡ Literal.Wins (value space.now env.now (term_tree x.now)) (value space.now env.now (term_tree p.now)) }
     ensures literal { IsTrue (is_literal space.now result) }
@@ -117,7 +117,7 @@ fn eval_ranks<A: Algebra>(
     env: &Env,
     algebra: &mut A,
 ) -> Result<A::V, A::Stop>
-    requires kind { space.now.kind ≢ Sets }
+    requires kind { HasOutcomes space.now.kind }
     requires fits { IsAtomAt space.now (Ranks (term_tree x.now) (term_tree y.now) (term_tree p.now)) env.now }
     requires takes { (l : Literal) → IsTrue (is_literal space.now l) → A.takes algebra.old l }
     ensures ok { IfOk result (λ v. A.stands algebra.old v

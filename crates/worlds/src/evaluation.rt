@@ -1,9 +1,8 @@
 //! The one recursion over sentences.
 
-ghost use Rattle.std.specs.Prelude.{◌≡◌, ◌≢◌, ◌+◌, ◌≤◌, IsTrue, IfOk, IfErr};
-ghost use Rattle.vocab.specs.declared.kinds.Kind.TheVariants.{Sets};
+ghost use Rattle.std.specs.Prelude.{◌≡◌, ◌+◌, ◌≤◌, IsTrue, IfOk, IfErr};
 ghost use Rattle.vocab.specs.declared.literals.Literal.{Literal};
-ghost use Rattle.vocab.specs.Size.{IsSize, sort_count};
+ghost use Rattle.vocab.specs.Size.{HasOutcomes, IsSize, sort_count};
 ghost use Rattle.vocab.specs.Tree.{tree_of};
 ghost use Rattle.meaning.specs.Literals.{is_literal};
 ghost use Rattle.meaning.specs.Written.{write_out};
@@ -25,7 +24,7 @@ pub fn eval<A: Algebra>(
     env: &Env,
     algebra: &mut A,
 ) -> Result<A::V, A::Stop>
-    requires kind { space.now.kind ≢ Sets }
+    requires kind { HasOutcomes space.now.kind }
     requires fits { IsFormulaAt space.now (tree_of formula.now) env.now }
     requires takes { (l : Literal) → IsTrue (is_literal space.now l) → A.takes algebra.old l }
     ensures ok { IfOk result (λ v. A.stands algebra.old v (write_out space.now (tree_of formula.now) env.now)) }
@@ -43,7 +42,7 @@ pub(crate) fn eval_formula<A: Algebra>(
     env: &Env,
     algebra: &mut A,
 ) -> Result<A::V, A::Stop>
-    requires kind { space.now.kind ≢ Sets }
+    requires kind { HasOutcomes space.now.kind }
     requires fits { IsEvaluable space.now (tree_of formula.now) env.now }
     requires takes { (l : Literal) → IsTrue (is_literal space.now l) → A.takes algebra.old l }
     ensures ok { IfOk result (λ v. A.stands algebra.old v (write_out space.now (tree_of formula.now) env.now)) }
@@ -71,7 +70,7 @@ fn eval_not<A: Algebra>(
     algebra: &mut A,
 ) -> Result<A::V, A::Stop>
     requires shape { IsTrue (is_negation (tree_of formula.now)) }
-    requires kind { space.now.kind ≢ Sets }
+    requires kind { HasOutcomes space.now.kind }
     requires fits { IsEvaluable space.now (tree_of formula.now) env.now }
     requires takes { (l : Literal) → IsTrue (is_literal space.now l) → A.takes algebra.old l }
     ensures ok { IfOk result (λ v. A.stands algebra.old v (write_out space.now (tree_of formula.now) env.now)) }
@@ -96,7 +95,7 @@ fn eval_both<A: Algebra>(
     algebra: &mut A,
 ) -> Result<A::V, A::Stop>
     requires shape { IsTrue (is_conjunction (tree_of formula.now)) }
-    requires kind { space.now.kind ≢ Sets }
+    requires kind { HasOutcomes space.now.kind }
     requires fits { IsEvaluable space.now (tree_of formula.now) env.now }
     requires takes { (l : Literal) → IsTrue (is_literal space.now l) → A.takes algebra.old l }
     ensures ok { IfOk result (λ v. A.stands algebra.old v (write_out space.now (tree_of formula.now) env.now)) }
@@ -125,7 +124,7 @@ fn eval_either<A: Algebra>(
     algebra: &mut A,
 ) -> Result<A::V, A::Stop>
     requires shape { IsTrue (is_disjunction (tree_of formula.now)) }
-    requires kind { space.now.kind ≢ Sets }
+    requires kind { HasOutcomes space.now.kind }
     requires fits { IsEvaluable space.now (tree_of formula.now) env.now }
     requires takes { (l : Literal) → IsTrue (is_literal space.now l) → A.takes algebra.old l }
     ensures ok { IfOk result (λ v. A.stands algebra.old v (write_out space.now (tree_of formula.now) env.now)) }
@@ -154,7 +153,7 @@ fn eval_implies<A: Algebra>(
     algebra: &mut A,
 ) -> Result<A::V, A::Stop>
     requires shape { IsTrue (is_implication (tree_of formula.now)) }
-    requires kind { space.now.kind ≢ Sets }
+    requires kind { HasOutcomes space.now.kind }
     requires fits { IsEvaluable space.now (tree_of formula.now) env.now }
     requires takes { (l : Literal) → IsTrue (is_literal space.now l) → A.takes algebra.old l }
     ensures ok { IfOk result (λ v. A.stands algebra.old v (write_out space.now (tree_of formula.now) env.now)) }
@@ -184,7 +183,7 @@ fn eval_same<A: Algebra>(
     algebra: &mut A,
 ) -> Result<A::V, A::Stop>
     requires shape { IsTrue (is_equivalence (tree_of formula.now)) }
-    requires kind { space.now.kind ≢ Sets }
+    requires kind { HasOutcomes space.now.kind }
     requires fits { IsEvaluable space.now (tree_of formula.now) env.now }
     requires takes { (l : Literal) → IsTrue (is_literal space.now l) → A.takes algebra.old l }
     ensures ok { IfOk result (λ v. A.stands algebra.old v (write_out space.now (tree_of formula.now) env.now)) }
@@ -210,7 +209,7 @@ fn eval_all<A: Algebra>(
     algebra: &mut A,
 ) -> Result<A::V, A::Stop>
     requires shape { IsTrue (is_universal (tree_of formula.now)) }
-    requires kind { space.now.kind ≢ Sets }
+    requires kind { HasOutcomes space.now.kind }
     requires fits { IsEvaluable space.now (tree_of formula.now) env.now }
     requires takes { (l : Literal) → IsTrue (is_literal space.now l) → A.takes algebra.old l }
     ensures ok { IfOk result (λ v. A.stands algebra.old v (write_out space.now (tree_of formula.now) env.now)) }
@@ -243,7 +242,7 @@ fn eval_exists<A: Algebra>(
     algebra: &mut A,
 ) -> Result<A::V, A::Stop>
     requires shape { IsTrue (is_existential (tree_of formula.now)) }
-    requires kind { space.now.kind ≢ Sets }
+    requires kind { HasOutcomes space.now.kind }
     requires fits { IsEvaluable space.now (tree_of formula.now) env.now }
     requires takes { (l : Literal) → IsTrue (is_literal space.now l) → A.takes algebra.old l }
     ensures ok { IfOk result (λ v. A.stands algebra.old v (write_out space.now (tree_of formula.now) env.now)) }
