@@ -69,11 +69,13 @@ pub(crate) fn push_choice(alternatives: u8, p: u32, out: &mut Clauses) -> Result
     requires profile { p ≤ 20000 }
     ensures ok { OnOk result (out.new ≡ with_clauses out.old (choice_rows alternatives p) p) }
     ensures full { result ≡ Err PushFault.Full → IsFullForAll out.old (choice_rows alternatives p) }
+    ensures fits { OnOk result (¬ IsFullForAll out.old (choice_rows alternatives p)) }
 {
     push_some_wins(alternatives, p, out)?;
     for place in 0..places::pair_count(alternatives) {
         push_one_loses(alternatives, p, place, out)?;
     }
+    let _within = out.len();
     Ok(())
 }
 
@@ -106,9 +108,11 @@ pub(crate) fn push_ranking(alternatives: u8, p: u32, out: &mut Clauses) -> Resul
     requires profile { p ≤ 20000 }
     ensures ok { OnOk result (out.new ≡ with_clauses out.old (ranking_rows alternatives p) p) }
     ensures full { result ≡ Err PushFault.Full → IsFullForAll out.old (ranking_rows alternatives p) }
+    ensures fits { OnOk result (¬ IsFullForAll out.old (ranking_rows alternatives p)) }
 {
     for place in 0..places::triple_count(alternatives) {
         push_no_round(alternatives, p, place, out)?;
     }
+    let _within = out.len();
     Ok(())
 }

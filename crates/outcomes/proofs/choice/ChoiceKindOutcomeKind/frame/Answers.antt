@@ -17,3 +17,10 @@ returns-clause-full c = λ e.
     let rows = choice_clauses size c.args.self.now.chooses c.args.p c.alternatives.result (c.alternatives.ensures ∙ ap (λ s. s.alternatives) c.size.ensures) in
     let Full : List Clause → Type 0 = λ cs. IsFullForAll c.args.out.now cs in
     subst Full rows (c.push_choice.ensures.full e)
+
+pub returns-clause-fits : goal.returns-clause-fits
+returns-clause-fits c =
+    let size = c.args.self.now.space in
+    let rows = choice_clauses size c.args.self.now.chooses c.args.p c.alternatives.result (c.alternatives.ensures ∙ ap (λ s. s.alternatives) c.size.ensures) in
+    let Fits : List Clause → Type 0 = λ cs. OnOk c.push_choice.result (¬ IsFullForAll c.args.out.now cs) in
+    subst Fits rows c.push_choice.ensures.fits
