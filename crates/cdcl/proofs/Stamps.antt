@@ -1,5 +1,5 @@
 -- marks by stamps
-use Rattle.std.proofs.Common.{arith, ◌≡◌, ℕ, ◌<◌, eqb, false, true, List, [], ◌∷◌, length, replicate, set, refl, ap, ◌∙◌}
+use Rattle.std.proofs.Common.{arith, ◌≡◌, ℕ, suc, zero, ◌<◌, eqb, false, true, List, [], ◌∷◌, length, replicate, set, refl, ap, ◌∙◌}
 use Rattle.std.proofs.lemmas.Bool.{eq-eqb, ne_eqb}
 use Rattle.std.proofs.lemmas.List.{map-set, length-map}
 use Rattle.std.proofs.lemmas.List.Elements.{All-head, All-tail}
@@ -12,6 +12,11 @@ none_marked round [] h = refl
 none_marked round (s ∷ stamps) h =
     rw (ne_eqb s round (let lt = All-head (λ x. x < round) s stamps h in omega (arith, lt)))
     (ap (λ (bs : List Bool). false ∷ bs) (none_marked round stamps (All-tail (λ x. x < round) s stamps h)))
+
+-- of stamps that are all 0 the first round marks none
+pub none_marked_at_first : (count : ℕ) → marks_of 1 (replicate count 0) ≡ replicate count false
+none_marked_at_first zero = refl
+none_marked_at_first (suc count) = ap (λ (bs : List Bool). false ∷ bs) (none_marked_at_first count)
 
 -- the stamp of the round marks
 pub marked : (round : ℕ) (stamps : List ℕ) (i : ℕ) → marks_of round (set stamps i round) ≡ set (marks_of round stamps) i true

@@ -28,12 +28,10 @@ impl Model for Seen {
 impl Seen {
     /// This many variables, none of them marked.
     pub fn new(alloc: Global, variables: u32) -> Result<Seen, NoMemory>
-        ensures { IfOk result (λ seen. length seen ≡ variables) }
+        ensures { IfOk result (λ seen. seen ≡ replicate variables false) }
     {
-        Ok(Seen {
-            stamps: zeros(alloc, variables)?,
-            round: 0,
-        })
+        let stamps = zeros(alloc, variables)?;
+        Ok(Seen { stamps, round: 1 })
     }
 
     /// Whether the variable at a place, from 0, is marked.
