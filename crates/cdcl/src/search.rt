@@ -47,7 +47,7 @@ pub fn solve(
     limit: u32,
 ) -> Result<Search, NoMemory>
     requires few { variables < 2 ^ 31 }
-    requires range { All (StaysWithin variables) clauses.now.clauses }
+    requires range { All (λ clause. All (λ l. l.variable ≤ variables) clause) clauses.now.clauses }
     requires limit { limit ≤ 1000000 }
     ensures answers { IfOk result (Answers clauses.now.clauses variables limit) }
     ensures conclusive { 3 ^ variables ≤ limit → IfOk result IsConclusive }
@@ -102,7 +102,7 @@ fn search_clauses(
     limit: u32,
 ) -> Result<Search, NoMemory>
     requires few { variables < 2 ^ 31 }
-    requires range { All (StaysWithin variables) clauses.now.clauses }
+    requires range { All (λ clause. All (λ l. l.variable ≤ variables) clause) clauses.now.clauses }
     requires limit { limit ≤ 1000000 }
     ensures { IfOk result (Answers clauses.now.clauses variables limit) }
 {
