@@ -1,7 +1,9 @@
 //! The devices by example, and what no clause says: that calls succeed with ample memory.
 
+ghost use Rattle.std.specs.Prelude.{◌≤◌};
+
 use crate::{
-    CalmShelf, CalmSink, Failed, FileShelf, Gate, MemoryShelf, MemorySink, Open, ReadFault,
+    Bytes, CalmShelf, CalmSink, Failed, FileShelf, Gate, MemoryShelf, MemorySink, Open, ReadFault,
     RewindFault, Shelf, Sink, StdSink, put_all, read_all,
 };
 use std::alloc::Global;
@@ -88,6 +90,64 @@ fn sink_in_memory_takes_what_fits(rt: HostRuntime) -> Result<(), Fail> {
         let mut out = MemorySink::new(rt.alloc(), room, failing)?;
         assert_eq!(rt; put_and_flush(&mut out, REPORT), wanted, "room {room}");
         assert_eq!(rt; out.bytes(), taken, "room {room}");
+    }
+    Ok(())
+}
+
+// What `read_all` gives of the report, from a shelf of which each read gives at most `most` bytes.
+fn read_in_pieces(
+    alloc: Global,
+    most: u32,
+    failing: &[u32],
+) -> Result<Result<Bytes, ReadFault>, Fail>
+    requires most { 1 ≤ most }
+{
+    let mut shelf = MemoryShelf::short(alloc, most, failing)?;
+    shelf.hold("report", REPORT)?;
+    Ok(read_all(alloc, &mut shelf, "report", 27))
+}
+
+// What a sink of which each write takes at most `most` bytes has taken, once the report was written and flushed.
+fn written_in_pieces(alloc: Global, most: u32, failing: &[u32]) -> Result<Bytes, Fail>
+    requires most { 1 ≤ most }
+{
+    let mut out = MemorySink::short(alloc, 27, most, failing)?;
+    let written = put_and_flush(&mut out, REPORT);
+    if written.is_ok() != failing.is_empty() {
+        Err("a fault came unasked, or one was passed over")?;
+    }
+    let mut bytes = Bytes::new(alloc);
+    bytes.append(out.bytes())?;
+    Ok(bytes)
+}
+
+#[test]
+fn short_devices_move_the_whole(rt: HostRuntime) -> Result<(), Fail> {
+    let alloc = rt.alloc();
+    let whole = [
+        read_in_pieces(alloc, 1, &[])?.ok(),
+        read_in_pieces(alloc, 7, &[])?.ok(),
+        read_in_pieces(alloc, 27, &[])?.ok(),
+        read_in_pieces(alloc, 4_294_967_295, &[])?.ok(),
+        // Of 7 at a time call 0 is the rewind, 1 to 4 give bytes and 5 finds the end.
+        read_in_pieces(alloc, 7, &[6])?.ok(),
+        Some(written_in_pieces(alloc, 1, &[])?),
+        Some(written_in_pieces(alloc, 7, &[])?),
+        Some(written_in_pieces(alloc, 27, &[])?),
+        Some(written_in_pieces(alloc, 4_294_967_295, &[])?),
+    ];
+    for found in &whole {
+        let found = found.as_ref().ok_or("not read")?;
+        assert_eq!(rt; found.as_slice(), REPORT);
+    }
+    for call in 0..6 {
+        let found = read_in_pieces(alloc, 7, &[call])?;
+        assert_eq!(rt; found.err(), Some(ReadFault::Failed), "call {call}");
+    }
+    // Of 7 at a time the calls 0 to 3 are writes, and 4 is the flush.
+    for (call, wanted) in [(0, 0), (1, 7), (2, 14), (3, 21), (4, 27)] {
+        let taken = written_in_pieces(alloc, 7, &[call])?;
+        assert_eq!(rt; taken.as_slice(), &REPORT[..wanted], "call {call}");
     }
     Ok(())
 }
