@@ -11,7 +11,7 @@ use Rattle.vocab.specs.declared.kinds.Kind.{Kind}
 use Rattle.vocab.specs.Study.{Question}
 use Rattle.clause_text.specs.ReadDimacs.{Formula}
 use Rattle.verdicts.specs.declared.verdicts.Verdict.{Verdict}
-use Rattle.verdicts.specs.Judge.{Answer, Confirmed}
+use Rattle.verdicts.specs.Judge.{Judgement, Confirmed}
 use Rattle.verdicts.specs.Report.{IsReport}
 use Rattle.verdicts.specs.Words.{answer_text}
 use Rattle.words.specs.Words.{Request, Decide, Check, Export, Proof, Lrat, Axioms, Sample, Adopt, request_of}
@@ -127,7 +127,7 @@ module _ (words : List (List ℕ)) (d : Devices) (run : Run) (files : Files) (na
   right_says : run.status ≤ 4 → (study : Question) (bytes : List ℕ) (verdict : Verdict) → GivesStudy files name study → files report ≡ Some bytes → IsReport study verdict bytes
       → length bytes ≤ most_report_bytes → Says d run 0 (answer_text (Confirmed verdict))
   right_says low study bytes verdict g held right fits =
-      subst (λ (a : Answer). Says d run (status_of a) (answer_text a)) (right_judged study bytes verdict (reportable files name study g) right fits) (judged_says low study bytes g held)
+      subst (λ (a : Judgement). Says d run (status_of a) (answer_text a)) (right_judged study bytes verdict (reportable files name study g) right fits) (judged_says low study bytes g held)
 
   confirmed_row : (text : List ℕ) → run.status ≡ 0 → Appends d.taken_before d.taken_now text → OverStudy files name run text (λ study. IsJudged files report study run text)
       → IsConfirmedRight d files name report

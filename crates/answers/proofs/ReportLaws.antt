@@ -5,7 +5,7 @@ use Rattle.vocab.specs.Size.{IsSize}
 use Rattle.vocab.specs.Study.{Question}
 use Rattle.verdicts.specs.declared.verdicts.Verdict.{Verdict}
 use Rattle.verdicts.specs.declared.verdicts.Verdict.TheVariants.{Possible, Impossible, Undecided}
-use Rattle.verdicts.specs.Judge.{Answer, Confirmed, Faulty, TooLong}
+use Rattle.verdicts.specs.Judge.{Judgement, Confirmed, Faulty, TooLong}
 use Rattle.verdicts.specs.Laws.{IsReportable}
 use Rattle.verdicts.specs.Report.{IsConfirmed, IsReport}
 use Rattle.verdicts.proofs.ClaimLaws.{claims_hold, within_limit}
@@ -32,7 +32,7 @@ reportable files name study g =
     record { taken = whole.0; size = whole.1; kind = kinds_known g.bytes study g.read; names = whole.2 }
 
 -- status 0 says that the answer is a confirmation
-pub zero_confirms : (a : Answer) → status_of a ≡ 0 → (verdict : Verdict) × (a ≡ Confirmed verdict)
+pub zero_confirms : (a : Judgement) → status_of a ≡ 0 → (verdict : Verdict) × (a ≡ Confirmed verdict)
 zero_confirms (Confirmed verdict) e = (verdict, refl)
 zero_confirms (Faulty line word) e = absurd (omega (arith, e))
 zero_confirms TooLong e = absurd (omega (arith, e))

@@ -8,7 +8,7 @@ use Rattle.edge.specs.Shelf.{Files, OthersStay, NoneFell}
 use Rattle.edge.specs.Faults.{Rose}
 use Rattle.vocab.specs.Study.{Question}
 use Rattle.verdicts.specs.declared.verdicts.Verdict.TheVariants.{Possible, Impossible, Undecided}
-use Rattle.verdicts.specs.Judge.{Answer as Judgement, Confirmed, Faulty, TooLong}
+use Rattle.verdicts.specs.Judge.{Judgement, Confirmed, Faulty, TooLong}
 use Rattle.verdicts.specs.Words.{answer_text}
 use Rattle.report_files.specs.declared.files.Worth.{Worth}
 use Rattle.report_files.specs.declared.files.Worth.TheVariants as worth

@@ -9,7 +9,7 @@ use Rattle.verdicts.specs.declared.verdicts.Verdict.{Verdict}
 use Rattle.verdicts.specs.declared.verdicts.Verdict.TheVariants.{Undecided}
 use Rattle.verdicts.specs.Claims.{claim_of}
 use Rattle.verdicts.specs.Places.{Place, AtNothing, Standing}
-use Rattle.verdicts.specs.Judge.{Told, Good, Refused, judge, has_no_end, ended, Answer, Confirmed as IsConfirmed, Faulty, TooLong, at_end, conclude}
+use Rattle.verdicts.specs.Judge.{Told, Good, Refused, judge, has_no_end, ended, Judgement, Confirmed as IsConfirmed, Faulty, TooLong, at_end, conclude}
 use Rattle.verdicts.proofs.ClaimLaws.{right_claims}
 use Rattle.verdicts.proofs.JudgeLaws.{good_holds, concluded_sound}
 use Rattle.verdicts.proofs.LineEndLaws.{lines_complete}
@@ -35,14 +35,14 @@ claim_some None c h = absurd h
 claim_some (Some a) c h = let same : a ≡ c = cc in ap Some same
 
 -- Ok is the claim of the verdict that is confirmed
-pub concluded : (a : Answer) (c : Confirmed) → Concludes a (Ok c) → (v : Verdict) × (a ≡ IsConfirmed v) × (claim_of v ≡ Some c)
+pub concluded : (a : Judgement) (c : Confirmed) → Concludes a (Ok c) → (v : Verdict) × (a ≡ IsConfirmed v) × (claim_of v ≡ Some c)
 concluded (IsConfirmed v) c h = (v, refl, claim_some (claim_of v) c h)
 concluded (Faulty line word) c h = absurd (cc)
 concluded TooLong c h = absurd h
 
 -- where the verdict that is confirmed has a claim, it is answered
-pub concludes_claim : (a : Answer) (v : Verdict) (c : Confirmed) (result : Result Confirmed ReportFault) → a ≡ IsConfirmed v → claim_of v ≡ Some c → Concludes a result → result ≡ Ok c
-concludes_claim a v c result e f h = some_claim (claim_of v) c result f (subst (λ (b : Answer). Concludes b result) e h)
+pub concludes_claim : (a : Judgement) (v : Verdict) (c : Confirmed) (result : Result Confirmed ReportFault) → a ≡ IsConfirmed v → claim_of v ≡ Some c → Concludes a result → result ≡ Ok c
+concludes_claim a v c result e f h = some_claim (claim_of v) c result f (subst (λ (b : Judgement). Concludes b result) e h)
 
 pub true_if_right : (study : Question) (text : List ℕ) (result : Result Confirmed ReportFault) → IsSize study.size → ConfirmsRight study text result → ConfirmsTrue study result
 true_if_right study text (Ok c) size h = right_claims study size text c h

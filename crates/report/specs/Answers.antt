@@ -3,7 +3,7 @@ use Rattle.std.specs.Prelude.{◌≡◌, ℕ, List, Option, Some, None, Result, 
 use Rattle.vocab.specs.Study.{Question}
 use Rattle.verdicts.specs.declared.verdicts.Confirmed.{Confirmed}
 use Rattle.verdicts.specs.Claims.{claim_of, IsClaimed, ClaimHolds}
-use Rattle.verdicts.specs.Judge.{Answer, Confirmed as IsConfirmed, Faulty, TooLong}
+use Rattle.verdicts.specs.Judge.{Judgement, Confirmed as IsConfirmed, Faulty, TooLong}
 use Rattle.verdicts.specs.Laws.{IsReportable}
 use Rattle.report.specs.declared.faults.ReportFault.{ReportFault}
 use Rattle.report.specs.declared.faults.ReportFault.TheVariants.{Line as AtLine}
@@ -14,7 +14,7 @@ told_of None = Ok tt
 told_of (Some fault) = Err fault
 
 -- what is answered of a report that is not cut off
-abbrev pub Concludes : Answer → Result Confirmed ReportFault → Type 0
+abbrev pub Concludes : Judgement → Result Confirmed ReportFault → Type 0
 Concludes (IsConfirmed verdict) result = IsSomeAnd (claim_of verdict) (λ claim. result ≡ Ok claim)
 Concludes (Faulty line word) result = result ≡ Err (AtLine line word)
 Concludes TooLong result = ⊥

@@ -17,7 +17,7 @@ use Rattle.verdicts.proofs.ReportLaws.{right_is_confirmed}
 use Rattle.verdicts.specs.Lines.{Line}
 use Rattle.verdicts.specs.Places.{Standing, start}
 use Rattle.verdicts.specs.Faults.{fault_of}
-use Rattle.verdicts.specs.Judge.{Told, Good, Refused, advance, read_line, settle_at, settle, judge_from, judge, pieces, front, final, Answer, Confirmed as IsConfirmed, Faulty, TooLong, conclude, answer, beyond, answer_within}
+use Rattle.verdicts.specs.Judge.{Told, Good, Refused, advance, read_line, settle_at, settle, judge_from, judge, pieces, front, final, Judgement, Confirmed as IsConfirmed, Faulty, TooLong, conclude, answer, beyond, answer_within}
 use Rattle.verdicts.specs.declared.verdicts.Confirmed.{Confirmed}
 use Rattle.report.specs.declared.faults.ReportFault.{ReportFault}
 use Rattle.report.specs.declared.faults.ReportFault.TheVariants.{Line as AtLine}
@@ -100,12 +100,12 @@ some_worth : (o : Option Confirmed) (c : Confirmed) → IsSomeAnd o (λ claim. c
 some_worth None c h = absurd h
 some_worth (Some a) c h = let same : c ≡ a = cc in ap worth.Confirmed same
 
-pub concludes_ok : (a : Answer) (c : Confirmed) → Concludes a (Ok c) → IsWorth a (worth.Confirmed c)
+pub concludes_ok : (a : Judgement) (c : Confirmed) → Concludes a (Ok c) → IsWorth a (worth.Confirmed c)
 concludes_ok (IsConfirmed verdict) c h = some_worth (claim_of verdict) c h
 concludes_ok (Faulty n word) c h = absurd (cc)
 concludes_ok TooLong c h = absurd h
 
-pub concludes_line : (a : Answer) (m : ℕ) (word : Refusal) → Concludes a (Err (AtLine m word)) → IsWorth a (worth.Faulty m word)
+pub concludes_line : (a : Judgement) (m : ℕ) (word : Refusal) → Concludes a (Err (AtLine m word)) → IsWorth a (worth.Faulty m word)
 concludes_line (IsConfirmed verdict) m word h = absurd (none_claimed (claim_of verdict) h)
   where
     none_claimed : (o : Option Confirmed) → IsSomeAnd o (λ claim. refuses m word ≡ Ok claim) → ⊥
@@ -118,7 +118,7 @@ module _ (study : Question) (p : Progress) (now : List ℕ) where
   -- all was read
   pub whole_worth : (e : Ending) (known left : Option (List ℕ)) (bytes held : List ℕ) (result : Result Confirmed ReportFault) (w : Worth)
       → e ≡ ending.Whole → IsEndedAt e known left p.fault bytes → known ≡ Some held
-      → (Concludes (answer study bytes) result) → ((a : Answer) → Concludes a result → IsWorth a w) → IsWorth (answer_within most_report_bytes study held) w
+      → (Concludes (answer study bytes) result) → ((a : Judgement) → Concludes a result → IsWorth a w) → IsWorth (answer_within most_report_bytes study held) w
   whole_worth e known left bytes held result w same ended k concluded worth_of =
       let parts = whole_is known left p.fault bytes held (subst (λ x. IsEndedAt x known left p.fault bytes) same ended) k in
       let short : length held ≤ most_report_bytes = subst (λ t. length t ≤ most_report_bytes) (sym parts.0) parts.1 in
@@ -134,7 +134,7 @@ module _ (study : Question) (p : Progress) (now : List ℕ) where
 
   pub faulty_worth : (e : Ending) (known left : Option (List ℕ)) (bytes held : List ℕ) (fault : ReportFault) (w : Worth)
       → p.fault ≡ Some fault → IsEndedAt e known left p.fault bytes → known ≡ Some held → StandsForText study p now bytes
-      → ((a : Answer) → Concludes a (Err fault) → IsWorth a w) → IsWorth (answer_within most_report_bytes study held) w
+      → ((a : Judgement) → Concludes a (Err fault) → IsWorth a w) → IsWorth (answer_within most_report_bytes study held) w
   faulty_worth e known left bytes held fault w f ended k stands worth_of = by_told (judge study (front (pieces bytes))) refl stands.0.1
     where
       by_told : (told : Told) → judge study (front (pieces bytes)) ≡ told → StandsAs study p.fault p.reading told → IsWorth (answer_within most_report_bytes study held) w
@@ -201,7 +201,7 @@ confirmed_some None c w e h = absurd h
 confirmed_some (Some a) c w e h = let same : a ≡ c = cc in h ∙ ap worth.Confirmed same
 
 -- the verdict whose claim it is
-worth_claim : (a : Answer) (c : Confirmed) (w : Worth) → w ≡ worth.Confirmed c → IsWorth a w → (v : Verdict) × (a ≡ IsConfirmed v) × (claim_of v ≡ Some c)
+worth_claim : (a : Judgement) (c : Confirmed) (w : Worth) → w ≡ worth.Confirmed c → IsWorth a w → (v : Verdict) × (a ≡ IsConfirmed v) × (claim_of v ≡ Some c)
 worth_claim (IsConfirmed v) c w e h = (v, refl, some_confirmed (claim_of v) c w e h)
 worth_claim (Faulty n word) c w e h = absurd (cc)
 worth_claim TooLong c w e h = absurd (cc)
@@ -233,7 +233,7 @@ module _ (study : Question) (files : Files) (name : List ℕ) where
       let few : lemma_count v < 2 ^ 64 = omega (arith, lemmas_fit study c.bytes v c.right.report, c.fits) in
       let confirmed : answer_within most_report_bytes study c.bytes ≡ IsConfirmed v = (within_limit most_report_bytes study c.bytes v).1 (c.fits, right_is_confirmed study is c.bytes v c.right.report few) in
       let worth_is : IsWorth (answer_within most_report_bytes study c.bytes) w = subst (λ (xs : List ℕ). IsWorth (answer_within most_report_bytes study xs) w) (sym same) is_worth in
-      confirmed_some (claim_of v) claim w c.right.claims (subst (λ (a : Answer). IsWorth a w) confirmed worth_is)
+      confirmed_some (claim_of v) claim w c.right.claims (subst (λ (a : Judgement). IsWorth a w) confirmed worth_is)
 
   pub file_holds : (result : Result Worth FileFault) → IsSize study.size → FileIsRight study files name result → FileHolds study result
   file_holds result size right = λ claim e. let c = right claim e in right_claims study size c.bytes claim c.right

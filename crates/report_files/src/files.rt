@@ -3,7 +3,7 @@
 ghost use Rattle.std.specs.Prelude.{◌≡◌, ◌≤◌, List, ℕ, [], length, Option, Some, IfSome, IfOk, IsErrOf};
 ghost use Rattle.edge.specs.Faults.{Rose};
 ghost use Rattle.edge.specs.Shelf.{OthersStay, NoneFell};
-ghost use Rattle.verdicts.specs.Judge.{Answer, answer_within};
+ghost use Rattle.verdicts.specs.Judge.{Judgement, answer_within};
 ghost use Rattle.report.specs.Answers.{Concludes};
 ghost use Rattle.report.specs.Held.{IsReady};
 ghost use Rattle.report_files.specs.Files.{HasTaken, IsEndedAt, IsWorth, IsWorthOf, FileIsRight, FileIsConfirmed, FileHolds, most_report_bytes};
@@ -32,7 +32,7 @@ pub enum Worth {
 impl Worth {
     /// What a report is worth of which this is answered, unless memory was wanting.
     fn of(answer: Result<Confirmed, ReportFault>) -> Result<Worth, NoMemory>
-        ensures { IfOk result (λ worth. (a : Answer) → Concludes a answer → IsWorth a worth) }
+        ensures { IfOk result (λ worth. (a : Judgement) → Concludes a answer → IsWorth a worth) }
     {
         match answer {
             Ok(claim) => Ok(Worth::Confirmed(claim)),

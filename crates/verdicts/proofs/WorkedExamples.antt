@@ -15,7 +15,7 @@ use Rattle.verdicts.specs.declared.refusals.Refusal.TheVariants as refusal
 use Rattle.verdicts.specs.declared.verdicts.Verdict.{Verdict}
 use Rattle.verdicts.specs.declared.verdicts.Verdict.TheVariants.{Possible, Impossible}
 use Rattle.verdicts.specs.Report.{report_text, has_text, is_right}
-use Rattle.verdicts.specs.Judge.{Answer, Confirmed, Faulty, TooLong, answer, answer_within}
+use Rattle.verdicts.specs.Judge.{Judgement, Confirmed, Faulty, TooLong, answer, answer_within}
 use Rattle.verdicts.specs.Words.{answer_text}
 
 -- lines, each with its end
@@ -45,7 +45,7 @@ rule_of_one_voter_is_confirmed : answer unanimous (text_of best_is_chosen) ≡ C
 rule_of_one_voter_is_confirmed = refl
 
 -- the answer where a line of the report, numbered from 1, is another
-abbrev with_rule_line : ℕ → List ℕ → Answer
+abbrev with_rule_line : ℕ → List ℕ → Judgement
 with_rule_line n line = answer unanimous (text_of (slice_set best_is_chosen (n - 1) line))
 
 -- profile 1 and alternative 1 of two: 1 * 2 + 1
@@ -107,10 +107,10 @@ confirmation_is_printed : answer_text (answer symmetric (text_of no_symmetric_ru
 confirmation_is_printed = refl
 
 -- the answer where a line of the report, numbered from 1, is another, or another one stands before it
-abbrev with_line : ℕ → List ℕ → Answer
+abbrev with_line : ℕ → List ℕ → Judgement
 with_line n line = answer symmetric (text_of (slice_set no_symmetric_rule_report (n - 1) line))
 
-abbrev with_more : ℕ → List (List ℕ) → Answer
+abbrev with_more : ℕ → List (List ℕ) → Judgement
 with_more n more = answer symmetric (text_of (take (n - 1) no_symmetric_rule_report ++ (more ++ drop (n - 1) no_symmetric_rule_report)))
 
 -- ---- faults of a story
@@ -267,11 +267,11 @@ abbrev many_names : ℕ → List ℕ
 many_names k = codes "axioms" ++ (flat_map (λ name. 32 ∷ name) (replicate 123 (replicate 32 97)) ++ 32 ∷ replicate k 97)
 
 -- without the line end
-line_has_4096_bytes_at_most : map {A = ℕ} {B = ℕ × Answer} (λ k. (length (many_names k), with_line 5 (many_names k))) (30 ∷ 31 ∷ []) ≡ (4096, Faulty 5 refusal.StudyDiffers) ∷ (4097, Faulty 5 refusal.Form) ∷ []
+line_has_4096_bytes_at_most : map {A = ℕ} {B = ℕ × Judgement} (λ k. (length (many_names k), with_line 5 (many_names k))) (30 ∷ 31 ∷ []) ≡ (4096, Faulty 5 refusal.StudyDiffers) ∷ (4097, Faulty 5 refusal.Form) ∷ []
 line_has_4096_bytes_at_most = refl
 
 -- the report has 106 bytes: the lines are judged that end within the limit, and its last line does only where all is read
-abbrev within : ℕ → List (List ℕ) → Answer
+abbrev within : ℕ → List (List ℕ) → Judgement
 within limit lines = answer_within limit unanimous (text_of lines)
 
 report_within_the_limit_is_confirmed : map (λ limit. within limit best_is_chosen) (105 ∷ 106 ∷ 107 ∷ []) ≡ TooLong ∷ Confirmed (Possible (0 ∷ 1 ∷ [])) ∷ Confirmed (Possible (0 ∷ 1 ∷ [])) ∷ []

@@ -126,30 +126,30 @@ final (x ∷ []) = x
 final (x ∷ y ∷ xs) = final (y ∷ xs)
 
 -- a report is confirmed, or has a first faulty line, or is longer than what is read of it
-pub data Answer : Type 0 where
-  Confirmed : Verdict → Answer
-  Faulty : (line : ℕ) → Refusal → Answer
-  TooLong : Answer
+pub data Judgement : Type 0 where
+  Confirmed : Verdict → Judgement
+  Faulty : (line : ℕ) → Refusal → Judgement
+  TooLong : Judgement
 
 -- where no line is faulty: the end must be read, and no byte may follow it
-abbrev pub at_end : ℕ → List ℕ → Place → Answer
+abbrev pub at_end : ℕ → List ℕ → Place → Judgement
 at_end n [] (AtNothing verdict) = Confirmed verdict
 at_end n rest place = Faulty n refusal.Form
 
 -- with the number of the last piece, and the piece
-abbrev pub conclude : ℕ → List ℕ → Told → Answer
+abbrev pub conclude : ℕ → List ℕ → Told → Judgement
 conclude n rest (Refused line word) = Faulty line word
 conclude n rest (Good s) = at_end n rest s.place
 
 -- the answer to a text
-abbrev pub answer : Question → List ℕ → Answer
+abbrev pub answer : Question → List ℕ → Judgement
 answer study text = conclude (length (pieces text)) (final (pieces text)) (judge study (front (pieces text)))
 
 -- where no line that ends within the limit is faulty
-abbrev pub beyond : Told → Answer
+abbrev pub beyond : Told → Judgement
 beyond (Refused line word) = Faulty line word
 beyond (Good s) = TooLong
 
 -- the answer to a text of which so many bytes are read: of a longer one the lines are judged that end within them
-abbrev pub answer_within : ℕ → Question → List ℕ → Answer
+abbrev pub answer_within : ℕ → Question → List ℕ → Judgement
 answer_within limit study text = if nat_lt limit (length text) then beyond (judge study (front (pieces (take limit text)))) else answer study text
