@@ -193,7 +193,7 @@ impl<'a, K: OutcomeKind> Checker<'a, K> {
         ensures all { (lines : List (List ℕ)) →
             StandsFor self.now.subject.study.now self.now.progress lines →
             IsTrue (list_all has_no_end lines) → ConfirmsAll self.now.subject.study.now (ended lines) result }
-        ensures no_rule { (lines : List (List ℕ)) →
+        ensures holds { (lines : List (List ℕ)) →
             StandsFor self.now.subject.study.now self.now.progress lines →
             ConfirmsTrue self.now.subject.study.now result }
         ensures wanting { self.now.progress.fault ≡ Some ReportFault.NoMemory →

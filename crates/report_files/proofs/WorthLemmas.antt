@@ -27,11 +27,13 @@ use Rattle.report_files.specs.declared.files.FileFault.{FileFault}
 use Rattle.report_files.specs.declared.files.Worth.{Worth}
 use Rattle.report_files.specs.declared.files.Worth.TheVariants as worth
 use Rattle.report.specs.declared.progress.Progress.{Progress}
-use Rattle.report.specs.Answers.{Concludes}
-use Rattle.report_files.specs.Files.{IsEndedAt, IsWorth, IsWorthOf, IsClaimedIn, FileIsRight, FileIsConfirmed, FileHolds, most_report_bytes}
+use Rattle.report.specs.Answers.{Concludes, ConfirmsTrue}
+use Rattle.report.proofs.AnswerLemmas.{true_if_right}
+use Rattle.report_files.specs.Files.{IsEndedAt, IsWorth, IsWorthOf, IsClaimedIn, FileIsRight, FileIsConfirmed, WorthHolds, most_report_bytes}
 use Rattle.report.specs.Held.{StandsAs}
 use Rattle.report_files.specs.Pieces.{StandsForText}
 use Rattle.report_files.proofs.PieceLemmas.{front_more}
+use Rattle.report_files.proofs.TextLemmas.{text_right}
 
 -- ---- a fault stays
 
@@ -95,6 +97,9 @@ confirms c = Ok c
 
 abbrev refuses : ℕ → Refusal → Result Confirmed ReportFault
 refuses m word = Err (AtLine m word)
+
+abbrev fails : ReportFault → Result Confirmed ReportFault
+fails fault = Err fault
 
 some_worth : (o : Option Confirmed) (c : Confirmed) → IsSomeAnd o (λ claim. confirms c ≡ Ok claim) → IsSomeAnd o (λ claim. worth.Confirmed c ≡ worth.Confirmed claim)
 some_worth None c h = absurd h
@@ -235,5 +240,22 @@ module _ (study : Question) (files : Files) (name : List ℕ) where
       let worth_is : IsWorth (answer_within most_report_bytes study c.bytes) w = subst (λ (xs : List ℕ). IsWorth (answer_within most_report_bytes study xs) w) (sym same) is_worth in
       confirmed_some (claim_of v) claim w c.right.claims (subst (λ (a : Judgement). IsWorth a w) confirmed worth_is)
 
-  pub file_holds : (result : Result Worth FileFault) → IsSize study.size → FileIsRight study files name result → FileHolds study result
-  file_holds result size right = λ claim e. let c = right claim e in right_claims study size c.bytes claim c.right
+-- ---- what is confirmed holds, of whatever bytes were read
+
+module _ (study : Question) (Stands : List ℕ → Type 0) {E : Type 0} where
+  -- what was answered of all bytes was the judge's answer
+  pub answered_holds : (answered : Result Confirmed ReportFault) (result : Result Worth E)
+      → ((claim : Confirmed) → result ≡ Ok (worth.Confirmed claim) → answered ≡ Ok claim)
+      → ((bytes : List ℕ) → Stands bytes → Concludes (answer study bytes) answered)
+      → IfOk result (λ w. (bytes : List ℕ) → IsSize study.size → Stands bytes → WorthHolds study w)
+  answered_holds answered (Ok w) claimed concludes = λ bytes size stands claim is.
+      let right : ConfirmsTrue study answered = true_if_right study bytes answered size (text_right study bytes answered (inr (concludes bytes stands))) in
+      subst (ConfirmsTrue study) (claimed claim (ap Ok is)) right
+  answered_holds answered (Err e) claimed concludes = tt
+
+  -- a refusal confirms nothing
+  pub refused_holds : (fault : ReportFault) (result : Result Worth E)
+      → ((claim : Confirmed) → result ≡ Ok (worth.Confirmed claim) → fails fault ≡ Ok claim)
+      → IfOk result (λ w. (bytes : List ℕ) → IsSize study.size → Stands bytes → WorthHolds study w)
+  refused_holds fault (Ok w) claimed = λ bytes size stands claim is. absurd (let wrong = claimed claim (ap Ok is) in cc)
+  refused_holds fault (Err e) claimed = tt

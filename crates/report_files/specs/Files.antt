@@ -69,5 +69,5 @@ FileIsConfirmed study files name result =
     IfOk result (λ w. w ≡ worth.Confirmed claim)
 
 -- what is confirmed holds: some rule satisfies all axioms, or none satisfies those of some core
-abbrev pub FileHolds : Question → Result Worth FileFault → Type 0
-FileHolds study result = (claim : Confirmed) → result ≡ Ok (worth.Confirmed claim) → ClaimHolds study claim
+abbrev pub WorthHolds : Question → Worth → Type 0
+WorthHolds study w = (claim : Confirmed) → w ≡ worth.Confirmed claim → ClaimHolds study claim

@@ -1,12 +1,13 @@
 //! Checks the report in a file.
 
-ghost use Rattle.std.specs.Prelude.{◌≡◌, ◌≤◌, List, ℕ, [], length, Option, Some, IfSome, IfOk, IsErrOf};
+ghost use Rattle.std.specs.Prelude.{◌≡◌, ◌≤◌, List, ℕ, [], length, Option, Some, IfSome, Ok, Err, IfOk, OnErr, IsErrOf};
 ghost use Rattle.edge.specs.Faults.{Rose};
 ghost use Rattle.edge.specs.Shelf.{OthersStay, NoneFell};
+ghost use Rattle.vocab.specs.Size.{IsSize};
 ghost use Rattle.verdicts.specs.Judge.{Judgement, answer_within};
 ghost use Rattle.report.specs.Answers.{Concludes};
 ghost use Rattle.report.specs.Held.{IsReady};
-ghost use Rattle.report_files.specs.Files.{HasTaken, IsEndedAt, IsWorth, IsWorthOf, FileIsRight, FileIsConfirmed, FileHolds, most_report_bytes};
+ghost use Rattle.report_files.specs.Files.{HasTaken, IsEndedAt, IsWorth, IsWorthOf, FileIsRight, FileIsConfirmed, WorthHolds, most_report_bytes};
 ghost use Rattle.report_files.specs.Pieces.{StandsForText};
 
 use crate::reader::Reader;
@@ -32,7 +33,9 @@ pub enum Worth {
 impl Worth {
     /// What a report is worth of which this is answered, unless memory was wanting.
     fn of(answer: Result<Confirmed, ReportFault>) -> Result<Worth, NoMemory>
-        ensures { IfOk result (λ worth. (a : Judgement) → Concludes a answer → IsWorth a worth) }
+        ensures worth { IfOk result (λ worth. (a : Judgement) → Concludes a answer → IsWorth a worth) }
+        ensures claimed { (claim : Confirmed) → result ≡ Ok (Worth.Confirmed claim) → answer ≡ Ok claim }
+        ensures wanting { OnErr result (answer ≡ Err ReportFault.NoMemory) }
     {
         match answer {
             Ok(claim) => Ok(Worth::Confirmed(claim)),
@@ -141,10 +144,13 @@ fn read_pieces<R: Threads + Sync, S: Shelf, K: OutcomeKind, G: Gate>(
 /// What the report is worth whose reading ended so.
 fn worth_at<K: OutcomeKind>(reader: &Reader<K>, ending: Ending) -> Result<Worth, NoMemory>
     requires lines { reader.now.checker.progress.lines ≤ 268435456 }
-    ensures { IfOk result (λ worth. (known : Option (List ℕ)) (left : Option (List ℕ)) (bytes held : List ℕ) →
+    ensures worth { IfOk result (λ worth. (known : Option (List ℕ)) (left : Option (List ℕ)) (bytes held : List ℕ) →
         IsEndedAt ending known left reader.now.checker.progress.fault bytes → known ≡ Some held →
         StandsForText reader.now.checker.subject.study.now reader.now.checker.progress reader.now.held.items bytes →
         IsWorth (answer_within most_report_bytes reader.now.checker.subject.study.now held) worth) }
+    ensures holds { IfOk result (λ worth. (bytes : List ℕ) → IsSize reader.now.checker.subject.study.now.size →
+        StandsForText reader.now.checker.subject.study.now reader.now.checker.progress reader.now.held.items bytes →
+        WorthHolds reader.now.checker.subject.study.now worth) }
 {
     match ending {
         Ending::Whole => Worth::of(reader.end()),
@@ -168,6 +174,8 @@ fn worth_of<R: Threads + Sync, S: Shelf, K: OutcomeKind, G: Gate>(
     requires ready { IsReady reader.old.checker.subject.study.now reader.old.checker.progress }
     requires unread { StandsForText reader.old.checker.subject.study.now reader.old.checker.progress reader.old.held.items [] }
     ensures worth { IfSome (S.files shelf.old) (λ files. IfOk result (IsWorthOf reader.old.checker.subject.study.now files name.now)) }
+    ensures holds { IsSize reader.old.checker.subject.study.now.size →
+        IfOk result (WorthHolds reader.old.checker.subject.study.now) }
     ensures failed { IsErrOf result FileFault.Failed → Rose (S.faults shelf.old name.now) (S.faults shelf.new name.now) }
     ensures same { S.files shelf.new ≡ S.files shelf.old }
     ensures others { OthersStay (S.left shelf.old) (S.left shelf.new) name.now }
@@ -198,7 +206,7 @@ pub fn check_file<R: Threads + Sync, S: Shelf, K: OutcomeKind, G: Gate>(
     ensures worth { IfSome (S.files shelf.old) (λ files. IfOk result (IsWorthOf study.now files name.now)) }
     ensures right { IfSome (S.files shelf.old) (λ files. FileIsRight study.now files name.now result) }
     ensures all { IfSome (S.files shelf.old) (λ files. FileIsConfirmed study.now files name.now result) }
-    ensures no_rule { IfSome (S.files shelf.old) (λ _. FileHolds study.now result) }
+    ensures holds { IfOk result (WorthHolds study.now) }
     ensures failed { IsErrOf result FileFault.Failed → Rose (S.faults shelf.old name.now) (S.faults shelf.new name.now) }
     ensures same { S.files shelf.new ≡ S.files shelf.old }
     ensures others { OthersStay (S.left shelf.old) (S.left shelf.new) name.now }

@@ -163,7 +163,7 @@ pub fn check_report<R: Threads + Sync, K: OutcomeKind, G: Gate>(
     ensures value { (result ≡ Err ReportFault.NoMemory) ⊎ Concludes (answer study.now text.now) result }
     ensures right { ConfirmsRight study.now text.now result }
     ensures all { (result ≡ Err ReportFault.NoMemory) ⊎ ConfirmsAll study.now text.now result }
-    ensures no_rule { ConfirmsTrue study.now result }
+    ensures holds { ConfirmsTrue study.now result }
 {
     // Its contract says that the size of the study is one that the bench takes.
     kinds_have_sizes(kind);

@@ -2,8 +2,8 @@ use Rattle.std.proofs.Common.{sym, subst}
 use Rattle.std.specs.Prelude.{IfOk, IfSome}
 use Rattle.vocab.specs.Size.{Extent, IsSize}
 use Rattle.vocab.specs.Study.{Question}
-use Rattle.report_files.specs.Files.{IsWorthOf}
-use Rattle.report_files.proofs.WorthLemmas.{if_some, file_right, right_file, file_holds}
+use Rattle.report_files.specs.Files.{IsWorthOf, WorthHolds}
+use Rattle.report_files.proofs.WorthLemmas.{if_some, file_right, right_file}
 use Rattle.report_files.proofs.files.check_file.Goals as goal
 
 pub returns-clause-worth : goal.returns-clause-worth
@@ -21,8 +21,9 @@ returns-clause-all g c =
     if_some (g.S.Shelf.files c.args.shelf.now) (returns-clause-worth g c) (λ files h.
     right_file c.args.study.now files c.args.name.now c.worth_of.result h)
 
-pub returns-clause-no_rule : goal.returns-clause-no_rule
-returns-clause-no_rule g c =
+pub returns-clause-holds : goal.returns-clause-holds
+returns-clause-holds g c =
     let size : IsSize c.args.study.now.size = subst (λ (n : Extent). IsSize n) (sym c.requires.size) c.kinds_have_sizes.ensures.is_size in
-    if_some (g.S.Shelf.files c.args.shelf.now) (returns-clause-right g c) (λ files h.
-    file_holds c.args.study.now files c.args.name.now c.worth_of.result size h)
+    let same = c.in_ok-reader.ensures.study in
+    subst (λ (q : Question). IfOk c.worth_of.result (WorthHolds q)) same
+    (c.worth_of.ensures.holds (subst (λ (q : Question). IsSize q.size) (sym same) size))

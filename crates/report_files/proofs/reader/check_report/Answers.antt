@@ -27,7 +27,7 @@ returns-clause-right g c = text_right c.args.study.now c.args.text.now c.end.res
 pub returns-clause-all : goal.returns-clause-all
 returns-clause-all g c = text_all c.args.study.now c.args.text.now c.end.result c.requires.room (returns-clause-value g c)
 
-pub returns-clause-no_rule : goal.returns-clause-no_rule
-returns-clause-no_rule g c =
+pub returns-clause-holds : goal.returns-clause-holds
+returns-clause-holds g c =
     let size : IsSize c.args.study.now.size = subst (λ (n : Extent). IsSize n) (sym c.requires.size) c.kinds_have_sizes.ensures.is_size in
     true_if_right c.args.study.now c.args.text.now c.end.result size (returns-clause-right g c)

@@ -12,8 +12,8 @@ returns-clause-all g c = λ lines h none.
     let few : length lines ≤ 4294967294 = subst (λ (n : ℕ). n ≤ 4294967294) h.0 c.requires.room in
     lines_all c.args.self.now.subject.study.now lines c.conclude.result few none (c.conclude.ensures.value lines h)
 
-pub returns-clause-no_rule : goal.returns-clause-no_rule
-returns-clause-no_rule g c = λ lines h.
+pub returns-clause-holds : goal.returns-clause-holds
+returns-clause-holds g c = λ lines h.
     let study = c.args.self.now.subject.study.now in
     let size : IsSize study.size = subst (λ (n : Extent). IsSize n) (sym c.args.self.now.subject.size) c.kinds_have_sizes.ensures.is_size in
     true_if_right study (ended lines) c.conclude.result size (lines_right study lines c.conclude.result (c.conclude.ensures.value lines h))

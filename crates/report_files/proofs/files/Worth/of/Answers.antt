@@ -3,9 +3,9 @@ use Rattle.report.specs.Answers.{Concludes}
 use Rattle.report_files.proofs.WorthLemmas.{concludes_ok, concludes_line}
 use Rattle.report_files.proofs.files.Worth.of.Goals as goal
 
-pub returns-in-Ok : goal.returns-in-Ok
-returns-in-Ok c = λ a h. concludes_ok a c.in-Ok.claim (subst (λ r. Concludes a r) c.in-Ok.is h)
+pub returns-in-Ok-clause-worth : goal.returns-in-Ok-clause-worth
+returns-in-Ok-clause-worth c = λ a h. concludes_ok a c.in-Ok.claim (subst (λ r. Concludes a r) c.in-Ok.is h)
 
-pub returns-in-Err-Line : goal.returns-in-Err-Line
-returns-in-Err-Line c = λ a h.
+pub returns-in-Err-Line-clause-worth : goal.returns-in-Err-Line-clause-worth
+returns-in-Err-Line-clause-worth c = λ a h.
     concludes_line a c.in-Err-Line.line c.in-Err-Line.refusal (subst (λ r. Concludes a r) (c.in-Err-Line.is ∙ ap Err c.in-Err-Line.field-0-is) h)
