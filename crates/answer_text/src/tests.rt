@@ -109,8 +109,8 @@ fn studies_are_refused(rt: HostRuntime) -> Result<(), Fail> {
 fn reports_are_judged(rt: HostRuntime) -> Result<(), Fail> {
     let alloc = rt.alloc();
     laws::lines_are_of_answers();
-    let name = Name::new(b"unanimity").ok_or("name")?;
-    let fails = Refusal::Fails { name, instance: 3 };
+    let axiom = Name::new(b"unanimity").ok_or("name")?;
+    let fails = Refusal::Fails { axiom, instance: 3 };
     let cases = [
         (
             Worth::Confirmed(Confirmed::Possible),

@@ -14,17 +14,17 @@ use vocab::Name;
 
 /// Adds `fails`, the name of an axiom and the number of an instance.
 fn pour_fails<O: Sink>(
-    name: &Name,
+    axiom: &Name,
     instance: u64,
     page: &mut Page,
     out: &mut O,
 ) -> Result<(), Failed>
     ensures { Pours (O.taken out.old) (O.taken out.new) page.old page.new
         (O.faults out.old) (O.faults out.new) result
-        (codes "fails " ++ (name.now ++ 32 ∷ number_text instance)) }
+        (codes "fails " ++ (axiom.now ++ 32 ∷ number_text instance)) }
 {
     let instance = Two(Raw(b" "), Number(instance));
-    Two(Raw(b"fails "), Two(Raw(name.bytes()), instance)).pour(page, out)
+    Two(Raw(b"fails "), Two(Raw(axiom.bytes()), instance)).pour(page, out)
 }
 
 /// The word of a refusal; after `fails` come the name of the axiom and the number of the instance.
@@ -43,7 +43,7 @@ impl Text for RefusalWord<'_> {
             Refusal::Undecided => page.put(out, b"undecided"),
             Refusal::Core => page.put(out, b"core"),
             Refusal::Row => page.put(out, b"row"),
-            Refusal::Fails { name, instance } => pour_fails(name, *instance, page, out),
+            Refusal::Fails { axiom, instance } => pour_fails(axiom, *instance, page, out),
             Refusal::NotInCore => page.put(out, b"not_in_core"),
             Refusal::Later => page.put(out, b"later"),
             Refusal::NotForced => page.put(out, b"not_forced"),

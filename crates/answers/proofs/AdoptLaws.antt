@@ -8,7 +8,7 @@ use Rattle.verdicts.specs.declared.verdicts.Verdict.TheVariants.{Impossible}
 use Rattle.study.proofs.WholeStudies.{studies_whole}
 use Rattle.words.specs.Words.{Proof, Adopt, request_of}
 use Rattle.answers.specs.declared.runs.Run.{Run}
-use Rattle.answers.specs.Held.{most_proof_bytes, Holds}
+use Rattle.answers.specs.FileLimits.{most_proof_bytes, Holds}
 use Rattle.answers.specs.Studies.{GivesStudy}
 use Rattle.answers.specs.Grounding.{fault_of, OverClauses, clauses_refused, clauses_made}
 use Rattle.answers.specs.Evidence.{by_verdict}

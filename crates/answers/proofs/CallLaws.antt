@@ -11,7 +11,7 @@ use Rattle.clause_text.specs.ReadDimacs.{Formula}
 use Rattle.samples.specs.Sample.{IsSampleStudy}
 use Rattle.words.specs.Words.{Request, Decide, Check, Export, Proof, Lrat, Axioms, Sample, Adopt, request_of}
 use Rattle.answers.specs.declared.runs.Run.{Run}
-use Rattle.answers.specs.Held.{most_report_bytes}
+use Rattle.answers.specs.FileLimits.{most_report_bytes}
 use Rattle.verdicts.specs.declared.verdicts.Verdict.{Verdict}
 use Rattle.samples.proofs.Samples.{samples_once}
 use Rattle.answers.specs.Studies.{GivesStudy, OverStudy}

@@ -20,7 +20,7 @@ use Rattle.clause_text.specs.ReadDimacs.{Formula}
 use Rattle.clause_text.specs.ReadLrat.{read_lrat}
 use Rattle.search_logs.specs.Spent.{all_places}
 use Rattle.answers.specs.declared.runs.Run.{Run}
-use Rattle.answers.specs.Held.{most_proof_bytes}
+use Rattle.answers.specs.FileLimits.{most_proof_bytes}
 use Rattle.answers.specs.Studies.{GivesStudy}
 use Rattle.verdicts.specs.Claims.{IsRuleFor, HasNoRule}
 use Rattle.answers.specs.Grounding.{all_clauses}

@@ -13,7 +13,7 @@ use Rattle.clause_text.specs.ReadLrat.{read_lrat}
 use Rattle.words.specs.Words.{Request, Export, Proof, Lrat, request_of}
 use Rattle.answers.specs.declared.runs.Run.{Run}
 use Rattle.answers.specs.Runs.{IsBare}
-use Rattle.answers.specs.Held.{most_proof_bytes, Holds}
+use Rattle.answers.specs.FileLimits.{most_proof_bytes, Holds}
 use Rattle.answers.specs.Studies.{GivesStudy}
 use Rattle.answers.specs.Grounding.{all_clauses, fault_of, OverClauses, clauses_refused, clauses_made}
 use Rattle.answers.specs.Export.{export_text, exported_formula, IsWritten, IsExported}

@@ -17,7 +17,7 @@ use Rattle.verdicts.specs.Words.{answer_text}
 use Rattle.words.specs.Words.{Request, Decide, Check, Export, Proof, Lrat, Axioms, Sample, Adopt, request_of}
 use Rattle.answers.specs.declared.runs.Run.{Run}
 use Rattle.answers.specs.Runs.{with_status}
-use Rattle.answers.specs.Held.{most_report_bytes}
+use Rattle.answers.specs.FileLimits.{most_report_bytes}
 use Rattle.answers.specs.Studies.{GivesStudy, RefusesStudy, OverStudy, study_refused, study_given}
 use Rattle.answers.specs.Grounding.{fault_of, OverClauses, clauses_refused, clauses_made}
 use Rattle.answers.specs.Lrat.{GivesFormula, IsConfirmedBy, formula_refused, proof_judged}

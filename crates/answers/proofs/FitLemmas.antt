@@ -8,7 +8,7 @@ use Rattle.verdicts.specs.Laws.{IsReportable}
 use Rattle.verdicts.proofs.ClaimLaws.{within_limit}
 use Rattle.verdicts.proofs.LineEndLaws.{lemmas_fit}
 use Rattle.verdicts.proofs.ReportLaws.{right_is_confirmed}
-use Rattle.answers.specs.Held.{most_report_bytes}
+use Rattle.answers.specs.FileLimits.{most_report_bytes}
 use Rattle.answers.specs.Check.{judgement}
 
 module _ (study : Question) (text : List ℕ) where

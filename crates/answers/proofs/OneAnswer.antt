@@ -7,7 +7,7 @@ use Rattle.verdicts.specs.Words.{answer_text}
 use Rattle.words.specs.Words.{Request, Decide, Check, Export, Proof, Lrat, Axioms, Sample, Adopt, request_of}
 use Rattle.answers.specs.declared.runs.Run.{Run}
 use Rattle.answers.specs.Runs.{IsBare}
-use Rattle.answers.specs.Held.{Holds, HoldsTooMany, most_study_bytes, most_cnf_bytes}
+use Rattle.answers.specs.FileLimits.{Holds, HoldsTooMany, most_study_bytes, most_cnf_bytes}
 use Rattle.answers.specs.StudyLines.{study_line}
 use Rattle.answers.specs.Studies.{RefusesStudy, too_long, no_study, OverStudy, study_refused, study_given}
 use Rattle.answers.specs.Check.{IsJudged, judgement, status_of}

@@ -14,7 +14,7 @@ use Rattle.study.proofs.StudyKinds.{kinds_known}
 use Rattle.study.proofs.WholeStudies.{studies_whole}
 use Rattle.words.specs.Words.{Check}
 use Rattle.answers.specs.declared.runs.Run.{Run}
-use Rattle.answers.specs.Held.{most_report_bytes}
+use Rattle.answers.specs.FileLimits.{most_report_bytes}
 use Rattle.answers.specs.Studies.{GivesStudy}
 use Rattle.answers.specs.Check.{IsJudged, judgement, status_of}
 use Rattle.verdicts.specs.Claims.{Claims}

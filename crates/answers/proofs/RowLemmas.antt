@@ -8,7 +8,7 @@ use Rattle.study.proofs.OneAnswer.{studies_once}
 use Rattle.clause_text.specs.ReadDimacs.{Formula, read_dimacs}
 use Rattle.words.specs.Words.{Request, request_of}
 use Rattle.answers.specs.declared.runs.Run.{Run}
-use Rattle.answers.specs.Held.{most_study_bytes, Holds}
+use Rattle.answers.specs.FileLimits.{most_study_bytes, Holds}
 use Rattle.answers.specs.Studies.{GivesStudy, RefusesStudy, too_long, no_study, OverStudy, study_refused, study_given}
 use Rattle.answers.specs.Runs.{IsBare}
 use Rattle.answers.specs.Grounding.{OverClauses, clauses_refused, clauses_made}

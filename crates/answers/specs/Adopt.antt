@@ -16,7 +16,7 @@ use Rattle.verdicts.specs.declared.verdicts.Verdict.TheVariants.{Impossible}
 use Rattle.verdicts.specs.Report.{report_text}
 use Rattle.answers.specs.declared.runs.Run.{Run}
 use Rattle.answers.specs.Runs.{IsBare}
-use Rattle.answers.specs.Held.{most_proof_bytes}
+use Rattle.answers.specs.FileLimits.{most_proof_bytes}
 use Rattle.answers.specs.Studies.{OverStudy}
 use Rattle.answers.specs.Grounding.{all_clauses, OverClauses}
 use Rattle.answers.specs.Export.{exported_formula}

@@ -13,7 +13,7 @@ use Rattle.verdicts.specs.Report.{IsReport, IsConfirmed}
 use Rattle.verdicts.specs.Words.{answer_text}
 use Rattle.words.specs.Words.{Request, Decide, Check, Export, Proof, Lrat, Axioms, Sample, Adopt, request_of}
 use Rattle.answers.specs.declared.runs.Run.{Run}
-use Rattle.answers.specs.Held.{most_report_bytes, most_proof_bytes, Holds}
+use Rattle.answers.specs.FileLimits.{most_report_bytes, most_proof_bytes, Holds}
 use Rattle.clause_text.specs.ReadDimacs.{Formula}
 use Rattle.samples.specs.Sample.{IsSampleStudy}
 use Rattle.answers.specs.Studies.{GivesStudy, RefusesStudy}

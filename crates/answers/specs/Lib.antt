@@ -1,6 +1,6 @@
 -- In reading order.
 pub mod Runs
-pub mod Held
+pub mod FileLimits
 pub mod StudyLines
 pub mod Studies
 pub mod Grounding

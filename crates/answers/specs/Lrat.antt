@@ -14,7 +14,7 @@ use Rattle.clause_text.specs.ReadDimacs.{Formula, read_dimacs}
 use Rattle.clause_text.specs.ReadLrat.{read_lrat}
 use Rattle.answers.specs.declared.runs.Run.{Run}
 use Rattle.answers.specs.Runs.{IsBare}
-use Rattle.answers.specs.Held.{most_cnf_bytes, most_proof_bytes, Holds, HoldsTooMany}
+use Rattle.answers.specs.FileLimits.{most_cnf_bytes, most_proof_bytes, Holds, HoldsTooMany}
 
 -- ---- the clauses
 

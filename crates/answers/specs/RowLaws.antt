@@ -28,7 +28,7 @@ use Rattle.search_logs.specs.declared.logs.SearchLog.{SearchLog}
 use Rattle.search_logs.specs.Spent.{has_place, all_places, IsWithout, HaveEvidence, AreSpentLogs}
 use Rattle.answers.specs.declared.runs.Run.{Run}
 use Rattle.answers.specs.Runs.{IsBare}
-use Rattle.answers.specs.Held.{most_report_bytes, most_proof_bytes, Holds}
+use Rattle.answers.specs.FileLimits.{most_report_bytes, most_proof_bytes, Holds}
 use Rattle.answers.specs.Studies.{GivesStudy}
 use Rattle.verdicts.specs.Claims.{IsRuleFor, HasNoRule, Claims}
 use Rattle.answers.specs.Grounding.{all_clauses, fault_of}

@@ -6,7 +6,7 @@ use Rattle.study.specs.declared.faults.StudyFault.{StudyFault}
 use Rattle.study.specs.Reading.{IsStudyOf}
 use Rattle.answers.specs.declared.runs.Run.{Run}
 use Rattle.answers.specs.Runs.{IsBare}
-use Rattle.answers.specs.Held.{most_study_bytes, Holds, HoldsTooMany}
+use Rattle.answers.specs.FileLimits.{most_study_bytes, Holds, HoldsTooMany}
 use Rattle.answers.specs.StudyLines.{study_line}
 
 -- the file gives this study

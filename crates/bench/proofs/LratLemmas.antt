@@ -14,7 +14,7 @@ use Rattle.clause_text.specs.ReadDimacs.{Formula, read_dimacs}
 use Rattle.clause_text.specs.ReadLrat.{read_lrat}
 use Rattle.words.specs.Words.{Lrat}
 use Rattle.answers.specs.declared.runs.Run.{Run}
-use Rattle.answers.specs.Held.{most_cnf_bytes, most_proof_bytes}
+use Rattle.answers.specs.FileLimits.{most_cnf_bytes, most_proof_bytes}
 use Rattle.answers.specs.Lrat.{GivesFormula, RefusesFormula, too_long, no_formula, cnf_line, IsConfirmedBy, formula_refused, proof_judged, of_reading, said_of, refused, reading_text}
 use Rattle.answers.specs.Call.{AreFiles, are_told, none_read}
 use Rattle.bench.specs.declared.answer.Answer.{Answer}

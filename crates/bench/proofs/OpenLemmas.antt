@@ -7,7 +7,7 @@ use Rattle.study.specs.Reading.{IsStudyOf}
 use Rattle.study.proofs.StudyKinds.{kinds_known}
 use Rattle.study.proofs.WholeStudies.{studies_whole}
 use Rattle.verdicts.specs.Laws.{IsReportable}
-use Rattle.answers.specs.Held.{most_study_bytes}
+use Rattle.answers.specs.FileLimits.{most_study_bytes}
 use Rattle.answers.specs.StudyLines.{study_line}
 use Rattle.answers.specs.Studies.{RefusesStudy, too_long, no_study}
 use Rattle.bench.specs.Opened.{IsRead}

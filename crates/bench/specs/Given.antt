@@ -4,7 +4,7 @@ use Rattle.edge.specs.Shelf.{Files}
 use Rattle.clause_text.specs.declared.cnf_reading.Formulas.{Formulas}
 use Rattle.clause_text.specs.ReadDimacs.{Formula, read_dimacs}
 use Rattle.answers.specs.declared.runs.Run.{Run}
-use Rattle.answers.specs.Held.{most_cnf_bytes}
+use Rattle.answers.specs.FileLimits.{most_cnf_bytes}
 use Rattle.answers.specs.Lrat.{RefusesFormula, Said, said_of}
 use Rattle.answers.specs.Runs.{IsBare}
 use Rattle.bench.specs.declared.answer.Answer.{Answer}

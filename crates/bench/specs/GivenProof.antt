@@ -9,7 +9,7 @@ use Rattle.lrat_check.specs.Ranges.{has_next}
 use Rattle.clause_text.specs.ReadDimacs.{Formula}
 use Rattle.clause_text.specs.ReadLrat.{read_lrat}
 use Rattle.answers.specs.declared.runs.Run.{Run}
-use Rattle.answers.specs.Held.{most_proof_bytes}
+use Rattle.answers.specs.FileLimits.{most_proof_bytes}
 use Rattle.answers.specs.Lrat.{said_of}
 use Rattle.answers.specs.Runs.{IsBare}
 use Rattle.bench.specs.declared.answer.Answer.{Answer}

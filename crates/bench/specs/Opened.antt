@@ -3,7 +3,7 @@ use Rattle.std.specs.Prelude.{◌≡◌, ℕ, ◌≤◌, List, length, Option, S
 use Rattle.edge.specs.Shelf.{Files}
 use Rattle.vocab.specs.Study.{Question}
 use Rattle.study.specs.Reading.{IsStudyOf}
-use Rattle.answers.specs.Held.{most_study_bytes}
+use Rattle.answers.specs.FileLimits.{most_study_bytes}
 use Rattle.answers.specs.Runs.{IsBare}
 use Rattle.answers.specs.Studies.{RefusesStudy}
 use Rattle.bench.specs.declared.answer.Answer.{Answer}

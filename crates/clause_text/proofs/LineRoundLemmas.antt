@@ -20,7 +20,7 @@ use Rattle.clause_text.specs.Words.{is_comment, words_of, number_up_to, Token}
 use Rattle.clause_text.specs.Dimacs.{literal_text, clause_text}
 use Rattle.clause_text.specs.Lrat.{hints_text, step_text, lrat_text}
 use Rattle.clause_text.specs.ReadLrat.{most_id, id_of, hint_of, hints_of, after_token, literals_of, added, adding, dropping, ids_of, told, before_rest, steps_of, read_lrat}
-use Rattle.clause_text.specs.Held.{saying}
+use Rattle.clause_text.specs.Left.{saying}
 use Rattle.clause_text.specs.Laws.{is_id, adds_in_range, placed_from}
 use Rattle.clause_text.proofs.WordLemmas.{is_end, said_first}
 use Rattle.clause_text.proofs.RoundLemmas.{and_left, and_right, both, some_bytes, number_plain, number_some, literal_some, literal_plain, split_off, one_word, plain_line, clause_front, clause_line, number_again, literal_token, end_token, digits_say}

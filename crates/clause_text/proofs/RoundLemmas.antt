@@ -16,7 +16,7 @@ use Rattle.clause_text.specs.declared.faults.CnfFault.TheVariants as fault
 use Rattle.clause_text.specs.Words.{Worded, is_blank, is_comment, words_of, number_up_to, Token, Ends, Says, token_of, minus_token, plain_token}
 use Rattle.clause_text.specs.Dimacs.{literal_text, clause_text, dimacs_text}
 use Rattle.clause_text.specs.ReadDimacs.{header_of, placed_words, at_word, is_full_for, clauses_from, with_variables, after_header, read_lines, read_dimacs}
-use Rattle.clause_text.specs.Held.{saying}
+use Rattle.clause_text.specs.Left.{saying}
 use Rattle.clause_text.proofs.WordLemmas.{is_end, keeps, said_first, unsaid_first}
 use Rattle.clause_text.proofs.ReadingLemmas.{lt_false}
 

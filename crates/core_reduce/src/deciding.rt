@@ -13,7 +13,7 @@ ghost use Rattle.core_reduce.specs.Answers.{IsAnswer, IsReduced, IsRefutation};
 ghost use Rattle.core_reduce.specs.Reducing.{IsReducing, IsFrom};
 ghost use Rattle.vocab.specs.Size.{HasOutcomes};
 
-use crate::answers::{Answer, Finding, Reduced, Refutation, Witnesses};
+use crate::answers::{Answer, Finding, Reduced, Refutation};
 use crate::leaving::places_kept;
 use crate::needs::{Focus, focus_on};
 use crate::reduction::{Reduction, search, step};
@@ -22,7 +22,7 @@ use cdcl::Search;
 use clause_form::Ground;
 use cnf::Derivation;
 use lists::{Items, NoMemory};
-use meaning::Witness;
+use meaning::{Witness, Witnesses};
 use outcomes::{OutcomeKind, laws};
 use search_logs::{SearchLog, all_places};
 use std::alloc::Global;

@@ -1,9 +1,8 @@
 //! Work that is cut into pieces, and what comes of it.
 
-ghost use Rattle.std.specs.Prelude.{◌≡◌, ℕ, ◌<◌, IfOk, Some, length, slice_get};
+ghost use Rattle.std.specs.Prelude.{ℕ, IfOk};
 
-use lists::NoMemory;
-use std::marker::Model;
+use lists::{Items, NoMemory};
 
 /// Work that is cut into numbered pieces, each of which gives a part.
 pub trait Job: Sync {
@@ -22,32 +21,4 @@ pub trait Job: Sync {
 }
 
 /// The parts of consecutive pieces, in the order of the pieces.
-#[derive(Drop)]
-pub struct Parts<T> {
-    pub(crate) items: Vec<T>,
-}
-
-impl<T> Model for Parts<T> {
-    ghost use Rattle.std.specs.Prelude.{List};
-
-    ghost Value = { List T };
-
-    ghost view = { λ parts. parts.items.items };
-}
-
-impl<T> Parts<T> {
-    /// The number of parts.
-    pub fn len(&self) -> usize
-        ensures { result ≡ length self.now }
-    {
-        self.items.len()
-    }
-
-    /// The part at a place, from 0.
-    pub fn get(&self, place: usize) -> &T
-        requires { place < length self.now }
-        ensures { slice_get self.now place ≡ Some result.now }
-    {
-        &self.items[place]
-    }
-}
+pub type Parts<T> = Items<T>;

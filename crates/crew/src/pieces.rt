@@ -88,6 +88,6 @@ pub fn map_pieces<R: Threads + Sync, J: Job, G: Gate>(
     ensures len { IfOk result (λ parts. length parts ≡ pieces) }
     ensures right { IfOk result (λ parts. AreRight (J.is_right job.now) 0 parts) }
 {
-    let items = among(rt, alloc, job, gate, 0, pieces, workers)?;
-    Ok(Parts { items })
+    let parts = among(rt, alloc, job, gate, 0, pieces, workers)?;
+    Ok(Parts::from_vec(parts))
 }

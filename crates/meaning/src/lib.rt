@@ -8,6 +8,8 @@ mod stories;
 mod three;
 
 pub use clauses::{Counts, Origin};
-pub use cores::Witness;
-pub use stories::{Lemma, PlacedFault, Reason, StoryFault, StoryRefusal, StoryStep};
+pub use cores::{Witness, Witnesses};
+pub use stories::{
+    Lemma, Literals, PlacedFault, Reason, Steps, StoryFault, StoryRefusal, StoryStep,
+};
 pub use three::Three;

@@ -19,11 +19,17 @@ pub struct StoryStep {
     pub reason: Reason,
 }
 
+/// Literals, in order.
+pub type Literals = Items<Literal>;
+
+/// The steps of a lemma, in order.
+pub type Steps = Items<StoryStep>;
+
 /// A lemma: what it supposes, what follows, and why that cannot be.
 #[derive(Drop)]
 pub struct Lemma {
-    pub suppose: Items<Literal>,
-    pub steps: Items<StoryStep>,
+    pub suppose: Literals,
+    pub steps: Steps,
     pub last: Reason,
 }
 

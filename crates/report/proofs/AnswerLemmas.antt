@@ -19,7 +19,7 @@ use Rattle.report.specs.declared.faults.ReportFault.{ReportFault}
 use Rattle.report.specs.declared.faults.ReportFault.TheVariants.{Line as AtLine}
 use Rattle.report.specs.declared.progress.Progress.{Progress}
 use Rattle.report.specs.Answers.{Concludes, ConfirmsRight, ConfirmsAll, ConfirmsTrue}
-use Rattle.report.specs.Held.{StandsAs, StandsFor}
+use Rattle.report.specs.Stands.{StandsAs, StandsFor}
 
 -- ---- what is answered of a report
 

@@ -23,7 +23,7 @@ use Rattle.verdicts.specs.Judge.{after_witness, after_row}
 use Rattle.report_lines.specs.declared.places.Place.TheVariants as place
 use Rattle.report_lines.specs.Held.{held_place}
 use Rattle.report.specs.declared.readings.Reading.{Reading}
-use Rattle.report.specs.Held.{Stands}
+use Rattle.report.specs.Stands.{Stands}
 use Rattle.report.specs.Taken.{Takes, TakesTable}
 
 up_more : (a n : ℕ) → up_from a (suc n) ≡ up_from a n ++ (a + n) ∷ []

@@ -1,4 +1,4 @@
 -- In reading order.
-pub mod Held
+pub mod Stands
 pub mod Taken
 pub mod Answers

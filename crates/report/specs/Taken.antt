@@ -10,7 +10,7 @@ use Rattle.verdicts.specs.Judge.{after_row, advance, read_line}
 use Rattle.report_lines.specs.declared.lines.Line.{Line as HeldLine}
 use Rattle.report_lines.specs.Held.{held_line}
 use Rattle.report.specs.declared.readings.Reading.{Reading}
-use Rattle.report.specs.Held.{Stands}
+use Rattle.report.specs.Stands.{Stands}
 
 -- the fault of the line is answered, and where it has none its part is held with what was held
 abbrev pub Took : Question → Standing → Line → Reading → Option Refusal → Type 0

@@ -7,7 +7,7 @@ ghost use Rattle.verdicts.specs.Judge.{judge, conclude, at_end, has_no_end, ende
 ghost use Rattle.verdicts.specs.Places.{Place as WantedPlace, AtNothing};
 ghost use Rattle.report_lines.specs.Held.{held_place};
 ghost use Rattle.report.specs.Answers.{told_of, Concludes, ConfirmsRight, ConfirmsAll, ConfirmsTrue};
-ghost use Rattle.report.specs.Held.{StandsFor, IsReady};
+ghost use Rattle.report.specs.Stands.{StandsFor, IsReady};
 
 use crate::faults::ReportFault;
 use crate::progress::Progress;

@@ -7,7 +7,7 @@ ghost use Rattle.verdicts.specs.Lines.{CoreIs, LemmasAre, Heading};
 ghost use Rattle.verdicts.specs.Places.{Standing};
 ghost use Rattle.verdicts.specs.Faults.{places_of, is_core};
 ghost use Rattle.report_lines.specs.Held.{held_number};
-ghost use Rattle.report.specs.Held.{Stands};
+ghost use Rattle.report.specs.Stands.{Stands};
 ghost use Rattle.report.specs.Taken.{Took, Takes};
 
 use crate::readings::Reading;

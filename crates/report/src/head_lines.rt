@@ -9,7 +9,7 @@ ghost use Rattle.verdicts.specs.Places.{Place as WantedPlace, Standing};
 ghost use Rattle.verdicts.specs.Faults.{unless_so, same_kind};
 ghost use Rattle.verdicts.specs.Judge.{after_end};
 ghost use Rattle.report_lines.specs.Held.{held_number, held_place};
-ghost use Rattle.report.specs.Held.{Stands};
+ghost use Rattle.report.specs.Stands.{Stands};
 ghost use Rattle.report.specs.Taken.{Took};
 
 use crate::readings::Reading;

@@ -16,5 +16,6 @@ mod witness_lines;
 pub use checker::Checker;
 pub use faults::ReportFault;
 pub use progress::Progress;
+pub use report_text::print;
 pub use subject::Subject;
 pub use verdicts::{Confirmed, Refusal, Verdict};

@@ -2,14 +2,14 @@
 
 ghost use Rattle.std.specs.Prelude.{◌≡◌, IfOk};
 ghost use Rattle.verdicts.specs.Places.{start};
-ghost use Rattle.report.specs.Held.{Stands};
+ghost use Rattle.report.specs.Stands.{Stands};
 
 use crate::subject::Subject;
 use lists::{Items, NoMemory};
-use meaning::Lemma;
+use meaning::{Lemma, Literals};
 use outcomes::OutcomeKind;
 use report_lines::Place;
-use vocab::{Literal, Places, Table};
+use vocab::{Places, Table};
 use worlds::Board;
 
 /// What the lines so far have given: the place in the grammar; the outcomes of the table that is being read; the core; how
@@ -22,7 +22,7 @@ pub(crate) struct Reading {
     pub(crate) core: Places,
     pub(crate) count: u64,
     pub(crate) earlier: Items<Lemma>,
-    pub(crate) suppose: Items<Literal>,
+    pub(crate) suppose: Literals,
     pub(crate) board: Board,
     pub(crate) witnesses: usize,
 }

@@ -9,7 +9,7 @@ ghost use Rattle.verdicts.specs.Judge.{after_lemma};
 ghost use Rattle.verdicts.specs.Lines.{Suppose, So, Clash};
 ghost use Rattle.verdicts.specs.Places.{Standing, AtStep, AtSuppose};
 ghost use Rattle.report_lines.specs.Held.{held_reason};
-ghost use Rattle.report.specs.Held.{Stands, IsRead};
+ghost use Rattle.report.specs.Stands.{Stands, IsRead};
 ghost use Rattle.report.specs.Taken.{Takes, IsInStory};
 
 use crate::readings::Reading;

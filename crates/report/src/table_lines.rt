@@ -10,7 +10,7 @@ ghost use Rattle.verdicts.specs.Lines.{Row};
 ghost use Rattle.verdicts.specs.Places.{Standing, AtWitnessRow};
 ghost use Rattle.verdicts.specs.Faults.{table_fault};
 ghost use Rattle.report_lines.specs.Held.{held_place};
-ghost use Rattle.report.specs.Held.{Stands};
+ghost use Rattle.report.specs.Stands.{Stands};
 ghost use Rattle.report.specs.Taken.{Takes, TakesTable};
 
 use crate::readings::Reading;

@@ -5,7 +5,7 @@ ghost use Rattle.verdicts.specs.Lines.{Line as WantedLine};
 ghost use Rattle.verdicts.specs.Places.{Standing};
 ghost use Rattle.verdicts.specs.Judge.{read_line, settle, Good};
 ghost use Rattle.report_lines.specs.Held.{held_line};
-ghost use Rattle.report.specs.Held.{Stands, IsRead, StandsAs};
+ghost use Rattle.report.specs.Stands.{Stands, IsRead, StandsAs};
 ghost use Rattle.report.specs.declared.faults.ReportFault.TheVariants.{Line as AtLine};
 ghost use Rattle.report.specs.Taken.{Takes, IsLine};
 

@@ -8,7 +8,7 @@ ghost use Rattle.verdicts.specs.Places.{Standing, AtWitness};
 ghost use Rattle.verdicts.specs.Faults.{next_core, name_fault, unless_so};
 ghost use Rattle.verdicts.specs.Judge.{after_witness};
 ghost use Rattle.report_lines.specs.Held.{held_number};
-ghost use Rattle.report.specs.Held.{Stands, IsRead};
+ghost use Rattle.report.specs.Stands.{Stands, IsRead};
 ghost use Rattle.report.specs.Taken.{Took};
 
 use crate::readings::Reading;

@@ -9,7 +9,7 @@ use Rattle.verdicts.specs.Judge.{Told, Good, Refused, read_line, settle, judge, 
 use Rattle.verdicts.proofs.StepLaws.{told_more, judge_snoc}
 use Rattle.report.specs.declared.progress.Progress.{Progress}
 use Rattle.verdicts.specs.Judge.{has_no_end}
-use Rattle.report.specs.Held.{StandsAs, StandsFor}
+use Rattle.report.specs.Stands.{StandsAs, StandsFor}
 use Rattle.report_files.specs.Pieces.{head_of, StandsForText}
 use Rattle.report_files.proofs.PieceLemmas.{take_more, front_ended, final_ended, front_going, final_going, pieces_count}
 

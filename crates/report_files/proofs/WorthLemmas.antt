@@ -30,7 +30,7 @@ use Rattle.report.specs.declared.progress.Progress.{Progress}
 use Rattle.report.specs.Answers.{Concludes, ConfirmsTrue}
 use Rattle.report.proofs.AnswerLemmas.{true_if_right}
 use Rattle.report_files.specs.Files.{IsEndedAt, IsWorth, IsWorthOf, IsClaimedIn, FileIsRight, FileIsConfirmed, WorthHolds, most_report_bytes}
-use Rattle.report.specs.Held.{StandsAs}
+use Rattle.report.specs.Stands.{StandsAs}
 use Rattle.report_files.specs.Pieces.{StandsForText}
 use Rattle.report_files.proofs.PieceLemmas.{front_more}
 use Rattle.report_files.proofs.TextLemmas.{text_right}

@@ -3,7 +3,7 @@ use Rattle.std.specs.Prelude.{◌≡◌, ℕ, List, take}
 use Rattle.vocab.specs.Study.{Question}
 use Rattle.verdicts.specs.Judge.{pieces, front, final}
 use Rattle.report.specs.declared.progress.Progress.{Progress}
-use Rattle.report.specs.Held.{StandsFor}
+use Rattle.report.specs.Stands.{StandsFor}
 
 -- enough of a line to tell that it is too long
 abbrev pub head_of : List ℕ → List ℕ

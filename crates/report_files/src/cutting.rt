@@ -2,7 +2,7 @@
 
 ghost use Rattle.std.specs.Prelude.{◌≡◌, true, MatchOption};
 ghost use Rattle.verdicts.specs.Judge.{has_no_end};
-ghost use Rattle.report_files.specs.Cutting.{IsWordCut, IsFirstEnd};
+ghost use Rattle.report_files.specs.Cutting.{IsLineCut, IsFirstEnd};
 
 /// The place of the first line end.
 fn first_end(text: &[u8]) -> Option<usize>
@@ -17,8 +17,8 @@ fn first_end(text: &[u8]) -> Option<usize>
 }
 
 /// What stands before the first line end, and what follows that line end.
-pub(crate) fn cut_word(text: &[u8]) -> Option<(&[u8], &[u8])>
-    ensures { IsWordCut text.now result }
+pub(crate) fn cut_line(text: &[u8]) -> Option<(&[u8], &[u8])>
+    ensures { IsLineCut text.now result }
 {
     let end = first_end(text)?;
     Some((&text[..end], &text[end + 1..]))

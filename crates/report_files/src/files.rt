@@ -6,7 +6,7 @@ ghost use Rattle.edge.specs.Shelf.{OthersStay, NoneFell};
 ghost use Rattle.vocab.specs.Size.{IsSize};
 ghost use Rattle.verdicts.specs.Judge.{Judgement, answer_within};
 ghost use Rattle.report.specs.Answers.{Concludes};
-ghost use Rattle.report.specs.Held.{IsReady};
+ghost use Rattle.report.specs.Stands.{IsReady};
 ghost use Rattle.report_files.specs.Files.{HasTaken, IsEndedAt, IsWorth, IsWorthOf, FileIsRight, FileIsConfirmed, WorthHolds, most_report_bytes};
 ghost use Rattle.report_files.specs.Pieces.{StandsForText};
 

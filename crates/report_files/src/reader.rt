@@ -3,10 +3,10 @@
 ghost use Rattle.std.specs.Prelude.{◌≡◌, ◌≢◌, ◌+◌, ◌≤◌, ◌<◌, List, ℕ, [], ◌∷◌, ◌++◌, length, is_some, Err, IfOk, OnOk, ◌⊎◌};
 ghost use Rattle.verdicts.specs.Judge.{answer};
 ghost use Rattle.report.specs.Answers.{Concludes, ConfirmsRight, ConfirmsAll, ConfirmsTrue};
-ghost use Rattle.report.specs.Held.{StandsFor, IsReady};
+ghost use Rattle.report.specs.Stands.{StandsFor, IsReady};
 ghost use Rattle.report_files.specs.Pieces.{head_of, StandsForText};
 
-use crate::cutting::cut_word;
+use crate::cutting::cut_line;
 use edge::Gate;
 use lists::NoMemory;
 use outcomes::OutcomeKind;
@@ -112,7 +112,7 @@ impl<'a, K: OutcomeKind> Reader<'a, K> {
             StandsForText self.old.checker.subject.study.now self.new.checker.progress self.new.held.items (text ++ bytes.now)) }
     {
         let mut rest = bytes;
-        while let Some((line, after)) = cut_word(rest) {
+        while let Some((line, after)) = cut_line(rest) {
             self.end_line(rt, gate, line)?;
             rest = after;
         }

@@ -69,17 +69,17 @@ module _ {B : Type 0} (h : Line → B) (text : List ℕ) where
 
 -- ---- the kind
 
-abbrev pub kind_of : List ℕ → Option Line
-kind_of word = option_map KindIs (read_kind word)
+abbrev pub kind_line : List ℕ → Option Line
+kind_line word = option_map KindIs (read_kind word)
 
 module _ {B : Type 0} (h : Line → B) (word : List ℕ) where
-  pub is_choice : bytes_eq word (codes "choice") ≡ true → Some (h (KindIs Choice)) ≡ option_map h (kind_of word)
-  is_choice e = ap (λ w. option_map h (kind_of w)) (sym ((bytes_eq-Decides word (codes "choice")).0 e))
+  pub is_choice : bytes_eq word (codes "choice") ≡ true → Some (h (KindIs Choice)) ≡ option_map h (kind_line word)
+  is_choice e = ap (λ w. option_map h (kind_line w)) (sym ((bytes_eq-Decides word (codes "choice")).0 e))
 
-  pub is_ranking : bytes_eq word (codes "ranking") ≡ true → Some (h (KindIs Ranking)) ≡ option_map h (kind_of word)
-  is_ranking e = ap (λ w. option_map h (kind_of w)) (sym ((bytes_eq-Decides word (codes "ranking")).0 e))
+  pub is_ranking : bytes_eq word (codes "ranking") ≡ true → Some (h (KindIs Ranking)) ≡ option_map h (kind_line word)
+  is_ranking e = ap (λ w. option_map h (kind_line w)) (sym ((bytes_eq-Decides word (codes "ranking")).0 e))
 
-  pub is_no_kind : bytes_eq word (codes "choice") ≡ false → bytes_eq word (codes "ranking") ≡ false → None ≡ option_map h (kind_of word)
+  pub is_no_kind : bytes_eq word (codes "choice") ≡ false → bytes_eq word (codes "ranking") ≡ false → None ≡ option_map h (kind_line word)
   is_no_kind a b = ap (λ o. option_map h (option_map KindIs o)) (sym (named_nothing kind_text (Choice ∷ Ranking ∷ []) word each))
     where
       each : (k : Kind) → IsIn (Choice ∷ Ranking ∷ []) k → word ≢ kind_text k

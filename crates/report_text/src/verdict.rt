@@ -15,7 +15,7 @@ use crate::rules::{Rows, pour_witnesses};
 use crate::words::Subject;
 use edge::{Failed, Sink};
 use lists::Items;
-use meaning::{Lemma, Witness};
+use meaning::{Lemma, Witnesses};
 use outcomes::OutcomeKind;
 use texts::{Page, Raw, Text, Two};
 use verdicts::Verdict;
@@ -27,7 +27,7 @@ fn pour_impossible<'a, K: OutcomeKind, O: Sink>(
     study: &'a Study,
     core: &'a Places,
     story: &'a Items<Lemma>,
-    witnesses: &Items<Witness>,
+    witnesses: &Witnesses,
     page: &mut Page,
     out: &mut O,
 ) -> Result<(), Failed>

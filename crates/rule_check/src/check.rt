@@ -73,7 +73,10 @@ pub fn check_rule<R: Threads + Sync, K: OutcomeKind, G: Gate>(
         let axiom = axioms.get(*place as usize);
         if let Some(instance) = axiom_failure(alloc, crew, kind, table, axiom)? {
             let name = axiom.name();
-            return Ok(Some(Refusal::Fails { name, instance }));
+            return Ok(Some(Refusal::Fails {
+                axiom: name,
+                instance,
+            }));
         }
     }
     Ok(None)

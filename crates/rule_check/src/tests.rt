@@ -97,9 +97,9 @@ fn fault<R: Threads + Sync, G: Gate>(
 
 /// The axiom `first` at its least false instance, where the first variable is profile 30.
 fn first_fails() -> Result<Refusal, Fail> {
-    let name = Name::new(b"first").ok_or("name")?;
+    let axiom = Name::new(b"first").ok_or("name")?;
     Ok(Refusal::Fails {
-        name,
+        axiom,
         instance: 30 * 216,
     })
 }

@@ -15,7 +15,7 @@ pub enum Refusal {
     Undecided,
     Core,
     Row,
-    Fails { name: Name, instance: u64 },
+    Fails { axiom: Name, instance: u64 },
     NotInCore,
     Later,
     NotForced,

@@ -1,7 +1,7 @@
 //! Verdicts on a study, and what is confirmed of them.
 
 use lists::Items;
-use meaning::{Lemma, Witness};
+use meaning::{Lemma, Witnesses};
 use vocab::{Places, Table};
 
 /// What a report says of a study: a rule that satisfies its axioms; a core of axioms, by their places, with a story
@@ -12,7 +12,7 @@ pub enum Verdict {
     Impossible {
         core: Places,
         story: Items<Lemma>,
-        witnesses: Items<Witness>,
+        witnesses: Witnesses,
     },
     Undecided,
 }

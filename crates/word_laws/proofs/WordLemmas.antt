@@ -2,7 +2,7 @@
 use Rattle.std.proofs.Common.{◌≡◌, refl, [], ◌∷◌, ◌++◌, codes, Some, option_map}
 use Rattle.clap.specs.Words.{Text}
 use Rattle.clap.proofs.OnLiterals.{clap_on_literals}
-use Rattle.words.specs.Values.{number_within, kind_of}
+use Rattle.words.specs.Values.{number_within, kind_named}
 use Rattle.words.specs.Words.{Decide, Check, Export, Proof, Lrat, Axioms, Sample, Adopt, request_of}
 use Rattle.word_laws.specs.Laws.{IsPlain, PlainWords, WorkersWords}
 
@@ -21,7 +21,7 @@ unfolding clap_on_literals request_of
 proof_read [] e = refl
 proof_read (c ∷ cs) e = rw (e, e) refl
 
-axioms_read : (word : Text) → IsPlain word → request_of (codes "axioms" ∷ word ∷ []) ≡ option_map Axioms (kind_of word)
+axioms_read : (word : Text) → IsPlain word → request_of (codes "axioms" ∷ word ∷ []) ≡ option_map Axioms (kind_named word)
 unfolding clap_on_literals request_of
 axioms_read [] e = refl
 axioms_read (c ∷ cs) e = rw (e, e) refl

@@ -1,7 +1,7 @@
 -- Which words are which request, where it can be told at a glance.
 use Rattle.std.specs.Prelude.{◌≡◌, ◌==◌, Bool, false, [], ◌∷◌, ◌++◌, codes, None, Some, option_map}
 use Rattle.clap.specs.Words.{Text}
-use Rattle.words.specs.Values.{number_within, kind_of}
+use Rattle.words.specs.Values.{number_within, kind_named}
 use Rattle.words.specs.Words.{Decide, Check, Export, Proof, Lrat, Axioms, Sample, Adopt, request_of}
 
 abbrev pub begins_with_hyphen : Text → Bool
@@ -18,7 +18,7 @@ pub record PlainWords : Type 0 where
   pub export : (study : Text) → IsPlain study → request_of (codes "export" ∷ study ∷ []) ≡ Some (Export study 1)
   pub proof : (study : Text) → IsPlain study → request_of (codes "proof" ∷ study ∷ []) ≡ Some (Proof study 1)
   pub lrat : (cnf proof : Text) → IsPlain cnf → IsPlain proof → request_of (codes "lrat" ∷ cnf ∷ proof ∷ []) ≡ Some (Lrat cnf proof)
-  pub axioms : (kind : Text) → IsPlain kind → request_of (codes "axioms" ∷ kind ∷ []) ≡ option_map Axioms (kind_of kind)
+  pub axioms : (kind : Text) → IsPlain kind → request_of (codes "axioms" ∷ kind ∷ []) ≡ option_map Axioms (kind_named kind)
   pub sample : (number : Text) → IsPlain number
       → request_of (codes "sample" ∷ number ∷ []) ≡ option_map Sample (number_within 0 4294967295 number)
   pub adopt : (study proof : Text) → IsPlain study → IsPlain proof → request_of (codes "adopt" ∷ study ∷ proof ∷ []) ≡ Some (Adopt study proof 1)

@@ -2,7 +2,7 @@
 
 ghost use Rattle.std.specs.Prelude.{◌≡◌, ℕ, IfOk, IfSome, option_map};
 ghost use Rattle.clap.specs.Words.{Text, first_of, found_of, rows_of, subcommand_rows_of};
-ghost use Rattle.words.specs.Values.{kind_of, number_within, workers_in, kind_in, number_in};
+ghost use Rattle.words.specs.Values.{kind_named, number_within, workers_in, kind_in, number_in};
 ghost use Rattle.words.specs.Words.{Request, Decide, Check, Export, Proof, Axioms, Sample, HasWorkers};
 ghost use Rattle.words.specs.Words.{texts, asked, over_study, check_in, lrat_in, adopt_in, request_under, request_in, request_of};
 
@@ -16,8 +16,8 @@ use std::alloc::Global;
 use vocab::Kind;
 
 /// The kind that a word names.
-fn kind_of(word: &str) -> Option<Kind>
-    ensures { result ≡ kind_of word.now }
+fn kind_named(word: &str) -> Option<Kind>
+    ensures { result ≡ kind_named word.now }
 {
     match word {
         "choice" => Some(Kind::Choice),
@@ -51,7 +51,7 @@ fn workers_in(matches: &ArgMatches<'_>) -> Option<u8>
 fn kind_in(matches: &ArgMatches<'_>) -> Option<Kind>
     ensures { result ≡ kind_in (rows_of (found_of matches.now)) }
 {
-    kind_of(value_at(matches, "kind")?)
+    kind_named(value_at(matches, "kind")?)
 }
 
 /// A number of 32 bits.

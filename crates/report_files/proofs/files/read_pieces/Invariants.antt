@@ -1,6 +1,6 @@
 use Rattle.std.proofs.Common.{◌≡◌, ◌≤◌, List, ℕ, length}
 use Rattle.report_files.specs.Files.{HasTaken}
-use Rattle.report.specs.Held.{IsReady}
+use Rattle.report.specs.Stands.{IsReady}
 use Rattle.report_files.proofs.FileLemmas.{HasReadSoFar}
 use Rattle.report_files.proofs.files.read_pieces.Given as goal
 

@@ -1,6 +1,6 @@
 use Rattle.std.proofs.Common.{refl, sym, ◌∙◌, subst, ◌+◌}
 use Rattle.verdicts.specs.Judge.{read_line, settle, Good}
-use Rattle.report.specs.Held.{StandsAs}
+use Rattle.report.specs.Stands.{StandsAs}
 use Rattle.report.proofs.CheckerLemmas.{next_number, line_of, unread, taken}
 use Rattle.report.proofs.readings.Reading.judge.Goals as goal
 

@@ -1,5 +1,5 @@
 use Rattle.std.proofs.Common.{ℕ, List, [], ◌∷◌, ◌++◌, ◌∙◌}
-use Rattle.report.specs.Held.{StandsFor}
+use Rattle.report.specs.Stands.{StandsFor}
 use Rattle.report_files.proofs.ReaderLemmas.{end_stands}
 use Rattle.report_files.proofs.reader.Reader.end_line.Goals as goal
 

@@ -1,5 +1,5 @@
 use Rattle.std.proofs.Common.{◌≡◌, refl, sym, ap, ◌∙◌, subst, ℕ, ◌+◌, ◌≤◌, List, [], ◌∷◌, ◌++◌, length, arith, append-nil}
-use Rattle.report.specs.Held.{StandsFor}
+use Rattle.report.specs.Stands.{StandsFor}
 use Rattle.report_files.specs.Pieces.{head_of, StandsForText}
 use Rattle.report_files.proofs.ReaderLemmas.{piece_line, piece_rest, cut_more, cut_shorter, length_head, on_ok}
 use Rattle.report_files.proofs.reader.Reader.piece.Goals as goal

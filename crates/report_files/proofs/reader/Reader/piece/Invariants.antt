@@ -1,5 +1,5 @@
 use Rattle.std.proofs.Common.{◌≡◌, ℕ, ◌+◌, ◌≤◌, List, ◌++◌, length}
-use Rattle.report.specs.Held.{IsReady}
+use Rattle.report.specs.Stands.{IsReady}
 use Rattle.report_files.specs.Pieces.{StandsForText}
 use Rattle.report_files.proofs.reader.Reader.piece.Given as goal
 
