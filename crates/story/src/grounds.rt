@@ -9,14 +9,14 @@ use meaning::Lemma;
 use outcomes::OutcomeKind;
 use vocab::{Places, Study};
 
-/// A study and the kind of its rules, a core of its axioms, and the lemmas that may be cited.
+/// A study and the kind of its rules, a core of its axioms, and lemmas: those that may be cited, or a whole story.
 #[derive(Drop)]
 pub(crate) struct Grounds<'a, K: OutcomeKind> {
     pub kind: &'a K,
     pub study: &'a Study,
     pub core: &'a Places,
-    pub earlier: &'a [Lemma],
+    pub lemmas: &'a [Lemma],
     ghost size: { study.now.size ≡ K.size kind.now },
     ghost places: { IsTrue (has_places study.now.axioms core.now) },
-    ghost literals: { IsTrue (list_all (has_literals (K.size kind.now)) earlier.now) },
+    ghost literals: { IsTrue (list_all (has_literals (K.size kind.now)) lemmas.now) },
 }

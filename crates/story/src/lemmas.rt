@@ -44,7 +44,7 @@ pub fn check_lemma<K: OutcomeKind>(
         kind,
         study,
         core,
-        earlier,
+        lemmas: earlier,
     };
     let answer = check_lines(&grounds, final_one, board, lemma);
     board.clear();
@@ -63,7 +63,7 @@ fn check_lines<K: OutcomeKind>(
     requires literals { IsTrue (has_literals (K.size grounds.now.kind.now) lemma.now) }
     requires short { IsTrue (is_short lemma.now) }
     ensures fault { Answers result (lemma_fault (K.size grounds.now.kind.now) grounds.now.study.now.axioms
-        grounds.now.core.now grounds.now.earlier.now final_one lemma.now) }
+        grounds.now.core.now grounds.now.lemmas.now final_one lemma.now) }
     ensures size { board.new.size ≡ board.old.size }
 {
     suppose_all(final_one, board, lemma.suppose.as_slice())?;
@@ -101,7 +101,7 @@ fn take_steps<K: OutcomeKind>(
     requires literals { IsTrue (has_literals (K.size grounds.now.kind.now) lemma.now) }
     requires short { IsTrue (is_short lemma.now) }
     ensures fault { Answers result (steps_fault (K.size grounds.now.kind.now) grounds.now.study.now.axioms
-        grounds.now.core.now grounds.now.earlier.now lemma.now.last (length lemma.now.suppose + 1)
+        grounds.now.core.now grounds.now.lemmas.now lemma.now.last (length lemma.now.suppose + 1)
         lemma.now.suppose lemma.now.steps) }
     ensures size { board.new.size ≡ board.old.size }
 {
@@ -112,7 +112,7 @@ fn take_steps<K: OutcomeKind>(
             grounds.kind,
             grounds.study,
             grounds.core,
-            grounds.earlier,
+            grounds.lemmas,
             board,
             step,
         ) {
@@ -125,7 +125,7 @@ fn take_steps<K: OutcomeKind>(
         grounds.kind,
         grounds.study,
         grounds.core,
-        grounds.earlier,
+        grounds.lemmas,
         board,
         &lemma.last,
     ) {

@@ -65,7 +65,7 @@ pub fn take_step<K: OutcomeKind>(
         kind,
         study,
         core,
-        earlier,
+        lemmas: earlier,
     };
     force(&grounds, board, step)?;
     board.add(&step.literal);
@@ -82,7 +82,7 @@ fn force<K: OutcomeKind>(
     requires literal { IsTrue (is_literal (K.size grounds.now.kind.now) step.now.literal) }
     requires fresh { IsFalse (is_decided board.old.literals step.now.literal) }
     ensures fault { Answers result (reason_fault (K.size grounds.now.kind.now) grounds.now.study.now.axioms
-        grounds.now.core.now grounds.now.earlier.now
+        grounds.now.core.now grounds.now.lemmas.now
         (board.old.literals ++ opposite_of step.now.literal ∷ []) step.now.reason) }
     ensures size { board.new.size ≡ board.old.size }
     ensures literals { board.new.literals ≡ board.old.literals }
@@ -93,7 +93,7 @@ fn force<K: OutcomeKind>(
         grounds.kind,
         grounds.study,
         grounds.core,
-        grounds.earlier,
+        grounds.lemmas,
         board,
         &step.reason,
     );

@@ -46,7 +46,7 @@ pub fn refutes<K: OutcomeKind>(
         kind,
         study,
         core,
-        earlier,
+        lemmas: earlier,
     };
     match reason {
         Reason::Axiom(place, values) => by_axiom(&grounds, board, *place, values),
@@ -71,7 +71,7 @@ fn by_axiom<K: OutcomeKind>(
 ) -> Result<(), StoryFault>
     requires { board.now.size ≡ K.size grounds.now.kind.now }
     ensures { Answers result (reason_fault (K.size grounds.now.kind.now) grounds.now.study.now.axioms
-        grounds.now.core.now grounds.now.earlier.now board.now.literals (Reason.Axiom place values.now)) }
+        grounds.now.core.now grounds.now.lemmas.now board.now.literals (Reason.Axiom place values.now)) }
 {
     if !is_in(grounds.core, place) {
         return Err(StoryFault::NotInCore);

@@ -48,7 +48,7 @@ pub fn check_story<K: OutcomeKind>(
         kind,
         study,
         core,
-        earlier: story.as_slice(),
+        lemmas: story.as_slice(),
     };
     match Board::new(alloc, kind) {
         Ok(mut board) => check_lemmas(&grounds, &mut board),
@@ -60,12 +60,12 @@ pub fn check_story<K: OutcomeKind>(
 fn check_lemmas<K: OutcomeKind>(grounds: &Grounds<K>, board: &mut Board) -> Result<(), StoryRefusal>
     requires board { board.old.size ≡ K.size grounds.now.kind.now }
     requires cleared { board.old.literals ≡ [] }
-    requires short { IsTrue (list_all is_short grounds.now.earlier.now) }
-    requires few { length grounds.now.earlier.now ≤ 4294967295 }
+    requires short { IsTrue (list_all is_short grounds.now.lemmas.now) }
+    requires few { length grounds.now.lemmas.now ≤ 4294967295 }
     ensures { Answers result (story_refusal (K.size grounds.now.kind.now) grounds.now.study.now.axioms
-        grounds.now.core.now grounds.now.earlier.now) }
+        grounds.now.core.now grounds.now.lemmas.now) }
 {
-    let story = grounds.earlier;
+    let story = grounds.lemmas;
     if story.is_empty() {
         return Err(StoryRefusal::Empty);
     }
@@ -88,16 +88,16 @@ fn check_next<K: OutcomeKind>(
 ) -> Result<(), StoryRefusal>
     requires board { board.old.size ≡ K.size grounds.now.kind.now }
     requires cleared { board.old.literals ≡ [] }
-    requires short { IsTrue (list_all is_short grounds.now.earlier.now) }
-    requires few { length grounds.now.earlier.now ≤ 4294967295 }
-    requires place { place < length grounds.now.earlier.now }
-    ensures fault { (lemma : Lemma) → slice_get grounds.now.earlier.now place ≡ Some lemma →
+    requires short { IsTrue (list_all is_short grounds.now.lemmas.now) }
+    requires few { length grounds.now.lemmas.now ≤ 4294967295 }
+    requires place { place < length grounds.now.lemmas.now }
+    ensures fault { (lemma : Lemma) → slice_get grounds.now.lemmas.now place ≡ Some lemma →
         Answers result (next_refusal (K.size grounds.now.kind.now) grounds.now.study.now.axioms
-        grounds.now.core.now (take place grounds.now.earlier.now) final_one lemma) }
+        grounds.now.core.now (take place grounds.now.lemmas.now) final_one lemma) }
     ensures size { board.new.size ≡ board.old.size }
     ensures cleared { board.new.literals ≡ [] }
 {
-    let story = grounds.earlier;
+    let story = grounds.lemmas;
     let earlier = &story[..place];
     match check_lemma(
         grounds.kind,

@@ -7,6 +7,6 @@ abbrev pub invariant-loop-step : goal.invariant-loop-step
 invariant-loop-step g l = record {
   size : l.board.size ≡ l.fn.board.size;
   place : l.place ≡ length l.lemma.suppose + 1 + l.step-index;
-  rest : steps_fault (g.K.OutcomeKind.size l.grounds.kind.now) l.grounds.study.now.axioms l.grounds.core.now l.grounds.earlier.now l.lemma.last (length l.lemma.suppose + 1) l.lemma.suppose l.steps
-      ≡ steps_fault (g.K.OutcomeKind.size l.grounds.kind.now) l.grounds.study.now.axioms l.grounds.core.now l.grounds.earlier.now l.lemma.last l.place l.board.literals (drop l.step-index l.steps);
+  rest : steps_fault (g.K.OutcomeKind.size l.grounds.kind.now) l.grounds.study.now.axioms l.grounds.core.now l.grounds.lemmas.now l.lemma.last (length l.lemma.suppose + 1) l.lemma.suppose l.steps
+      ≡ steps_fault (g.K.OutcomeKind.size l.grounds.kind.now) l.grounds.study.now.axioms l.grounds.core.now l.grounds.lemmas.now l.lemma.last l.place l.board.literals (drop l.step-index l.steps);
 }

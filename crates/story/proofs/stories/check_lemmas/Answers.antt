@@ -9,26 +9,26 @@ use Rattle.story.proofs.stories.check_lemmas.Goals as goal
 pub returns-in-Err : goal.returns-in-Err
 returns-in-Err g c =
     let size : Extent = g.K.OutcomeKind.size c.args.grounds.now.kind.now in
-    let lt : c.loop-place.place + 1 < length c.args.grounds.now.earlier.now = omega (arith, c.loop-place-test.true) in
-    c.loop-place.invariant.rest ∙ refused size c.args.grounds.now.study.now.axioms c.args.grounds.now.core.now c.args.grounds.now.earlier.now c.loop-place.place lt c.in-Err.refusal c.in-Err.ensures.fault
+    let lt : c.loop-place.place + 1 < length c.args.grounds.now.lemmas.now = omega (arith, c.loop-place-test.true) in
+    c.loop-place.invariant.rest ∙ refused size c.args.grounds.now.study.now.axioms c.args.grounds.now.core.now c.args.grounds.now.lemmas.now c.loop-place.place lt c.in-Err.refusal c.in-Err.ensures.fault
 
 pub loop-place-preserved : goal.loop-place-preserved
 loop-place-preserved g c =
     let size : Extent = g.K.OutcomeKind.size c.args.grounds.now.kind.now in
-    let lt : c.loop-place.place + 1 < length c.args.grounds.now.earlier.now = omega (arith, c.loop-place-test.true) in
+    let lt : c.loop-place.place + 1 < length c.args.grounds.now.lemmas.now = omega (arith, c.loop-place-test.true) in
     record {
       size = c.in-Ok.ensures.size ∙ c.loop-place.invariant.size;
       cleared = c.in-Ok.ensures.cleared;
-      rest = c.loop-place.invariant.rest ∙ followed size c.args.grounds.now.study.now.axioms c.args.grounds.now.core.now c.args.grounds.now.earlier.now c.loop-place.place lt c.in-Ok.ensures.fault;
+      rest = c.loop-place.invariant.rest ∙ followed size c.args.grounds.now.study.now.axioms c.args.grounds.now.core.now c.args.grounds.now.lemmas.now c.loop-place.place lt c.in-Ok.ensures.fault;
     }
 
 pub returns : goal.returns
 returns g c =
     let size : Extent = g.K.OutcomeKind.size c.args.grounds.now.kind.now in
-    let last : ℕ = length c.args.grounds.now.earlier.now - 1 in
-    let some : 1 ≤ length c.args.grounds.now.earlier.now = search rules in
+    let last : ℕ = length c.args.grounds.now.lemmas.now - 1 in
+    let some : 1 ≤ length c.args.grounds.now.lemmas.now = search rules in
     let here : c.loop-place.place ≡ last = omega (arith, c.loop-place-test.false, c.loop-place.auto.place-end) in
-    let done : Answers c.check_next-2.result (refusal_from size c.args.grounds.now.study.now.axioms c.args.grounds.now.core.now (take last c.args.grounds.now.earlier.now) (drop last c.args.grounds.now.earlier.now))
-    = ended size c.args.grounds.now.study.now.axioms c.args.grounds.now.core.now c.args.grounds.now.earlier.now last c.check_next-2.result (omega (arith, some)) c.check_next-2.ensures.fault in
+    let done : Answers c.check_next-2.result (refusal_from size c.args.grounds.now.study.now.axioms c.args.grounds.now.core.now (take last c.args.grounds.now.lemmas.now) (drop last c.args.grounds.now.lemmas.now))
+    = ended size c.args.grounds.now.study.now.axioms c.args.grounds.now.core.now c.args.grounds.now.lemmas.now last c.check_next-2.result (omega (arith, some)) c.check_next-2.ensures.fault in
     subst (λ (o : Option StoryRefusal). Answers c.check_next-2.result o) (sym c.loop-place.invariant.rest)
-    (subst (λ (p : ℕ). Answers c.check_next-2.result (refusal_from size c.args.grounds.now.study.now.axioms c.args.grounds.now.core.now (take p c.args.grounds.now.earlier.now) (drop p c.args.grounds.now.earlier.now))) (sym here) done)
+    (subst (λ (p : ℕ). Answers c.check_next-2.result (refusal_from size c.args.grounds.now.study.now.axioms c.args.grounds.now.core.now (take p c.args.grounds.now.lemmas.now) (drop p c.args.grounds.now.lemmas.now))) (sym here) done)

@@ -7,5 +7,5 @@ abbrev pub invariant-loop-place : goal.invariant-loop-place
 invariant-loop-place g l = record {
   size : l.board.size ≡ l.fn.board.size;
   cleared : l.board.literals ≡ [];
-  rest : story_refusal (g.K.OutcomeKind.size l.grounds.kind.now) l.grounds.study.now.axioms l.grounds.core.now l.grounds.earlier.now ≡ refusal_from (g.K.OutcomeKind.size l.grounds.kind.now) l.grounds.study.now.axioms l.grounds.core.now (take l.place l.grounds.earlier.now) (drop l.place l.grounds.earlier.now);
+  rest : story_refusal (g.K.OutcomeKind.size l.grounds.kind.now) l.grounds.study.now.axioms l.grounds.core.now l.grounds.lemmas.now ≡ refusal_from (g.K.OutcomeKind.size l.grounds.kind.now) l.grounds.study.now.axioms l.grounds.core.now (take l.place l.grounds.lemmas.now) (drop l.place l.grounds.lemmas.now);
 }

@@ -10,19 +10,19 @@ use Rattle.story.proofs.StoryLemmas.{not_refused, refused_at}
 use Rattle.story.proofs.stories.check_next.Goals as goal
 
 pub check_lemma-requires-clause-earlier : goal.check_lemma-requires-clause-earlier
-check_lemma-requires-clause-earlier g c κs within = all_first (has_literals (g.K.OutcomeKind.size c.args.grounds.now.kind.now)) c.args.grounds.now.earlier.now c.args.place c.args.grounds.now.literals
+check_lemma-requires-clause-earlier g c κs within = all_first (has_literals (g.K.OutcomeKind.size c.args.grounds.now.kind.now)) c.args.grounds.now.lemmas.now c.args.place c.args.grounds.now.literals
 
 pub returns-in-Ok-clause-fault : goal.returns-in-Ok-clause-fault
 returns-in-Ok-clause-fault g c = λ lemma at.
     let size : Extent = g.K.OutcomeKind.size c.args.grounds.now.kind.now in
-    let same : c.index-story-place.result ≡ lemma = c.index-story-place.is ∙ get_or_from_slice_get c.args.grounds.now.earlier.now c.args.place lemma c.index-story-place.result at in
-    not_refused size c.args.grounds.now.study.now.axioms c.args.grounds.now.core.now (take c.args.place c.args.grounds.now.earlier.now) c.args.final_one lemma
-    (subst (λ (l : Lemma). lemma_fault size c.args.grounds.now.study.now.axioms c.args.grounds.now.core.now (take c.args.place c.args.grounds.now.earlier.now) c.args.final_one l ≡ None) same c.in-Ok.ensures.fault)
+    let same : c.index-story-place.result ≡ lemma = c.index-story-place.is ∙ get_or_from_slice_get c.args.grounds.now.lemmas.now c.args.place lemma c.index-story-place.result at in
+    not_refused size c.args.grounds.now.study.now.axioms c.args.grounds.now.core.now (take c.args.place c.args.grounds.now.lemmas.now) c.args.final_one lemma
+    (subst (λ (l : Lemma). lemma_fault size c.args.grounds.now.study.now.axioms c.args.grounds.now.core.now (take c.args.place c.args.grounds.now.lemmas.now) c.args.final_one l ≡ None) same c.in-Ok.ensures.fault)
 
 pub returns-in-Err-clause-fault : goal.returns-in-Err-clause-fault
 returns-in-Err-clause-fault g c = λ lemma at.
     let size : Extent = g.K.OutcomeKind.size c.args.grounds.now.kind.now in
-    let same : c.index-story-place.result ≡ lemma = c.index-story-place.is ∙ get_or_from_slice_get c.args.grounds.now.earlier.now c.args.place lemma c.index-story-place.result at in
-    let within : c.args.place ≤ length c.args.grounds.now.earlier.now = omega (arith, c.requires.place) in
-    refused_at size c.args.grounds.now.study.now.axioms c.args.grounds.now.core.now (take c.args.place c.args.grounds.now.earlier.now) c.args.final_one lemma c.args.place c.in-Err.fault (length-take-le c.args.place c.args.grounds.now.earlier.now within)
-    (subst (λ (l : Lemma). lemma_fault size c.args.grounds.now.study.now.axioms c.args.grounds.now.core.now (take c.args.place c.args.grounds.now.earlier.now) c.args.final_one l ≡ Some c.in-Err.fault) same c.in-Err.ensures.fault)
+    let same : c.index-story-place.result ≡ lemma = c.index-story-place.is ∙ get_or_from_slice_get c.args.grounds.now.lemmas.now c.args.place lemma c.index-story-place.result at in
+    let within : c.args.place ≤ length c.args.grounds.now.lemmas.now = omega (arith, c.requires.place) in
+    refused_at size c.args.grounds.now.study.now.axioms c.args.grounds.now.core.now (take c.args.place c.args.grounds.now.lemmas.now) c.args.final_one lemma c.args.place c.in-Err.fault (length-take-le c.args.place c.args.grounds.now.lemmas.now within)
+    (subst (λ (l : Lemma). lemma_fault size c.args.grounds.now.study.now.axioms c.args.grounds.now.core.now (take c.args.place c.args.grounds.now.lemmas.now) c.args.final_one l ≡ Some c.in-Err.fault) same c.in-Err.ensures.fault)
