@@ -33,7 +33,7 @@ pub fn library_is_written()
     ensures { LibraryIsWritten }
 {}
 
-/// Where the study of a command is refused, no other file was opened, want of memory aside.
+/// Where the study of a command is refused, nothing of another file was read, want of memory aside.
 pub fn refused_leaves_unopened()
     ensures { RefusedLeavesUnopened }
 {}
