@@ -1,8 +1,9 @@
 -- Where no fault is counted, a call answers what was asked.
-use Rattle.std.proofs.Common.{◌≡◌, ◌∙◌, ap, ap₂, sym, subst, ℕ, ◌≤◌, ◌⊎◌, inl, inr, true, true≢false, eqb-true, List, [], ◌∷◌, length, Option, None, Some, arith, refl}
+use Rattle.std.proofs.Common.{◌≡◌, ◌≢◌, ◌∙◌, ap, ap₂, sym, subst, ℕ, ◌≤◌, ◌⊎◌, inl, inr, true, true≢false, eqb-true, List, [], ◌∷◌, length, Option, None, Some, arith, refl}
 use Rattle.std.specs.Prelude.{◌==◌, nat_le}
 use Rattle.std.specs.List.{list_all, list_any}
 use Rattle.std.proofs.lemmas.Bool.{or_cases, and_parts, cases_lt, leb-true}
+use Rattle.edge.specs.Faults.{Rose}
 use Rattle.edge.specs.Shelf.{Files}
 use Rattle.vocab.specs.declared.kinds.Kind.{Kind}
 use Rattle.vocab.specs.Study.{Question}
@@ -56,6 +57,11 @@ no_read_cause : (request : Option Request) (d : Devices) (names : List (List ℕ
 no_read_cause request d names quiet (at_first name others is rose stay) = (subst (λ (xs : List (List ℕ)). AreQuiet d xs) is quiet).0 rose
 no_read_cause request d names quiet (at_second name second is rose taken) = (subst (λ (xs : List (List ℕ)). AreQuiet d xs) is quiet).1.0 rose
 
+-- where no count rose, none of some files did
+pub all_quiet : (d : Devices) → ((name : List ℕ) → ¬ Rose (d.faults_before name) (d.faults_now name)) → (names : List (List ℕ)) → AreQuiet d names
+all_quiet d none [] = tt
+all_quiet d none (name ∷ names) = (none name, all_quiet d none names)
+
 -- ---- what a row says where nothing is refused
 
 pub given_clauses : (study : Question) (run : Run) (text : List ℕ) (P : Type 0) → fault_of study ≡ None → OverClauses study run text P → P
@@ -100,14 +106,20 @@ by_summed n study run text sample none row =
     by_decides row.0 run made.verdict made.decides
 
 module _ (words : List (List ℕ)) (d : Devices) (run : Run) (call : IsCall words d run) (calm : HasNoFault words d) where
+  no_read_fault : run.status ≢ 5
+  no_read_fault five = no_read_cause (request_of words) d (files_of (request_of words)) calm.files (call.read_fault five)
+
+  no_write_fault : run.status ≢ 6
+  no_write_fault six = calm.sink (call.write_fault six)
+
   -- the answer is lawful, or memory was wanting
   settled : (files : Files) → AreFiles d.told (files_of (request_of words)) files → ((text : List ℕ) × Lawful words files run text) ⊎ (run.status ≡ 7)
   settled files are = elim (cases_lt run.status 5) [
     | inl low ↦ let a = call.lawful files are (omega (arith, low)) in inl (a.text, a.lawful)
     | inr high ↦ elim (cases_lt run.status 6) [
-      | inl five ↦ absurd (no_read_cause (request_of words) d (files_of (request_of words)) calm.files (call.read_fault (omega (arith, five, high))))
+      | inl five ↦ absurd (no_read_fault (omega (arith, five, high)))
       | inr more ↦ elim (cases_lt run.status 7) [
-        | inl six ↦ absurd (calm.sink (call.write_fault (omega (arith, six, more))))
+        | inl six ↦ absurd (no_write_fault (omega (arith, six, more)))
         | inr most ↦ inr (let few : run.status ≤ 7 = any_below (statuses_of (request_of words)) run.status (few_statuses (request_of words)) call.status in omega (arith, most, few))
       ]
     ]
@@ -196,4 +208,6 @@ calls_complete words d run call calm = record {
   adopt = adopt_settled words d run call calm;
   axioms = axioms_settled words d run call calm;
   usage = usage_settled words d run call calm;
+  no_read_fault = no_read_fault words d run call calm;
+  no_write_fault = no_write_fault words d run call calm;
 }

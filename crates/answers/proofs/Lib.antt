@@ -6,7 +6,7 @@ pub mod ReportLaws
 mod ClauseLaws
 mod OneAnswer
 mod DeviceLaws
-mod CallLaws
+pub mod CallLaws
 pub mod LimitLemmas
 mod RangeLemmas
 mod ExportLemmas

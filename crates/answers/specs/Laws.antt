@@ -156,7 +156,7 @@ IsDecidedOrWanting run = (run.status ≡ 0) ⊎ ((run.status ≡ 4) ⊎ (run.sta
 -- over a study that is read, with clauses within the limits, `decide` and `proof` end with status 0, 4 or 7, and
 -- `export` with 0 or 7; so does `sample` over the study of its number; a confirmed report within its limit over a
 -- study that is read ends with 0 or 7, and so does an accepted proof over clauses that are read or that `adopt`
--- makes, and `axioms`; words that are no command end with 2 or 7
+-- makes, and `axioms`; words that are no command end with 2 or 7; and no call ends with 5 or 6
 pub record AreAnswered (words : List (List ℕ)) (d : Devices) (run : Run) : Type 0 where
   pub decide : (files : Files) (name : List ℕ) (workers : ℕ) (study : Question) → d.told ≡ Some files → request_of words ≡ Some (Decide name workers)
       → GivesStudy files name study → fault_of study ≡ None → IsDecidedOrWanting run
@@ -178,6 +178,8 @@ pub record AreAnswered (words : List (List ℕ)) (d : Devices) (run : Run) : Typ
       → (said_of (exported_formula study) bytes).status ≡ 0 → (run.status ≡ 0) ⊎ (run.status ≡ 7)
   pub axioms : (kind : Kind) → request_of words ≡ Some (Axioms kind) → (run.status ≡ 0) ⊎ (run.status ≡ 7)
   pub usage : request_of words ≡ None → (run.status ≡ 2) ⊎ (run.status ≡ 7)
+  pub no_read_fault : run.status ≢ 5
+  pub no_write_fault : run.status ≢ 6
 
 abbrev pub CallsAreComplete : Type 0
 CallsAreComplete =

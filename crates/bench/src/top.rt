@@ -1,5 +1,6 @@
 //! The top call: from words and files to a run and bytes.
 
+ghost use Rattle.std.specs.Prelude.{◌≢◌};
 ghost use Rattle.words.specs.Words.{texts, request_of};
 ghost use Rattle.answers.specs.Call.{IsCall};
 ghost use Rattle.bench.specs.Answered.{Answers};
@@ -12,8 +13,8 @@ use crate::export::export;
 use crate::lrat::lrat;
 use crate::proof::proof;
 use crate::sample::sample;
-use answers::Run;
-use edge::{Failed, Gate, Shelf, Sink};
+use answers::{Run, laws};
+use edge::{CalmShelf, CalmSink, Failed, Gate, Shelf, Sink};
 use std::alloc::Global;
 use std::thread::Threads;
 use texts::write_text;
@@ -100,4 +101,20 @@ pub fn bench<R: Threads + Sync, S: Shelf, K: Sink, G: Gate>(
             run
         }
     }
+}
+
+/// The status of a call over devices that never fail: neither 5 nor 6.
+pub fn calm_status<R: Threads + Sync, G: Gate>(
+    rt: &R,
+    alloc: Global,
+    words: &[String],
+    shelf: &mut CalmShelf,
+    gate: &G,
+) -> u8
+    ensures no_read_fault { result ≢ 5 }
+    ensures no_write_fault { result ≢ 6 }
+{
+    let run = bench(rt, alloc, words, shelf, &mut CalmSink::new(), gate);
+    laws::calls_are_complete();
+    run.status
 }
