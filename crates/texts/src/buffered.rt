@@ -15,8 +15,10 @@ use edge::{Failed, Sink};
 /// and then what it holds, and `flush` hands on all. What it holds when it is dropped is lost.
 #[derive(Drop)]
 pub struct Buffered<'a, K: Sink> {
-    out: &'a mut K,
-    page: Page,
+    /// The sink behind it.
+    pub out: &'a mut K,
+    /// What it holds.
+    pub page: Page,
 }
 
 impl<'a, K: Sink> Buffered<'a, K> {
