@@ -1,0 +1,67 @@
+#!/usr/bin/env bash
+# The least stack within which each command over a study answers as with 64 MB, over deep sentences: depth 63, of the 64 that are
+# read, by signs, by groups, by calls, and by 12 quantifiers with signs. The first two stand beside an axiom that contradicts
+# them, so that there is a story. Each with one worker and with two. The limit is a quarter of the 8 MB that a main thread has.
+# Prints `COMMAND K KB of 2048` for each command, the most of all sentences, and ends with status 1 where one is above.
+set -eu
+. "$(dirname -- "$(readlink -f -- "${BASH_SOURCE[0]}")")/setup.sh"
+build_program
+repeated() { # PIECE TIMES
+    local i
+    for ((i = 0; i < $2; i++)); do printf '%s' "$1"; done
+}
+study() { # NAME AXIOMS SENTENCE
+    cat >"$work/$1.toml" <<TOML
+kind = "choice"
+voters = 2
+alternatives = 2
+conflicts = 100
+axioms = [$2]
+
+[sentences]
+deep = "$3"
+other = "all p: profile. wins(@b, p)"
+TOML
+}
+study signs '"deep", "other"' "all p: profile. $(repeated '!' 60)wins(@a, p)"
+study groups '"deep", "other"' "all p: profile. $(repeated '(' 60)wins(@a, p)$(repeated ' & wins(@a, p))' 60)"
+study calls '"deep"' "all x: alt. $(repeated 'swap(x, x, ' 60)x$(repeated ')' 60) = x"
+quantified='all p: profile. '
+for i in 1 2 3 4 5; do quantified+="all x$i: alt. some y$i: alt. "; done
+study quantifiers '"deep"' "${quantified}some z: alt. $(repeated '!' 48)(wins(x1, p) | z = y5)"
+for name in signs groups calls quantifiers; do
+    "$program" decide "$work/$name.toml" >"$work/$name.report"
+    "$program" proof "$work/$name.toml" >"$work/$name.lrat"
+done
+answers() { # KB, WORDS: what is written within so much stack, and the status
+    (ulimit -s "$1" && shift && "$program" "$@" 2>/dev/null; echo "status $?") || true
+}
+least() { # WORDS: the least stack by halving, to 16 KB
+    local low=0 high=65536 middle wanted
+    wanted=$(answers "$high" "$@")
+    case $wanted in *"status 0") ;; *) echo "$* does not end with status 0" >&2; exit 1 ;; esac
+    while [ $((high - low)) -gt 16 ]; do
+        middle=$(((low + high) / 2))
+        if [ "$(answers "$middle" "$@")" = "$wanted" ]; then high=$middle; else low=$middle; fi
+    done
+    echo "$high"
+}
+status=0
+for command in decide check export proof adopt; do
+    most=0
+    for name in signs groups calls quantifiers; do
+        words=("$command" "$work/$name.toml")
+        case $command-$name in
+            check-*) words+=("$work/$name.report") ;;
+            adopt-calls | adopt-quantifiers) continue ;;
+            adopt-*) words+=("$work/$name.lrat") ;;
+        esac
+        for workers in 1 2; do
+            found=$(least "${words[@]}" --workers "$workers")
+            if [ "$found" -gt "$most" ]; then most=$found; fi
+        done
+    done
+    echo "$command $most KB of 2048"
+    [ "$most" -le 2048 ] || status=1
+done
+exit $status
