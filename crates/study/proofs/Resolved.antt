@@ -7,24 +7,24 @@ use Rattle.vocab.specs.Size.{Extent}
 use Rattle.vocab.specs.Titled.{Titled}
 use Rattle.axiom_library.specs.Library.{Entry}
 use Rattle.study.specs.declared.faults.StudyFault.{StudyFault}
-use Rattle.study.specs.declared.sentences.Written.{Written}
+use Rattle.study.specs.declared.sentences.Unresolved.{Unresolved}
 use Rattle.study.specs.Refusing.{and_then}
 use Rattle.study.specs.Sentences.{AreReadAs, resolved_one, resolved_all}
-use Rattle.study.specs.Written.{worded_of, IsReadAs, IsRefused, IsFirstRefused, IsSmall, AreSmall, is_sound}
+use Rattle.study.specs.Unresolved.{worded_of, IsReadAs, IsRefused, IsFirstRefused, IsSmall, AreSmall, is_sound}
 
 -- one more text that reads
-read_more : (before : List Entry) (e : Entry) (ws : List Written) (w : Written) → AreReadAs before (map worded_of ws) → IsReadAs e (worded_of w) → AreReadAs (before ++ e ∷ []) (map worded_of (ws ++ w ∷ []))
+read_more : (before : List Entry) (e : Entry) (ws : List Unresolved) (w : Unresolved) → AreReadAs before (map worded_of ws) → IsReadAs e (worded_of w) → AreReadAs (before ++ e ∷ []) (map worded_of (ws ++ w ∷ []))
 read_more [] e [] w r one = (one.name, one.sentence, tt)
 read_more [] e (v ∷ ws) w r one = absurd r
 read_more (x ∷ before) e [] w r one = absurd r
 read_more (x ∷ before) e (v ∷ ws) w r one = (r.0, r.1, read_more before e ws w r.2 one)
 
-pub read_next : (entries : List Entry) (place : ℕ) (e : Entry) (ws : List Written) (w : Written) → place < length entries → e ≡ get_or entries place e → AreReadAs (take place entries) (map worded_of ws) → IsReadAs e (worded_of w)
+pub read_next : (entries : List Entry) (place : ℕ) (e : Entry) (ws : List Unresolved) (w : Unresolved) → place < length entries → e ≡ get_or entries place e → AreReadAs (take place entries) (map worded_of ws) → IsReadAs e (worded_of w)
     → AreReadAs (take (place + 1) entries) (map worded_of (ws ++ w ∷ []))
 read_next entries place e ws w within is r one = rw (take_more entries place e within, ← is) (read_more (take place entries) e ws w r one)
 
 -- the first that does not
-pub read_stops : (entries : List Entry) (place : ℕ) (e : Entry) (ws : List Written) (refusal : StudyFault) → place < length entries → e ≡ get_or entries place e → AreReadAs (take place entries) (map worded_of ws) → IsRefused e refusal
+pub read_stops : (entries : List Entry) (place : ℕ) (e : Entry) (ws : List Unresolved) (refusal : StudyFault) → place < length entries → e ≡ get_or entries place e → AreReadAs (take place entries) (map worded_of ws) → IsRefused e refusal
     → IsFirstRefused entries refusal
 read_stops entries place e ws refusal within is r one = record {
   name = e.name;
@@ -43,7 +43,7 @@ read_stops entries place e ws refusal within is r one = record {
 }
 
 -- the axioms of sentences, after those before
-abbrev pub resolved_after : Extent → List Titled → List Written → Result (List Titled) StudyFault
+abbrev pub resolved_after : Extent → List Titled → List Unresolved → Result (List Titled) StudyFault
 resolved_after size before [] = Ok before
 resolved_after size before (w ∷ ws) = and_then (λ a. resolved_after size (before ++ a ∷ []) ws) (resolved_one size (worded_of w))
 
@@ -58,7 +58,7 @@ one_axiom : (before : List Titled) (gather : List Titled → Result (List Titled
 one_axiom before gather found goes_on (Err f) = refl
 one_axiom before gather found goes_on (Ok a) = goes_on (before ++ a ∷ []) ∙ more_axioms before a found
 
-resolved_each : (size : Extent) (ws : List Written) (before : List Titled) → resolved_after size before ws ≡ and_then (λ axioms. Ok (before ++ axioms)) (resolved_all size (map worded_of ws))
+resolved_each : (size : Extent) (ws : List Unresolved) (before : List Titled) → resolved_after size before ws ≡ and_then (λ axioms. Ok (before ++ axioms)) (resolved_all size (map worded_of ws))
 resolved_each size [] before = rw append-nil
 resolved_each size (w ∷ ws) before = one_axiom before (λ others. resolved_after size others ws) (resolved_all size (map worded_of ws)) (resolved_each size ws) (resolved_one size (worded_of w))
 
@@ -66,14 +66,14 @@ all_axioms : (found : Result (List Titled) StudyFault) → and_then (λ axioms. 
 all_axioms (Err f) = refl
 all_axioms (Ok axioms) = refl
 
-pub resolved_every : (size : Extent) (ws : List Written) → resolved_after size [] ws ≡ resolved_all size (map worded_of ws)
+pub resolved_every : (size : Extent) (ws : List Unresolved) → resolved_after size [] ws ≡ resolved_all size (map worded_of ws)
 resolved_every size ws = resolved_each size ws [] ∙ all_axioms (resolved_all size (map worded_of ws))
 
 -- one of some small sentences is small
-pub small_at : (ws : List Written) (place : ℕ) (w : Written) → place < length ws → w ≡ get_or ws place w → AreSmall (map worded_of ws) → IsSmall (worded_of w)
+pub small_at : (ws : List Unresolved) (place : ℕ) (w : Unresolved) → place < length ws → w ≡ get_or ws place w → AreSmall (map worded_of ws) → IsSmall (worded_of w)
 small_at ws place w within is small = subst (λ x. IsSmall (worded_of x)) (sym is) (small_in ws place w within small)
   where
-    small_in : (ws : List Written) (place : ℕ) (d : Written) → place < length ws → AreSmall (map worded_of ws) → IsSmall (worded_of (get_or ws place d))
+    small_in : (ws : List Unresolved) (place : ℕ) (d : Unresolved) → place < length ws → AreSmall (map worded_of ws) → IsSmall (worded_of (get_or ws place d))
     small_in [] place d within small = absurd (omega arith)
     small_in (w ∷ ws) zero d within small = small.0
     small_in (w ∷ ws) (suc place) d within small = small_in ws place d (omega arith) small.1

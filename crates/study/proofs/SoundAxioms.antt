@@ -17,7 +17,7 @@ use Rattle.sorts.proofs.Answering.{has_shape}
 use Rattle.study.specs.declared.faults.StudyFault.TheVariants as fault
 use Rattle.study.specs.Refusing.{and_then, refused_as}
 use Rattle.study.specs.Sentences.{Worded, resolved_one, resolved_all}
-use Rattle.study.specs.Written.{IsSmall, AreSmall, is_sound}
+use Rattle.study.specs.Unresolved.{IsSmall, AreSmall, is_sound}
 use Rattle.study.proofs.Listings.{came_from, ok_once}
 use Rattle.study.proofs.StudyKinds.{known}
 

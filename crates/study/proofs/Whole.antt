@@ -26,7 +26,7 @@ use Rattle.study.specs.Listing.{have_own_names, listing_of, IsListing}
 use Rattle.study.specs.Reading.{listing_in, IsAnswer, refused, IsAnswered}
 use Rattle.study.specs.Refusing.{and_then, refused_as}
 use Rattle.study.specs.Sentences.{Worded, AreReadAs, resolved_one, resolved_all, told, most_of, count_of, refusal_of, opened, within}
-use Rattle.study.specs.Written.{AreSmall, IsFirstRefused, is_sound}
+use Rattle.study.specs.Unresolved.{AreSmall, IsFirstRefused, is_sound}
 use Rattle.study.proofs.Listings.{came_from, ok_once, listing_whole}
 
 -- what reads is small

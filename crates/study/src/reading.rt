@@ -6,19 +6,19 @@ ghost use Rattle.study.specs.Listing.{IsListing};
 ghost use Rattle.study.specs.Reading.{listing_in, IsAnswer, IsStudyOf};
 ghost use Rattle.study.specs.Refusing.{Gives};
 ghost use Rattle.study.specs.Sentences.{AreReadAs, study_of};
-ghost use Rattle.study.specs.Written.{worded_of};
+ghost use Rattle.study.specs.Unresolved.{worded_of};
 
 use crate::document::draft_of;
 use crate::faults::StudyFault;
 use crate::limits::{Limit, opened, within};
 use crate::listing::{Listing, listing_of};
-use crate::sentences::{Written, read_all, resolve_all};
+use crate::sentences::{Unresolved, read_all, resolve_all};
 use std::alloc::Global;
 use vocab::Study;
 
 /// The study of a listing whose texts are read.
 #[tactic(auto, unfolding(crate::specs::Sentences::study_of))]
-fn study_of(alloc: Global, listing: &Listing, sentences: &[Written]) -> Result<Study, StudyFault>
+fn study_of(alloc: Global, listing: &Listing, sentences: &[Unresolved]) -> Result<Study, StudyFault>
     requires whole { IsListing listing.now }
     requires read { AreReadAs listing.now.axioms (map worded_of sentences.now) }
     ensures { Gives (study_of listing.now.size listing.now.conflicts (map worded_of sentences.now)) result }

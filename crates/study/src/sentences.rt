@@ -4,7 +4,7 @@ ghost use Rattle.std.specs.Prelude.{◌≢◌, map, IsTrue, IfOk, IfErr};
 ghost use Rattle.std.specs.List.{list_all};
 ghost use Rattle.study.specs.Refusing.{Gives};
 ghost use Rattle.study.specs.Sentences.{AreReadAs, resolved_one, resolved_all};
-ghost use Rattle.study.specs.Written.{worded_of, IsReadAs, IsRefused, IsFirstRefused, IsSmall, AreSmall, is_sound};
+ghost use Rattle.study.specs.Unresolved.{worded_of, IsReadAs, IsRefused, IsFirstRefused, IsSmall, AreSmall, is_sound};
 
 use crate::entries::Entry;
 use crate::faults::StudyFault;
@@ -15,28 +15,28 @@ use std::alloc::Global;
 use syntax::{SyntaxFault, read};
 use vocab::{Axiom, Axioms, Name, Named, Size};
 
-/// A name and a sentence as it is written.
+/// A name and a sentence as it is written, before its names are resolved.
 #[derive(Drop)]
-pub(crate) struct Written {
+pub(crate) struct Unresolved {
     pub(crate) name: Name,
     pub(crate) sentence: Named,
 }
 
 /// The sentence of a text, or why it has none.
-fn read_one(alloc: Global, entry: &Entry) -> Result<Written, StudyFault>
+fn read_one(alloc: Global, entry: &Entry) -> Result<Unresolved, StudyFault>
     ensures read { IfOk result (λ w. IsReadAs entry.now (worded_of w)) }
     ensures refused { IfErr result (λ fault. fault ≢ StudyFault.NoMemory → IsRefused entry.now fault) }
 {
     let name = entry.name();
     match read(alloc, entry.text().as_slice()) {
-        Ok(sentence) => Ok(Written { name, sentence }),
+        Ok(sentence) => Ok(Unresolved { name, sentence }),
         Err(SyntaxFault::NoMemory) => Err(StudyFault::NoMemory),
         Err(fault) => Err(StudyFault::Syntax(name, fault)),
     }
 }
 
 /// The sentences of all texts, or the first text that is none.
-pub(crate) fn read_all(alloc: Global, entries: &[Entry]) -> Result<Items<Written>, StudyFault>
+pub(crate) fn read_all(alloc: Global, entries: &[Entry]) -> Result<Items<Unresolved>, StudyFault>
     ensures read { IfOk result (λ sentences. AreReadAs entries.now (map worded_of sentences)) }
     ensures refused { IfErr result (λ fault. fault ≢ StudyFault.NoMemory → IsFirstRefused entries.now fault) }
 {
@@ -51,7 +51,7 @@ pub(crate) fn read_all(alloc: Global, entries: &[Entry]) -> Result<Items<Written
 }
 
 /// An axiom of a size, or the first fault of its sentence.
-fn resolve_one(alloc: Global, space: &Space, written: &Written) -> Result<Axiom, StudyFault>
+fn resolve_one(alloc: Global, space: &Space, written: &Unresolved) -> Result<Axiom, StudyFault>
     requires { IsSmall (worded_of written.now) }
     ensures gives { Gives (resolved_one space.now (worded_of written.now)) result }
     ensures sentence { IfOk result (λ a. IsTrue (is_sound space.now a)) }
@@ -68,7 +68,7 @@ fn resolve_one(alloc: Global, space: &Space, written: &Written) -> Result<Axiom,
 pub(crate) fn resolve_all(
     alloc: Global,
     size: Size,
-    sentences: &[Written],
+    sentences: &[Unresolved],
 ) -> Result<Axioms, StudyFault>
     requires { AreSmall (map worded_of sentences.now) }
     ensures gives { Gives (resolved_all size (map worded_of sentences.now)) result }

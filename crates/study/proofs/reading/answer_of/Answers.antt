@@ -1,6 +1,6 @@
 use Rattle.std.proofs.Common.{sym, map}
 use Rattle.study.specs.Reading.{read}
-use Rattle.study.specs.Written.{worded_of}
+use Rattle.study.specs.Unresolved.{worded_of}
 use Rattle.study.proofs.Whole.{first_refused}
 use Rattle.study.proofs.reading.answer_of.Goals as goal
 

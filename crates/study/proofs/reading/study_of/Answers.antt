@@ -1,5 +1,5 @@
 use Rattle.std.proofs.Common.{sym, map}
-use Rattle.study.specs.Written.{worded_of}
+use Rattle.study.specs.Unresolved.{worded_of}
 use Rattle.study.proofs.Whole.{small_from_read, whole_study}
 use Rattle.study.proofs.reading.study_of.Goals as goal
 

@@ -1,7 +1,7 @@
 use Rattle.std.proofs.Common.{◌≡◌, drop, map, true}
 use Rattle.std.specs.List.{list_all}
 use Rattle.study.specs.Sentences.{resolved_all}
-use Rattle.study.specs.Written.{worded_of, is_sound}
+use Rattle.study.specs.Unresolved.{worded_of, is_sound}
 use Rattle.study.proofs.Resolved.{resolved_after}
 use Rattle.study.proofs.sentences.resolve_all.Given as goal
 

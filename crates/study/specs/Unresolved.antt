@@ -13,12 +13,12 @@ use Rattle.syntax.specs.Sentence.{IsSentence, IsFault}
 use Rattle.axiom_library.specs.Library.{Entry}
 use Rattle.study.specs.declared.faults.StudyFault.{StudyFault}
 use Rattle.study.specs.declared.faults.StudyFault.TheVariants as fault
-use Rattle.study.specs.declared.sentences.Written.{Written}
+use Rattle.study.specs.declared.sentences.Unresolved.{Unresolved}
 use Rattle.study.specs.Reading.{IsUnread}
 use Rattle.study.specs.Sentences.{Worded}
 
 -- a name and a sentence, without the places in memory where its parts lie
-abbrev pub worded_of : Written → Worded
+abbrev pub worded_of : Unresolved → Worded
 worded_of w = record { name = w.name; sentence = named_tree w.sentence }
 
 -- a text reads as a sentence
