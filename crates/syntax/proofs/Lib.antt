@@ -6,7 +6,6 @@ pub mod Starting
 pub mod Lexings
 pub mod Depths
 pub mod Pouring
-pub mod Digits
 pub mod Texts
 pub mod RoundTrip
 pub mod OneAnswer

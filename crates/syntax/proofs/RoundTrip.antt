@@ -1,6 +1,8 @@
 -- A tree that some text reads as is read again from its canonical text.
-use Rattle.std.proofs.Common.{◌≡◌, ℕ, ◌+◌, ◌-◌, ◌/◌, ◌%◌, ◌≤◌, ◌<◌, Bool, true, false, not, ◌&&◌, List, [], ◌∷◌, ◌++◌, length, refl, sym, subst, arith, append_assoc, append-nil, codes, nat_le, nat_lt, ◌||◌, ◌==◌}
+use Rattle.std.proofs.Common.{◌≡◌, ℕ, ◌+◌, ◌-◌, ◌/◌, ◌%◌, ◌^◌, ◌≤◌, ◌<◌, Bool, true, false, not, ◌&&◌, List, [], ◌∷◌, ◌++◌, length, refl, sym, ◌∙◌, ap, subst, ltb-true, arith, append_assoc, append-nil, codes, decimal, nat_le, nat_lt, ◌||◌, ◌==◌}
+use Rattle.std.proofs.lemmas.Bool.{ltb-false}
 use Rattle.std.proofs.lemmas.Bool.Decides.{nat_tests}
+use Rattle.std.proofs.lemmas.Fmt.{decimal_digit, decimal_step}
 use Rattle.syntax.proofs.Runs.{and_true}
 use Rattle.syntax.proofs.Starting.{le_from_test}
 use Rattle.vocab.specs.Name.{is_lower, is_digit, is_name_byte, has_name_shape}
@@ -18,7 +20,7 @@ use Rattle.syntax.specs.Grammar.{IsFree, IsTerm, IsTerms, variable, call, voter,
 use Rattle.syntax.specs.Lexemes.{IsLexed, IsSpelled, IsVoterText, IsBallotText, IsRunEnd, Lexes, no_more, blank, one_more, starts_without}
 use Rattle.syntax.specs.Sentence.{IsSentence}
 use Rattle.vocab.specs.NamedDepth.{depth, quantifiers}
-use Rattle.syntax.specs.Canonical.{decimal, term_text, more_text, text_of}
+use Rattle.syntax.specs.Canonical.{term_text, more_text, text_of}
 
 -- ---- trees of which each part has a spelling
 
@@ -203,31 +205,38 @@ regroup a m b tail = simp append_assoc
 digit_ok : (k : ℕ) → k < 10 → is_digit (48 + k) ≡ true
 digit_ok k h = let a : nat_le 48 (48 + k) ≡ true = grind (arith, nat_tests) in let b : nat_le (48 + k) 57 ≡ true = grind (arith, nat_tests) in rw (a, b) refl
 
-one_digit : (n : ℕ) → nat_lt n 10 ≡ true → IsVoterText n (decimal n)
-one_digit n t =
-    let below : n < 10 = grind (arith, nat_tests) in
-    let first = digit_ok (n % 10) (omega arith) in
-    rw t (record { each = rw first refl; some = omega arith; few = omega arith; number = omega arith })
+one_digit : (n : ℕ) → n < 10 → IsVoterText n (decimal n)
+one_digit n high =
+    let first = digit_ok n high in
+    rw (decimal_digit n high) (record { each = rw first refl; some = omega arith; few = omega arith; number = omega arith })
 
-two_digits : (n : ℕ) → nat_lt n 10 ≡ false → nat_lt n 100 ≡ true → IsVoterText n (decimal n)
-two_digits n t u =
-    let below : n < 100 = grind (arith, nat_tests) in
-    let first = digit_ok (n / 10 % 10) (omega arith) in
+two_places : (n : ℕ) → 10 ≤ n → n < 100 → decimal n ≡ (48 + n / 10) ∷ (48 + n % 10) ∷ []
+two_places n low high =
+    let fits : n < 2 ^ 64 = omega (arith, high) in
+    let front : n / 10 < 10 = omega (arith, high) in
+    decimal_step n low fits ∙ ap (λ (ds : List ℕ). ds ++ (48 + n % 10) ∷ []) (decimal_digit (n / 10) front)
+
+two_digits : (n : ℕ) → 10 ≤ n → n < 100 → IsVoterText n (decimal n)
+two_digits n low high =
+    let first = digit_ok (n / 10) (omega (arith, high)) in
     let second = digit_ok (n % 10) (omega arith) in
-    rw (t, u) (record { each = rw (first, second) refl; some = omega arith; few = omega arith; number = omega arith })
+    rw (two_places n low high) (record { each = rw (first, second) refl; some = omega arith; few = omega arith; number = omega arith })
 
-three_digits : (n : ℕ) → n < 1000 → nat_lt n 10 ≡ false → nat_lt n 100 ≡ false → IsVoterText n (decimal n)
-three_digits n h t u =
-    let v : nat_lt n 1000 ≡ true = grind (arith, nat_tests) in
-    let first = digit_ok (n / 10 / 10 % 10) (omega arith) in
+three_digits : (n : ℕ) → 100 ≤ n → n < 1000 → IsVoterText n (decimal n)
+three_digits n low high =
+    let fits : n < 2 ^ 64 = omega (arith, high) in
+    let two : 10 ≤ n = omega (arith, low) in
+    let front = two_places (n / 10) (omega (arith, low)) (omega (arith, high)) in
+    let text : decimal n ≡ (48 + n / 10 / 10) ∷ (48 + n / 10 % 10) ∷ (48 + n % 10) ∷ [] = decimal_step n two fits ∙ ap (λ (ds : List ℕ). ds ++ (48 + n % 10) ∷ []) front in
+    let first = digit_ok (n / 10 / 10) (omega (arith, high)) in
     let second = digit_ok (n / 10 % 10) (omega arith) in
     let third = digit_ok (n % 10) (omega arith) in
-    rw (t, u, v) (record { each = rw (first, second, third) refl; some = omega arith; few = omega arith; number = omega arith })
+    rw text (record { each = rw (first, second, third) refl; some = omega arith; few = omega arith; number = omega arith })
 
 decimal_at : (n : ℕ) → n < 1000 → (b c : Bool) → nat_lt n 10 ≡ b → nat_lt n 100 ≡ c → IsVoterText n (decimal n)
-decimal_at n h true c t u = one_digit n t
-decimal_at n h false true t u = two_digits n t u
-decimal_at n h false false t u = three_digits n h t u
+decimal_at n h true c t u = one_digit n (ltb-true n 10 t)
+decimal_at n h false true t u = two_digits n (ltb-false n 10 t) (ltb-true n 100 u)
+decimal_at n h false false t u = three_digits n (ltb-false n 100 u) h
 
 decimal_voter : (n : ℕ) → n < 1000 → IsVoterText n (decimal n)
 decimal_voter n h = decimal_at n h (nat_lt n 10) (nat_lt n 100) refl refl

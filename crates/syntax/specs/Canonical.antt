@@ -1,17 +1,8 @@
 -- The canonical text of a tree.
-use Rattle.std.specs.Prelude.{ℕ, zero, suc, ◌+◌, ◌/◌, ◌%◌, nat_lt, if◌then◌else◌, List, [], ◌∷◌, ◌++◌, codes}
+use Rattle.std.specs.Prelude.{◌+◌, ◌%◌, List, [], ◌∷◌, ◌++◌, codes, decimal, ℕ}
 use Rattle.vocab.specs.NamedTree as tree
 use Rattle.vocab.specs.NamedTree.{NamedTermTree, NamedTermTrees, NamedTree}
 use Rattle.syntax.specs.Grammar.{word_of_sort}
-
--- the last digits of a number, so many
-abbrev pub digits : ℕ → ℕ → List ℕ
-digits zero n = []
-digits (suc places) n = digits places (n / 10) ++ (48 + n % 10) ∷ []
-
--- a number without a leading zero, below 100,000
-abbrev pub decimal : ℕ → List ℕ
-decimal n = if nat_lt n 10 then digits 1 n else if nat_lt n 100 then digits 2 n else if nat_lt n 1000 then digits 3 n else if nat_lt n 10000 then digits 4 n else digits 5 n
 
 -- the canonical text of a term
 abbrev mutual

@@ -1,12 +1,12 @@
 //! Writing a sentence.
 
-ghost use Rattle.std.specs.Prelude.{◌≡◌, ◌++◌, codes, OnOk, OnErr};
+ghost use Rattle.std.specs.Prelude.{◌≡◌, ◌++◌, codes, decimal, OnOk, OnErr};
 ghost use Rattle.std.specs.Io.KnownBytes.{Appends};
 ghost use Rattle.edge.specs.Faults.{HasCause};
 ghost use Rattle.edge.specs.Told.{TellsAsBefore, AppendsPrefix};
 ghost use Rattle.texts.specs.Page.{Pours};
 ghost use Rattle.vocab.specs.NamedView.{named_term_tree, named_terms_tree, named_tree};
-ghost use Rattle.syntax.specs.Canonical.{decimal, term_text, list_text, text_of};
+ghost use Rattle.syntax.specs.Canonical.{term_text, list_text, text_of};
 ghost use Rattle.syntax.specs.Grammar.{word_of_sort};
 
 use edge::{Failed, Sink};
