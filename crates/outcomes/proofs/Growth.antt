@@ -6,7 +6,7 @@ use Rattle.std.proofs.lemmas.Grind.{flat_map-append}
 use Rattle.std.proofs.lemmas.List.{append_assoc, append-nil, length-append, map-append, take_all, take_more, take-append-drop}
 use Rattle.std.proofs.lemmas.List.Sums.{sum_by-append}
 use Rattle.cnf.specs.Sat.{Clause}
-use Rattle.cnf.specs.ClauseList.{ClauseList, IsWithinLimits}
+use Rattle.cnf.specs.ClauseList.{ClauseList}
 use Rattle.outcomes.specs.Frames.{with_clauses, IsFullForAll}
 
 pub with_none : (list : ClauseList) (origin : ℕ) → list ≡ with_clauses list [] origin
@@ -23,11 +23,6 @@ full_with : (list : ClauseList) (rows more whole : List Clause) (origin : ℕ) �
     IsFullForAll (with_clauses list rows origin) more → IsFullForAll list whole
 full_with list rows more whole origin few short (inl h) = inl (omega (arith, few, h, length-append list.clauses rows))
 full_with list rows more whole origin few short (inr h) = inr (omega (arith, short, h, sum_by-append length list.clauses rows))
-
--- a list that keeps its limits with some rows was not too full for them
-pub within_fits : (list : ClauseList) (rows : List Clause) (origin : ℕ) → IsWithinLimits (with_clauses list rows origin) → ¬ IsFullForAll list rows
-within_fits list rows origin h (inl more) = omega (arith, h.few_clauses, more, length-append list.clauses rows)
-within_fits list rows origin h (inr more) = omega (arith, h.few_literals, more, sum_by-append length list.clauses rows)
 
 -- the rows in front, and those of the first k items
 module _ {X : Type 0} (front : List Clause) (f : X → List Clause) (ts : List X) where
