@@ -8,4 +8,5 @@ use Rattle.answer_text.specs.Said.{worth_text}
 
 -- what is said of a report is the line of the answer that its worth stands for
 abbrev pub AreLinesOfAnswers : Type 0
-AreLinesOfAnswers = (answer : Judgement) (worth : Worth) → IsWorth answer worth → worth_text worth ≡ answer_text answer
+AreLinesOfAnswers = (answer : Judgement) (worth : Worth) → IsWorth answer worth →
+    worth_text worth ≡ answer_text answer

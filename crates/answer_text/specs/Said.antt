@@ -15,5 +15,6 @@ confirmed_text Impossible = codes "confirmed impossible\n"
 -- the line for what a report is worth
 abbrev pub worth_text : Worth → List ℕ
 worth_text (worth.Confirmed claim) = confirmed_text claim
-worth_text (worth.Faulty line word) = codes "refused line " ++ (number_text line ++ codes ": " ++ refusal_text word ++ 10 ∷ [])
+worth_text (worth.Faulty line word) =
+    codes "refused line " ++ (number_text line ++ codes ": " ++ refusal_text word ++ 10 ∷ [])
 worth_text worth.TooLong = codes "refused: too long\n"

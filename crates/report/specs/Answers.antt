@@ -25,7 +25,8 @@ ConfirmsRight study text result = IfOk result (λ claim. IsClaimed study text cl
 
 -- where the text is the report of a right verdict, its claim is confirmed
 abbrev pub ConfirmsAll : Question → List ℕ → Result Confirmed ReportFault → Type 0
-ConfirmsAll study text result = IsReportable study → (claim : Confirmed) → IsClaimed study text claim → result ≡ Ok claim
+ConfirmsAll study text result = IsReportable study → (claim : Confirmed) → IsClaimed study text claim →
+    result ≡ Ok claim
 
 -- what is confirmed holds: some rule satisfies all axioms, or none satisfies those of some core
 abbrev pub ConfirmsTrue : Question → Result Confirmed ReportFault → Type 0

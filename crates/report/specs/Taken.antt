@@ -1,6 +1,8 @@
 -- What it is to take a line that is read.
-use Rattle.std.specs.Prelude.{◌≡◌, ℕ, List, Option, None, Some, Result, IfOk}
+use Rattle.std.specs.Prelude.{◌≡◌, ℕ, nat_lt, length, List, Option, None, Some, Result, IfOk, IsTrue}
+use Rattle.std.specs.List.{list_all}
 use Rattle.lists.specs.declared.memory.NoMemory.{NoMemory}
+use Rattle.vocab.specs.Size.{Extent, outcome_count}
 use Rattle.vocab.specs.Study.{Question}
 use Rattle.verdicts.specs.declared.refusals.Refusal.{Refusal}
 use Rattle.verdicts.specs.Lines.{Line}
@@ -14,11 +16,20 @@ use Rattle.report.specs.Stands.{Stands}
 
 -- the fault of the line is answered, and where it has none its part is held with what was held
 abbrev pub Took : Question → Standing → Line → Reading → Option Refusal → Type 0
-Took study s line r fault = (fault ≡ fault_of study s line) × (fault ≡ None → Stands study r (advance study s line))
+Took study s line r fault = (fault ≡ fault_of study s line) ×
+    (fault ≡ None → Stands study r (advance study s line))
 
 -- the same, unless memory is wanting
 abbrev pub Takes : Question → Standing → Line → Reading → Result (Option Refusal) NoMemory → Type 0
 Takes study s line r result = IfOk result (Took study s line r)
+
+-- these are places of axioms
+abbrev pub ArePlaces : Question → List ℕ → Type 0
+ArePlaces study core = IsTrue (list_all (λ k. nat_lt k (length study.axioms)) core)
+
+-- these are outcomes of the size
+abbrev pub AreOutcomes : Extent → List ℕ → Type 0
+AreOutcomes size rows = IsTrue (list_all (λ o. nat_lt o (outcome_count size.kind size.alternatives)) rows)
 
 -- a lemma is being read
 abbrev pub IsInStory : Place → Type 0
@@ -29,8 +40,10 @@ IsInStory _ = ⊥
 -- the same of a table whose last row is read
 abbrev pub TakesTable : Question → Standing → Reading → Result (Option Refusal) NoMemory → Type 0
 TakesTable study s r result =
-    IfOk result (λ fault. (fault ≡ table_fault study s.rows (asked_at study s.place s)) × (fault ≡ None → Stands study r (after_row study s.place s)))
+    IfOk result (λ fault. (fault ≡ table_fault study s.rows (asked_at study s.place s)) ×
+    (fault ≡ None → Stands study r (after_row study s.place s)))
 
 -- a line of this text is what the grammar wants of a standing
 abbrev pub IsLine : Question → Standing → List ℕ → HeldLine → Type 0
-IsLine study s text line = (wanted : Line) × (read_line study s text ≡ Some wanted) × (line ≡ held_line study wanted)
+IsLine study s text line = (wanted : Line) × (read_line study s text ≡ Some wanted) ×
+    (line ≡ held_line study wanted)

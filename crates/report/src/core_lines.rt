@@ -25,8 +25,10 @@ impl Reading {
         right: bool,
         text: &[u8],
     ) -> Result<Option<Refusal>, NoMemory>
-        ensures { (s : Standing) (names : List (List ℕ)) → Stands subject.now.study.now self.old s → names ≡ drop 1 (words_of text.now) →
-            right ≡ is_core (length subject.now.study.now.axioms) (places_of subject.now.study.now.axioms names) →
+        ensures { (s : Standing) (names : List (List ℕ)) → Stands subject.now.study.now self.old s →
+            names ≡ drop 1 (words_of text.now) →
+            right ≡
+            is_core (length subject.now.study.now.axioms) (places_of subject.now.study.now.axioms names) →
             Takes subject.now.study.now s (CoreIs names) self.new result }
     {
         if !right {
@@ -39,7 +41,8 @@ impl Reading {
 
     /// Takes the number of lemmas.
     pub(crate) fn take_lemmas(&mut self, count: u64) -> Option<Refusal>
-        ensures { (study : Question) (s : Standing) (n : ℕ) → Stands study self.old s → count ≡ held_number n →
+        ensures { (study : Question) (s : Standing) (n : ℕ) → Stands study self.old s →
+            count ≡ held_number n →
             Took study s (LemmasAre n) self.new result }
     {
         self.count = count;
@@ -49,7 +52,8 @@ impl Reading {
 
     /// Takes the heading of a lemma.
     pub(crate) fn take_heading(&mut self) -> Option<Refusal>
-        ensures { (study : Question) (s : Standing) (n : ℕ) → Stands study self.old s → Took study s (Heading n) self.new result }
+        ensures { (study : Question) (s : Standing) (n : ℕ) → Stands study self.old s →
+            Took study s (Heading n) self.new result }
     {
         self.place = Place::AtSuppose;
         None

@@ -48,7 +48,8 @@ impl Reading {
 
     /// Takes the first line.
     pub(crate) fn take_title(&mut self) -> Option<Refusal>
-        ensures { (study : Question) (s : Standing) → Stands study self.old s → Took study s Title self.new result }
+        ensures { (study : Question) (s : Standing) → Stands study self.old s →
+            Took study s Title self.new result }
     {
         self.place = Place::AtKind;
         None
@@ -56,7 +57,8 @@ impl Reading {
 
     /// Takes the kind of rule.
     pub(crate) fn take_kind(&mut self, study: &Study, kind: Kind) -> Option<Refusal>
-        ensures { (s : Standing) → Stands study.now self.old s → Took study.now s (KindIs kind) self.new result }
+        ensures { (s : Standing) → Stands study.now self.old s →
+            Took study.now s (KindIs kind) self.new result }
     {
         let same = is_kind(kind, study.size().kind());
         self.pass(same, Refusal::StudyDiffers, Place::AtVoters)
@@ -83,14 +85,16 @@ impl Reading {
     /// Takes the names of the axioms, which are those of the study or not.
     pub(crate) fn take_axioms(&mut self, same: bool) -> Option<Refusal>
         ensures { (study : Question) (s : Standing) (names : List (List ℕ)) → Stands study self.old s →
-            same ≡ pointwise bytes_eq names (map (λ a. a.name) study.axioms) → Took study s (AxiomsAre names) self.new result }
+            same ≡ pointwise bytes_eq names (map (λ a. a.name) study.axioms) →
+            Took study s (AxiomsAre names) self.new result }
     {
         self.pass(same, Refusal::StudyDiffers, Place::AtVerdict)
     }
 
     /// Takes the line that some rule satisfies all axioms.
     pub(crate) fn take_possible(&mut self) -> Option<Refusal>
-        ensures { (study : Question) (s : Standing) → Stands study self.old s → Took study s SaysPossible self.new result }
+        ensures { (study : Question) (s : Standing) → Stands study self.old s →
+            Took study s SaysPossible self.new result }
     {
         self.place = Place::AtRule;
         None
@@ -98,7 +102,8 @@ impl Reading {
 
     /// Takes the line that no rule satisfies all axioms.
     pub(crate) fn take_impossible(&mut self) -> Option<Refusal>
-        ensures { (study : Question) (s : Standing) → Stands study self.old s → Took study s SaysImpossible self.new result }
+        ensures { (study : Question) (s : Standing) → Stands study self.old s →
+            Took study s SaysImpossible self.new result }
     {
         self.place = Place::AtCore;
         None
@@ -106,14 +111,16 @@ impl Reading {
 
     /// Refuses the line that nothing is claimed.
     pub(crate) fn take_undecided(&mut self) -> Option<Refusal>
-        ensures { (study : Question) (s : Standing) → Stands study self.old s → Took study s SaysUndecided self.new result }
+        ensures { (study : Question) (s : Standing) → Stands study self.old s →
+            Took study s SaysUndecided self.new result }
     {
         self.pass(false, Refusal::Undecided, Place::AtLimit)
     }
 
     /// Takes the limit of a search that found nothing, which claims nothing.
     pub(crate) fn take_limit(&mut self) -> Option<Refusal>
-        ensures { (study : Question) (s : Standing) (n : ℕ) → Stands study self.old s → Took study s (LimitIs n) self.new result }
+        ensures { (study : Question) (s : Standing) (n : ℕ) → Stands study self.old s →
+            Took study s (LimitIs n) self.new result }
     {
         self.place = Place::AtEnd(None);
         None
@@ -134,7 +141,8 @@ impl Reading {
 
     /// Takes the last line.
     pub(crate) fn take_end(&mut self) -> Option<Refusal>
-        ensures { (study : Question) (s : Standing) → Stands study self.old s → Took study s End self.new result }
+        ensures { (study : Question) (s : Standing) → Stands study self.old s →
+            Took study s End self.new result }
     {
         self.place = after_end(self.place);
         None

@@ -67,8 +67,10 @@ impl Reading {
     ) -> Result<Option<Refusal>, NoMemory>
         requires read { IsRead subject.now.study.now self.old }
         requires literal { IsTrue (is_literal subject.now.study.now.size literal.now) }
-        ensures { (s : Standing) (wanted : StoryReason) → Stands subject.now.study.now self.old s → IsInStory s.place →
-            reason.now ≡ held_reason wanted → Takes subject.now.study.now s (So literal.now wanted) self.new result }
+        ensures { (s : Standing) (wanted : StoryReason) → Stands subject.now.study.now self.old s →
+            IsInStory s.place →
+            reason.now ≡ held_reason wanted →
+            Takes subject.now.study.now s (So literal.now wanted) self.new result }
     {
         let step = StoryStep {
             literal: *literal,
@@ -96,7 +98,8 @@ impl Reading {
         reason: &Reason,
     ) -> Result<Option<Refusal>, NoMemory>
         requires read { IsRead subject.now.study.now self.old }
-        ensures { (s : Standing) (wanted : StoryReason) → Stands subject.now.study.now self.old s → IsInStory s.place →
+        ensures { (s : Standing) (wanted : StoryReason) → Stands subject.now.study.now self.old s →
+            IsInStory s.place →
             reason.now ≡ held_reason wanted → Takes subject.now.study.now s (Clash wanted) self.new result }
     {
         match refutes(
@@ -145,7 +148,8 @@ impl Reading {
 
     /// Goes to the place after a lemma: another one, or what comes after the story.
     fn after_lemma(&mut self)
-        ensures { (s : Standing) (study : Question) → Stands study self.old s → Stands study self.new (after_lemma s) }
+        ensures { (s : Standing) (study : Question) → Stands study self.old s →
+            Stands study self.new (after_lemma s) }
     {
         if self.earlier.len() as u64 == self.count {
             self.after_witness();

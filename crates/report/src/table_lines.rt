@@ -1,7 +1,6 @@
 //! Takes the rows of tables.
 
-ghost use Rattle.std.specs.Prelude.{◌≡◌, ◌≤◌, ◌<◌, ℕ, nat_lt, length, filter, not, ◌==◌, IsTrue, IfOk};
-ghost use Rattle.std.specs.List.{list_all};
+ghost use Rattle.std.specs.Prelude.{◌≡◌, ◌≤◌, ◌<◌, ℕ, length, filter, not, ◌==◌, IsTrue, IfOk};
 ghost use Rattle.vocab.specs.declared.kinds.Sort.TheVariants.{Profile};
 ghost use Rattle.vocab.specs.Size.{sort_count, outcome_count};
 ghost use Rattle.meaning.specs.Space.{below};
@@ -11,7 +10,7 @@ ghost use Rattle.verdicts.specs.Places.{Standing, AtWitnessRow};
 ghost use Rattle.verdicts.specs.Faults.{table_fault};
 ghost use Rattle.report_lines.specs.Held.{held_place};
 ghost use Rattle.report.specs.Stands.{Stands};
-ghost use Rattle.report.specs.Taken.{Takes, TakesTable};
+ghost use Rattle.report.specs.Taken.{Takes, TakesTable, ArePlaces, AreOutcomes};
 
 use crate::readings::Reading;
 use crate::subject::Subject;
@@ -59,7 +58,7 @@ fn check<R: Threads + Sync, G: Gate, K: OutcomeKind>(
     places: &[u32],
 ) -> Result<Option<Refusal>, NoMemory>
     requires rule { IsTrue (is_rule subject.now.study.now.size table.now) }
-    requires places { IsTrue (list_all (λ k. nat_lt k (length subject.now.study.now.axioms)) places.now) }
+    requires places { ArePlaces subject.now.study.now places.now }
     ensures { IfOk result (λ fault. fault ≡ table_fault subject.now.study.now table.now places.now) }
 {
     let (kind, study) = (subject.kind, subject.study);
@@ -75,12 +74,14 @@ impl Reading {
         profile: u32,
         outcome: u8,
     ) -> Result<Option<Refusal>, NoMemory>
-        requires rows { IsTrue (list_all (λ o. nat_lt o (outcome_count subject.now.study.now.size.kind subject.now.study.now.size.alternatives)) self.old.rows) }
+        requires rows { AreOutcomes subject.now.study.now.size self.old.rows }
         requires more { length self.old.rows < sort_count subject.now.study.now.size Profile }
-        requires outcome { outcome < outcome_count subject.now.study.now.size.kind subject.now.study.now.size.alternatives }
-        requires core { IsTrue (list_all (λ k. nat_lt k (length subject.now.study.now.axioms)) self.old.core) }
+        requires outcome { outcome < outcome_count subject.now.study.now.size.kind
+            subject.now.study.now.size.alternatives }
+        requires core { ArePlaces subject.now.study.now self.old.core }
         requires next { self.old.place ≡ held_place AtWitnessRow → self.old.witnesses < length self.old.core }
-        ensures { (s : Standing) → Stands subject.now.study.now self.old s → Takes subject.now.study.now s (Row profile outcome) self.new result }
+        ensures { (s : Standing) → Stands subject.now.study.now self.old s →
+            Takes subject.now.study.now s (Row profile outcome) self.new result }
     {
         if profile as usize != self.rows.len() {
             return Ok(Some(Refusal::Row));
@@ -100,9 +101,10 @@ impl Reading {
         subject: &Subject<K>,
     ) -> Result<Option<Refusal>, NoMemory>
         requires rule { IsTrue (is_rule subject.now.study.now.size self.old.rows) }
-        requires core { IsTrue (list_all (λ k. nat_lt k (length subject.now.study.now.axioms)) self.old.core) }
+        requires core { ArePlaces subject.now.study.now self.old.core }
         requires next { self.old.place ≡ held_place AtWitnessRow → self.old.witnesses < length self.old.core }
-        ensures { (s : Standing) → Stands subject.now.study.now self.old s → TakesTable subject.now.study.now s self.new result }
+        ensures { (s : Standing) → Stands subject.now.study.now self.old s →
+            TakesTable subject.now.study.now s self.new result }
     {
         match self.place {
             Place::AtWitnessRow => self.take_witness(crew, subject),
@@ -118,7 +120,8 @@ impl Reading {
     ) -> Result<Option<Refusal>, NoMemory>
         requires rule { IsTrue (is_rule subject.now.study.now.size self.old.rows) }
         requires place { self.old.place ≡ held_place AtWitnessRow → ⊥ }
-        ensures { (s : Standing) → Stands subject.now.study.now self.old s → TakesTable subject.now.study.now s self.new result }
+        ensures { (s : Standing) → Stands subject.now.study.now self.old s →
+            TakesTable subject.now.study.now s self.new result }
     {
         let places = all_places(subject.alloc, subject.study.axioms().len())?;
         let fault = check(crew, subject, &self.rows, places.as_slice())?;
@@ -135,10 +138,11 @@ impl Reading {
         subject: &Subject<K>,
     ) -> Result<Option<Refusal>, NoMemory>
         requires rule { IsTrue (is_rule subject.now.study.now.size self.old.rows) }
-        requires core { IsTrue (list_all (λ k. nat_lt k (length subject.now.study.now.axioms)) self.old.core) }
+        requires core { ArePlaces subject.now.study.now self.old.core }
         requires place { self.old.place ≡ held_place AtWitnessRow }
         requires next { self.old.witnesses < length self.old.core }
-        ensures { (s : Standing) → Stands subject.now.study.now self.old s → TakesTable subject.now.study.now s self.new result }
+        ensures { (s : Standing) → Stands subject.now.study.now self.old s →
+            TakesTable subject.now.study.now s self.new result }
     {
         let Some(next) = self.next_core() else {
             return Ok(Some(Refusal::Core));

@@ -40,7 +40,8 @@ impl Reading {
         text: &[u8],
     ) -> Option<ReportFault>
         requires read { IsRead subject.now.study.now self.old }
-        ensures { (s : Standing) → Stands subject.now.study.now self.old s → result ≢ Some ReportFault.NoMemory →
+        ensures { (s : Standing) → Stands subject.now.study.now self.old s →
+            result ≢ Some ReportFault.NoMemory →
             StandsAs subject.now.study.now result self.new
             (settle subject.now.study.now line s (read_line subject.now.study.now s text.now) Good) }
     {
@@ -67,9 +68,11 @@ impl Reading {
         text: &[u8],
     ) -> Result<Option<Refusal>, NoMemory>
         requires read { IsRead subject.now.study.now self.old }
-        requires line { (s : Standing) → Stands subject.now.study.now self.old s → IsLine subject.now.study.now s text.now line.now }
+        requires line { (s : Standing) → Stands subject.now.study.now self.old s →
+            IsLine subject.now.study.now s text.now line.now }
         ensures { (s : Standing) (wanted : WantedLine) → Stands subject.now.study.now self.old s →
-            read_line subject.now.study.now s text.now ≡ Some wanted → line.now ≡ held_line subject.now.study.now wanted →
+            read_line subject.now.study.now s text.now ≡ Some wanted →
+            line.now ≡ held_line subject.now.study.now wanted →
             Takes subject.now.study.now s wanted self.new result }
     {
         match line {

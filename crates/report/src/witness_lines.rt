@@ -32,7 +32,8 @@ impl Reading {
 
     /// Goes to the place after a witness, or after the story.
     pub(crate) fn after_witness(&mut self)
-        ensures { (s : Standing) (study : Question) → Stands study self.old s → Stands study self.new (after_witness s) }
+        ensures { (s : Standing) (study : Question) → Stands study self.old s →
+            Stands study self.new (after_witness s) }
     {
         match self.next_core() {
             Some(_) => self.place = Place::AtWitness,
@@ -48,7 +49,8 @@ impl Reading {
         count: u64,
     ) -> Option<Refusal>
         requires read { IsRead subject.now.study.now self.old }
-        ensures { (s : Standing) (n : ℕ) → Stands subject.now.study.now self.old s → s.place ≡ AtWitness → count ≡ held_number n →
+        ensures { (s : Standing) (n : ℕ) → Stands subject.now.study.now self.old s → s.place ≡ AtWitness →
+            count ≡ held_number n →
             Took subject.now.study.now s (WithRule name.now n) self.new result }
     {
         if !self.is_next(subject, name) {
@@ -69,7 +71,8 @@ impl Reading {
         limit: u64,
     ) -> Option<Refusal>
         requires read { IsRead subject.now.study.now self.old }
-        ensures { (s : Standing) (n : ℕ) → Stands subject.now.study.now self.old s → s.place ≡ AtWitness → limit ≡ held_number n →
+        ensures { (s : Standing) (n : ℕ) → Stands subject.now.study.now self.old s → s.place ≡ AtWitness →
+            limit ≡ held_number n →
             Took subject.now.study.now s (WithOpen name.now n) self.new result }
     {
         if !self.is_next(subject, name) {

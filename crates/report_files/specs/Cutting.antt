@@ -11,4 +11,5 @@ pub record IsFirstEnd (text : List ℕ) (place : ℕ) : Type 0 where
 
 -- what stands before the first line end and what follows it, or that there is none
 abbrev pub IsLineCut : List ℕ → Option (Bor (List ℕ) × Bor (List ℕ)) → Type 0
-IsLineCut text cut = MatchOption cut (has_no_end text ≡ true) (λ parts. (text ≡ parts.0.now ++ (10 ∷ parts.1.now)) × (has_no_end parts.0.now ≡ true))
+IsLineCut text cut = MatchOption cut (has_no_end text ≡ true)
+    (λ parts. (text ≡ parts.0.now ++ (10 ∷ parts.1.now)) × (has_no_end parts.0.now ≡ true))

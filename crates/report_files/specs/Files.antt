@@ -30,13 +30,18 @@ file_fault rewind.NoMemory = fault.NoMemory
 
 -- the reader took these bytes
 abbrev pub HasTaken : Question → (before now : Progress) (held_before held_now bytes : List ℕ) → Type 0
-HasTaken study p q held now bytes = (text : List ℕ) → StandsForText study p held text → StandsForText study q now (text ++ bytes)
+HasTaken study p q held now bytes = (text : List ℕ) → StandsForText study p held text →
+    StandsForText study q now (text ++ bytes)
 
 -- where the reading of a file ended: all of it was read, or as much as the limit allows, or as much as has the first faulty line
-abbrev pub IsEndedAt : Ending → (before now : Option (List ℕ)) (fault : Option ReportFault) (bytes : List ℕ) → Type 0
-IsEndedAt ending.Whole before now fault bytes = Consumes before now bytes × IsAtEnd now × (length bytes ≤ most_report_bytes)
-IsEndedAt ending.TooLong before now fault bytes = (more : List ℕ) × Consumes before now (bytes ++ more) × (0 < length more) × (length bytes ≡ most_report_bytes)
-IsEndedAt ending.Faulty before now fault bytes = Consumes before now bytes × (length bytes ≤ most_report_bytes) × IsTrue (is_some fault)
+abbrev pub IsEndedAt : Ending → (before now : Option (List ℕ)) (fault : Option ReportFault) (bytes : List ℕ)
+    → Type 0
+IsEndedAt ending.Whole before now fault bytes = Consumes before now bytes × IsAtEnd now ×
+    (length bytes ≤ most_report_bytes)
+IsEndedAt ending.TooLong before now fault bytes = (more : List ℕ) × Consumes before now (bytes ++ more) ×
+    (0 < length more) × (length bytes ≡ most_report_bytes)
+IsEndedAt ending.Faulty before now fault bytes = Consumes before now bytes ×
+    (length bytes ≤ most_report_bytes) × IsTrue (is_some fault)
 
 -- what an answer is worth
 abbrev pub IsWorth : Judgement → Worth → Type 0
@@ -46,7 +51,8 @@ IsWorth TooLong w = w ≡ worth.TooLong
 
 -- the file is held, and this is what its report is worth
 abbrev pub IsWorthOf : Question → Files → List ℕ → Worth → Type 0
-IsWorthOf study files name w = (held : List ℕ) × (files name ≡ Some held) × IsWorth (answer_within most_report_bytes study held) w
+IsWorthOf study files name w = (held : List ℕ) × (files name ≡ Some held) ×
+    IsWorth (answer_within most_report_bytes study held) w
 
 -- ---- what is confirmed of a file
 

@@ -11,4 +11,5 @@ head_of line = take 4097 line
 
 -- a reader stands for a text where its checker does for the lines that have ended, and it holds the front of what follows them
 abbrev pub StandsForText : Question → Progress → List ℕ → List ℕ → Type 0
-StandsForText study p held text = StandsFor study p (front (pieces text)) × (held ≡ head_of (final (pieces text)))
+StandsForText study p held text = StandsFor study p (front (pieces text)) ×
+    (held ≡ head_of (final (pieces text)))

@@ -115,9 +115,13 @@ fn read_pieces<R: Threads + Sync, S: Shelf, K: OutcomeKind, G: Gate>(
     requires ready { IsReady reader.old.checker.subject.study.now reader.old.checker.progress }
     ensures subject { reader.new.checker.subject ≡ reader.old.checker.subject }
     ensures lines { IfOk result (λ _. reader.new.checker.progress.lines ≤ 268435456) }
-    ensures read { IfOk result (λ ending. (bytes : List ℕ) × IsEndedAt ending (S.left shelf.old name.now) (S.left shelf.new name.now) reader.new.checker.progress.fault bytes
-        × HasTaken reader.old.checker.subject.study.now reader.old.checker.progress reader.new.checker.progress reader.old.held.items reader.new.held.items bytes) }
-    ensures failed { IsErrOf result FileFault.Failed → Rose (S.faults shelf.old name.now) (S.faults shelf.new name.now) }
+    ensures read { IfOk result (λ ending. (bytes : List ℕ) ×
+        IsEndedAt ending (S.left shelf.old name.now) (S.left shelf.new name.now)
+        reader.new.checker.progress.fault bytes ×
+        HasTaken reader.old.checker.subject.study.now reader.old.checker.progress reader.new.checker.progress
+        reader.old.held.items reader.new.held.items bytes) }
+    ensures failed { IsErrOf result FileFault.Failed →
+        Rose (S.faults shelf.old name.now) (S.faults shelf.new name.now) }
     ensures same { S.files shelf.new ≡ S.files shelf.old }
     ensures others { OthersStay (S.left shelf.old) (S.left shelf.new) name.now }
     ensures none_fell { NoneFell (S.faults shelf.old) (S.faults shelf.new) }
@@ -144,12 +148,15 @@ fn read_pieces<R: Threads + Sync, S: Shelf, K: OutcomeKind, G: Gate>(
 /// What the report is worth whose reading ended so.
 fn worth_at<K: OutcomeKind>(reader: &Reader<K>, ending: Ending) -> Result<Worth, NoMemory>
     requires lines { reader.now.checker.progress.lines ≤ 268435456 }
-    ensures worth { IfOk result (λ worth. (known : Option (List ℕ)) (left : Option (List ℕ)) (bytes held : List ℕ) →
+    ensures worth { IfOk result (λ worth. (known left : Option (List ℕ)) (bytes held : List ℕ) →
         IsEndedAt ending known left reader.now.checker.progress.fault bytes → known ≡ Some held →
-        StandsForText reader.now.checker.subject.study.now reader.now.checker.progress reader.now.held.items bytes →
+        StandsForText reader.now.checker.subject.study.now reader.now.checker.progress
+        reader.now.held.items bytes →
         IsWorth (answer_within most_report_bytes reader.now.checker.subject.study.now held) worth) }
-    ensures holds { IfOk result (λ worth. (bytes : List ℕ) → IsSize reader.now.checker.subject.study.now.size →
-        StandsForText reader.now.checker.subject.study.now reader.now.checker.progress reader.now.held.items bytes →
+    ensures holds { IfOk result (λ worth. (bytes : List ℕ) →
+        IsSize reader.now.checker.subject.study.now.size →
+        StandsForText reader.now.checker.subject.study.now reader.now.checker.progress
+        reader.now.held.items bytes →
         WorthHolds reader.now.checker.subject.study.now worth) }
 {
     match ending {
@@ -172,11 +179,14 @@ fn worth_of<R: Threads + Sync, S: Shelf, K: OutcomeKind, G: Gate>(
     requires held { length reader.old.held.items ≤ 4097 }
     requires lines { reader.old.checker.progress.lines ≡ 0 }
     requires ready { IsReady reader.old.checker.subject.study.now reader.old.checker.progress }
-    requires unread { StandsForText reader.old.checker.subject.study.now reader.old.checker.progress reader.old.held.items [] }
-    ensures worth { IfSome (S.files shelf.old) (λ files. IfOk result (IsWorthOf reader.old.checker.subject.study.now files name.now)) }
+    requires unread { StandsForText reader.old.checker.subject.study.now reader.old.checker.progress
+        reader.old.held.items [] }
+    ensures worth { IfSome (S.files shelf.old) (λ files.
+        IfOk result (IsWorthOf reader.old.checker.subject.study.now files name.now)) }
     ensures holds { IsSize reader.old.checker.subject.study.now.size →
         IfOk result (WorthHolds reader.old.checker.subject.study.now) }
-    ensures failed { IsErrOf result FileFault.Failed → Rose (S.faults shelf.old name.now) (S.faults shelf.new name.now) }
+    ensures failed { IsErrOf result FileFault.Failed →
+        Rose (S.faults shelf.old name.now) (S.faults shelf.new name.now) }
     ensures same { S.files shelf.new ≡ S.files shelf.old }
     ensures others { OthersStay (S.left shelf.old) (S.left shelf.new) name.now }
     ensures none_fell { NoneFell (S.faults shelf.old) (S.faults shelf.new) }
@@ -207,7 +217,8 @@ pub fn check_file<R: Threads + Sync, S: Shelf, K: OutcomeKind, G: Gate>(
     ensures right { IfSome (S.files shelf.old) (λ files. FileIsRight study.now files name.now result) }
     ensures all { IfSome (S.files shelf.old) (λ files. FileIsConfirmed study.now files name.now result) }
     ensures holds { IfOk result (WorthHolds study.now) }
-    ensures failed { IsErrOf result FileFault.Failed → Rose (S.faults shelf.old name.now) (S.faults shelf.new name.now) }
+    ensures failed { IsErrOf result FileFault.Failed →
+        Rose (S.faults shelf.old name.now) (S.faults shelf.new name.now) }
     ensures same { S.files shelf.new ≡ S.files shelf.old }
     ensures others { OthersStay (S.left shelf.old) (S.left shelf.new) name.now }
     ensures none_fell { NoneFell (S.faults shelf.old) (S.faults shelf.new) }

@@ -44,7 +44,8 @@ impl<'a, K: OutcomeKind> Reader<'a, K> {
         ensures workers { IfOk result (λ reader. reader.checker.subject.workers ≡ workers) }
         ensures lines { IfOk result (λ reader. reader.checker.progress.lines ≡ 0) }
         ensures held { IfOk result (λ reader. length reader.held.items ≤ 4097) }
-        ensures stands { IfOk result (λ reader. StandsForText study.now reader.checker.progress reader.held.items []) }
+        ensures stands { IfOk result (λ reader. StandsForText study.now reader.checker.progress
+            reader.held.items []) }
     {
         let checker = Checker::new(alloc, kind, study, workers)?;
         Ok(Reader {
@@ -82,7 +83,8 @@ impl<'a, K: OutcomeKind> Reader<'a, K> {
         ensures taken { OnOk result ((lines : List (List ℕ)) (rest : List ℕ) →
             StandsFor self.old.checker.subject.study.now self.old.checker.progress lines →
             self.old.held.items ≡ head_of rest →
-            StandsFor self.old.checker.subject.study.now self.new.checker.progress (lines ++ (rest ++ piece.now) ∷ [])) }
+            StandsFor self.old.checker.subject.study.now self.new.checker.progress (lines ++
+            (rest ++ piece.now) ∷ [])) }
     {
         if self.held.is_empty() {
             return self.checker.take(rt, gate, piece);
@@ -104,12 +106,15 @@ impl<'a, K: OutcomeKind> Reader<'a, K> {
         requires room { self.old.checker.progress.lines + length bytes.now < 4294967294 }
         requires ready { IsReady self.old.checker.subject.study.now self.old.checker.progress }
         ensures subject { self.new.checker.subject ≡ self.old.checker.subject }
-        ensures lines { OnOk result (self.new.checker.progress.lines ≤ self.old.checker.progress.lines + length bytes.now) }
+        ensures lines { OnOk result (self.new.checker.progress.lines ≤ self.old.checker.progress.lines +
+            length bytes.now) }
         ensures ready { OnOk result (IsReady self.old.checker.subject.study.now self.new.checker.progress) }
         ensures held { OnOk result (length self.new.held.items ≤ 4097) }
         ensures taken { OnOk result ((text : List ℕ) →
-            StandsForText self.old.checker.subject.study.now self.old.checker.progress self.old.held.items text →
-            StandsForText self.old.checker.subject.study.now self.new.checker.progress self.new.held.items (text ++ bytes.now)) }
+            StandsForText self.old.checker.subject.study.now self.old.checker.progress
+            self.old.held.items text →
+            StandsForText self.old.checker.subject.study.now self.new.checker.progress
+            self.new.held.items (text ++ bytes.now)) }
     {
         let mut rest = bytes;
         while let Some((line, after)) = cut_line(rest) {
@@ -137,7 +142,8 @@ impl<'a, K: OutcomeKind> Reader<'a, K> {
     pub fn end(&self) -> Result<Confirmed, ReportFault>
         requires room { self.now.checker.progress.lines ≤ 4294967294 }
         ensures { (text : List ℕ) →
-            StandsForText self.now.checker.subject.study.now self.now.checker.progress self.now.held.items text →
+            StandsForText self.now.checker.subject.study.now self.now.checker.progress
+            self.now.held.items text →
             Concludes (answer self.now.checker.subject.study.now text) result }
     {
         self.checker.conclude(self.held.as_slice())

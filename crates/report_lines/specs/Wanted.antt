@@ -15,18 +15,24 @@ module _ (study : Question) where
   held_wanted place.AtTitle number words = option_map (held_line study) (wanted study AtTitle number words)
   held_wanted place.AtKind number words = option_map (held_line study) (wanted study AtKind number words)
   held_wanted place.AtVoters number words = option_map (held_line study) (wanted study AtVoters number words)
-  held_wanted place.AtAlternatives number words = option_map (held_line study) (wanted study AtAlternatives number words)
+  held_wanted place.AtAlternatives number words =
+      option_map (held_line study) (wanted study AtAlternatives number words)
   held_wanted place.AtAxioms number words = option_map (held_line study) (wanted study AtAxioms number words)
-  held_wanted place.AtVerdict number words = option_map (held_line study) (wanted study AtVerdict number words)
+  held_wanted place.AtVerdict number words =
+      option_map (held_line study) (wanted study AtVerdict number words)
   held_wanted place.AtLimit number words = option_map (held_line study) (wanted study AtLimit number words)
   held_wanted place.AtRule number words = option_map (held_line study) (wanted study AtRule number words)
   held_wanted place.AtRow number words = option_map (held_line study) (wanted study AtRow number words)
   held_wanted place.AtCore number words = option_map (held_line study) (wanted study AtCore number words)
   held_wanted place.AtLemmas number words = option_map (held_line study) (wanted study AtLemmas number words)
   held_wanted place.AtLemma number words = option_map (held_line study) (wanted study AtLemma number words)
-  held_wanted place.AtSuppose number words = option_map (held_line study) (wanted study AtSuppose number words)
+  held_wanted place.AtSuppose number words =
+      option_map (held_line study) (wanted study AtSuppose number words)
   held_wanted place.AtStep number words = option_map (held_line study) (wanted study AtStep number words)
-  held_wanted place.AtWitness number words = option_map (held_line study) (wanted study AtWitness number words)
-  held_wanted place.AtWitnessRow number words = option_map (held_line study) (wanted study AtWitnessRow number words)
-  held_wanted (place.AtEnd claim) number words = option_map (held_line study) (keyed (codes "end") (no_word End) words)
+  held_wanted place.AtWitness number words =
+      option_map (held_line study) (wanted study AtWitness number words)
+  held_wanted place.AtWitnessRow number words =
+      option_map (held_line study) (wanted study AtWitnessRow number words)
+  held_wanted (place.AtEnd claim) number words =
+      option_map (held_line study) (keyed (codes "end") (no_word End) words)
   held_wanted (place.AtNothing claim) number words = None

@@ -18,7 +18,8 @@ use vocab::{Kind, Study};
 
 /// The first line.
 pub(crate) fn read_title(text: &[u8]) -> Option<Line>
-    ensures { (study : Question) (number : ℕ) → result ≡ held_wanted study Place.AtTitle number (words_of text.now) }
+    ensures { (study : Question) (number : ℕ) →
+        result ≡ held_wanted study Place.AtTitle number (words_of text.now) }
 {
     if is_same(text, b"bench report 1") {
         Some(Line::Title)
@@ -29,7 +30,8 @@ pub(crate) fn read_title(text: &[u8]) -> Option<Line>
 
 /// The line of the kind.
 pub(crate) fn read_kind(text: &[u8]) -> Option<Line>
-    ensures { (study : Question) (number : ℕ) → result ≡ held_wanted study Place.AtKind number (words_of text.now) }
+    ensures { (study : Question) (number : ℕ) →
+        result ≡ held_wanted study Place.AtKind number (words_of text.now) }
 {
     let word = first_keyed(text, b"kind")?;
     if is_same(word, b"choice") {
@@ -50,14 +52,16 @@ pub(crate) fn read_count(text: &[u8], key: &[u8]) -> Option<u64>
 
 /// The line of how many voters there are.
 pub(crate) fn read_voters(text: &[u8]) -> Option<Line>
-    ensures { (study : Question) (number : ℕ) → result ≡ held_wanted study Place.AtVoters number (words_of text.now) }
+    ensures { (study : Question) (number : ℕ) →
+        result ≡ held_wanted study Place.AtVoters number (words_of text.now) }
 {
     read_count(text, b"voters").map(Line::VotersAre)
 }
 
 /// The line of how many alternatives there are.
 pub(crate) fn read_alternatives(text: &[u8]) -> Option<Line>
-    ensures { (study : Question) (number : ℕ) → result ≡ held_wanted study Place.AtAlternatives number (words_of text.now) }
+    ensures { (study : Question) (number : ℕ) →
+        result ≡ held_wanted study Place.AtAlternatives number (words_of text.now) }
 {
     Some(Line::AlternativesAre(read_count(text, b"alternatives")?))
 }
@@ -78,7 +82,8 @@ pub(crate) fn read_axioms(study: &Study, text: &[u8]) -> Option<Line>
 
 /// The line of the verdict.
 pub(crate) fn read_verdict(text: &[u8]) -> Option<Line>
-    ensures { (study : Question) (number : ℕ) → result ≡ held_wanted study Place.AtVerdict number (words_of text.now) }
+    ensures { (study : Question) (number : ℕ) →
+        result ≡ held_wanted study Place.AtVerdict number (words_of text.now) }
 {
     let Some(word) = first_keyed(text, b"verdict") else {
         return None;
@@ -96,7 +101,8 @@ pub(crate) fn read_verdict(text: &[u8]) -> Option<Line>
 
 /// The line of the limit within which nothing was decided.
 pub(crate) fn read_limit(text: &[u8]) -> Option<Line>
-    ensures { (study : Question) (number : ℕ) → result ≡ held_wanted study Place.AtLimit number (words_of text.now) }
+    ensures { (study : Question) (number : ℕ) →
+        result ≡ held_wanted study Place.AtLimit number (words_of text.now) }
 {
     read_count(text, b"conflicts").map(|limit| Line::LimitIs(limit))
 }
@@ -117,7 +123,8 @@ pub(crate) fn read_core_line(study: &Study, text: &[u8]) -> Option<Line>
 
 /// The last line.
 pub(crate) fn read_end(text: &[u8]) -> Option<Line>
-    ensures { (study : Question) (number : ℕ) (claim : Option Confirmed) → result ≡ held_wanted study (Place.AtEnd claim) number (words_of text.now) }
+    ensures { (study : Question) (number : ℕ) (claim : Option Confirmed) →
+        result ≡ held_wanted study (Place.AtEnd claim) number (words_of text.now) }
 {
     if is_same(text, b"end") {
         Some(Line::End)

@@ -44,8 +44,10 @@ fn cut_not(word: &[u8]) -> Option<&[u8]>
 /// The alternative and the profile of a word `x@PROFILE`.
 fn read_winner(space: &Space, word: &[u8]) -> Option<(u8, u32)>
     ensures { MatchOption result
-        ((x p : ℕ) → x < space.now.alternatives → p < sort_count space.now Profile → word.now ≢ letter x ∷ 64 ∷ profile_text space.now p)
-        (λ found. (found.0 < space.now.alternatives) × (found.1 < sort_count space.now Profile) × (word.now ≡ letter found.0 ∷ 64 ∷ profile_text space.now found.1)) }
+        ((x p : ℕ) → x < space.now.alternatives → p < sort_count space.now Profile →
+        word.now ≢ letter x ∷ 64 ∷ profile_text space.now p)
+        (λ found. (found.0 < space.now.alternatives) × (found.1 < sort_count space.now Profile) ×
+        (word.now ≡ letter found.0 ∷ 64 ∷ profile_text space.now found.1)) }
 {
     let Some((byte, text)) = cut_mark(word, b'@') else {
         return None;

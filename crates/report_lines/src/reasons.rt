@@ -34,7 +34,8 @@ fn leading(sentence: &Formula) -> Option<(Sort, &Formula)>
 /// A value for each leading universal of a sentence.
 fn read_values(space: &Space, sentence: &Formula, rest: &[u8]) -> Option<Env>
     requires { quantifier_depth (tree_of sentence.now) ≤ 12 }
-    ensures { (study : Question) → space.now ≡ study.size → result ≡ read_values study (prefix_of (tree_of sentence.now)) (words_after rest.now) }
+    ensures { (study : Question) → space.now ≡ study.size →
+        result ≡ read_values study (prefix_of (tree_of sentence.now)) (words_after rest.now) }
 {
     let mut values = Env::none();
     let mut body = sentence;
@@ -82,7 +83,9 @@ fn read_by_axiom(study: &Study, space: &Space, rest: &[u8]) -> Option<Reason>
 }
 
 fn read_by_outcome(space: &Space, rest: &[u8]) -> Option<Reason>
-    ensures { result ≡ keyed (codes "outcome") (one_word (λ w. option_map ByOutcome (read_profile space.now w))) (words_after rest.now) }
+    ensures { result ≡
+        keyed (codes "outcome") (one_word (λ w. option_map ByOutcome (read_profile space.now w)))
+        (words_after rest.now) }
 {
     let Some(word) = next_keyed(rest, b"outcome") else {
         return None;
@@ -101,7 +104,9 @@ fn place_of(number: u64) -> u32
 }
 
 fn read_by_lemma(rest: &[u8]) -> Option<Reason>
-    ensures { result ≡ option_map held_reason (keyed (codes "lemma") (one_word (λ w. option_map (λ j. ByLemma (j - 1)) (read_positive w))) (words_after rest.now)) }
+    ensures { result ≡
+        option_map held_reason (keyed (codes "lemma") (one_word (λ w. option_map (λ j. ByLemma (j - 1))
+        (read_positive w))) (words_after rest.now)) }
 {
     let Some(word) = next_keyed(rest, b"lemma") else {
         return None;

@@ -20,7 +20,8 @@ use vocab::Name;
 
 /// The line before the rows of a rule.
 pub(crate) fn read_rule(text: &[u8]) -> Option<Line>
-    ensures { (study : Question) (number : ℕ) → result ≡ held_wanted study Place.AtRule number (words_of text.now) }
+    ensures { (study : Question) (number : ℕ) →
+        result ≡ held_wanted study Place.AtRule number (words_of text.now) }
 {
     match read_count(text, b"rule") {
         Some(count) => Some(Line::RuleOf(count)),
@@ -30,7 +31,8 @@ pub(crate) fn read_rule(text: &[u8]) -> Option<Line>
 
 /// A row: a profile and its outcome.
 pub(crate) fn read_row<K: OutcomeKind>(kind: &K, text: &[u8]) -> Option<Line>
-    ensures { (study : Question) (number : ℕ) → study.size ≡ K.size kind.now → result ≡ held_wanted study Place.AtRow number (words_of text.now) }
+    ensures { (study : Question) (number : ℕ) → study.size ≡ K.size kind.now →
+        result ≡ held_wanted study Place.AtRow number (words_of text.now) }
 {
     let (word, rest) = cut_word(text);
     let profile = read_profile(kind.space(), word)?;
@@ -46,7 +48,8 @@ fn read_next_count(rest: &[u8], key: &[u8]) -> Option<u64>
 
 /// The first line of a witness: the name of an axiom, and a rule or an open mark.
 pub(crate) fn read_witness(text: &[u8]) -> Option<Line>
-    ensures { (study : Question) (number : ℕ) → result ≡ held_wanted study Place.AtWitness number (words_of text.now) }
+    ensures { (study : Question) (number : ℕ) →
+        result ≡ held_wanted study Place.AtWitness number (words_of text.now) }
 {
     let Some(rest) = after_first(text, b"without") else {
         return None;

@@ -19,7 +19,8 @@ use vocab::Study;
 
 /// The line of how many lemmas there are.
 pub(crate) fn read_lemmas(text: &[u8]) -> Option<Line>
-    ensures { (study : Question) (number : ℕ) → result ≡ held_wanted study Place.AtLemmas number (words_of text.now) }
+    ensures { (study : Question) (number : ℕ) →
+        result ≡ held_wanted study Place.AtLemmas number (words_of text.now) }
 {
     let Some(word) = first_keyed(text, b"lemmas") else {
         return None;
@@ -47,7 +48,8 @@ pub(crate) fn read_heading(text: &[u8], number: u64) -> Option<Line>
 
 fn read_so(study: &Study, space: &Space, text: &[u8]) -> Option<Line>
     requires { space.now ≡ study.now.size }
-    ensures { result ≡ option_map (held_line study.now) (keyed (codes "so") (read_so study.now) (words_of text.now)) }
+    ensures { result ≡
+        option_map (held_line study.now) (keyed (codes "so") (read_so study.now) (words_of text.now)) }
 {
     let Some(rest) = after_first(text, b"so") else {
         return None;
@@ -69,7 +71,9 @@ fn read_so(study: &Study, space: &Space, text: &[u8]) -> Option<Line>
 
 fn read_clash(study: &Study, space: &Space, text: &[u8]) -> Option<Line>
     requires { space.now ≡ study.now.size }
-    ensures { result ≡ option_map (held_line study.now) (keyed (codes "clash") (keyed (codes "by") (λ ws. option_map Clash (read_reason study.now ws))) (words_of text.now)) }
+    ensures { result ≡
+        option_map (held_line study.now) (keyed (codes "clash") (keyed (codes "by") (λ ws. option_map Clash
+        (read_reason study.now ws))) (words_of text.now)) }
 {
     let Some(rest) = after_first(text, b"clash") else {
         return None;

@@ -46,7 +46,8 @@ pub(crate) fn cut_word(text: &[u8]) -> (&[u8], &[u8])
 pub(crate) fn next_word(rest: &[u8]) -> Option<(&[u8], &[u8])>
     ensures { MatchOption result
         (words_after rest.now ≡ [])
-        (λ cut. (words_after rest.now ≡ cut.0.now ∷ words_after cut.1.now) × (length cut.1.now < length rest.now)) }
+        (λ cut. (words_after rest.now ≡ cut.0.now ∷ words_after cut.1.now) ×
+        (length cut.1.now < length rest.now)) }
 {
     let (_, text) = rest.split_first()?;
     Some(cut_word(text))
