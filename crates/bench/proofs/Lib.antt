@@ -10,3 +10,4 @@ mod ProofLemmas
 mod LratLemmas
 mod SampleLemmas
 mod AdoptionLemmas
+mod CalmLemmas
