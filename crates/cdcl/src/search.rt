@@ -5,11 +5,11 @@ ghost use Rattle.cnf.specs.Sat.{is_falsified};
 ghost use Rattle.cnf.specs.Derived.{IsAccepted};
 ghost use Rattle.cnf.specs.Fresh.{AreOver};
 ghost use Rattle.propagate.specs.Entries.{up_to};
-ghost use Rattle.propagate.specs.Values.{value_in, StaysWithin};
+ghost use Rattle.propagate.specs.Values.{value_in, IsUnassigned, StaysWithin};
 ghost use Rattle.propagate.specs.TrailState.{IsTrail, IsClosed, cut_to, known, clause_at};
 ghost use Rattle.cdcl.specs.Hints.{FollowsBy};
-ghost use Rattle.cdcl.specs.Order.{HasAll, IsChosen, IsHeld};
-ghost use Rattle.cdcl.specs.Search.{RestsBelow, Descends, IsComplete, IsSearching, AreNumbered};
+ghost use Rattle.cdcl.specs.Order.{HasAll, IsChosen, IsHeld, raised_by};
+ghost use Rattle.cdcl.specs.Search.{RestsBelow, Restarted, Descends, IsComplete, IsSearching, AreNumbered};
 ghost use Rattle.cdcl.specs.Answer.{Answers, IsConclusive, IsFirstEmpty, citing};
 
 use crate::analysis::analyze;
@@ -145,23 +145,41 @@ fn search_from(
                 learn(
                     alloc, clauses, trail, order, seen, variables, conflict, &mut lines,
                 )?;
-                if restarts.is_due() {
-                    go_back(trail, order, variables, 0);
-                }
+                restart_if_due(&mut restarts, trail, order, variables);
             }
         }
     }
     Ok(Search::Spent(lines))
 }
 
-/// The first variable of the order without a value.
-fn choose(trail: &Trail, order: &mut Order, variables: u32) -> Option<u32>
+/// Counts a learned clause, and goes back to level 0 where a restart is due.
+fn restart_if_due(restarts: &mut Restarts, trail: &mut Trail, order: &mut Order, variables: u32)
+    requires rounds { restarts.old.round < 4294967295 }
+    requires form { IsTrail trail.old }
+    requires variables { variables ≡ trail.old.variables }
+    requires all { HasAll trail.old order.old variables }
+    ensures restarted { Restarted restarts.old restarts.new trail.old trail.new }
+    ensures form { IsTrail trail.new }
+    ensures all { HasAll trail.new order.new variables }
+{
+    if !restarts.is_due() {
+        return;
+    }
+    go_back(trail, order, variables, 0);
+}
+
+/// The literal to decide: the first variable of the order without a value, with the sign that it last had.
+fn choose(trail: &Trail, order: &mut Order, variables: u32) -> Option<Lit>
+    requires few { variables < 2 ^ 31 }
     requires all { HasAll trail.now order.old variables }
     ensures variables { length order.new.places ≡ variables }
-    ensures some { IfSome result (λ v. (1 ≤ v) × (v ≤ variables) × (value_in (known trail.now) v ≡ None)) }
-    ensures first { IfSome result (λ v. IsChosen trail.now order.old variables (v - 1)) }
+    ensures some { IfSome result
+        (λ l. (1 ≤ l.variable) × (l.variable ≤ variables) × IsUnassigned (known trail.now) l) }
+    ensures first { IfSome result (λ l. IsChosen trail.now order.old variables (l.variable - 1)) }
+    ensures sign { IfSome result
+        (λ l. l.positive ≡ slice_index_or order.old.phases (l.variable - 1) false) }
     ensures others { IfSome result
-        (λ v. (w : ℕ) → w < variables → w ≢ v - 1 → value_in (known trail.now) (w + 1) ≡ None →
+        (λ l. (w : ℕ) → w < variables → w ≢ l.variable - 1 → value_in (known trail.now) (w + 1) ≡ None →
         IsHeld order.new w) }
     ensures none { IfNone result (IsComplete trail.now variables) }
 {
@@ -171,7 +189,7 @@ fn choose(trail: &Trail, order: &mut Order, variables: u32) -> Option<u32>
             None => return None,
             Some(v) => {
                 if trail.value(v).is_none() {
-                    return Some(v);
+                    return Some(Lit::new(v, order.phase(v)));
                 }
             }
         }
@@ -185,6 +203,7 @@ fn go_back(trail: &mut Trail, order: &mut Order, variables: u32, level: u32)
     requires all { HasAll trail.old order.old variables }
     requires level { level ≤ trail.old.level }
     ensures all { HasAll trail.new order.new variables }
+    ensures activity { order.new.activity ≡ order.old.activity }
     ensures form { IsTrail trail.new }
     ensures state { trail.new ≡ cut_to trail.old level }
 {
@@ -197,7 +216,8 @@ fn put_back(trail: &Trail, order: &mut Order, variables: u32, level: u32)
     requires form { IsTrail trail.now }
     requires variables { variables ≡ trail.now.variables }
     requires all { HasAll trail.now order.old variables }
-    ensures { HasAll (cut_to trail.now level) order.new variables }
+    ensures all { HasAll (cut_to trail.now level) order.new variables }
+    ensures activity { order.new.activity ≡ order.old.activity }
 {
     let _ = variables;
     let mut place = trail.len();
@@ -220,6 +240,7 @@ fn raise_all(order: &mut Order, clause: &[Lit], variables: u32)
     requires variables { StaysWithin variables clause.now }
     ensures variables { length order.new.places ≡ variables }
     ensures held { (w : ℕ) → IsHeld order.old w → IsHeld order.new w }
+    ensures activity { order.new.activity ≡ raised_by order.old.activity clause.now }
 {
     let _ = variables;
     for lit in clause {
@@ -247,7 +268,7 @@ fn descend(trail: &mut Trail, order: &mut Order, variables: u32) -> Option<u32>
             Outcome::Conflict(k) => return Some(k),
             Outcome::Closed => match choose(trail, order, variables) {
                 None => return None,
-                Some(v) => trail.decide(Lit::new(v, order.phase(v))),
+                Some(lit) => trail.decide(lit),
             },
         }
     }
@@ -334,6 +355,9 @@ fn learn(
     requires room { length lines.old < 1000000 }
     requires all { HasAll trail.old order.old variables }
     ensures all { OnOk result (HasAll trail.new order.new variables) }
+    ensures raised { OnOk result
+        (order.new.activity ≡ raised_by order.old.activity
+        (clause_at trail.new (length trail.old.clauses))) }
     ensures seen { OnOk result (length seen.new ≡ variables) }
     ensures searching { OnOk result (IsSearching clauses.now.clauses variables trail.new lines.new) }
     ensures one_more { OnOk result (length lines.new ≡ length lines.old + 1) }

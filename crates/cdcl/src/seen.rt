@@ -30,8 +30,10 @@ impl Seen {
     pub fn new(alloc: Global, variables: u32) -> Result<Seen, NoMemory>
         ensures { IfOk result (λ seen. seen ≡ replicate variables false) }
     {
-        let stamps = zeros(alloc, variables)?;
-        Ok(Seen { stamps, round: 1 })
+        Ok(Seen {
+            stamps: vec![in alloc; 0; variables as usize]?,
+            round: 1,
+        })
     }
 
     /// Whether the variable at a place, from 0, is marked.
@@ -63,23 +65,9 @@ impl Seen {
     }
 }
 
-/// So many stamps, all 0.
-fn zeros(alloc: Global, count: u32) -> Result<Vec<u32>, NoMemory>
-    ensures { IfOk result (λ stamps. stamps.items ≡ replicate count 0) }
-{
-    let mut stamps = Vec::with_capacity(alloc, count as usize)?;
-    for _ in 0..count {
-        stamps.push(0)?;
-    }
-    Ok(stamps)
-}
-
 /// Sets all stamps to 0.
 fn clear_stamps(stamps: &mut Vec<u32>)
-    ensures size { length stamps.new.items ≡ length stamps.old.items }
-    ensures zeros { All (λ stamp. stamp ≡ 0) stamps.new.items }
+    ensures { stamps.new.items ≡ replicate (length stamps.old.items) 0 }
 {
-    for i in 0..stamps.as_slice().len() {
-        stamps[i] = 0;
-    }
+    stamps.as_mut_slice().fill(0);
 }
