@@ -1,5 +1,5 @@
 -- Constants and their texts.
-use Rattle.std.proofs.Common.{◌≡◌, refl, sym, ◌∙◌, ap, ℕ, zero, suc, ◌+◌, ◌/◌, ◌%◌, ◌<◌, ◌≤◌, Bool, true, false, List, [], ◌∷◌, length, arith, length-append, true≢false, Option, Some, None, cond}
+use Rattle.std.proofs.Common.{◌≡◌, refl, sym, ◌∙◌, ap, ℕ, zero, suc, ◌+◌, ◌<◌, ◌≤◌, Bool, true, false, List, arith, true≢false, Option, Some, None, cond}
 use Rattle.std.specs.Prelude.{◌≢◌, find, IfSome, IfNone}
 use Rattle.std.specs.Cmp.Lexicographic.{bytes_decides}
 use Rattle.std.specs.Str.{bytes_eq}
@@ -7,14 +7,7 @@ use Rattle.vocab.specs.Size.{Extent, ballot_count}
 use Rattle.meaning.specs.Space.{up_from}
 use Rattle.meaning.specs.Texts.{ballot_text}
 use Rattle.profiles.specs.Distinct.{HaveTextsOfTheirOwn}
-use Rattle.sorts.specs.Constants.{digits, ballot_value}
-
-pub length-digits : (places n : ℕ) → length (digits places n) ≡ places
-length-digits zero n = refl
-length-digits (suc places) n =
-    let shorter = length-digits places (n / 10) in
-    let all = length-append (digits places (n / 10)) ((48 + n % 10) ∷ []) in
-    omega (arith, shorter, all)
+use Rattle.sorts.specs.Constants.{ballot_value}
 
 -- a number that is another and not below is above
 above_other : (a b : ℕ) → a ≤ b → a ≢ b → suc a ≤ b

@@ -1,19 +1,10 @@
 -- Constants: the values of a size that have names of their own.
-use Rattle.std.specs.Prelude.{ℕ, zero, suc, ◌+◌, ◌-◌, ◌/◌, ◌%◌, ◌&&◌, nat_le, nat_lt, List, [], ◌∷◌, ◌++◌, codes, if◌then◌else◌, find, Option, Some, None}
+use Rattle.std.specs.Prelude.{ℕ, ◌+◌, ◌-◌, ◌%◌, ◌&&◌, nat_le, nat_lt, List, [], ◌∷◌, ◌++◌, codes, decimal, if◌then◌else◌, find, Option, Some, None}
 use Rattle.std.specs.Str.{bytes_eq}
 use Rattle.vocab.specs.declared.kinds.Sort.TheVariants.{Ballot}
 use Rattle.vocab.specs.Size.{Extent, sort_count}
 use Rattle.meaning.specs.Space.{below}
 use Rattle.meaning.specs.Texts.{ballot_text}
-
--- the last digits of a number, so many
-abbrev pub digits : ℕ → ℕ → List ℕ
-digits zero n = []
-digits (suc places) n = digits places (n / 10) ++ (48 + n % 10) ∷ []
-
--- a number without a leading zero, below 100,000
-abbrev pub decimal : ℕ → List ℕ
-decimal n = if nat_lt n 10 then digits 1 n else if nat_lt n 100 then digits 2 n else if nat_lt n 1000 then digits 3 n else if nat_lt n 10000 then digits 4 n else digits 5 n
 
 -- `#` and a number; `@` and a letter, the first being a; a ballot's letters between `<` and `>`
 abbrev pub voter_text : ℕ → List ℕ

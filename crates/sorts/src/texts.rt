@@ -1,8 +1,9 @@
 //! Texts that faults name, held in place.
 
 ghost use Rattle.std.specs.Prelude.{◌≡◌, ◌+◌, ◌<◌, ◌≤◌, [], ◌∷◌, ◌++◌, length, codes};
-ghost use Rattle.sorts.specs.Constants.{digits, decimal, voter_text, alternative_text, ballot_constant_text};
+ghost use Rattle.sorts.specs.Constants.{voter_text, alternative_text, ballot_constant_text};
 
+use itoa::Buffer;
 use std::marker::Model;
 use vocab::Name;
 
@@ -93,7 +94,7 @@ impl ConstantText {
     {
         let mut text = ConstantText::empty();
         text.push(b'#');
-        text.push_number(number);
+        text.push_all(Buffer::new().format(number).as_bytes());
         text
     }
 
@@ -113,7 +114,7 @@ impl ConstantText {
     {
         let mut text = ConstantText::empty();
         text.push(b'<');
-        text.push_all(letters);
+        text.push_all(letters.bytes());
         text.push(b'>');
         text
     }
@@ -135,42 +136,12 @@ impl ConstantText {
         self.len += 1;
     }
 
-    fn push_all(&mut self, text: Name)
-        requires { length self.old ≤ 1 }
-        ensures value { self.new ≡ self.old ++ text }
-        ensures short { length self.new ≤ 33 }
+    fn push_all(&mut self, bytes: &[u8])
+        requires { length self.old + length bytes.now ≤ 34 }
+        ensures { self.new ≡ self.old ++ bytes.now }
     {
-        for byte in text.bytes() {
+        for byte in bytes {
             self.push(*byte);
-        }
-    }
-
-    /// Appends the last digits of a number, so many.
-    fn push_digits(&mut self, places: u8, number: u16)
-        requires { length self.old + places ≤ 34 }
-        ensures { self.new ≡ self.old ++ digits places number }
-    {
-        if places == 0 {
-            return;
-        }
-        self.push_digits(places - 1, number / 10);
-        self.push(b'0' + (number % 10) as u8);
-    }
-
-    fn push_number(&mut self, number: u16)
-        requires { length self.old ≤ 29 }
-        ensures { self.new ≡ self.old ++ decimal number }
-    {
-        if number < 10 {
-            self.push_digits(1, number);
-        } else if number < 100 {
-            self.push_digits(2, number);
-        } else if number < 1000 {
-            self.push_digits(3, number);
-        } else if number < 10000 {
-            self.push_digits(4, number);
-        } else {
-            self.push_digits(5, number);
         }
     }
 
