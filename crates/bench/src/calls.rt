@@ -2,7 +2,7 @@
 
 use crate::top::bench;
 use answers::Run;
-use edge::{Gate, MemoryShelf, MemorySink};
+use edge::{Gate, MemoryShelf, MemorySink, Shelf, Sink};
 use std::alloc::{AllocError, Global};
 use std::test::Fail;
 use std::thread::Threads;
@@ -31,6 +31,17 @@ pub fn words_of(alloc: Global, words: &[&str]) -> Result<Vec<String>, AllocError
     Ok(list)
 }
 
+/// The shelf with the files `first` and `second`.
+pub fn with_files(
+    mut shelf: MemoryShelf,
+    first: &[u8],
+    second: &[u8],
+) -> Result<MemoryShelf, Fail> {
+    shelf.hold("first", first)?;
+    shelf.hold("second", second)?;
+    Ok(shelf)
+}
+
 /// A shelf with the files `first` and `second`, of which these calls fail.
 pub fn shelf_of(
     alloc: Global,
@@ -38,10 +49,7 @@ pub fn shelf_of(
     first: &[u8],
     second: &[u8],
 ) -> Result<MemoryShelf, Fail> {
-    let mut shelf = MemoryShelf::new(alloc, failing)?;
-    shelf.hold("first", first)?;
-    shelf.hold("second", second)?;
-    Ok(shelf)
+    with_files(MemoryShelf::new(alloc, failing)?, first, second)
 }
 
 /// The status of a run, and how many clauses its spent searches learned.
@@ -53,17 +61,35 @@ fn counts(run: Run) -> (u8, usize) {
     (run.status, learned)
 }
 
-/// The status of a command into a sink, and how many clauses its spent searches learned.
-pub fn put<R: Threads + Sync, G: Gate>(
+/// The status of a command over a shelf and into a sink, and how many clauses its spent searches learned.
+pub fn put<R: Threads + Sync, G: Gate, S: Shelf, K: Sink>(
     rt: &R,
     alloc: Global,
     gate: &G,
     words: &[&str],
-    shelf: &mut MemoryShelf,
-    out: &mut MemorySink,
+    shelf: &mut S,
+    out: &mut K,
 ) -> Result<(u8, usize), Fail> {
     let words = words_of(alloc, words)?;
     Ok(counts(bench(rt, alloc, &words, shelf, out, gate)))
+}
+
+/// What a command comes to over a shelf and into a sink.
+pub fn answered_into<R: Threads + Sync, G: Gate>(
+    rt: &R,
+    alloc: Global,
+    gate: &G,
+    words: &[&str],
+    mut shelf: MemoryShelf,
+    mut out: MemorySink,
+) -> Result<Told, Fail> {
+    let (status, learned) = put(rt, alloc, gate, words, &mut shelf, &mut out)?;
+    let bytes = out.bytes().to_vec(alloc)?;
+    Ok(Told {
+        status,
+        learned,
+        bytes,
+    })
 }
 
 /// What a command comes to over a shelf, with a sink that has so much room.
@@ -72,17 +98,11 @@ pub fn answered_over<R: Threads + Sync, G: Gate>(
     alloc: Global,
     gate: &G,
     words: &[&str],
-    mut shelf: MemoryShelf,
+    shelf: MemoryShelf,
     room: usize,
 ) -> Result<Told, Fail> {
-    let mut out = MemorySink::new(alloc, room, &[])?;
-    let (status, learned) = put(rt, alloc, gate, words, &mut shelf, &mut out)?;
-    let bytes = out.bytes().to_vec(alloc)?;
-    Ok(Told {
-        status,
-        learned,
-        bytes,
-    })
+    let out = MemorySink::new(alloc, room, &[])?;
+    answered_into(rt, alloc, gate, words, shelf, out)
 }
 
 /// What a command comes to over the files `first` and `second`, with a sink that has so much room.

@@ -7,7 +7,7 @@ use std::test::Fail;
 use std::thread::Threads;
 
 /// Two variables that can be neither equal nor different.
-const SQUARE: &str = "p cnf 2 4\n1 2 0\n-1 2 0\n1 -2 0\n-1 -2 0\n";
+pub const SQUARE: &str = "p cnf 2 4\n1 2 0\n-1 2 0\n1 -2 0\n-1 -2 0\n";
 
 /// The same four clauses, with comments, blank lines, other blanks and other line ends, and no end of the last line.
 const SCATTERED: &str = "c a\n\np\tcnf 2 4\r\n1\nc 9 -0 0\n2 0 -1 2\r\n\t0 1 -2 0 -1\nc\n\n-2 0";

@@ -1,13 +1,14 @@
 //! The worked examples of `check`, over devices in memory, with 1, 2 and 16 workers.
 
-use crate::calls::{answered, answered_over, put, shelf_of, words_of};
-use crate::top::bench;
-use edge::{CalmShelf, CalmSink, MemorySink, Open};
+use crate::calls::{answered, answered_over, shelf_of};
+use edge::Open;
 use std::alloc::Global;
 use std::test::Fail;
 use std::thread::Threads;
 
-const STUDY: &str = "kind = \"choice\"\nvoters = 1\nalternatives = 2\naxioms = [\"unanimity\"]\n";
+/// Of one voter and two alternatives.
+pub const STUDY: &str =
+    "kind = \"choice\"\nvoters = 1\nalternatives = 2\naxioms = [\"unanimity\"]\n";
 
 const REPORT: &str =
     "bench report 1\nkind choice\nvoters 1\nalternatives 2\naxioms unanimity\nverdict possible\nrule 2\nab a\nba b\nend\n";
@@ -406,18 +407,6 @@ fn the_library_is_printed(rt: HostRuntime) -> Result<(), Fail> {
 }
 
 #[test]
-fn failed_reads_write_nothing(rt: HostRuntime) -> Result<(), Fail> {
-    for call in 0..6 {
-        let right = judges(&rt, rt.alloc(), STUDY, REPORT, &[call], 5, "")?;
-        assert!(rt; right, "at call {call}");
-    }
-    let words = ["check", "first", "absent"];
-    let said = answered(&rt, rt.alloc(), &Open, &words, STUDY.as_bytes(), b"", 1_000)?;
-    assert!(rt; said.is(5, b""));
-    Ok(())
-}
-
-#[test]
 fn words_that_are_no_command_get_the_usage_line(rt: HostRuntime) -> Result<(), Fail> {
     let cases: [&[&str]; 12] = [
         &[],
@@ -440,39 +429,5 @@ fn words_that_are_no_command_get_the_usage_line(rt: HostRuntime) -> Result<(), F
         let front = answered(&rt, rt.alloc(), &Open, words, b"", b"", 6)?;
         assert!(rt; said.is(2, line) && front.is(6, b"usage:"), "at {words:?}");
     }
-    Ok(())
-}
-
-/// The status of `check` over calm devices.
-fn calm_status<R: Threads + Sync>(
-    rt: &R,
-    alloc: Global,
-    shelf: &mut CalmShelf,
-) -> Result<u8, Fail> {
-    let words = words_of(alloc, &["check", "first", "second"])?;
-    let run = bench(rt, alloc, &words, shelf, &mut CalmSink::new(), &Open);
-    Ok(run.status)
-}
-
-#[test]
-fn calm_devices_never_fail(rt: HostRuntime) -> Result<(), Fail> {
-    let mut shelf = CalmShelf::new(rt.alloc());
-    let empty = calm_status(&rt, rt.alloc(), &mut shelf)?;
-    shelf.hold("first", STUDY.as_bytes())?;
-    shelf.hold("second", REPORT.as_bytes())?;
-    let held = calm_status(&rt, rt.alloc(), &mut shelf)?;
-    assert!(rt; empty == 3 && held == 0);
-    Ok(())
-}
-
-#[test]
-fn a_failed_flush_comes_after_the_whole_text(rt: HostRuntime) -> Result<(), Fail> {
-    let alloc = rt.alloc();
-    let mut shelf = shelf_of(alloc, &[], STUDY.as_bytes(), REPORT.as_bytes())?;
-    // The sink's calls are: 0 writes the line, 1 flushes it.
-    let mut out = MemorySink::new(alloc, 1000, &[1])?;
-    let words = ["check", "first", "second"];
-    let (status, _) = put(&rt, alloc, &Open, &words, &mut shelf, &mut out)?;
-    assert!(rt; status == 6 && out.bytes() == b"confirmed possible\n".as_slice());
     Ok(())
 }

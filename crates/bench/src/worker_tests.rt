@@ -1,8 +1,8 @@
 //! The worked examples of `export` and `proof`, with 1, 2 and 16 workers, over devices in memory.
 
-use crate::calls::{answered, put, shelf_of};
+use crate::calls::answered;
 use crate::report_tests::Meeting;
-use edge::{MemorySink, Open};
+use edge::Open;
 use std::alloc::Global;
 use std::test::Fail;
 use std::thread::Threads;
@@ -137,53 +137,15 @@ fn refutations_are_confirmed_among_workers(rt: HostRuntime) -> Result<(), Fail> 
 }
 
 /// Arrow's axioms for two voters and three alternatives.
-const ARROW: &[u8] =
-    b"kind = \"ranking\"\nvoters = 2\nalternatives = 3\naxioms = [\"pareto\", \"independence\", \"non_dictatorship\"]\n";
-
-/// Whether a command over Arrow's study, where this call of the sink fails, writes the front of its whole text that the calls before it
-/// took: each takes a page of 4,096 bytes, the last one the rest, and then comes the flush.
-fn leaves_a_front<R: Threads + Sync>(
-    rt: &R,
-    alloc: Global,
-    command: &str,
-    whole: &[u8],
-    call: u32,
-) -> Result<bool, Fail> {
-    let mut shelf = shelf_of(alloc, &[], ARROW, b"")?;
-    let mut out = MemorySink::new(alloc, 100_000, &[call])?;
-    let words = [command, "first"];
-    let (status, _) = put(rt, alloc, &Open, &words, &mut shelf, &mut out)?;
-    let calls = call as usize;
-    let front = whole.len().min(calls.saturating_mul(4_096));
-    let wanted = if calls > whole.len().div_ceil(4_096) {
-        0
-    } else {
-        6
-    };
-    Ok(status == wanted && out.bytes() == &whole[..front])
-}
-
-#[test]
-fn a_failed_write_leaves_a_front(rt: HostRuntime) -> Result<(), Fail> {
-    for (command, least) in [("export", 8_193), ("proof", 1)] {
-        let words = [command, "first"];
-        let whole = answered(&rt, rt.alloc(), &Open, &words, ARROW, b"", 100_000)?;
-        let length = whole.bytes.len();
-        let mut right = length >= least && length <= 12_288;
-        for call in 0..5 {
-            right = leaves_a_front(&rt, rt.alloc(), command, whole.bytes.as_slice(), call)?
-                && right;
-        }
-        assert!(rt; right, "at {command}");
-    }
-    Ok(())
-}
+pub const ARROW: &str =
+    "kind = \"ranking\"\nvoters = 2\nalternatives = 3\naxioms = [\"pareto\", \"independence\", \"non_dictatorship\"]\n";
 
 #[test]
 fn two_workers_share_the_clauses_of_a_study(rt: HostRuntime) -> Result<(), Fail> {
     let gate = Meeting::new();
     let words = ["export", "first", "--workers", "2"];
-    let found = answered(&rt, rt.alloc(), &gate, &words, ARROW, b"", 100_000)?;
+    let study = ARROW.as_bytes();
+    let found = answered(&rt, rt.alloc(), &gate, &words, study, b"", 100_000)?;
     assert!(rt; found.status == 0 && gate.has_met());
     Ok(())
 }

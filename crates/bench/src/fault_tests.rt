@@ -1,0 +1,165 @@
+//! The commands over devices that fail at a call, that move one byte at a time, and that never fail.
+
+use crate::calls::{Told, answered, answered_into, answered_over, put, shelf_of, with_files};
+use crate::lrat_tests::SQUARE;
+use crate::report_tests::{SYMMETRIC, SYMMETRIC_STORY};
+use crate::tests::STUDY;
+use crate::worker_tests::ARROW;
+use edge::{CalmShelf, CalmSink, MemoryShelf, MemorySink, Open};
+use std::alloc::Global;
+use std::test::Fail;
+use std::thread::Threads;
+
+/// The bytes of a page, which a sink is given at once.
+const PAGE: usize = 4_096;
+
+/// Room for each text that is written here.
+const ROOM: usize = 100_000;
+
+/// Whether a command makes so many calls of the shelf, ends with status 5 and nothing written where one of them fails, and comes to
+/// the undisturbed answer where a later one would.
+fn stops_at_failed_reads<R: Threads + Sync>(
+    rt: &R,
+    alloc: Global,
+    words: &[&str],
+    first: &[u8],
+    second: &[u8],
+    calls: u32,
+    whole: &Told,
+) -> Result<bool, Fail> {
+    let mut right = true;
+    for call in 0..calls {
+        let shelf = shelf_of(alloc, &[call], first, second)?;
+        right = answered_over(rt, alloc, &Open, words, shelf, ROOM)?.is(5, b"") && right;
+    }
+    let shelf = shelf_of(alloc, &[calls], first, second)?;
+    let told = answered_over(rt, alloc, &Open, words, shelf, ROOM)?;
+    Ok(right && told.is(whole.status, whole.bytes.as_slice()))
+}
+
+/// Whether a command, where this call of the sink fails, ends with status 6 and writes the front of the undisturbed text that the calls
+/// before it took, and comes to the undisturbed answer where it makes no such call. A write takes a page, the last one the rest, and
+/// then comes the flush.
+fn leaves_a_front<R: Threads + Sync>(
+    rt: &R,
+    alloc: Global,
+    words: &[&str],
+    first: &[u8],
+    second: &[u8],
+    call: u32,
+    whole: &Told,
+) -> Result<bool, Fail> {
+    let text = whole.bytes.as_slice();
+    let calls = call as usize;
+    let front = text.len().min(calls.saturating_mul(PAGE));
+    let wanted = if calls > text.len().div_ceil(PAGE) {
+        whole.status
+    } else {
+        6
+    };
+    let shelf = shelf_of(alloc, &[], first, second)?;
+    let out = MemorySink::new(alloc, ROOM, &[call])?;
+    let told = answered_into(rt, alloc, &Open, words, shelf, out)?;
+    Ok(told.is(wanted, &text[..front]))
+}
+
+/// Whether a command comes to the undisturbed answer where each read gives one byte, and each write takes one.
+fn moves_single_bytes<R: Threads + Sync>(
+    rt: &R,
+    alloc: Global,
+    words: &[&str],
+    first: &[u8],
+    second: &[u8],
+    whole: &Told,
+) -> Result<bool, Fail> {
+    let shelf = with_files(MemoryShelf::short(alloc, 1, &[])?, first, second)?;
+    let out = MemorySink::short(alloc, ROOM, 1, &[])?;
+    let told = answered_into(rt, alloc, &Open, words, shelf, out)?;
+    Ok(told.is(whole.status, whole.bytes.as_slice()))
+}
+
+/// The status of a command over devices that never fail.
+fn calm_status<R: Threads + Sync>(
+    rt: &R,
+    alloc: Global,
+    words: &[&str],
+    first: &[u8],
+    second: &[u8],
+) -> Result<u8, Fail> {
+    let mut shelf = CalmShelf::new(alloc);
+    shelf.hold("first", first)?;
+    shelf.hold("second", second)?;
+    let (status, _) = put(rt, alloc, &Open, words, &mut shelf, &mut CalmSink::new())?;
+    Ok(status)
+}
+
+/// Whether a command over these files makes so many calls of the shelf, and answers each fault of a device, and what it does without
+/// one, as it should. Its undisturbed status is 0, and its text has at most three pages, so that the sink has at most four calls.
+fn withstands<R: Threads + Sync>(
+    rt: &R,
+    alloc: Global,
+    words: &[&str],
+    first: &[u8],
+    second: &[u8],
+    calls: u32,
+) -> Result<bool, Fail> {
+    let whole = answered(rt, alloc, &Open, words, first, second, ROOM)?;
+    let mut right = whole.status == 0 && whole.bytes.len() <= 3 * PAGE;
+    right = stops_at_failed_reads(rt, alloc, words, first, second, calls, &whole)? && right;
+    for call in 0..5 {
+        right = leaves_a_front(rt, alloc, words, first, second, call, &whole)? && right;
+    }
+    right = moves_single_bytes(rt, alloc, words, first, second, &whole)? && right;
+    Ok(calm_status(rt, alloc, words, first, second)? == 0 && right)
+}
+
+#[test]
+fn commands_withstand_devices(rt: HostRuntime) -> Result<(), Fail> {
+    // Each file that is read takes three calls of the shelf: a rewind, a read that gives its bytes, and one that finds the end.
+    let cases: [(&[&str], &str, &str, u32); 11] = [
+        (&["check", "first", "second"], SYMMETRIC, SYMMETRIC_STORY, 6),
+        (&["decide", "first"], SYMMETRIC, "", 3),
+        (&["decide", "first"], STUDY, "", 3),
+        (&["export", "first"], STUDY, "", 3),
+        (&["proof", "first"], SYMMETRIC, "", 3),
+        (
+            &["lrat", "first", "second"],
+            SQUARE,
+            "5 2 0 1 2 0\n6 0 5 3 4 0\n",
+            6,
+        ),
+        (
+            &["adopt", "first", "second"],
+            SYMMETRIC,
+            "21 -3 0 9 17 6 0\n22 0 21 3 11 19 6 0\n",
+            6,
+        ),
+        (&["export", "first"], ARROW, "", 3),
+        (&["proof", "first"], ARROW, "", 3),
+        (&["sample", "0"], "", "", 0),
+        (&["axioms", "choice"], "", "", 0),
+    ];
+    for (words, first, second, calls) in cases {
+        let (first, second) = (first.as_bytes(), second.as_bytes());
+        let right = withstands(&rt, rt.alloc(), words, first, second, calls)?;
+        assert!(rt; right, "at {words:?}");
+    }
+    Ok(())
+}
+
+#[test]
+fn files_that_are_not_held_are_failed_reads(rt: HostRuntime) -> Result<(), Fail> {
+    let cases: [&[&str]; 5] = [
+        &["check", "first", "absent"],
+        &["check", "absent", "second"],
+        &["decide", "absent"],
+        &["export", "absent"],
+        &["proof", "absent"],
+    ];
+    for words in cases {
+        let study = STUDY.as_bytes();
+        let told = answered(&rt, rt.alloc(), &Open, words, study, study, 1_000)?;
+        assert!(rt; told.is(5, b""), "at {words:?}");
+    }
+    Ok(())
+}
