@@ -118,6 +118,10 @@ fn studies_are_refused_before_the_report_is_opened(rt: HostRuntime) -> Result<()
             "study: voters -1\n",
         ),
         (
+            "kind = \"choice\"\nvoters = 9223372036854775807\nalternatives = 2\naxioms = []",
+            "study: voters 9223372036854775807\n",
+        ),
+        (
             "kind = \"choice\"\nvoters = 3\nalternatives = 5\naxioms = []",
             "study: profiles 1728000\n",
         ),
@@ -169,6 +173,11 @@ fn own_sentences_are_refused_at_their_first_fault(rt: HostRuntime) -> Result<(),
         ("all p: profile. won(@a, p)", "symbol won"),
         ("all p: profile wins(@a, p)", "no reading"),
         ("all p: profile. wins(@a, p) ?", "lexeme 28"),
+        ("all aaaaaaaaaaaaaaaaa: alt. @a = @a", "lexeme 4"),
+        (
+            "all x: alt. all x: alt. all x: alt. all x: alt. all x: alt. all x: alt. all x: alt. all x: alt. all x: alt. all x: alt. all x: alt. all x: alt. all x: alt. x = x",
+            "variables",
+        ),
     ];
     let alloc = rt.alloc();
     for (sentence, text) in cases {
