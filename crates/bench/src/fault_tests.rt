@@ -1,11 +1,12 @@
 //! The commands over devices that fail at a call, that move one byte at a time, and that never fail.
 
-use crate::calls::{Told, answered, answered_into, answered_over, put, shelf_of, with_files};
+use crate::calls::{Told, answered, answered_into, answered_over, shelf_of, with_files, words_of};
 use crate::lrat_tests::SQUARE;
 use crate::report_tests::{SYMMETRIC, SYMMETRIC_STORY};
 use crate::tests::STUDY;
+use crate::top::calm_status;
 use crate::worker_tests::ARROW;
-use edge::{CalmShelf, CalmSink, MemoryShelf, MemorySink, Open};
+use edge::{CalmShelf, MemoryShelf, MemorySink, Open};
 use std::alloc::Global;
 use std::test::Fail;
 use std::thread::Threads;
@@ -79,7 +80,7 @@ fn moves_single_bytes<R: Threads + Sync>(
 }
 
 /// The status of a command over devices that never fail.
-fn calm_status<R: Threads + Sync>(
+fn over_calm<R: Threads + Sync>(
     rt: &R,
     alloc: Global,
     words: &[&str],
@@ -89,8 +90,8 @@ fn calm_status<R: Threads + Sync>(
     let mut shelf = CalmShelf::new(alloc);
     shelf.hold("first", first)?;
     shelf.hold("second", second)?;
-    let (status, _) = put(rt, alloc, &Open, words, &mut shelf, &mut CalmSink::new())?;
-    Ok(status)
+    let words = words_of(alloc, words)?;
+    Ok(calm_status(rt, alloc, &words, &mut shelf, &Open))
 }
 
 /// Whether a command over these files makes so many calls of the shelf, and answers each fault of a device, and what it does without
@@ -110,7 +111,7 @@ fn withstands<R: Threads + Sync>(
         right = leaves_a_front(rt, alloc, words, first, second, call, &whole)? && right;
     }
     right = moves_single_bytes(rt, alloc, words, first, second, &whole)? && right;
-    Ok(calm_status(rt, alloc, words, first, second)? == 0 && right)
+    Ok(over_calm(rt, alloc, words, first, second)? == 0 && right)
 }
 
 #[test]

@@ -1,5 +1,5 @@
 use Rattle.std.proofs.Common.{◌≤◌}
-use Rattle.report.specs.Held.{IsReady}
+use Rattle.report.specs.Stands.{IsReady}
 use Rattle.bench.proofs.report_tests.faultless_lines.Given as goal
 
 abbrev pub invariant-loop-line : goal.invariant-loop-line

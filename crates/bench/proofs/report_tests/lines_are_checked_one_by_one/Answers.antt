@@ -1,6 +1,6 @@
 use Rattle.std.proofs.Common.{[], inr, sym, subst}
 use Rattle.vocab.specs.Study.{Question}
-use Rattle.report.specs.Held.{IsReady}
+use Rattle.report.specs.Stands.{IsReady}
 use Rattle.bench.proofs.report_tests.lines_are_checked_one_by_one.Goals as goal
 
 pub faultless_lines-before-requires-clause-ready : goal.faultless_lines-before-requires-clause-ready
