@@ -9,7 +9,7 @@ ghost use Rattle.propagate.specs.Values.{value_in, IsUnassigned, StaysWithin};
 ghost use Rattle.propagate.specs.TrailState.{IsTrail, IsClosed, cut_to, known, clause_at};
 ghost use Rattle.cdcl.specs.Hints.{FollowsBy};
 ghost use Rattle.cdcl.specs.Order.{HasAll, IsChosen, IsHeld, raised_by};
-ghost use Rattle.cdcl.specs.Search.{RestsBelow, Restarted, Descends, IsComplete, IsSearching, AreNumbered};
+ghost use Rattle.cdcl.specs.Search.{RestsBelow, Restarted, KeepsSigns, Descends, IsComplete, IsSearching, AreNumbered};
 ghost use Rattle.cdcl.specs.Answer.{Answers, IsConclusive, IsFirstEmpty, citing};
 
 use crate::analysis::analyze;
@@ -106,9 +106,9 @@ fn search_clauses(
     requires limit { limit ≤ 1000000 }
     ensures { IfOk result (Answers clauses.now.clauses variables limit) }
 {
-    let mut trail = Trail::new(alloc, clauses, variables)?;
     let mut order = Order::new(alloc, variables)?;
     let mut seen = Seen::new(alloc, variables)?;
+    let mut trail = Trail::new(alloc, clauses, variables)?;
     let search = search_from(
         alloc, clauses, &mut trail, &mut order, &mut seen, variables, limit,
     )?;
@@ -196,7 +196,7 @@ fn choose(trail: &Trail, order: &mut Order, variables: u32) -> Option<Lit>
     }
 }
 
-/// Goes back to a level, and puts the variables that lose their value back into the order.
+/// Goes back to a level, and puts the variables that lose their value back into the order, each with the sign that it had.
 fn go_back(trail: &mut Trail, order: &mut Order, variables: u32, level: u32)
     requires form { IsTrail trail.old }
     requires variables { variables ≡ trail.old.variables }
@@ -204,6 +204,7 @@ fn go_back(trail: &mut Trail, order: &mut Order, variables: u32, level: u32)
     requires level { level ≤ trail.old.level }
     ensures all { HasAll trail.new order.new variables }
     ensures activity { order.new.activity ≡ order.old.activity }
+    ensures signs { KeepsSigns trail.old level order.new }
     ensures form { IsTrail trail.new }
     ensures state { trail.new ≡ cut_to trail.old level }
 {
@@ -211,13 +212,14 @@ fn go_back(trail: &mut Trail, order: &mut Order, variables: u32, level: u32)
     trail.back_to(level);
 }
 
-/// Puts the variables whose level is above this one back into the order.
+/// Puts the variables whose level is above this one back into the order, each with the sign that it has.
 fn put_back(trail: &Trail, order: &mut Order, variables: u32, level: u32)
     requires form { IsTrail trail.now }
     requires variables { variables ≡ trail.now.variables }
     requires all { HasAll trail.now order.old variables }
     ensures all { HasAll (cut_to trail.now level) order.new variables }
     ensures activity { order.new.activity ≡ order.old.activity }
+    ensures signs { KeepsSigns trail.now level order.new }
 {
     let _ = variables;
     let mut place = trail.len();
