@@ -14,17 +14,17 @@ use vocab::Name;
 
 /// Adds `fails`, the name of an axiom and the number of an instance.
 fn pour_fails<O: Sink>(
-    axiom: &Name,
+    name: &Name,
     instance: u64,
     page: &mut Page,
     out: &mut O,
 ) -> Result<(), Failed>
     ensures { Pours (O.taken out.old) (O.taken out.new) page.old page.new
         (O.faults out.old) (O.faults out.new) result
-        (codes "fails " ++ (axiom.now ++ 32 ∷ number_text instance)) }
+        (codes "fails " ++ (name.now ++ 32 ∷ number_text instance)) }
 {
     let instance = Two(Raw(b" "), Number(instance));
-    Two(Raw(b"fails "), Two(Raw(axiom.bytes()), instance)).pour(page, out)
+    Two(Raw(b"fails "), Two(Raw(name.bytes()), instance)).pour(page, out)
 }
 
 /// The word of a refusal; after `fails` come the name of the axiom and the number of the instance.
