@@ -1,7 +1,7 @@
 //! Reports that are confirmed, and changes of them, each refused at the line that was changed, with 1, 2 and 16 workers.
 
 ghost use Rattle.std.specs.Prelude.{◌≤◌};
-ghost use Rattle.report.specs.Held.{IsReady};
+ghost use Rattle.report.specs.Stands.{IsReady};
 
 use crate::calls::answered;
 use edge::{Gate, Open};
