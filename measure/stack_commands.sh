@@ -1,6 +1,6 @@
 #!/usr/bin/env bash
-# The least stack within which each command over a study answers as with 64 MB, over deep sentences: depth 63, of the 64 that are
-# read, by signs, by groups, by calls, and by 12 quantifiers with signs. The first two stand beside an axiom that contradicts
+# The least stack within which each command over a study answers as with 64 MB, over the deepest sentences
+# that a study may have: depth 64, by signs, by groups, by calls, and by 12 quantifiers with signs. The first two stand beside an axiom that contradicts
 # them, so that there is a story. Each with one worker and with two. The limit is a quarter of the 8 MB that a main thread has.
 # Prints `COMMAND K KB of 2048` for each command, the most of all sentences, and ends with status 1 where one is above.
 set -eu
@@ -23,12 +23,12 @@ deep = "$3"
 other = "all p: profile. wins(@b, p)"
 TOML
 }
-study signs '"deep", "other"' "all p: profile. $(repeated '!' 60)wins(@a, p)"
-study groups '"deep", "other"' "all p: profile. $(repeated '(' 60)wins(@a, p)$(repeated ' & wins(@a, p))' 60)"
-study calls '"deep"' "all x: alt. $(repeated 'swap(x, x, ' 60)x$(repeated ')' 60) = x"
+study signs '"deep", "other"' "all p: profile. $(repeated '!' 61)wins(@b, p)"
+study groups '"deep", "other"' "all p: profile. $(repeated '(' 61)wins(@a, p)$(repeated ' & wins(@a, p))' 61)"
+study calls '"deep"' "all x: alt. $(repeated 'swap(x, x, ' 61)x$(repeated ')' 61) = x"
 quantified='all p: profile. '
 for i in 1 2 3 4 5; do quantified+="all x$i: alt. some y$i: alt. "; done
-study quantifiers '"deep"' "${quantified}some z: alt. $(repeated '!' 48)(wins(x1, p) | z = y5)"
+study quantifiers '"deep"' "${quantified}some z: alt. $(repeated '!' 49)(wins(x1, p) | z = y5)"
 for name in signs groups calls quantifiers; do
     "$program" decide "$work/$name.toml" >"$work/$name.report"
     "$program" proof "$work/$name.toml" >"$work/$name.lrat"

@@ -1,6 +1,6 @@
 //! The top call: from words and files to a run and bytes.
 
-ghost use Rattle.std.specs.Prelude.{◌≢◌};
+ghost use Rattle.std.specs.Prelude.{◌≢◌, None};
 ghost use Rattle.words.specs.Words.{texts, request_of};
 ghost use Rattle.answers.specs.Call.{IsCall};
 ghost use Rattle.bench.specs.Answered.{Answers};
@@ -103,18 +103,29 @@ pub fn bench<R: Threads + Sync, S: Shelf, K: Sink, G: Gate>(
     }
 }
 
-/// The status of a call over devices that never fail: neither 5 nor 6.
-pub fn calm_status<R: Threads + Sync, G: Gate>(
+/// A call over devices that never fail, and so with a status that is neither 5 nor 6.
+pub fn bench_calmly<R: Threads + Sync, G: Gate>(
     rt: &R,
     alloc: Global,
     words: &[String],
     shelf: &mut CalmShelf,
     gate: &G,
-) -> u8
-    ensures no_read_fault { result ≢ 5 }
-    ensures no_write_fault { result ≢ 6 }
+) -> Run
+    ensures call { IsCall (texts words.now) (record {
+      told = ⟦<CalmShelf as Shelf>⟧.files shelf.old;
+      left_before = ⟦<CalmShelf as Shelf>⟧.left shelf.old;
+      left_now = ⟦<CalmShelf as Shelf>⟧.left shelf.new;
+      faults_before = λ _. 0;
+      faults_now = λ _. 0;
+      taken_before = None;
+      taken_now = None;
+      sink_faults_before = 0;
+      sink_faults_now = 0;
+    }) result }
+    ensures no_read_fault { result.status ≢ 5 }
+    ensures no_write_fault { result.status ≢ 6 }
 {
     let run = bench(rt, alloc, words, shelf, &mut CalmSink::new(), gate);
     laws::calls_are_complete();
-    run.status
+    run
 }
