@@ -28,13 +28,13 @@ study groups '"deep", "other"' "all p: profile. $(repeated '(' 61)wins(@a, p)$(r
 study calls '"deep"' "all x: alt. $(repeated 'swap(x, x, ' 61)x$(repeated ')' 61) = x"
 quantified='all p: profile. '
 for i in 1 2 3 4 5; do quantified+="all x$i: alt. some y$i: alt. "; done
-study quantifiers '"deep"' "${quantified}some z: alt. $(repeated '!' 49)(wins(x1, p) | z = y5)"
+study quantifiers '"deep"' "${quantified}some z: alt. $(repeated '!' 48)(wins(swap(x1, x1, x1), p) | z = y5)"
 for name in signs groups calls quantifiers; do
     "$program" decide "$work/$name.toml" >"$work/$name.report"
     "$program" proof "$work/$name.toml" >"$work/$name.lrat"
 done
 answers() { # KB, WORDS: what is written within so much stack, and the status
-    (ulimit -s "$1" && shift && "$program" "$@" 2>/dev/null; echo "status $?") || true
+    (ulimit -s "$1" && shift && "$program" "$@"; echo "status $?") 2>/dev/null || true
 }
 least() { # WORDS: the least stack by halving, to 16 KB
     local low=0 high=65536 middle wanted
