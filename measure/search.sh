@@ -56,18 +56,21 @@ fn answer(alloc: Global, clauses: &Clauses, variables: u32) -> Result<(&'static 
     }
 }
 
-/// The clauses of numbers after the first line, each clause ended by 0.
+/// The clauses of numbers, each ended by 0. Lines that begin with `c` or `p` are passed over.
 fn clauses_of(alloc: Global, bytes: &[u8]) -> Result<Clauses, NoMemory> {
     let mut clauses = Clauses::new(alloc);
     let mut clause = Items::new(alloc);
-    let mut body = false;
     let mut number: u32 = 0;
     let mut positive = true;
     let mut inside = false;
+    let mut starts = true;
+    let mut skips = false;
     for byte in bytes {
         let b = *byte;
-        if !body {
-            body = b == b'\n';
+        skips = skips || (starts && (b == b'c' || b == b'p'));
+        starts = b == b'\n';
+        if skips {
+            skips = !starts;
         } else if b == b'-' {
             positive = false;
         } else if b >= b'0' && b <= b'9' {
