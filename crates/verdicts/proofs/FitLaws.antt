@@ -1,7 +1,7 @@
 -- Which lines can stand at a place.
-use Rattle.std.proofs.Common.{◌≡◌, refl, ap, subst, ℕ, ◌-◌, ◌<◌, ◌⊎◌, inl, inr, Bool, true, false, not, List, [], ◌∷◌, ◌++◌, map, length, Option, Some, option_map, cond, lt-ltb}
+use Rattle.std.proofs.Common.{◌≡◌, refl, ap, subst, ℕ, ◌-◌, ◌<◌, ◌⊎◌, inl, inr, Bool, true, false, not, List, [], ◌∷◌, ◌++◌, map, length, Option, Some, option_map, arith, cond, lt-ltb}
 use Rattle.std.specs.Prelude.{codes, nat_lt, slice_get, ◌==◌}
-use Rattle.std.specs.List.{flat_map}
+use Rattle.std.specs.List.{flat_map, list_all}
 use Rattle.std.specs.Str.{bytes_eq}
 use Rattle.std.specs.Cmp.Lexicographic.{pointwise}
 use Rattle.std.proofs.lemmas.Bool.{and_from}
@@ -12,7 +12,7 @@ use Rattle.vocab.specs.declared.kinds.Sort.TheVariants.{Profile}
 use Rattle.vocab.specs.declared.literals.Literal.{Literal}
 use Rattle.vocab.specs.declared.literals.Literal.TheVariants.{Wins, Loses, Above}
 use Rattle.vocab.specs.Name.{is_name}
-use Rattle.vocab.specs.Size.{Extent, sort_count, outcome_count}
+use Rattle.vocab.specs.Size.{Extent, factorial, sort_count, outcome_count}
 use Rattle.vocab.specs.Study.{Question}
 use Rattle.meaning.specs.Space.{below}
 use Rattle.meaning.specs.Literals.{is_literal, is_literal_of}
@@ -20,13 +20,13 @@ use Rattle.meaning.specs.declared.stories.Reason.{Reason}
 use Rattle.meaning.specs.declared.stories.Reason.TheVariants.{Axiom as ByAxiom, Outcome as ByOutcome, Lemma as ByLemma}
 use Rattle.verdicts.specs.Numbers.{number_text, read_number}
 use Rattle.verdicts.specs.Texts.{read_kind, value_text, literal_text, literals, literals_at, read_profile, read_outcome, read_value, read_literal}
-use Rattle.meaning.specs.Texts.{profile_text, outcome_text}
-use Rattle.verdicts.specs.Lines.{Line, Title, KindIs, VotersAre, AlternativesAre, AxiomsAre, SaysPossible, SaysImpossible, SaysUndecided, LimitIs, RuleOf, Row, CoreIs, LemmasAre, Heading, Suppose, So, Clash, WithRule, WithOpen, End, name_at, sorts_of}
-use Rattle.verdicts.specs.Reading.{read_axiom, read_positive, keyed, one_word, names, read_values, read_cited, read_reason, read_so, read_suppose, read_step, read_row, verdict_word, read_witness, read_heading}
+use Rattle.meaning.specs.Texts.{profile_text, outcome_text, ranking_text}
+use Rattle.verdicts.specs.Lines.{Line, Title, KindIs, VotersAre, AlternativesAre, BallotsAre, AbsentIs, AxiomsAre, SaysPossible, SaysImpossible, SaysUndecided, LimitIs, RuleOf, Row, CoreIs, LemmasAre, Heading, Suppose, So, Clash, WithRule, WithOpen, End, name_at, sorts_of}
+use Rattle.verdicts.specs.Reading.{read_axiom, read_positive, read_version, read_place, read_places, read_absent, keyed, one_word, names, read_values, read_cited, read_reason, read_so, read_suppose, read_step, read_row, verdict_word, read_witness, read_heading}
 use Rattle.verdicts.specs.Report.{is_reason}
-use Rattle.verdicts.specs.Places.{Place, AtTitle, AtKind, AtVoters, AtAlternatives, AtAxioms, AtVerdict, AtLimit, AtRule, AtRow, AtCore, AtLemmas, AtLemma, AtSuppose, AtStep, AtWitness, AtWitnessRow, AtEnd, AtNothing, wanted}
+use Rattle.verdicts.specs.Places.{Place, AtTitle, AtKind, AtVoters, AtAlternatives, AtBallots, AtAbsent, AtAxioms, AtVerdict, AtLimit, AtRule, AtRow, AtCore, AtLemmas, AtLemma, AtSuppose, AtStep, AtWitness, AtWitnessRow, AtEnd, AtNothing, wanted}
 use Rattle.verdicts.proofs.WordLaws.{named_in, IsIn, from_below}
-use Rattle.verdicts.proofs.LineLaws.{map_is, then_is, or_is, test_is, keyed_is, one_is, none_is, positive_some, verdicts}
+use Rattle.verdicts.proofs.LineLaws.{map_is, then_is, or_is, test_is, keyed_is, one_is, none_is, positive_some, verdicts, versions}
 
 in_append : {A : Type 0} (xs ys : List A) (a : A) → IsIn (xs ++ ys) a → IsIn xs a ⊎ IsIn ys a
 in_append [] ys a i = inr i
@@ -42,6 +42,31 @@ in_flat_map f (x ∷ xs) b i = elim (in_append (f x) (flat_map f xs) b i) [
   | inl h ↦ (x, inl refl, h)
   | inr h ↦ let r = in_flat_map f xs b h in (r.0, inr r.1, r.2)
 ]
+
+-- a place stands among those of the rankings of m alternatives
+abbrev pub are_places : ℕ → List ℕ → Bool
+are_places m places = list_all (λ place. nat_lt place (factorial m)) places
+
+place_in : (m : ℕ) (w : List ℕ) (place : ℕ) → read_place m w ≡ Some place → nat_lt place (factorial m) ≡ true
+place_in m w place e =
+    let i = named_in (ranking_text m) (below (factorial m)) w place e in
+    lt-ltb place (factorial m) (from_below (factorial m) place i)
+
+-- one or more places of rankings
+abbrev pub ArePlaces : ℕ → List ℕ → Type 0
+ArePlaces m places = (0 < length places) × (are_places m places ≡ true)
+
+places_in : (m : ℕ) (words : List (List ℕ)) (places : List ℕ) → read_places m words ≡ Some places
+    → ArePlaces m places
+places_in m [] places e = absurd (cc)
+places_in m (w ∷ []) places e =
+    let p = map_is (λ place. place ∷ []) (read_place m w) places e in
+    subst (λ ps. ArePlaces m ps) p.2 (omega arith, and_from _ _ (place_in m w p.0 p.1) refl)
+places_in m (w ∷ v ∷ words) places e =
+    let t = then_is _ (read_place m w) places e in
+    let p = map_is (λ others. t.0 ∷ others) (read_places m (v ∷ words)) places t.2 in
+    let later = places_in m (v ∷ words) p.0 p.1 in
+    subst (λ ps. ArePlaces m ps) p.2 (omega arith, and_from _ _ (place_in m w t.0 t.1) later.1)
 
 module _ (size : Extent) where
   abbrev P : ℕ
@@ -77,10 +102,12 @@ module _ (size : Extent) where
 module _ (study : Question) where
   -- a line that the grammar has at a place, with all that it names in range
   abbrev pub Fits : Place → ℕ → Line → Type 0
-  Fits AtTitle number Title = Unit {0}
+  Fits AtTitle number (Title version) = IsIn versions version
   Fits AtKind number (KindIs k) = Unit {0}
   Fits AtVoters number (VotersAre n) = Unit {0}
   Fits AtAlternatives number (AlternativesAre n) = Unit {0}
+  Fits AtBallots number (BallotsAre places) = ArePlaces study.size.alternatives places
+  Fits AtAbsent number (AbsentIs absent) = Unit {0}
   Fits AtAxioms number (AxiomsAre ns) = Unit {0}
   Fits AtVerdict number SaysPossible = Unit {0}
   Fits AtVerdict number SaysImpossible = Unit {0}
@@ -194,11 +221,18 @@ module _ (study : Question) where
   wanted_fits AtTitle number words l e =
       let k = keyed_is (codes "bench") _ words l e in
       let j = keyed_is (codes "report") _ k.0 l k.2 in
-      let i = keyed_is (codes "1") _ j.0 l j.2 in
-      subst (Fits AtTitle number) (none_is Title i.0 l i.2).1 tt
+      let o = one_is _ j.0 l j.2 in
+      let m = map_is Title (read_version o.0) l o.2 in
+      subst (Fits AtTitle number) m.2 (named_in number_text versions o.0 m.0 m.1)
   wanted_fits AtKind number words l e = last_word (Fits AtKind number) (codes "kind") read_kind KindIs (λ w k h. tt) words l e
   wanted_fits AtVoters number words l e = last_word (Fits AtVoters number) (codes "voters") read_number VotersAre (λ w k h. tt) words l e
   wanted_fits AtAlternatives number words l e = last_word (Fits AtAlternatives number) (codes "alternatives") read_number AlternativesAre (λ w k h. tt) words l e
+  wanted_fits AtBallots number words l e =
+      let k = keyed_is (codes "ballots") _ words l e in
+      let m = map_is BallotsAre (read_places study.size.alternatives k.0) l k.2 in
+      subst (Fits AtBallots number) m.2 (places_in study.size.alternatives k.0 m.0 m.1)
+  wanted_fits AtAbsent number words l e =
+      last_word (Fits AtAbsent number) (codes "absent") read_absent AbsentIs (λ w a h. tt) words l e
   wanted_fits AtAxioms number words l e = names_fit AtAxioms number (codes "axioms") AxiomsAre (λ ns. tt) words l e
   wanted_fits AtVerdict number words l e =
       let k = keyed_is (codes "verdict") _ words l e in

@@ -16,15 +16,20 @@ use Rattle.verdicts.specs.Judge.{advance, read_line, Told, Good, Refused, settle
 use Rattle.verdicts.proofs.LineLaws.{wanted_read}
 use Rattle.verdicts.proofs.FitLaws.{Fits, wanted_fits}
 use Rattle.verdicts.proofs.SoundLaws.{Holds, printed, IsIdle, HasRead, step_read_so}
+use Rattle.verdicts.proofs.VersionLaws.{IsAllowed, allowed_next}
 
 pub not_long : (b : Bool) (o : Option Line) (l : Line) → cond b None o ≡ Some l → o ≡ Some l
 not_long true o l e = absurd (cc)
 not_long false o l e = e
 
 module _ (study : Question) where
+  -- a reader that has read these lines, all of them right, in a version that the size may have
+  abbrev Reached : Standing → List Line → Type 0
+  Reached s lines = HasRead study s lines × IsAllowed study s.place s
+
   -- the lines that are read, and what the reader knows then
   abbrev Ran : Standing → List Line → List (List ℕ) → Type 0
-  Ran t before texts = (ls : List Line) × HasRead study t (before ++ ls) × (texts ≡ map (line_text study) ls)
+  Ran t before texts = (ls : List Line) × Reached t (before ++ ls) × (texts ≡ map (line_text study) ls)
 
   read_is : (s : Standing) (text : List ℕ) (l : Line) → read_line study s text ≡ Some l → text ≡ line_text study l
   read_is s text l e =
@@ -33,12 +38,22 @@ module _ (study : Question) where
 
   ran_more : (t : Standing) (before : List Line) (l : Line) (text : List ℕ) (texts : List (List ℕ)) → text ≡ line_text study l → Ran t (before ++ l ∷ []) texts → Ran t before (text ∷ texts)
   ran_more t before l text texts e r =
-      (l ∷ r.0, subst (HasRead study t) (append_assoc before (l ∷ []) r.0) r.1, ap (λ x. x ∷ texts) e ∙ ap (λ xs. line_text study l ∷ xs) r.2)
+      let read = subst (λ ls. Reached t ls) (append_assoc before (l ∷ []) r.0) r.1 in
+      (l ∷ r.0, read, ap (λ x. x ∷ texts) e ∙ ap (λ xs. line_text study l ∷ xs) r.2)
 
-  ran : (n : ℕ) (s t : Standing) (texts : List (List ℕ)) (before : List Line) → HasRead study s before → judge_from study n s texts ≡ Good t → Ran t before texts
-  ran n s t [] before h e = ([], subst (λ ls. HasRead study t ls) (sym (append-nil before)) (subst (λ (u : Standing). HasRead study u before) (same_good s t e) h), refl)
+  reached_next : (s : Standing) (before : List Line) (l : Line) → Reached s before
+      → Fits study s.place (length s.earlier + 1) l → fault_of study s l ≡ None
+      → Reached (advance study s l) (before ++ l ∷ [])
+  reached_next s before l h g f = (step_read_so study s l before h.0 g f, allowed_next study s l h.1 g f)
+
+  ran : (n : ℕ) (s t : Standing) (texts : List (List ℕ)) (before : List Line) → Reached s before
+      → judge_from study n s texts ≡ Good t → Ran t before texts
+  ran n s t [] before h e =
+      let here = subst (λ (u : Standing). Reached u before) (same_good s t e) h in
+      ([], subst (λ ls. Reached t ls) (sym (append-nil before)) here, refl)
   ran n s t (text ∷ texts) before h e =
-      by_line (read_line study s text) refl e (λ l g f r. ran (n + 1) (advance study s l) t texts (before ++ l ∷ []) (step_read_so study s l before h g f) r)
+      by_line (read_line study s text) refl e
+      (λ l g f r. ran (n + 1) (advance study s l) t texts (before ++ l ∷ []) (reached_next s before l h g f) r)
     where
       by_fault : (l : Line) → read_line study s text ≡ Some l → (o : Option Refusal) → fault_of study s l ≡ o → settle_at study n s l o (λ next. judge_from study (n + 1) next texts) ≡ Good t → (fault_of study s l ≡ None → judge_from study (n + 1) (advance study s l) texts ≡ Good t → Ran t (before ++ l ∷ []) texts) → Ran t before (text ∷ texts)
       by_fault l d None f g later = ran_more t before l text texts (read_is s text l d) (later f g)
@@ -80,12 +95,14 @@ module _ (study : Question) where
   -- lines that the judge reads to their end are those of the report of a right verdict
   pub lines_sound : (lines : List (List ℕ)) (s : Standing) (v : Verdict) → judge study lines ≡ Good s → s.place ≡ AtNothing v → IsReport study v (ended lines)
   lines_sound lines s v e place =
-      let r = ran study 1 start s lines [] (idle, refl) e in
-      let read = subst (λ p. Holds study p s × (printed study p s ≡ r.0)) place r.1 in
+      let r = ran study 1 start s lines [] ((idle, refl), tt) e in
+      let read = subst (λ p. Holds study p s × (printed study p s ≡ r.0)) place r.1.0 in
       let right = read.0 in
       record {
         claims_some = right.2;
         right = right.0;
+        version = s.version;
+        allowed = subst (λ p. IsAllowed study p s) place r.1.1;
         is = ap ended r.2 ∙ ended_map study r.0 ∙ ap (flat_map (λ line. line_text study line ++ 10 ∷ [])) (sym read.1);
       }
 
@@ -104,4 +121,4 @@ judge_sound study text v e =
 -- what holds of the parts after lines without a fault
 pub good_holds : (study : Question) (s : Standing) (texts : List (List ℕ)) → judge study texts ≡ Good s → Holds study s.place s
 good_holds study s texts e =
-    (ran study 1 start s texts [] (idle study, refl) e).1.0
+    (ran study 1 start s texts [] ((idle study, refl), tt) e).1.0.0

@@ -9,6 +9,7 @@ pub mod ReadLaws
 pub mod TableLaws
 pub mod FaultLaws
 pub mod SoundLaws
+pub mod VersionLaws
 pub mod JudgeLaws
 pub mod RightLaws
 pub mod CompleteLaws

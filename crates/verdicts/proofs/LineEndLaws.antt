@@ -52,11 +52,13 @@ in_middle xs ys zs n h =
     let front : length (xs ++ ys) ≡ length xs + length ys = length-append xs ys in
     omega (arith, h, all, front)
 
-lemmas_in_lines : (study : Question) (verdict : Verdict) → lemma_count verdict ≤ length (report_lines study verdict)
-lemmas_in_lines study (Possible table) = omega arith
-lemmas_in_lines study Undecided = omega arith
-lemmas_in_lines study (Impossible core story witnesses) =
-    in_middle (head_lines study) (verdict_lines study (Impossible core story witnesses)) (End ∷ []) (length story)
+lemmas_in_lines : (study : Question) (version : ℕ) (verdict : Verdict)
+    → lemma_count verdict ≤ length (report_lines study version verdict)
+lemmas_in_lines study version (Possible table) = omega arith
+lemmas_in_lines study version Undecided = omega arith
+lemmas_in_lines study version (Impossible core story witnesses) =
+    in_middle (head_lines study version) (verdict_lines study (Impossible core story witnesses)) (End ∷ [])
+    (length story)
     (after_three SaysImpossible (CoreIs (map (name_at study.axioms) core)) (LemmasAre (length story)) (story_lines 1 story) (all_witness_lines study core witnesses) (length story) (story_fits 1 story))
 
 -- and at least as many bytes
@@ -70,18 +72,24 @@ lines_fit study (line ∷ lines) =
 
 pub lemmas_fit : (study : Question) (text : List ℕ) (verdict : Verdict) → IsReport study verdict text → lemma_count verdict ≤ length text
 lemmas_fit study text verdict is =
-    let lines : length (report_lines study verdict) ≤ length text = subst (λ (t : List ℕ). length (report_lines study verdict) ≤ length t) (sym is.is) (lines_fit study (report_lines study verdict)) in
-    let lemmas : lemma_count verdict ≤ length (report_lines study verdict) = lemmas_in_lines study verdict in
+    let said = report_lines study is.version verdict in
+    let lines : length (report_lines study is.version verdict) ≤ length text =
+    subst (λ (t : List ℕ). length said ≤ length t) (sym is.is) (lines_fit study said) in
+    let lemmas : lemma_count verdict ≤ length (report_lines study is.version verdict) =
+    lemmas_in_lines study is.version verdict in
     omega (arith, lines, lemmas)
 
 -- ---- the report of a right verdict, given line by line, is confirmed
 
 module _ (study : Question) (is : IsReportable study) (lines : List (List ℕ)) (h : list_all has_no_end lines ≡ true) where
-  as_many : (v : Verdict) → IsReport study v (ended lines) → length lines ≡ length (report_lines study v)
+  as_many : (v : Verdict) (r : IsReport study v (ended lines))
+      → length lines ≡ length (report_lines study r.version v)
   as_many v r =
-      let same : lines ++ [] ∷ [] ≡ map (line_text study) (report_lines study v) ++ [] ∷ [] =
+      let said = report_lines study r.version v in
+      let same : lines ++ [] ∷ [] ≡ map (line_text study) (report_lines study r.version v) ++ [] ∷ [] =
       sym (ended_pieces lines h) ∙ ap pieces (sym (append-nil (ended lines))) ∙ report_pieces study is (ended lines) [] v r in
-      ap length (sym (front_snoc lines []) ∙ ap front same ∙ front_snoc (map (line_text study) (report_lines study v)) []) ∙ map_length (report_lines study v)
+      ap length (sym (front_snoc lines []) ∙ ap front same ∙ front_snoc (map (line_text study) said) [])
+      ∙ map_length said
     where
       map_length : (ls : List Line) → length (map (line_text study) ls) ≡ length ls
       map_length [] = refl
@@ -89,6 +97,7 @@ module _ (study : Question) (is : IsReportable study) (lines : List (List ℕ)) 
 
   pub lines_complete : (v : Verdict) → IsReport study v (ended lines) → length lines < 2 ^ 64 → conclude (length lines + 1) [] (judge study lines) ≡ Confirmed v
   lines_complete v r few =
-      let many : length lines ≡ length (report_lines study v) = as_many v r in
-      let lemmas : lemma_count v ≤ length (report_lines study v) = lemmas_in_lines study v in
+      let many : length lines ≡ length (report_lines study r.version v) = as_many v r in
+      let lemmas : lemma_count v ≤ length (report_lines study r.version v) =
+      lemmas_in_lines study r.version v in
       sym (lines_answered study lines h) ∙ right_is_confirmed study is (ended lines) v r (omega (arith, many, lemmas, few))

@@ -1,5 +1,5 @@
 -- What a line says is what its words are.
-use Rattle.std.proofs.Common.{◌≡◌, refl, sym, ap, ◌∙◌, subst, ℕ, ◌+◌, ◌-◌, ◌<◌, ◌⊎◌, inl, inr, Bool, true, false, List, [], ◌∷◌, Option, Some, None, option_map, option_and_then, arith, cond, ltb-true}
+use Rattle.std.proofs.Common.{◌≡◌, refl, sym, ap, ◌∙◌, subst, ℕ, ◌+◌, ◌-◌, ◌<◌, ◌⊎◌, inl, inr, Bool, true, false, List, [], ◌∷◌, map, Option, Some, None, option_map, option_and_then, arith, cond, ltb-true}
 use Rattle.std.specs.Prelude.{codes, nat_lt, slice_get}
 use Rattle.std.specs.List.{list_all}
 use Rattle.std.specs.Str.{bytes_eq}
@@ -7,18 +7,18 @@ use Rattle.std.proofs.lemmas.Slice.Eq.{bytes_eq-Decides}
 use Rattle.vocab.specs.declared.kinds.Kind.TheVariants.{Choice, Ranking}
 use Rattle.vocab.specs.declared.kinds.Sort.{Sort}
 use Rattle.vocab.specs.Name.{is_name}
-use Rattle.vocab.specs.Size.{sort_count}
+use Rattle.vocab.specs.Size.{factorial, sort_count}
 use Rattle.vocab.specs.Study.{Question}
 use Rattle.meaning.specs.Space.{below}
 use Rattle.meaning.specs.declared.stories.Reason.{Reason}
 use Rattle.meaning.specs.declared.stories.Reason.TheVariants.{Axiom as ByAxiom, Outcome as ByOutcome, Lemma as ByLemma}
 use Rattle.verdicts.specs.Numbers.{number_text, read_number}
-use Rattle.meaning.specs.Texts.{kind_text, profile_text, outcome_text}
+use Rattle.meaning.specs.Texts.{kind_text, profile_text, outcome_text, ranking_text}
 use Rattle.verdicts.specs.Texts.{read_kind, value_text, literal_text, literals, read_profile, read_outcome, read_value, read_literal}
-use Rattle.verdicts.specs.Lines.{Line, Title, KindIs, VotersAre, AlternativesAre, AxiomsAre, SaysPossible, SaysImpossible, SaysUndecided, LimitIs, RuleOf, Row, CoreIs, LemmasAre, Heading, Suppose, So, Clash, WithRule, WithOpen, End, name_at, sorts_of, value_words, reason_words, line_words}
-use Rattle.verdicts.specs.Reading.{read_axiom, read_positive, keyed, one_word, no_word, names, read_values, read_cited, read_reason, read_so, read_suppose, read_step, read_row, verdict_word, read_verdict, read_named, read_witness, read_heading}
+use Rattle.verdicts.specs.Lines.{Line, Title, KindIs, VotersAre, AlternativesAre, BallotsAre, AbsentIs, AxiomsAre, SaysPossible, SaysImpossible, SaysUndecided, LimitIs, RuleOf, Row, CoreIs, LemmasAre, Heading, Suppose, So, Clash, WithRule, WithOpen, End, name_at, sorts_of, value_words, reason_words, line_words}
+use Rattle.verdicts.specs.Reading.{read_axiom, read_positive, read_version, read_place, read_places, read_absent, keyed, one_word, no_word, names, read_values, read_cited, read_reason, read_so, read_suppose, read_step, read_row, verdict_word, read_verdict, read_named, read_witness, read_heading}
 use Rattle.std.specs.Option.{option_or}
-use Rattle.verdicts.specs.Places.{Place, AtTitle, AtKind, AtVoters, AtAlternatives, AtAxioms, AtVerdict, AtLimit, AtRule, AtRow, AtCore, AtLemmas, AtLemma, AtSuppose, AtStep, AtWitness, AtWitnessRow, AtEnd, AtNothing, wanted}
+use Rattle.verdicts.specs.Places.{Place, AtTitle, AtKind, AtVoters, AtAlternatives, AtBallots, AtAbsent, AtAxioms, AtVerdict, AtLimit, AtRule, AtRow, AtCore, AtLemmas, AtLemma, AtSuppose, AtStep, AtWitness, AtWitnessRow, AtEnd, AtNothing, wanted}
 use Rattle.verdicts.proofs.NumberLaws.{text_read}
 use Rattle.verdicts.proofs.WordLaws.{text_named, named_in, IsIn}
 
@@ -73,6 +73,32 @@ keyed_one out key text_of read f reads is words b e =
 
 abbrev pub verdicts : List Line
 verdicts = SaysPossible ∷ SaysImpossible ∷ SaysUndecided ∷ []
+
+-- the versions that a title can have
+abbrev pub versions : List ℕ
+versions = 1 ∷ 2 ∷ []
+
+-- the word that says whether voters may be absent
+abbrev pub absent_text : Bool → List ℕ
+absent_text absent = cond absent (codes "yes") (codes "no")
+
+-- ---- rankings
+
+place_read : (m : ℕ) → Reads (ranking_text m) (read_place m)
+place_read m w place e = text_named (ranking_text m) (below (factorial m)) w place e
+
+places_read : (m : ℕ) (words : List (List ℕ)) (places : List ℕ) → read_places m words ≡ Some places
+    → words ≡ map (ranking_text m) places
+places_read m [] places e = absurd (cc)
+places_read m (w ∷ []) places e =
+    let p = map_is (λ place. place ∷ []) (read_place m w) places e in
+    ap (λ v. v ∷ []) (place_read m w p.0 p.1) ∙ ap (map (ranking_text m)) p.2
+places_read m (w ∷ v ∷ words) places e =
+    let t = then_is _ (read_place m w) places e in
+    let p = map_is (λ others. t.0 ∷ others) (read_places m (v ∷ words)) places t.2 in
+    ap (λ x. x ∷ v ∷ words) (place_read m w t.0 t.1)
+    ∙ ap (λ ws. ranking_text m t.0 ∷ ws) (places_read m (v ∷ words) p.0 p.1)
+    ∙ ap (map (ranking_text m)) p.2
 
 module _ (study : Question) where
   values_read : (sorts : List Sort) (words : List (List ℕ)) (values : List ℕ) → read_values study sorts words ≡ Some values → words ≡ value_words study sorts values
@@ -208,23 +234,45 @@ module _ (study : Question) where
       let n = none_is a k.0 l k.2 in
       k.1 ∙ ap (λ ws. key ∷ ws) n.0 ∙ sym is ∙ ap (line_words study) n.1
 
-  title_read : (words : List (List ℕ)) (l : Line) → keyed (codes "bench") (keyed (codes "report") (keyed (codes "1") (no_word Title))) words ≡ Some l → words ≡ line_words study l
-  title_read words l e =
+  title_read : (number : ℕ) (words : List (List ℕ)) (l : Line) → wanted study AtTitle number words ≡ Some l
+      → words ≡ line_words study l
+  title_read number words l e =
       let k = keyed_is (codes "bench") _ words l e in
       let j = keyed_is (codes "report") _ k.0 l k.2 in
-      let i = keyed_is (codes "1") _ j.0 l j.2 in
-      let n = none_is Title i.0 l i.2 in
-      k.1 ∙ ap (λ ws. codes "bench" ∷ ws) (j.1 ∙ ap (λ ws. codes "report" ∷ ws) (i.1 ∙ ap (λ ws. codes "1" ∷ ws) n.0)) ∙ ap (line_words study) n.1
+      let o = one_is _ j.0 l j.2 in
+      let m = map_is Title (read_version o.0) l o.2 in
+      k.1
+      ∙ ap (λ ws. codes "bench" ∷ ws) j.1
+      ∙ ap (λ ws. codes "bench" ∷ codes "report" ∷ ws) o.1
+      ∙ ap (λ w. codes "bench" ∷ codes "report" ∷ w ∷ []) (text_named number_text versions o.0 m.0 m.1)
+      ∙ ap (line_words study) m.2
+
+  ballots_read : (number : ℕ) (words : List (List ℕ)) (l : Line) → wanted study AtBallots number words ≡ Some l
+      → words ≡ line_words study l
+  ballots_read number words l e =
+      let k = keyed_is (codes "ballots") _ words l e in
+      let m = map_is BallotsAre (read_places study.size.alternatives k.0) l k.2 in
+      k.1
+      ∙ ap (λ ws. codes "ballots" ∷ ws) (places_read study.size.alternatives k.0 m.0 m.1)
+      ∙ ap (line_words study) m.2
+
+  absent_read : (number : ℕ) (words : List (List ℕ)) (l : Line) → wanted study AtAbsent number words ≡ Some l
+      → words ≡ line_words study l
+  absent_read number words l e =
+      keyed_one (line_words study) (codes "absent") absent_text read_absent AbsentIs
+      (text_named absent_text (true ∷ false ∷ [])) (λ a. refl) words l e
 
   abbrev text_number : (f : ℕ → Line) (key : List ℕ) → ((n : ℕ) → line_words study (f n) ≡ key ∷ number_text n ∷ []) → (words : List (List ℕ)) (l : Line) → keyed key (one_word (λ w. option_map f (read_number w))) words ≡ Some l → words ≡ line_words study l
   text_number f key is words l e = keyed_one (line_words study) key number_text read_number f text_read is words l e
 
   -- what the grammar wants at a place has the words of the line
   pub wanted_read : (place : Place) (number : ℕ) (words : List (List ℕ)) (l : Line) → wanted study place number words ≡ Some l → words ≡ line_words study l
-  wanted_read AtTitle number words l e = title_read words l e
+  wanted_read AtTitle number words l e = title_read number words l e
   wanted_read AtKind number words l e = keyed_one (line_words study) (codes "kind") kind_text read_kind KindIs (text_named kind_text (Choice ∷ Ranking ∷ [])) (λ a. refl) words l e
   wanted_read AtVoters number words l e = text_number VotersAre (codes "voters") (λ n. refl) words l e
   wanted_read AtAlternatives number words l e = text_number AlternativesAre (codes "alternatives") (λ n. refl) words l e
+  wanted_read AtBallots number words l e = ballots_read number words l e
+  wanted_read AtAbsent number words l e = absent_read number words l e
   wanted_read AtAxioms number words l e = names_read (codes "axioms") AxiomsAre (λ ns. refl) words l e
   wanted_read AtVerdict number words l e = verdict_read words l e
   wanted_read AtLimit number words l e = text_number LimitIs (codes "conflicts") (λ n. refl) words l e

@@ -13,26 +13,27 @@ use Rattle.vocab.specs.declared.literals.Literal.{Literal}
 use Rattle.vocab.specs.declared.literals.Literal.TheVariants.{Wins, Loses, Above}
 use Rattle.vocab.specs.Literal.{profile_of}
 use Rattle.vocab.specs.Name.{is_name}
-use Rattle.vocab.specs.Size.{Extent, IsSize, sort_count, outcome_count}
+use Rattle.vocab.specs.Size.{Extent, IsSize, factorial, sort_count, outcome_count}
 use Rattle.vocab.specs.Study.{Question}
 use Rattle.vocab.specs.Titled.{Titled}
-use Rattle.meaning.specs.Space.{below}
+use Rattle.meaning.specs.Space.{below, ranking}
 use Rattle.meaning.specs.Literals.{is_literal, is_literal_of}
 use Rattle.meaning.specs.declared.stories.Reason.{Reason}
 use Rattle.meaning.specs.declared.stories.Reason.TheVariants.{Axiom as ByAxiom, Outcome as ByOutcome, Lemma as ByLemma}
 use Rattle.verdicts.specs.Numbers.{number_text}
 use Rattle.verdicts.specs.Texts.{words_of, joined, named_by, value_text, literal_text, literals, literals_at, read_profile, read_outcome, read_value, read_literal}
-use Rattle.meaning.specs.Texts.{kind_text, profile_text, outcome_text}
-use Rattle.verdicts.specs.Lines.{Line, Title, KindIs, VotersAre, AlternativesAre, AxiomsAre, SaysPossible, SaysImpossible, SaysUndecided, LimitIs, RuleOf, Row, CoreIs, LemmasAre, Heading, Suppose, So, Clash, WithRule, WithOpen, End, name_at, sorts_of, value_words, reason_words, line_words, line_text}
-use Rattle.verdicts.specs.Reading.{read_axiom, read_positive, keyed, names, read_values, read_cited, read_reason, read_step}
+use Rattle.meaning.specs.Texts.{kind_text, profile_text, outcome_text, ranking_text}
+use Rattle.verdicts.specs.Lines.{Line, Title, KindIs, VotersAre, AlternativesAre, BallotsAre, AbsentIs, AxiomsAre, SaysPossible, SaysImpossible, SaysUndecided, LimitIs, RuleOf, Row, CoreIs, LemmasAre, Heading, Suppose, So, Clash, WithRule, WithOpen, End, name_at, sorts_of, value_words, reason_words, line_words, line_text}
+use Rattle.verdicts.specs.Reading.{read_axiom, read_positive, read_version, read_place, read_places, read_absent, keyed, names, read_values, read_cited, read_reason, read_step}
 use Rattle.std.specs.Option.{option_or}
 use Rattle.verdicts.specs.Report.{is_reason}
 use Rattle.verdicts.specs.Laws.{IsReportable}
-use Rattle.verdicts.specs.Places.{Place, AtTitle, AtKind, AtVoters, AtAlternatives, AtAxioms, AtVerdict, AtLimit, AtRule, AtRow, AtCore, AtLemmas, AtLemma, AtSuppose, AtStep, AtWitness, AtWitnessRow, AtEnd, wanted}
+use Rattle.verdicts.specs.Places.{Place, AtTitle, AtKind, AtVoters, AtAlternatives, AtBallots, AtAbsent, AtAxioms, AtVerdict, AtLimit, AtRule, AtRow, AtCore, AtLemmas, AtLemma, AtSuppose, AtStep, AtWitness, AtWitnessRow, AtEnd, wanted}
 use Rattle.verdicts.proofs.NumberLaws.{read_text}
 use Rattle.verdicts.proofs.WordLaws.{IsIn, named_text, named_below, in_below, lacks, split_joined}
-use Rattle.verdicts.proofs.FitLaws.{Fits, literal_in}
-use Rattle.verdicts.proofs.TextLaws.{is_word, word_lacks, number_word, name_word, profile_word, outcome_word_of, value_word, literal_word, profiles_same, outcomes_same, values_same, literals_same, names_own}
+use Rattle.verdicts.proofs.LineLaws.{versions, absent_text}
+use Rattle.verdicts.proofs.FitLaws.{Fits, are_places, ArePlaces, literal_in}
+use Rattle.verdicts.proofs.TextLaws.{is_word, word_lacks, letters_word, numbers_same, number_word, name_word, profile_word, outcome_word_of, value_word, literal_word, rankings_same, profiles_same, outcomes_same, values_same, literals_same, names_own}
 
 in_left : {A : Type 0} (xs ys : List A) (a : A) → IsIn xs a → IsIn (xs ++ ys) a
 in_left [] ys a i = absurd i
@@ -150,11 +151,44 @@ module _ (study : Question) (is : IsReportable study) where
   kind_read Ranking h = refl
   kind_read Sets h = absurd (true≢false (sym h))
 
+  version_read : (version : ℕ) → IsIn versions version → read_version (number_text version) ≡ Some version
+  version_read version i =
+      named_text number_text versions version (λ other _ e. numbers_same other version e) i
+
+  -- the alternatives
+  abbrev m : ℕ
+  m = study.size.alternatives
+
+  place_read : (place : ℕ) → nat_lt place (factorial m) ≡ true
+      → read_place m (ranking_text m place) ≡ Some place
+  place_read place h =
+      let l = ltb-true place (factorial m) h in
+      named_below (ranking_text m) (factorial m) place
+      (λ q i e. rankings_same study.size is.size q place i l e) l
+
+  places_read : (places : List ℕ) → ArePlaces m places
+      → read_places m (map (ranking_text m) places) ≡ Some places
+  places_read [] h = absurd (omega (arith, h.0))
+  places_read (p ∷ []) h =
+      ap (option_map (λ place. place ∷ [])) (place_read p (and_parts (nat_lt p (factorial m)) true h.1).0)
+  places_read (p ∷ q ∷ places) h =
+      let a = and_parts (nat_lt p (factorial m)) (are_places m (q ∷ places)) h.1 in
+      let words = map (ranking_text m) (q ∷ places) in
+      ap (option_and_then (λ place. option_map (λ others. place ∷ others) (read_places m words)))
+      (place_read p a.0)
+      ∙ ap (option_map (λ others. p ∷ others)) (places_read (q ∷ places) (omega arith, a.1))
+
+  absent_read : (absent : Bool) → read_absent (absent_text absent) ≡ Some absent
+  absent_read true = refl
+  absent_read false = refl
+
   pub wanted_is : (place : Place) (number : ℕ) (l : Line) → Fits study place number l → is_plain l ≡ true → wanted study place number (line_words study l) ≡ Some l
-  wanted_is AtTitle number Title f h = refl
+  wanted_is AtTitle number (Title version) f h = ap (option_map Title) (version_read version f)
   wanted_is AtKind number (KindIs k) f h = ap (option_map KindIs) (kind_read k h)
   wanted_is AtVoters number (VotersAre n) f h = ap (option_map VotersAre) (read_text n)
   wanted_is AtAlternatives number (AlternativesAre n) f h = ap (option_map AlternativesAre) (read_text n)
+  wanted_is AtBallots number (BallotsAre places) f h = ap (option_map BallotsAre) (places_read places f)
+  wanted_is AtAbsent number (AbsentIs absent) f h = ap (option_map AbsentIs) (absent_read absent)
   wanted_is AtAxioms number (AxiomsAre ns) f h = ap (option_map AxiomsAre) (names_read ns h)
   wanted_is AtVerdict number SaysPossible f h = refl
   wanted_is AtVerdict number SaysImpossible f h = refl
@@ -208,12 +242,22 @@ module _ (study : Question) (is : IsReportable study) where
   kind_word Ranking = refl
   kind_word Sets = refl
 
+  rankings_words : (places : List ℕ) → list_all is_word (map (ranking_text m) places) ≡ true
+  rankings_words [] = refl
+  rankings_words (p ∷ places) = and_from _ _ (letters_word (ranking m p)) (rankings_words places)
+
+  absent_word : (absent : Bool) → list_all is_word (absent_text absent ∷ []) ≡ true
+  absent_word true = refl
+  absent_word false = refl
+
   -- a line has a first word, and all are words
   pub line_words_ok : (l : Line) → is_plain l ≡ true → (w : List ℕ) × (ws : List (List ℕ)) × (line_words study l ≡ w ∷ ws) × (list_all is_word (w ∷ ws) ≡ true)
-  line_words_ok Title h = (_, _, refl, refl)
+  line_words_ok (Title version) h = (_, _, refl, one_word_ok (number_text version) (number_word version))
   line_words_ok (KindIs k) h = (_, _, refl, kind_word k)
   line_words_ok (VotersAre n) h = (_, _, refl, one_word_ok (number_text n) (number_word n))
   line_words_ok (AlternativesAre n) h = (_, _, refl, one_word_ok (number_text n) (number_word n))
+  line_words_ok (BallotsAre places) h = (_, _, refl, rankings_words places)
+  line_words_ok (AbsentIs absent) h = (_, _, refl, absent_word absent)
   line_words_ok (AxiomsAre ns) h = (_, _, refl, names_words ns h)
   line_words_ok SaysPossible h = (_, _, refl, refl)
   line_words_ok SaysImpossible h = (_, _, refl, refl)

@@ -1,24 +1,27 @@
 -- The judge confirms the reports of right verdicts and nothing else.
-use Rattle.std.proofs.Common.{◌≡◌, refl, sym, ap, ◌∙◌, subst, ℕ, ◌+◌, ◌^◌, ◌<◌, ◌≢◌, Bool, true, false, not, List, [], ◌∷◌, ◌++◌, map, length, Some, None, arith, true≢false, cond, append-nil}
+use Rattle.std.proofs.Common.{◌≡◌, refl, sym, ap, ◌∙◌, subst, ℕ, ◌+◌, ◌^◌, ◌<◌, ◌≢◌, inl, inr, Bool, true, false, not, List, [], ◌∷◌, ◌++◌, map, length, Some, None, arith, true≢false, cond, append-nil}
 use Rattle.std.specs.Prelude.{◌==◌, nat_lt}
 use Rattle.std.specs.List.{list_all, join_with_byte, onto_first}
 use Rattle.std.proofs.lemmas.List.Splits.{join_with_byte-slice_split, length-slice_split, slice_split-cons_no}
-use Rattle.std.proofs.lemmas.Bool.{and_parts, and_from, not-true}
+use Rattle.std.proofs.lemmas.Bool.{and_parts, and_from, cases_lt, not-true}
+use Rattle.vocab.specs.Size.{is_full}
 use Rattle.vocab.specs.Study.{Question}
 use Rattle.verdicts.specs.Texts.{words_of}
 use Rattle.verdicts.specs.Lines.{Line, line_text}
 use Rattle.verdicts.specs.declared.verdicts.Verdict.{Verdict}
 use Rattle.verdicts.specs.declared.refusals.Refusal.TheVariants.{Form}
-use Rattle.verdicts.specs.Report.{lemma_count, report_lines, report_text, has_text, is_right, IsReport, IsConfirmed}
-use Rattle.verdicts.specs.Places.{Place, AtTitle, AtKind, AtVoters, AtAlternatives, AtAxioms, AtVerdict, AtLimit, AtRule, AtRow, AtCore, AtLemmas, AtLemma, AtSuppose, AtStep, AtWitness, AtWitnessRow, AtEnd, AtNothing, Standing, start, wanted}
+use Rattle.verdicts.specs.Faults.{is_version}
+use Rattle.verdicts.specs.Report.{lemma_count, report_lines, report_text_in, own_version, report_text, has_text, is_right, claims, IsReport, IsConfirmed}
+use Rattle.verdicts.specs.Places.{Place, AtTitle, AtKind, AtVoters, AtAlternatives, AtBallots, AtAbsent, AtAxioms, AtVerdict, AtLimit, AtRule, AtRow, AtCore, AtLemmas, AtLemma, AtSuppose, AtStep, AtWitness, AtWitnessRow, AtEnd, AtNothing, Standing, start, wanted}
 use Rattle.verdicts.specs.Judge.{advance, Good, read_line, judge_from, judge, ended, pieces, front, final, Confirmed, Faulty, at_end, conclude, answer}
-use Rattle.verdicts.specs.Laws.{IsReportable, IsShort}
+use Rattle.verdicts.specs.Laws.{IsReportable, IsVersion, IsShort}
 use Rattle.verdicts.proofs.RightLaws.{right_has_text}
-use Rattle.verdicts.proofs.WordLaws.{lacks, split_ended}
+use Rattle.verdicts.proofs.WordLaws.{IsIn, lacks, split_ended}
+use Rattle.verdicts.proofs.LineLaws.{versions}
 use Rattle.verdicts.proofs.FitLaws.{Fits}
 use Rattle.verdicts.proofs.ReadLaws.{is_plain, wanted_is, words_are, line_lacks}
 use Rattle.verdicts.proofs.JudgeLaws.{ended_map}
-use Rattle.verdicts.proofs.CompleteLaws.{Runs, report_run}
+use Rattle.verdicts.proofs.CompleteLaws.{Runs, Ends, allowed_known, report_run}
 use Rattle.verdicts.proofs.FaultLaws.{past}
 use Rattle.verdicts.proofs.ShortLaws.{is_short, report_short}
 use Rattle.meaning.proofs.SpaceLaws.{list_all-map_of}
@@ -46,6 +49,10 @@ all_left : (t : List ℕ → Bool) (xs ys : List (List ℕ)) → list_all t (xs 
 all_left t [] ys h = refl
 all_left t (x ∷ xs) ys h = let p = and_parts (t x) (list_all t (xs ++ ys)) h in and_from _ _ p.0 (all_left t xs ys p.1)
 
+-- the texts of the lines of a report
+abbrev texts_of : Question → ℕ → Verdict → List (List ℕ)
+texts_of study version v = map (line_text study) (report_lines study version v)
+
 module _ (study : Question) (is : IsReportable study) where
   -- a line that fits is read
   line_read : (s : Standing) (l : Line) → Fits study s.place (length s.earlier + 1) l → is_plain l ≡ true → short (line_text study l) ≡ true → read_line study s (line_text study l) ≡ Some l
@@ -66,32 +73,46 @@ module _ (study : Question) (is : IsReportable study) where
   lines_lack b s t [] r = refl
   lines_lack b s t (l ∷ ls) r = and_from _ _ (line_lacks study is l r.1) (lines_lack b (advance study s l) t ls r.3)
 
-  abbrev texts_of : Verdict → List (List ℕ)
-  texts_of v = map (line_text study) (report_lines study v)
+  -- the lines of a report lead to its end
+  read_run : (text : List ℕ) (v : Verdict) (r : IsReport study v text) → Ends study is true r.version v
+  read_run text v r =
+      let known = allowed_known study.size r.version r.allowed in
+      report_run study is true r.version known (λ _. r.allowed) v (λ _. r.claims_some) (λ _. r.right)
+      (right_has_text study is v r.right)
 
   -- the pieces of a report with something after it
-  pub report_pieces : (text rest : List ℕ) (v : Verdict) → IsReport study v text → pieces (text ++ rest) ≡ texts_of v ++ pieces rest
+  pub report_pieces : (text rest : List ℕ) (v : Verdict) (r : IsReport study v text)
+      → pieces (text ++ rest) ≡ texts_of study r.version v ++ pieces rest
   report_pieces text rest v r =
-      let run = report_run study is true v (λ _. r.claims_some) (λ _. r.right) (right_has_text study is v r.right) in
-      ap (λ t. pieces (t ++ rest)) (r.is ∙ sym (ended_map study (report_lines study v))) ∙ split_ended 10 (texts_of v) rest (lines_lack true start run.0 (report_lines study v) run.1)
+      let run = read_run text v r in
+      let said = report_lines study r.version v in
+      ap (λ t. pieces (t ++ rest)) (r.is ∙ sym (ended_map study said))
+      ∙ split_ended 10 (texts_of study r.version v) rest (lines_lack true start run.0 said run.1)
 
-  report_judged : (text : List ℕ) (v : Verdict) (more : List (List ℕ)) → list_all short (texts_of v) ≡ true → IsReport study v text → (s : Standing) × (k : ℕ) × (judge study (texts_of v ++ more) ≡ judge_from study k s more) × (s.place ≡ AtNothing v)
-  report_judged text v more h r =
-      let run = report_run study is true v (λ _. r.claims_some) (λ _. r.right) (right_has_text study is v r.right) in
-      let j = judged 1 start run.0 (report_lines study v) more run.1 h in
+  report_judged : (text : List ℕ) (v : Verdict) (more : List (List ℕ)) (r : IsReport study v text)
+      → list_all short (texts_of study r.version v) ≡ true
+      → (s : Standing) × (k : ℕ)
+      × (judge study (texts_of study r.version v ++ more) ≡ judge_from study k s more)
+      × (s.place ≡ AtNothing v)
+  report_judged text v more r h =
+      let run = read_run text v r in
+      let j = judged 1 start run.0 (report_lines study r.version v) more run.1 h in
       (run.0, j.0, j.1, run.2)
 
   complete : (text : List ℕ) (v : Verdict) → IsShort text → IsReport study v text → answer study text ≡ Confirmed v
   complete text v h r =
-      let e : pieces text ≡ texts_of v ++ [] ∷ [] = ap pieces (sym (append-nil text)) ∙ report_pieces text [] v r in
-      let short_ones = all_left short (texts_of v) ([] ∷ []) (ap (list_all short) (sym e) ∙ h) in
-      let j = report_judged text v [] short_ones r in
+      let lines = texts_of study r.version v in
+      let n = length (lines ++ [] ∷ []) in
+      let e : pieces text ≡ texts_of study r.version v ++ [] ∷ [] =
+      ap pieces (sym (append-nil text)) ∙ report_pieces text [] v r in
+      let short_ones = all_left short lines ([] ∷ []) (ap (list_all short) (sym e) ∙ h) in
+      let j = report_judged text v [] r short_ones in
       ap (λ ps. conclude (length ps) (final ps) (judge study (front ps))) e
-      ∙ ap (λ xs. conclude (length (texts_of v ++ [] ∷ [])) (final (texts_of v ++ [] ∷ [])) (judge study xs)) (front_snoc (texts_of v) [])
-      ∙ ap (λ y. conclude (length (texts_of v ++ [] ∷ [])) y (judge study (texts_of v))) (final_snoc (texts_of v) [])
-      ∙ ap (λ xs. conclude (length (texts_of v ++ [] ∷ [])) [] (judge study xs)) (sym (append-nil (texts_of v)))
-      ∙ ap (conclude (length (texts_of v ++ [] ∷ [])) []) j.2
-      ∙ ap (at_end (length (texts_of v ++ [] ∷ [])) []) j.3
+      ∙ ap (λ xs. conclude n (final (lines ++ [] ∷ [])) (judge study xs)) (front_snoc lines [])
+      ∙ ap (λ y. conclude n y (judge study lines)) (final_snoc lines [])
+      ∙ ap (λ xs. conclude n [] (judge study xs)) (sym (append-nil lines))
+      ∙ ap (conclude n []) j.2
+      ∙ ap (at_end n []) j.3
 
 -- a report whose lines are short
 pub judge_complete : (study : Question) → IsReportable study → (text : List ℕ) (v : Verdict) → IsShort text → IsReport study v text → answer study text ≡ Confirmed v
@@ -123,22 +144,45 @@ module _ (study : Question) (is : IsReportable study) where
   same_verdict : (v w : Verdict) → AtNothing v ≡ AtNothing w → v ≡ w
   same_verdict v w e = cc
 
-  distinct : (v w : Verdict) → has_text study v ≡ true → has_text study w ≡ true → report_text study v ≡ report_text study w → v ≡ w
-  distinct v w a b e =
-      let r = report_run study is false v (λ t. absurd (true≢false (sym t))) (λ t. absurd (true≢false (sym t))) a in
-      let q = report_run study is false w (λ t. absurd (true≢false (sym t))) (λ t. absurd (true≢false (sym t))) b in
-      let texts = sym (lines_of v r.0 r.1) ∙ ap (λ text. front (pieces text)) e ∙ lines_of w q.0 q.1 in
-      let same = same_runs start r.0 q.0 (report_lines study v) (report_lines study w) r.1 q.1 texts in
-      same_verdict v w (sym r.2 ∙ ap (λ (s : Standing). s.place) same ∙ q.2)
-    where
-      lines_of : (v : Verdict) (s : Standing) → Runs study is false start (report_lines study v) s → front (pieces (report_text study v)) ≡ map (line_text study) (report_lines study v)
-      lines_of v s r =
-          ap (λ t. front (pieces t)) (sym (ended_map study (report_lines study v)) ∙ sym (append-nil (ended (map (line_text study) (report_lines study v)))))
-          ∙ ap front (split_ended 10 (map (line_text study) (report_lines study v)) [] (lines_lack study is false start s (report_lines study v) r))
-          ∙ front_snoc (map (line_text study) (report_lines study v)) []
+  -- a verdict that has a text leads to the end, whether or not it is right
+  text_run : (version : ℕ) → IsIn versions version → (v : Verdict) → has_text study v ≡ true
+      → Ends study is false version v
+  text_run version known v h =
+      report_run study is false version known (λ t. absurd (true≢false (sym t))) v
+      (λ t. absurd (true≢false (sym t))) (λ t. absurd (true≢false (sym t))) h
 
-pub texts_distinct : (study : Question) → IsReportable study → (v w : Verdict) → has_text study v ≡ true → has_text study w ≡ true → report_text study v ≡ report_text study w → v ≡ w
-texts_distinct study is v w a b e = distinct study is v w a b e
+  distinct : (m n : ℕ) → IsIn versions m → IsIn versions n
+      → (v w : Verdict) → has_text study v ≡ true → has_text study w ≡ true
+      → report_text_in study m v ≡ report_text_in study n w → (m ≡ n) × (v ≡ w)
+  distinct m n known other v w a b e =
+      let r = text_run m known v a in
+      let q = text_run n other w b in
+      let texts = sym (lines_of m v r.0 r.1) ∙ ap (λ text. front (pieces text)) e ∙ lines_of n w q.0 q.1 in
+      let same = same_runs start r.0 q.0 (report_lines study m v) (report_lines study n w) r.1 q.1 texts in (
+        sym r.3 ∙ ap (λ (s : Standing). s.version) same ∙ q.3,
+        same_verdict v w (sym r.2 ∙ ap (λ (s : Standing). s.place) same ∙ q.2),
+      )
+    where
+      lines_of : (m : ℕ) (v : Verdict) (s : Standing) → Runs study is false start (report_lines study m v) s
+          → front (pieces (report_text_in study m v)) ≡ texts_of study m v
+      lines_of m v s r =
+          let said = report_lines study m v in
+          let lines = texts_of study m v in
+          ap (λ t. front (pieces t)) (sym (ended_map study said) ∙ sym (append-nil (ended lines)))
+          ∙ ap front (split_ended 10 lines [] (lines_lack study is false start s said r))
+          ∙ front_snoc lines []
+
+known_from : (version : ℕ) → IsVersion version → IsIn versions version
+known_from version h = elim (cases_lt 1 version) [
+  | inl l ↦ inr (inl (omega (arith, l, h.1)))
+  | inr le ↦ inl (omega (arith, le, h.0))
+]
+
+pub texts_distinct : (study : Question) → IsReportable study → (m n : ℕ) → IsVersion m → IsVersion n
+    → (v w : Verdict) → has_text study v ≡ true → has_text study w ≡ true
+    → report_text_in study m v ≡ report_text_in study n w → (m ≡ n) × (v ≡ w)
+texts_distinct study is m n known other v w a b e =
+    distinct study is m n (known_from m known) (known_from n other) v w a b e
 
 module _ (study : Question) (is : IsReportable study) where
   -- nothing fits after the end
@@ -164,22 +208,36 @@ module _ (study : Question) (is : IsReportable study) where
       cons_none : (q : List ℕ) (qs : List (List ℕ)) → q ∷ qs ≡ [] → ⊥
       cons_none q qs e = cc
 
-  no_prefix : (v w : Verdict) (rest : List ℕ) → has_text study v ≡ true → has_text study w ≡ true → report_text study v ++ rest ≡ report_text study w → rest ≡ []
-  no_prefix v w rest a b e =
-      let r = report_run study is false v (λ t. absurd (true≢false (sym t))) (λ t. absurd (true≢false (sym t))) a in
-      let q = report_run study is false w (λ t. absurd (true≢false (sym t))) (λ t. absurd (true≢false (sym t))) b in
-      let left = pieces_of v rest r.0 r.1 in
-      let right = ap pieces (sym (append-nil (report_text study w))) ∙ pieces_of w [] q.0 q.1 in
-      only_piece rest (map (line_text study) (report_lines study v)) (map (line_text study) (report_lines study w)) (pieces rest) refl (sym left ∙ ap pieces e ∙ right)
-      (λ f. no_more start r.0 q.0 (report_lines study v) (report_lines study w) (front (pieces rest)) v r.1 q.1 r.2 f)
+  no_prefix : (m n : ℕ) → IsIn versions m → IsIn versions n
+      → (v w : Verdict) (rest : List ℕ) → has_text study v ≡ true → has_text study w ≡ true
+      → report_text_in study m v ++ rest ≡ report_text_in study n w → rest ≡ []
+  no_prefix m n known other v w rest a b e =
+      let r = text_run study is m known v a in
+      let q = text_run study is n other w b in
+      let left = pieces_of m v rest r.0 r.1 in
+      let right = ap pieces (sym (append-nil (report_text_in study n w))) ∙ pieces_of n w [] q.0 q.1 in
+      let whole = sym left ∙ ap pieces e ∙ right in
+      let left_lines = report_lines study m v in
+      let right_lines = report_lines study n w in
+      only_piece rest (texts_of study m v) (texts_of study n w) (pieces rest) refl whole
+      (λ f. no_more start r.0 q.0 left_lines right_lines (front (pieces rest)) v r.1 q.1 r.2 f)
     where
-      pieces_of : (v : Verdict) (rest : List ℕ) (s : Standing) → Runs study is false start (report_lines study v) s → pieces (report_text study v ++ rest) ≡ map (line_text study) (report_lines study v) ++ pieces rest
-      pieces_of v rest s r =
-          ap (λ t. pieces (t ++ rest)) (sym (ended_map study (report_lines study v)))
-          ∙ split_ended 10 (map (line_text study) (report_lines study v)) rest (lines_lack study is false start s (report_lines study v) r)
+      pieces_of : (m : ℕ) (v : Verdict) (rest : List ℕ) (s : Standing)
+          → Runs study is false start (report_lines study m v) s
+          → pieces (report_text_in study m v ++ rest) ≡ texts_of study m v ++ pieces rest
+      pieces_of m v rest s r =
+          let said = report_lines study m v in
+          ap (λ t. pieces (t ++ rest)) (sym (ended_map study said))
+          ∙ split_ended 10 (texts_of study m v) rest (lines_lack study is false start s said r)
 
 pub no_confirmed_prefix : (study : Question) → IsReportable study → (text rest : List ℕ) → IsConfirmed study text → IsConfirmed study (text ++ rest) → rest ≡ []
-no_confirmed_prefix study is text rest a b = no_prefix study is a.0 b.0 rest (right_has_text study is a.0 a.1.right) (right_has_text study is b.0 b.1.right) (ap (λ t. t ++ rest) (sym a.1.is) ∙ b.1.is)
+no_confirmed_prefix study is text rest a b =
+    let known = allowed_known study.size a.1.version a.1.allowed in
+    let other = allowed_known study.size b.1.version b.1.allowed in
+    let h = right_has_text study is a.0 a.1.right in
+    let k = right_has_text study is b.0 b.1.right in
+    no_prefix study is a.1.version b.1.version known other a.0 b.0 rest h k
+    (ap (λ t. t ++ rest) (sym a.1.is) ∙ b.1.is)
 
 -- ---- short lines, and reports that are cut
 
@@ -203,6 +261,8 @@ at_end_other n [] AtTitle h = refl
 at_end_other n [] AtKind h = refl
 at_end_other n [] AtVoters h = refl
 at_end_other n [] AtAlternatives h = refl
+at_end_other n [] AtBallots h = refl
+at_end_other n [] AtAbsent h = refl
 at_end_other n [] AtAxioms h = refl
 at_end_other n [] AtVerdict h = refl
 at_end_other n [] AtLimit h = refl
@@ -217,16 +277,31 @@ at_end_other n [] AtWitness h = refl
 at_end_other n [] AtWitnessRow h = refl
 at_end_other n [] (AtEnd v) h = refl
 
-module _ (study : Question) (is : IsReportable study) where
-  shorts : (v : Verdict) → is_right study v ≡ true → lemma_count v < 2 ^ 64 → list_all short (map (line_text study) (report_lines study v)) ≡ true
-  shorts v h few = list_all-map_of (is_short study is) short (line_text study) (report_lines study v) (λ l e. e) (report_short study is v h few)
+few_versions : (version : ℕ) → IsIn versions version → version < 2 ^ 64
+few_versions version (inl e) = subst (λ n. n < 2 ^ 64) e (omega arith)
+few_versions version (inr (inl e)) = subst (λ n. n < 2 ^ 64) e (omega arith)
+few_versions version (inr (inr i)) = absurd i
 
-  lines_short : (v : Verdict) → is_right study v ≡ true → lemma_count v < 2 ^ 64 → IsShort (report_text study v)
-  lines_short v h few =
-      let run = report_run study is false v (λ t. absurd (true≢false (sym t))) (λ t. absurd (true≢false (sym t))) (right_has_text study is v h) in
-      ap (λ t. list_all short (pieces t)) (sym (ended_map study (report_lines study v)) ∙ sym (append-nil (ended (map (line_text study) (report_lines study v)))))
-      ∙ ap (list_all short) (split_ended 10 (map (line_text study) (report_lines study v)) [] (lines_lack study is false start run.0 (report_lines study v) run.1))
-      ∙ list_all-both short (map (line_text study) (report_lines study v)) ([] ∷ []) (shorts v h few) refl
+module _ (study : Question) (is : IsReportable study) where
+  shorts : (version : ℕ) → is_version study.size version ≡ true
+      → (v : Verdict) → is_right study v ≡ true → lemma_count v < 2 ^ 64
+      → list_all short (texts_of study version v) ≡ true
+  shorts version allowed v h few =
+      let low = few_versions version (allowed_known study.size version allowed) in
+      list_all-map_of (is_short study is) short (line_text study) (report_lines study version v) (λ l e. e)
+      (report_short study is version v low h few)
+
+  lines_short : (version : ℕ) → is_version study.size version ≡ true
+      → (v : Verdict) → is_right study v ≡ true → lemma_count v < 2 ^ 64
+      → IsShort (report_text_in study version v)
+  lines_short version allowed v h few =
+      let known = allowed_known study.size version allowed in
+      let run = text_run study is version known v (right_has_text study is v h) in
+      let said = report_lines study version v in
+      let lines = texts_of study version v in
+      ap (λ t. list_all short (pieces t)) (sym (ended_map study said) ∙ sym (append-nil (ended lines)))
+      ∙ ap (list_all short) (split_ended 10 lines [] (lines_lack study is false start run.0 said run.1))
+      ∙ list_all-both short lines ([] ∷ []) (shorts version allowed v h few) refl
 
   -- the judge goes along some lines of a report, and wants another
   stops_before : (n : ℕ) (s t : Standing) (ls : List Line) (before : List (List ℕ)) (line : List ℕ) (more : List (List ℕ)) → Runs study is true s ls t → list_all short (map (line_text study) ls) ≡ true → map (line_text study) ls ≡ before ++ line ∷ more →
@@ -241,33 +316,83 @@ module _ (study : Question) (is : IsReportable study) where
       let read = ap (read_line study s) (sym c.0) ∙ line_read study is s l r.0 r.1 p.0 in
       (later.0, past study n s b before l read (r.2 refl) ∙ later.1, later.2)
 
-  cut_here : (v : Verdict) (text rest : List ℕ) → list_all short (map (line_text study) (report_lines study v)) ≡ true → IsReport study v (text ++ rest) → (qs : List (List ℕ)) → pieces (final (pieces text) ++ rest) ≡ qs → rest ≢ [] → answer study text ≡ Faulty (length (pieces text)) Form
-  cut_here v text rest h r [] e some = absurd (omega (arith, length-slice_split (λ b. b == 10) (final (pieces text) ++ rest), ap length e))
-  cut_here v text rest h r (q ∷ []) e some =
-      let all : front (pieces text) ++ q ∷ [] ≡ map (line_text study) (report_lines study v) ++ [] ∷ [] = sym (pieces_append text rest ∙ ap (λ ps. front (pieces text) ++ ps) e) ∙ whole_pieces in
-      let none : q ≡ [] = sym (final_snoc (front (pieces text)) q) ∙ ap final all ∙ final_snoc (map (line_text study) (report_lines study v)) [] in
-      let empty : final (pieces text) ++ rest ≡ [] = sym (join_with_byte-slice_split 10 (final (pieces text) ++ rest)) ∙ ap (join_with_byte 10) e ∙ none in
+  cut_here : (v : Verdict) (text rest : List ℕ) (r : IsReport study v (text ++ rest))
+      → list_all short (texts_of study r.version v) ≡ true
+      → (qs : List (List ℕ)) → pieces (final (pieces text) ++ rest) ≡ qs → rest ≢ []
+      → answer study text ≡ Faulty (length (pieces text)) Form
+  cut_here v text rest r h [] e some =
+      absurd (omega (arith, length-slice_split (λ b. b == 10) (final (pieces text) ++ rest), ap length e))
+  cut_here v text rest r h (q ∷ []) e some =
+      let lines = texts_of study r.version v in
+      let all : front (pieces text) ++ q ∷ [] ≡ texts_of study r.version v ++ [] ∷ [] =
+      sym (pieces_append text rest ∙ ap (λ ps. front (pieces text) ++ ps) e) ∙ whole_pieces in
+      let none : q ≡ [] = sym (final_snoc (front (pieces text)) q) ∙ ap final all ∙ final_snoc lines [] in
+      let empty : final (pieces text) ++ rest ≡ [] =
+      sym (join_with_byte-slice_split 10 (final (pieces text) ++ rest)) ∙ ap (join_with_byte 10) e ∙ none in
       absurd (some (right_empty (final (pieces text)) rest empty))
     where
       right_empty : (xs ys : List ℕ) → xs ++ ys ≡ [] → ys ≡ []
       right_empty [] ys e = e
       right_empty (x ∷ xs) ys e = absurd (cc)
 
-      whole_pieces : pieces (text ++ rest) ≡ map (line_text study) (report_lines study v) ++ [] ∷ []
+      whole_pieces : pieces (text ++ rest) ≡ texts_of study r.version v ++ [] ∷ []
       whole_pieces = ap pieces (sym (append-nil (text ++ rest))) ∙ report_pieces study is (text ++ rest) [] v r
-  cut_here v text rest h r (q ∷ y ∷ ps) e some =
-      let all : front (pieces text) ++ q ∷ y ∷ ps ≡ map (line_text study) (report_lines study v) ++ [] ∷ [] =
-      sym (pieces_append text rest ∙ ap (λ ps. front (pieces text) ++ ps) e) ∙ ap pieces (sym (append-nil (text ++ rest))) ∙ report_pieces study is (text ++ rest) [] v r in
-      let lines : map (line_text study) (report_lines study v) ≡ front (pieces text) ++ q ∷ front (y ∷ ps) = sym (front_snoc (map (line_text study) (report_lines study v)) []) ∙ ap front (sym all) ∙ front_more (front (pieces text)) q y ps in
-      let run = report_run study is true v (λ _. r.claims_some) (λ _. r.right) (right_has_text study is v r.right) in
-      let stop = stops_before 1 start run.0 (report_lines study v) (front (pieces text)) q (front (y ∷ ps)) run.1 h lines in
-      ap (conclude (length (pieces text)) (final (pieces text))) stop.1 ∙ at_end_other (length (pieces text)) (final (pieces text)) stop.0.place stop.2
+  cut_here v text rest r h (q ∷ y ∷ ps) e some =
+      let all : front (pieces text) ++ q ∷ y ∷ ps ≡ texts_of study r.version v ++ [] ∷ [] =
+      sym (pieces_append text rest ∙ ap (λ ps. front (pieces text) ++ ps) e)
+      ∙ ap pieces (sym (append-nil (text ++ rest))) ∙ report_pieces study is (text ++ rest) [] v r in
+      let lines : texts_of study r.version v ≡ front (pieces text) ++ q ∷ front (y ∷ ps) =
+      sym (front_snoc (texts_of study r.version v) [])
+      ∙ ap front (sym all) ∙ front_more (front (pieces text)) q y ps in
+      let run = read_run study is (text ++ rest) v r in
+      let said = report_lines study r.version v in
+      let stop = stops_before 1 start run.0 said (front (pieces text)) q (front (y ∷ ps)) run.1 h lines in
+      ap (conclude (length (pieces text)) (final (pieces text))) stop.1
+      ∙ at_end_other (length (pieces text)) (final (pieces text)) stop.0.place stop.2
 
-pub right_lines_short : (study : Question) → IsReportable study → (v : Verdict) → is_right study v ≡ true → lemma_count v < 2 ^ 64 → IsShort (report_text study v)
-right_lines_short study is v h few = lines_short study is v h few
+pub right_lines_short : (study : Question) → IsReportable study
+    → (version : ℕ) → is_version study.size version ≡ true
+    → (v : Verdict) → is_right study v ≡ true → lemma_count v < 2 ^ 64
+    → IsShort (report_text_in study version v)
+right_lines_short study is version allowed v h few = lines_short study is version allowed v h few
 
-pub right_is_confirmed : (study : Question) → IsReportable study → (text : List ℕ) (v : Verdict) → IsReport study v text → lemma_count v < 2 ^ 64 → answer study text ≡ Confirmed v
-right_is_confirmed study is text v r few = judge_complete study is text v (subst IsShort (sym r.is) (lines_short study is v r.right few)) r
+pub right_is_confirmed : (study : Question) → IsReportable study
+    → (text : List ℕ) (v : Verdict) → IsReport study v text → lemma_count v < 2 ^ 64
+    → answer study text ≡ Confirmed v
+right_is_confirmed study is text v r few =
+    let lines = lines_short study is r.version r.allowed v r.right few in
+    judge_complete study is text v (subst IsShort (sym r.is) lines) r
 
-pub cut_is_form : (study : Question) → IsReportable study → (v : Verdict) (text rest : List ℕ) → IsReport study v (text ++ rest) → lemma_count v < 2 ^ 64 → rest ≢ [] → answer study text ≡ Faulty (length (pieces text)) Form
-cut_is_form study is v text rest r few some = cut_here study is v text rest (shorts study is v r.right few) r (pieces (final (pieces text) ++ rest)) refl some
+pub cut_is_form : (study : Question) → IsReportable study
+    → (v : Verdict) (text rest : List ℕ) → IsReport study v (text ++ rest)
+    → lemma_count v < 2 ^ 64 → rest ≢ []
+    → answer study text ≡ Faulty (length (pieces text)) Form
+cut_is_form study is v text rest r few some =
+    let lines = shorts study is r.version r.allowed v r.right few in
+    cut_here study is v text rest r lines (pieces (final (pieces text) ++ rest)) refl some
+
+-- ---- what is printed
+
+-- the size may have the version that is printed
+pub own_allowed : (study : Question) → is_version study.size (own_version study) ≡ true
+own_allowed study = by_test (is_full study.size) refl
+  where
+    by_test : (full : Bool) → is_full study.size ≡ full → is_version study.size (cond full 1 2) ≡ true
+    by_test true e = e
+    by_test false e = refl
+
+-- what is printed of a right verdict that claims something is its report
+pub printed_is_report : (study : Question) (text : List ℕ) (v : Verdict)
+    → claims study v ≡ true → is_right study v ≡ true → text ≡ report_text study v → IsReport study v text
+printed_is_report study text v some right e = record {
+  claims_some = some;
+  right = right;
+  version = own_version study;
+  allowed = own_allowed study;
+  is = e;
+}
+
+pub printed_are_reports : (study : Question) → (is_version study.size (own_version study) ≡ true)
+    × ((text : List ℕ) (v : Verdict) → claims study v ≡ true → is_right study v ≡ true
+    → text ≡ report_text study v → IsReport study v text)
+printed_are_reports study = (own_allowed study, printed_is_report study)

@@ -1,7 +1,8 @@
--- No line of a right report is longer than 4,096 bytes: it has at most 77 words of at most 52 bytes each.
+-- No line of a right report is longer than 4,096 bytes: it has at most 77 words of at most 52 bytes each, or says
+-- the ballots, which are at most 120 words of at most 5 bytes each.
 use Rattle.verdicts.proofs.TextLaws.{length_digits}
-use Rattle.std.proofs.Common.{◌≡◌, refl, sym, ap, ◌∙◌, subst, ℕ, zero, suc, ◌+◌, ◌*◌, ◌^◌, ◌<◌, ◌≤◌, inl, inr, Bool, true, not, ◌&&◌, List, [], ◌∷◌, ◌++◌, map, length, arith, true≢false, ltb-true, lt-ltb, leb-true, le-leb, le-ltb, length-append, eqb-true}
-use Rattle.std.specs.Prelude.{nat_lt, nat_le, slice_get, Option, Some, None}
+use Rattle.std.proofs.Common.{◌≡◌, refl, sym, ap, ◌∙◌, subst, ℕ, zero, suc, ◌+◌, ◌*◌, ◌^◌, ◌<◌, ◌≤◌, inl, inr, Bool, true, false, not, ◌&&◌, List, [], ◌∷◌, ◌++◌, map, length, arith, true≢false, ltb-true, lt-ltb, leb-true, le-leb, le-ltb, length-append, eqb-true, cond}
+use Rattle.std.specs.Prelude.{◌==◌, nat_lt, nat_le, slice_get, Option, Some, None}
 use Rattle.std.specs.List.{list_all, join_with_byte}
 use Rattle.std.specs.Cmp.Lexicographic.{pointwise}
 use Rattle.std.proofs.lemmas.Bool.{and_parts, and_from, cases_lt}
@@ -22,6 +23,7 @@ use Rattle.vocab.specs.Titled.{Titled}
 use Rattle.vocab.proofs.PrefixLemmas.{prefix_within_depth}
 use Rattle.meaning.specs.Space.{rankings, ranking, ranking_at, casts_of, cast_bases}
 use Rattle.meaning.specs.Texts.{ballot_text, cast_text, letters_or_dash, profile_text, ranking_text, outcome_text_of, outcome_text, letter}
+use Rattle.meaning.proofs.BallotLaws.{ballots_within}
 use Rattle.meaning.proofs.RankingLaws.{are_rankings}
 use Rattle.meaning.proofs.SpaceLaws.{length-rankings}
 use Rattle.verdicts.specs.Numbers.{number_text}
@@ -38,8 +40,8 @@ use Rattle.meaning.specs.Literals.{is_literal}
 use Rattle.meaning.specs.Stories.{is_story}
 use Rattle.meaning.specs.Cores.{is_core_from, is_witness}
 use Rattle.meaning.proofs.TestLaws.{list_all-both}
-use Rattle.verdicts.specs.Lines.{Line, KindIs, VotersAre, AlternativesAre, AxiomsAre, SaysImpossible, LimitIs, RuleOf, Row, CoreIs, LemmasAre, Heading, Suppose, Clash, WithRule, WithOpen, End, sorts_of, name_at, value_words, reason_words, line_words, line_text}
-use Rattle.verdicts.specs.Report.{row_lines, step_line, lemma_lines, story_lines, head_lines, witness_lines, all_witness_lines, verdict_lines, report_lines, is_reason, is_right, lemma_count}
+use Rattle.verdicts.specs.Lines.{Line, Title, KindIs, VotersAre, AlternativesAre, BallotsAre, AbsentIs, AxiomsAre, SaysImpossible, LimitIs, RuleOf, Row, CoreIs, LemmasAre, Heading, Suppose, Clash, WithRule, WithOpen, End, sorts_of, name_at, value_words, reason_words, line_words, line_text}
+use Rattle.verdicts.specs.Report.{row_lines, step_line, lemma_lines, story_lines, domain_lines, head_lines, witness_lines, all_witness_lines, verdict_lines, report_lines, is_reason, is_right, lemma_count}
 use Rattle.verdicts.specs.Laws.{IsReportable}
 use Rattle.verdicts.proofs.PrintLaws.{decimal_is}
 use Rattle.verdicts.proofs.RightLaws.{is_sound_reason, is_sound_step, is_sound_lemma, sound_story}
@@ -65,6 +67,16 @@ joined_within c k (w ∷ v ∷ ws) h =
 number_within : (n : ℕ) → n < 2 ^ 64 → length (number_text n) ≤ 20
 number_within n h = subst (λ text. length text ≤ 20) (decimal_is n h) (length-decimal-le 20 n (omega arith) (omega (arith, h)) h)
 
+-- five alternatives have 120 rankings, and fewer have no more
+few_rankings : (n : ℕ) → n ≤ 5 → factorial n ≤ 120
+few_rankings zero h = omega arith
+few_rankings (suc zero) h = omega arith
+few_rankings (suc (suc zero)) h = omega arith
+few_rankings (suc (suc (suc zero))) h = omega arith
+few_rankings (suc (suc (suc (suc zero)))) h = omega arith
+few_rankings (suc (suc (suc (suc (suc zero))))) h = omega arith
+few_rankings (suc (suc (suc (suc (suc (suc n)))))) h = absurd (omega (arith, h))
+
 module _ (size : Extent) (is : IsSize size) where
   abbrev m : ℕ
   m = size.alternatives
@@ -79,6 +91,15 @@ module _ (size : Extent) (is : IsSize size) where
 
   ranking_text_within : (place : ℕ) → length (ranking_text m place) ≤ 5
   ranking_text_within place = omega (arith, length-map (ranking m place) letter, ranking_within place, is.few_alternatives)
+
+  rankings_within : (places : List ℕ) → list_all (within 7) (map (ranking_text m) places) ≡ true
+  rankings_within [] = refl
+  rankings_within (place ∷ places) =
+      let here = within_from 7 (ranking_text m place) (omega (arith, ranking_text_within place)) in
+      and_from _ _ here (rankings_within places)
+
+  few_ballots : length (ballot_places size) ≤ 120
+  few_ballots = omega (arith, ballots_within size, few_rankings m is.few_alternatives)
 
   letters_or_dash_within : (o : Option ℕ) → length (letters_or_dash m o) ≤ 5
   letters_or_dash_within None = omega arith
@@ -246,12 +267,45 @@ module _ (study : Question) (is : IsReportable study) where
   kind_short Ranking = refl
   kind_short Sets = refl
 
-  head_short : list_all is_short (head_lines study) ≡ true
-  head_short =
+  ballots_short : is_short (BallotsAre (ballot_places study.size)) ≡ true
+  ballots_short =
+      let places = ballot_places study.size in
+      let words = line_words study (BallotsAre places) in
+      let all : list_all (within 7) words ≡ true = rankings_within study.size is.size places in
+      let few = few_ballots study.size is.size in
+      let as_many = length-map places (ranking_text study.size.alternatives) in
+      ap not (le-ltb 4096 (length (line_text study (BallotsAre places)))
+      (omega (arith, joined_within 32 7 words all, as_many, few)))
+
+  absent_short : (absent : Bool) → is_short (AbsentIs absent) ≡ true
+  absent_short true = refl
+  absent_short false = refl
+
+  domain_short : (version : ℕ) → list_all is_short (domain_lines study version) ≡ true
+  domain_short version = by_test (version == 2)
+    where
+      says : List Line
+      says = BallotsAre (ballot_places study.size) ∷ AbsentIs study.size.absent ∷ []
+
+      by_test : (b : Bool) → list_all is_short (cond b says []) ≡ true
+      by_test true = and_from _ _ ballots_short (and_from _ _ (absent_short study.size.absent) refl)
+      by_test false = refl
+
+  head_short : (version : ℕ) → version < 2 ^ 64 → list_all is_short (head_lines study version) ≡ true
+  head_short version few =
+      let title = few_words (Title version) (short_number version few) (omega arith) in
       let voters = few_words (VotersAre study.size.voters) (short_number study.size.voters (omega (arith, is.size.few_voters))) (omega arith) in
       let alternatives = few_words (AlternativesAre study.size.alternatives) (short_number study.size.alternatives (omega (arith, is.size.few_alternatives))) (omega arith) in
       let names = few_words (AxiomsAre (map (λ a. a.name) study.axioms)) (own_names_within study.axioms is.names) (omega (arith, length-map study.axioms (λ (a : Titled). a.name), is.taken.few_axioms)) in
-      and_from _ _ (kind_short study.size.kind) (and_from _ _ voters (and_from _ _ alternatives (and_from _ _ names refl)))
+      let front =
+      Title version ∷ KindIs study.size.kind ∷ VotersAre study.size.voters
+      ∷ AlternativesAre study.size.alternatives ∷ [] in
+      let kind = kind_short study.size.kind in
+      let front_short : list_all is_short front ≡ true =
+      and_from _ _ title (and_from _ _ kind (and_from _ _ voters (and_from _ _ alternatives refl))) in
+      let domain = domain_lines study version in
+      list_all-both is_short (front ++ domain) (AxiomsAre (map (λ a. a.name) study.axioms) ∷ [])
+      (list_all-both is_short front domain front_short (domain_short version)) (and_from _ _ names refl)
 
   witness_short : (whole : List ℕ) (k : ℕ) (witness : Witness) → is_witness study.size study.axioms study.conflicts whole k witness ≡ true → list_all is_short (witness_lines study k witness) ≡ true
   witness_short whole k (Rule table) h =
@@ -280,6 +334,11 @@ module _ (study : Question) (is : IsReportable study) where
   verdict_short Undecided h few = and_from _ _ (few_words (LimitIs study.conflicts) (short_number study.conflicts (omega (arith, is.taken.few_conflicts))) (omega arith)) refl
 
   -- each line of the report of a right verdict is short
-  pub report_short : (verdict : Verdict) → is_right study verdict ≡ true → lemma_count verdict < 2 ^ 64 → list_all is_short (report_lines study verdict) ≡ true
-  report_short verdict h few =
-      list_all-both is_short (head_lines study ++ verdict_lines study verdict) (End ∷ []) (list_all-both is_short (head_lines study) (verdict_lines study verdict) head_short (verdict_short verdict h few)) refl
+  pub report_short : (version : ℕ) (verdict : Verdict) → version < 2 ^ 64
+      → is_right study verdict ≡ true → lemma_count verdict < 2 ^ 64
+      → list_all is_short (report_lines study version verdict) ≡ true
+  report_short version verdict low h few =
+      let head = head_lines study version in
+      let said = verdict_lines study verdict in
+      list_all-both is_short (head ++ said) (End ∷ [])
+      (list_all-both is_short head said (head_short version low) (verdict_short verdict h few)) refl

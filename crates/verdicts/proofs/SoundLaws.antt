@@ -2,6 +2,7 @@
 use Rattle.meaning.specs.StoryFaults.{unless}
 use Rattle.std.proofs.Common.{◌≡◌, refl, sym, ap, ◌∙◌, subst, ℕ, ◌+◌, ◌<◌, ◌≤◌, inl, inr, Bool, true, false, not, ◌&&◌, List, [], ◌∷◌, ◌++◌, map, length, Option, Some, None, option_map, arith, true≢false, cond, append_assoc, append-nil, length-append, eqb-true, lt-ltb}
 use Rattle.std.specs.Prelude.{◌==◌, nat_lt, slice_get}
+use Rattle.std.specs.Bool.{beq}
 use Rattle.std.specs.List.{list_all}
 use Rattle.std.specs.Str.{bytes_eq}
 use Rattle.std.specs.Cmp.Lexicographic.{pointwise}
@@ -14,7 +15,7 @@ use Rattle.vocab.specs.declared.kinds.Kind.TheVariants.{Choice, Ranking, Sets}
 use Rattle.vocab.specs.declared.kinds.Sort.TheVariants.{Profile}
 use Rattle.vocab.specs.declared.literals.Literal.{Literal}
 use Rattle.vocab.specs.Literal.{opposite_of}
-use Rattle.vocab.specs.Size.{sort_count, outcome_count}
+use Rattle.vocab.specs.Size.{ballot_places, sort_count, outcome_count}
 use Rattle.vocab.specs.Study.{Question}
 use Rattle.vocab.specs.Titled.{Titled}
 use Rattle.meaning.specs.declared.stories.Reason.{Reason}
@@ -31,12 +32,12 @@ use Rattle.meaning.specs.Stories.{is_decided, are_new, is_lemma, is_story}
 use Rattle.meaning.specs.Literals.{is_literal}
 use Rattle.std.specs.Option.{option_or, unwrap_or}
 use Rattle.meaning.proofs.StoryFaultLaws.{passes_reason, passes_literal}
-use Rattle.verdicts.specs.Lines.{Line, Title, KindIs, VotersAre, AlternativesAre, AxiomsAre, SaysPossible, SaysImpossible, SaysUndecided, RuleOf, Row, CoreIs, LemmasAre, Heading, Suppose, So, Clash, WithRule, WithOpen, End, name_at}
+use Rattle.verdicts.specs.Lines.{Line, Title, KindIs, VotersAre, AlternativesAre, BallotsAre, AbsentIs, AxiomsAre, SaysPossible, SaysImpossible, SaysUndecided, RuleOf, Row, CoreIs, LemmasAre, Heading, Suppose, So, Clash, WithRule, WithOpen, End, name_at}
 use Rattle.verdicts.specs.Reading.{read_axiom}
 use Rattle.verdicts.specs.declared.verdicts.Verdict.{Verdict}
 use Rattle.verdicts.specs.declared.verdicts.Verdict.TheVariants.{Possible, Impossible}
-use Rattle.verdicts.specs.Report.{row_lines, step_line, lemma_lines, story_lines, head_lines, witness_lines, all_witness_lines, verdict_lines, report_lines, is_reason, is_lemma_text, has_text, is_right, claims}
-use Rattle.verdicts.specs.Places.{Place, AtTitle, AtKind, AtVoters, AtAlternatives, AtAxioms, AtVerdict, AtLimit, AtRule, AtRow, AtCore, AtLemmas, AtLemma, AtSuppose, AtStep, AtWitness, AtWitnessRow, AtEnd, AtNothing, Standing}
+use Rattle.verdicts.specs.Report.{row_lines, step_line, lemma_lines, story_lines, domain_lines, head_lines, witness_lines, all_witness_lines, verdict_lines, report_lines, is_reason, is_lemma_text, has_text, is_right, claims}
+use Rattle.verdicts.specs.Places.{Place, AtTitle, AtKind, AtVoters, AtAlternatives, AtBallots, AtAbsent, AtAxioms, AtVerdict, AtLimit, AtRule, AtRow, AtCore, AtLemmas, AtLemma, AtSuppose, AtStep, AtWitness, AtWitnessRow, AtEnd, AtNothing, Standing}
 use Rattle.verdicts.specs.declared.refusals.Refusal.{Refusal}
 use Rattle.verdicts.specs.Faults.{refusal_of, unless_so, same_kind, places_of, is_core, known_of, next_core, rest_of, failing, table_fault, name_fault, fault_of}
 use Rattle.verdicts.specs.Judge.{witness_place, after_witness, after_lemma, advance}
@@ -92,6 +93,12 @@ names_same (x ∷ xs) (y ∷ ys) e =
     let p = and_parts (bytes_eq x y) (pointwise bytes_eq xs ys) e in
     ap (λ z. z ∷ xs) ((bytes_eq-Decides x y).0 p.0) ∙ ap (λ zs. y ∷ zs) (names_same xs ys p.1)
 
+absents_same : (a b : Bool) → beq a b ≡ true → a ≡ b
+absents_same true true e = refl
+absents_same false false e = refl
+absents_same true false e = absurd (true≢false (sym e))
+absents_same false true e = absurd (true≢false (sym e))
+
 places_names : (axioms : List Titled) (names : List (List ℕ)) (core : List ℕ) → places_of axioms names ≡ Some core → names ≡ map (name_at axioms) core
 places_names axioms [] core e = let same : [] ≡ core = cc in ap (map (name_at axioms)) same
 places_names axioms (name ∷ names) core e =
@@ -114,9 +121,20 @@ module _ (study : Question) where
   abbrev K : ℕ
   K = outcome_count study.size.kind study.size.alternatives
 
+  -- the lines from the title to the alternatives
+  abbrev size_lines : ℕ → List Line
+  size_lines version =
+      Title version ∷ KindIs study.size.kind ∷ VotersAre study.size.voters
+      ∷ AlternativesAre study.size.alternatives ∷ []
+
+  -- an impossibility with its core, how many lemmas there will be, and those that are read
+  abbrev told_lines : ℕ → Standing → List Line
+  told_lines count s =
+      SaysImpossible ∷ CoreIs (map (name_at study.axioms) s.core) ∷ LemmasAre count ∷ story_lines 1 s.earlier
+
   -- the lines that a reader has read
   abbrev opening : Standing → List Line
-  opening s = head_lines study ++ SaysImpossible ∷ CoreIs (map (name_at study.axioms) s.core) ∷ LemmasAre s.count ∷ story_lines 1 s.earlier
+  opening s = head_lines study s.version ++ told_lines s.count s
 
   abbrev present : Standing → List Line
   present s = Heading (length s.earlier + 1) ∷ map Suppose s.suppose ++ map step_line s.steps
@@ -127,23 +145,26 @@ module _ (study : Question) where
 
   abbrev pub printed : Place → Standing → List Line
   printed AtTitle s = []
-  printed AtKind s = Title ∷ []
-  printed AtVoters s = Title ∷ KindIs study.size.kind ∷ []
-  printed AtAlternatives s = Title ∷ KindIs study.size.kind ∷ VotersAre study.size.voters ∷ []
-  printed AtAxioms s = Title ∷ KindIs study.size.kind ∷ VotersAre study.size.voters ∷ AlternativesAre study.size.alternatives ∷ []
-  printed AtVerdict s = head_lines study
-  printed AtLimit s = head_lines study ++ SaysUndecided ∷ []
-  printed AtRule s = head_lines study ++ SaysPossible ∷ []
-  printed AtRow s = head_lines study ++ SaysPossible ∷ RuleOf P ∷ row_lines 0 s.rows
-  printed AtCore s = head_lines study ++ SaysImpossible ∷ []
-  printed AtLemmas s = head_lines study ++ SaysImpossible ∷ CoreIs (map (name_at study.axioms) s.core) ∷ []
+  printed AtKind s = Title s.version ∷ []
+  printed AtVoters s = Title s.version ∷ KindIs study.size.kind ∷ []
+  printed AtAlternatives s = Title s.version ∷ KindIs study.size.kind ∷ VotersAre study.size.voters ∷ []
+  printed AtBallots s = size_lines s.version
+  printed AtAbsent s = size_lines s.version ++ BallotsAre (ballot_places study.size) ∷ []
+  printed AtAxioms s = size_lines s.version ++ domain_lines study s.version
+  printed AtVerdict s = head_lines study s.version
+  printed AtLimit s = head_lines study s.version ++ SaysUndecided ∷ []
+  printed AtRule s = head_lines study s.version ++ SaysPossible ∷ []
+  printed AtRow s = head_lines study s.version ++ SaysPossible ∷ RuleOf P ∷ row_lines 0 s.rows
+  printed AtCore s = head_lines study s.version ++ SaysImpossible ∷ []
+  printed AtLemmas s =
+      head_lines study s.version ++ SaysImpossible ∷ CoreIs (map (name_at study.axioms) s.core) ∷ []
   printed AtLemma s = opening s
   printed AtSuppose s = opening s ++ present s
   printed AtStep s = opening s ++ present s
   printed AtWitness s = opening s ++ all_witness_lines study s.core s.witnesses
   printed AtWitnessRow s = (opening s ++ all_witness_lines study s.core s.witnesses) ++ WithRule (name_at study.axioms (or_zero (next_core s))) P ∷ row_lines 0 s.rows
-  printed (AtEnd v) s = head_lines study ++ verdict_lines study v
-  printed (AtNothing v) s = report_lines study v
+  printed (AtEnd v) s = head_lines study s.version ++ verdict_lines study v
+  printed (AtNothing v) s = report_lines study s.version v
 
   -- nothing is read of a table or a story
   pub record IsIdle (s : Standing) : Type 0 where
@@ -191,6 +212,8 @@ module _ (study : Question) where
 
   -- what holds of the parts at a place
   abbrev pub Holds : Place → Standing → Type 0
+  Holds AtBallots s = IsIdle s × ((s.version == 2) ≡ true)
+  Holds AtAbsent s = IsIdle s × ((s.version == 2) ≡ true)
   Holds AtLimit s = ⊥
   Holds AtRow s = AreRows s
   Holds AtLemmas s = HasCore s × IsIdle s
@@ -219,6 +242,11 @@ module _ (study : Question) where
       by_test false None h f = absurd (cc)
       by_test false (Some a) h f = absurd (cc)
 
+  -- lines after a head
+  assoc_head : (s : Standing) (ls more : List Line)
+      → head_lines study s.version ++ (ls ++ more) ≡ (head_lines study s.version ++ ls) ++ more
+  assoc_head s ls more = sym (append_assoc (head_lines study s.version) ls more)
+
   -- after the last row of a rule
   rule_row : 0 < P → (s : Standing) (p o : ℕ) → AreRows s → o < K → fault_of study (at AtRow s) (Row p o) ≡ None → HasRead (advance study (at AtRow s) (Row p o)) (printed AtRow s ++ Row p o ∷ [])
   rule_row some s p o h l e =
@@ -226,8 +254,11 @@ module _ (study : Question) where
       let same : p ≡ length s.rows = eqb-true p (length s.rows) (none_unless (p == length s.rows) refusal.Row f.0) in
       let longer : length (s.rows ++ o ∷ []) ≡ length s.rows + 1 = length-append s.rows (o ∷ []) in
       let inside = all_snoc (λ o. nat_lt o K) s.rows o h.0 (lt-ltb o K l) in
-      let lines : head_lines study ++ SaysPossible ∷ RuleOf P ∷ row_lines 0 (s.rows ++ o ∷ []) ≡ printed AtRow s ++ Row p o ∷ [] =
-      ap (λ ls. head_lines study ++ SaysPossible ∷ RuleOf P ∷ ls) (rows_snoc 0 s.rows o ∙ ap (λ q. row_lines 0 s.rows ++ Row q o ∷ []) (zero_more (length s.rows) ∙ sym same)) in
+      let next : length s.rows ≡ p = sym same in
+      let lines : printed AtRow (record s { rows = s.rows ++ o ∷ [] }) ≡ printed AtRow s ++ Row p o ∷ [] =
+      ap (λ ls. head_lines study s.version ++ SaysPossible ∷ RuleOf P ∷ ls)
+      (rows_snoc 0 s.rows o ∙ ap (λ q. row_lines 0 s.rows ++ Row q o ∷ []) (zero_more (length s.rows) ∙ next))
+      ∙ assoc_head s (SaysPossible ∷ RuleOf P ∷ row_lines 0 s.rows) (Row p o ∷ []) in
       by_test (length s.rows + 1 == P) refl longer inside lines f.1
     where
       zero_more : (n : ℕ) → 0 + n ≡ n
@@ -239,7 +270,12 @@ module _ (study : Question) where
       end : Standing
       end = record after { place = AtEnd (Possible (s.rows ++ o ∷ [])) }
 
-      by_test : (b : Bool) → (length s.rows + 1 == P) ≡ b → length (s.rows ++ o ∷ []) ≡ length s.rows + 1 → list_all (λ o. nat_lt o K) (s.rows ++ o ∷ []) ≡ true → head_lines study ++ SaysPossible ∷ RuleOf P ∷ row_lines 0 (s.rows ++ o ∷ []) ≡ printed AtRow s ++ Row p o ∷ [] → cond (length s.rows + 1 == P) (table_fault study (s.rows ++ o ∷ []) (below (length study.axioms))) None ≡ None → HasRead (cond (length (s.rows ++ o ∷ []) == P) end after) (printed AtRow s ++ Row p o ∷ [])
+      by_test : (b : Bool) → (length s.rows + 1 == P) ≡ b
+          → length (s.rows ++ o ∷ []) ≡ length s.rows + 1
+          → list_all (λ o. nat_lt o K) (s.rows ++ o ∷ []) ≡ true
+          → printed AtRow (record s { rows = s.rows ++ o ∷ [] }) ≡ printed AtRow s ++ Row p o ∷ []
+          → cond (length s.rows + 1 == P) (table_fault study (s.rows ++ o ∷ []) (below (length study.axioms))) None ≡ None
+          → HasRead (cond (length (s.rows ++ o ∷ []) == P) end after) (printed AtRow s ++ Row p o ∷ [])
       by_test true t longer inside lines f =
           let whole : (length (s.rows ++ o ∷ []) == P) ≡ true = ap (λ n. n == P) longer ∙ t in
           let none : table_fault study (s.rows ++ o ∷ []) (below (length study.axioms)) ≡ None = subst (λ b. cond b (table_fault study (s.rows ++ o ∷ []) (below (length study.axioms))) None ≡ None) t f in
@@ -262,7 +298,9 @@ module _ (study : Question) where
           let right = and_from _ _ told.story (and_from _ _ told.core full.0) in
           let text = and_from _ _ (and_from _ _ (and_from _ _ (lt-ltb 0 (length s.earlier) told.some) told.texts) places) full.1 in (
             (right, text, refl),
-            ap (λ n. head_lines study ++ SaysImpossible ∷ CoreIs (map (name_at study.axioms) s.core) ∷ LemmasAre n ∷ story_lines 1 s.earlier ++ all_witness_lines study s.core s.witnesses) told.all ∙ e,
+            ap (λ n. head_lines study s.version ++ (told_lines n s ++ all_witness_lines study s.core s.witnesses))
+                told.all
+                ∙ assoc_head s (told_lines s.count s) (all_witness_lines study s.core s.witnesses) ∙ e,
           )
 
   -- after a row of a witness
@@ -392,8 +430,11 @@ module _ (study : Question) where
       let texts = all_snoc (is_lemma_text study) s.earlier lemma h.telling.texts text in
       let longer : length (s.earlier ++ lemma ∷ []) ≡ length s.earlier + 1 = length-append s.earlier (lemma ∷ []) in
       let flip : 1 + length s.earlier ≡ length s.earlier + 1 = omega arith in
+      let names = map (name_at study.axioms) s.core in
       let lines : opening next ≡ printed AtStep s ++ Clash r ∷ [] =
-      ap (λ ls. head_lines study ++ SaysImpossible ∷ CoreIs (map (name_at study.axioms) s.core) ∷ LemmasAre s.count ∷ ls) (story_snoc 1 s.earlier lemma ∙ ap (λ n. story_lines 1 s.earlier ++ lemma_lines n lemma) flip)
+      ap (λ ls. head_lines study s.version ++ SaysImpossible ∷ CoreIs names ∷ LemmasAre s.count ∷ ls)
+      (story_snoc 1 s.earlier lemma ∙ ap (λ n. story_lines 1 s.earlier ++ lemma_lines n lemma) flip)
+      ∙ assoc_head s (told_lines s.count s) (lemma_lines (length s.earlier + 1) lemma)
       ∙ sym (append_assoc (opening s) (present s) (Clash r ∷ [])) in
       by_test (length (s.earlier ++ lemma ∷ []) == s.count) refl longer right texts lines
     where
@@ -432,6 +473,16 @@ module _ (study : Question) where
   idle_at : (p : Place) (s : Standing) → IsIdle s → IsIdle (at p s)
   idle_at p s h = record { rows = h.rows; earlier = h.earlier; suppose = h.suppose; steps = h.steps; witnesses = h.witnesses }
 
+  idle_from : (p : Place) (version : ℕ) (s : Standing) → IsIdle s
+      → IsIdle (record s { place = p; version = version })
+  idle_from p version s h = record {
+    rows = h.rows;
+    earlier = h.earlier;
+    suppose = h.suppose;
+    steps = h.steps;
+    witnesses = h.witnesses;
+  }
+
   telling_at : (p : Place) (s : Standing) → IsTelling s → IsTelling (at p s)
   telling_at p s t = record { core = t.core; rows = t.rows; witnesses = t.witnesses; lemmas = t.lemmas; texts = t.texts; more = t.more }
 
@@ -447,7 +498,13 @@ module _ (study : Question) where
       by_places : (o : Option (List ℕ)) → places_of study.axioms names ≡ o → is_core (length study.axioms) o ≡ true → HasRead (record s { place = AtLemmas; core = unwrap_or o [] }) (printed AtCore s ++ CoreIs names ∷ [])
       by_places None d t = absurd (true≢false (sym t))
       by_places (Some core) d t =
-          ((t, record { rows = h.rows; earlier = h.earlier; suppose = h.suppose; steps = h.steps; witnesses = h.witnesses }), ap (λ ns. head_lines study ++ SaysImpossible ∷ CoreIs ns ∷ []) (sym (places_names study.axioms names core d)))
+          let idle : IsIdle (record s { place = AtLemmas; core = core }) =
+          record { rows = h.rows; earlier = h.earlier; suppose = h.suppose; steps = h.steps; witnesses = h.witnesses } in
+          let named = places_names study.axioms names core d in (
+            (t, idle),
+            ap (λ ns. head_lines study s.version ++ SaysImpossible ∷ CoreIs ns ∷ []) (sym named)
+                ∙ assoc_head s (SaysImpossible ∷ []) (CoreIs names ∷ []),
+          )
 
   lemmas_line : (s : Standing) (n : ℕ) → HasCore s → IsIdle s → 0 < n → HasRead (advance study (at AtLemmas s) (LemmasAre n)) (printed AtLemmas s ++ LemmasAre n ∷ [])
   lemmas_line s n c h l = (
@@ -463,7 +520,8 @@ module _ (study : Question) where
       h.suppose,
       h.steps,
     ),
-    ap (λ (ls : List Lemma). head_lines study ++ SaysImpossible ∷ CoreIs (map (name_at study.axioms) s.core) ∷ LemmasAre n ∷ story_lines 1 ls) h.earlier,
+    ap (λ (ls : List Lemma). head_lines study s.version ++ told_lines n (record s { earlier = ls })) h.earlier
+        ∙ assoc_head s (SaysImpossible ∷ CoreIs (map (name_at study.axioms) s.core) ∷ []) (LemmasAre n ∷ []),
   )
 
   heading_line : (s : Standing) (n : ℕ) → IsTelling s → s.suppose ≡ [] → s.steps ≡ [] → n ≡ length s.earlier + 1 → HasRead (advance study (at AtLemma s) (Heading n)) (printed AtLemma s ++ Heading n ∷ [])
@@ -509,13 +567,66 @@ module _ (study : Question) where
       ∙ sym (append_assoc (opening s) (all_witness_lines study s.core s.witnesses) (witness_lines study k (Open n)))
       ∙ ap (λ m. (opening s ++ all_witness_lines study s.core s.witnesses) ++ WithOpen m n ∷ []) named)
 
+  abbrev domain_if : Bool → List Line
+  domain_if b = cond b (BallotsAre (ballot_places study.size) ∷ AbsentIs study.size.absent ∷ []) []
+
+  -- after the alternatives the ballots are wanted, or the axioms
+  alternatives_line : (s : Standing) (n : ℕ) → IsIdle s → n ≡ study.size.alternatives
+      → HasRead (advance study s (AlternativesAre n)) (printed AtAlternatives s ++ AlternativesAre n ∷ [])
+  alternatives_line s n h same = by_test (s.version == 2) refl
+    where
+      said : List Line
+      said = printed AtAlternatives s ++ AlternativesAre n ∷ []
+
+      lines : size_lines s.version ≡ said
+      lines = ap (λ m. printed AtAlternatives s ++ AlternativesAre m ∷ []) (sym same)
+
+      by_test : (b : Bool) → (s.version == 2) ≡ b
+          → HasRead (record s { place = cond b AtBallots AtAxioms }) said
+      by_test true t = ((idle_at AtBallots s h, t), lines)
+      by_test false t = (
+        idle_at AtAxioms s h,
+        ap (λ b. size_lines s.version ++ domain_if b) t
+            ∙ append-nil (size_lines s.version) ∙ lines,
+      )
+
+  absent_line : (s : Standing) (absent : Bool) → IsIdle s → (s.version == 2) ≡ true
+      → absent ≡ study.size.absent
+      → HasRead (advance study s (AbsentIs absent)) (printed AtAbsent s ++ AbsentIs absent ∷ [])
+  absent_line s absent h two same = (
+    idle_at AtAxioms s h,
+    ap (λ b. size_lines s.version ++ domain_if b) two
+        ∙ ap (λ a. printed AtAbsent s ++ AbsentIs a ∷ []) (sym same),
+  )
+
   -- a line without a fault
   step_at : (p : Place) (s : Standing) (l : Line) → Holds p s → Fits study p (length s.earlier + 1) l → fault_of study (at p s) l ≡ None → HasRead (advance study (at p s) l) (printed p s ++ l ∷ [])
-  step_at AtTitle s Title h f e = (idle_at AtKind s h, refl)
-  step_at AtKind s (KindIs k) h f e = (idle_at AtVoters s h, ap (λ j. Title ∷ KindIs j ∷ []) (sym (kinds_same k study.size.kind (none_unless _ refusal.StudyDiffers e))))
-  step_at AtVoters s (VotersAre n) h f e = (idle_at AtAlternatives s h, ap (λ m. Title ∷ KindIs study.size.kind ∷ VotersAre m ∷ []) (sym (eqb-true n study.size.voters (none_unless _ refusal.StudyDiffers e))))
-  step_at AtAlternatives s (AlternativesAre n) h f e = (idle_at AtAxioms s h, ap (λ m. Title ∷ KindIs study.size.kind ∷ VotersAre study.size.voters ∷ AlternativesAre m ∷ []) (sym (eqb-true n study.size.alternatives (none_unless _ refusal.StudyDiffers e))))
-  step_at AtAxioms s (AxiomsAre ns) h f e = (idle_at AtVerdict s h, ap (λ m. Title ∷ KindIs study.size.kind ∷ VotersAre study.size.voters ∷ AlternativesAre study.size.alternatives ∷ AxiomsAre m ∷ []) (sym (names_same ns _ (none_unless _ refusal.StudyDiffers e))))
+  step_at AtTitle s (Title version) h f e = (idle_from AtKind version s h, refl)
+  step_at AtKind s (KindIs k) h f e = (
+    idle_at AtVoters s h,
+    ap (λ j. Title s.version ∷ KindIs j ∷ [])
+        (sym (kinds_same k study.size.kind (none_unless _ refusal.StudyDiffers e))),
+  )
+  step_at AtVoters s (VotersAre n) h f e = (
+    idle_at AtAlternatives s h,
+    ap (λ m. Title s.version ∷ KindIs study.size.kind ∷ VotersAre m ∷ [])
+        (sym (eqb-true n study.size.voters (none_unless _ refusal.StudyDiffers e))),
+  )
+  step_at AtAlternatives s (AlternativesAre n) h f e =
+      alternatives_line s n h (eqb-true n study.size.alternatives (none_unless _ refusal.StudyDiffers e))
+  step_at AtBallots s (BallotsAre places) h f e = (
+    (idle_at AtAbsent s h.0, h.1),
+    ap (λ ps. size_lines s.version ++ BallotsAre ps ∷ [])
+        (sym ((bytes_eq-Decides places (ballot_places study.size)).0 (none_unless _ refusal.StudyDiffers e))),
+  )
+  step_at AtAbsent s (AbsentIs absent) h f e =
+      let same = absents_same absent study.size.absent (none_unless _ refusal.StudyDiffers e) in
+      absent_line s absent h.0 h.1 same
+  step_at AtAxioms s (AxiomsAre ns) h f e = (
+    idle_at AtVerdict s h,
+    ap (λ m. size_lines s.version ++ domain_lines study s.version ++ AxiomsAre m ∷ [])
+        (sym (names_same ns _ (none_unless _ refusal.StudyDiffers e))),
+  )
   step_at AtVerdict s SaysPossible h f e = (idle_at AtRule s h, refl)
   step_at AtVerdict s SaysImpossible h f e = (idle_at AtCore s h, refl)
   step_at AtVerdict s SaysUndecided h f e = absurd (cc)
@@ -523,7 +634,9 @@ module _ (study : Question) where
   step_at AtRule s (RuleOf n) h f e =
       let count : n ≡ P = eqb-true n P (none_unless (n == P) refusal.Row e) in (
         (subst (λ (os : List ℕ). list_all (λ o. nat_lt o K) os ≡ true) (sym h.rows) refl, λ some. subst (λ (os : List ℕ). length os < P) (sym h.rows) some),
-        ap (λ (os : List ℕ). head_lines study ++ SaysPossible ∷ RuleOf P ∷ row_lines 0 os) h.rows ∙ ap (λ m. head_lines study ++ SaysPossible ∷ RuleOf m ∷ []) (sym count),
+        ap (λ (os : List ℕ). head_lines study s.version ++ SaysPossible ∷ RuleOf P ∷ row_lines 0 os) h.rows
+            ∙ ap (λ m. head_lines study s.version ++ SaysPossible ∷ RuleOf m ∷ []) (sym count)
+            ∙ assoc_head s (SaysPossible ∷ []) (RuleOf n ∷ []),
       )
   step_at AtRow s (Row p o) h f e = rule_row (let some : 0 < P = omega (arith, f.0) in some) s p o h f.1 e
   step_at AtCore s (CoreIs ns) h f e = core_line s ns h e

@@ -85,7 +85,7 @@ number_word n = all_from is_digit (λ b. nat_lt 32 b) digit_word (number_text n)
 lower_word : (b : ℕ) → is_lower b ≡ true → nat_lt 32 b ≡ true
 lower_word b e = let p = and_parts (nat_le 97 b) (nat_le b 122) e in lt-ltb 32 b (omega (arith, leb-true 97 b p.0))
 
-letters_word : (xs : List ℕ) → is_word (map letter xs) ≡ true
+pub letters_word : (xs : List ℕ) → is_word (map letter xs) ≡ true
 letters_word [] = refl
 letters_word (x ∷ xs) = and_from _ _ (lt-ltb 32 (letter x) (omega arith)) (letters_word xs)
 

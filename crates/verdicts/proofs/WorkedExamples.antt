@@ -1,7 +1,8 @@
 -- Worked examples: the text of a verdict, and the answer to a report, as the definitions compute them.
-use Rattle.std.proofs.Common.{◌≡◌, refl, ℕ, ◌+◌, ◌-◌, List, [], ◌∷◌, ◌++◌, map, length, take, drop, true, replicate}
+use Rattle.std.proofs.Common.{◌≡◌, refl, ℕ, ◌+◌, ◌-◌, List, [], ◌∷◌, ◌++◌, map, length, take, drop, true, false, replicate}
 use Rattle.std.specs.Prelude.{codes, slice_set}
 use Rattle.std.specs.List.{flat_map}
+use Rattle.vocab.specs.declared.kinds.Kind.TheVariants.{Choice}
 use Rattle.vocab.specs.declared.kinds.Sort.TheVariants.{Voter, Alt, Profile}
 use Rattle.vocab.specs.declared.literals.Literal.TheVariants.{Wins, Loses, Above}
 use Rattle.vocab.specs.Study.{Question}
@@ -14,7 +15,7 @@ use Rattle.meaning.proofs.WorkedExamples.{choice, ranked, unanimity, independenc
 use Rattle.verdicts.specs.declared.refusals.Refusal.TheVariants as refusal
 use Rattle.verdicts.specs.declared.verdicts.Verdict.{Verdict}
 use Rattle.verdicts.specs.declared.verdicts.Verdict.TheVariants.{Possible, Impossible}
-use Rattle.verdicts.specs.Report.{report_text, has_text, is_right}
+use Rattle.verdicts.specs.Report.{report_text_in, report_text, has_text, is_right}
 use Rattle.verdicts.specs.Judge.{Judgement, Confirmed, Faulty, TooLong, answer, answer_within}
 use Rattle.verdicts.specs.Words.{answer_text}
 
@@ -70,6 +71,118 @@ count_of_rows_is_row = refl
 
 row_out_of_range_is_form : map (λ line. with_rule_line 8 line) (codes "ab c" ∷ codes "ac a" ∷ codes "aa a" ∷ codes "abc a" ∷ codes "ab|ab a" ∷ codes "ab ab" ∷ []) ≡ replicate 6 (Faulty 8 refusal.Form)
 row_out_of_range_is_form = refl
+
+-- ---- report 2: which ballots voters may cast, and whether they may be absent
+
+-- the one voter may cast `ba` alone
+abbrev only_ba : Question
+only_ba = record unanimous {
+  size = record { kind = Choice; voters = 1; alternatives = 2; ballots = 2; absent = false };
+}
+
+-- the report that b is chosen, under a title
+abbrev b_is_chosen : List ℕ → List (List ℕ)
+b_is_chosen title =
+    title ∷ codes "kind choice" ∷ codes "voters 1" ∷ codes "alternatives 2"
+    ∷ codes "ballots ba" ∷ codes "absent no"
+    ∷ codes "axioms unanimity" ∷ codes "verdict possible" ∷ codes "rule 1" ∷ codes "ba b" ∷ codes "end" ∷ []
+
+rule_over_one_ballot_has_this_text : report_text only_ba (Possible (1 ∷ []))
+    ≡ codes "bench report 2\nkind choice\nvoters 1\nalternatives 2\nballots ba\nabsent no\n"
+    ++ codes "axioms unanimity\nverdict possible\nrule 1\nba b\nend\n"
+rule_over_one_ballot_has_this_text = refl
+
+rule_over_one_ballot_is_confirmed : answer only_ba (text_of (b_is_chosen (codes "bench report 2")))
+    ≡ Confirmed (Possible (1 ∷ []))
+rule_over_one_ballot_is_confirmed = refl
+
+-- report 1 is of full sizes alone
+title_of_report_1_is_study : answer_text (answer only_ba (text_of (b_is_chosen (codes "bench report 1"))))
+    ≡ codes "refused line 1: study\n"
+title_of_report_1_is_study = refl
+
+-- a report 1 of the verdict has a text, which is none of the study's reports
+report_1_over_one_ballot_is_study : answer only_ba (report_text_in only_ba 1 (Possible (1 ∷ [])))
+    ≡ Faulty 1 refusal.StudyDiffers
+report_1_over_one_ballot_is_study = refl
+
+other_ballots_are_study :
+    map (λ line. answer only_ba (text_of (slice_set (b_is_chosen (codes "bench report 2")) 4 line)))
+    (codes "ballots ab" ∷ codes "ballots ab ba" ∷ codes "ballots ba ba" ∷ [])
+    ≡ replicate 3 (Faulty 5 refusal.StudyDiffers)
+other_ballots_are_study = refl
+
+-- over a full size a verdict has two reports
+abbrev best_is_chosen_2 : List (List ℕ)
+best_is_chosen_2 =
+    codes "bench report 2" ∷ codes "kind choice" ∷ codes "voters 1" ∷ codes "alternatives 2"
+    ∷ codes "ballots ab ba" ∷ codes "absent no" ∷ codes "axioms unanimity" ∷ codes "verdict possible"
+    ∷ codes "rule 2" ∷ codes "ab a" ∷ codes "ba b" ∷ codes "end" ∷ []
+
+both_versions_have_these_texts :
+    map (λ version. report_text_in unanimous version (Possible (0 ∷ 1 ∷ []))) (1 ∷ 2 ∷ [])
+    ≡ text_of best_is_chosen ∷ text_of best_is_chosen_2 ∷ []
+both_versions_have_these_texts = refl
+
+both_versions_are_confirmed :
+    map (λ lines. answer unanimous (text_of lines)) (best_is_chosen ∷ best_is_chosen_2 ∷ [])
+    ≡ replicate 2 (Confirmed (Possible (0 ∷ 1 ∷ [])))
+both_versions_are_confirmed = refl
+
+-- the answer where a line of the report 2, numbered from 1, is another
+abbrev with_line_2 : ℕ → List ℕ → Judgement
+with_line_2 n line = answer unanimous (text_of (slice_set best_is_chosen_2 (n - 1) line))
+
+-- one too few, another order, one twice
+ballots_that_differ_are_study : map (λ line. with_line_2 5 line)
+    (codes "ballots ab" ∷ codes "ballots ba ab" ∷ codes "ballots ab ba ba" ∷ [])
+    ≡ replicate 3 (Faulty 5 refusal.StudyDiffers)
+ballots_that_differ_are_study = refl
+
+-- no ranking of two alternatives, none at all, an empty word
+malformed_ballots_are_form : map (λ line. with_line_2 5 line) (
+    codes "ballots ac" ∷ codes "ballots ab b" ∷ codes "ballots ab -" ∷ codes "ballots"
+    ∷ codes "ballots ab ba " ∷ []) ≡ replicate 5 (Faulty 5 refusal.Form)
+malformed_ballots_are_form = refl
+
+absence_that_differs_is_study : with_line_2 6 (codes "absent yes") ≡ Faulty 6 refusal.StudyDiffers
+absence_that_differs_is_study = refl
+
+malformed_absence_is_form :
+    map (λ line. with_line_2 6 line) (codes "absent" ∷ codes "absent maybe" ∷ codes "absent no no" ∷ [])
+    ≡ replicate 3 (Faulty 6 refusal.Form)
+malformed_absence_is_form = refl
+
+report_2_without_its_line_on_absence_is_form :
+    answer unanimous (text_of (take 5 best_is_chosen_2 ++ drop 6 best_is_chosen_2)) ≡ Faulty 6 refusal.Form
+report_2_without_its_line_on_absence_is_form = refl
+
+-- and report 1 has none of the two lines
+report_2_under_the_title_of_report_1_is_form : with_line_2 1 (codes "bench report 1") ≡ Faulty 5 refusal.Form
+report_2_under_the_title_of_report_1_is_form = refl
+
+-- two voters, each of whom may be absent, but not both, and one alternative
+abbrev may_be_absent : Question
+may_be_absent = record {
+  size = record { kind = Choice; voters = 2; alternatives = 1; ballots = 1; absent = true };
+  conflicts = 100000;
+  axioms = [];
+}
+
+abbrev absent_voters : List ℕ → List (List ℕ)
+absent_voters absence =
+    codes "bench report 2" ∷ codes "kind choice" ∷ codes "voters 2" ∷ codes "alternatives 1"
+    ∷ codes "ballots a" ∷ absence ∷ codes "axioms" ∷ codes "verdict possible"
+    ∷ codes "rule 3" ∷ codes "a|a a" ∷ codes "a|- a" ∷ codes "-|a a" ∷ codes "end" ∷ []
+
+rule_with_absent_voters_has_this_text : report_text may_be_absent (Possible (0 ∷ 0 ∷ 0 ∷ []))
+    ≡ text_of (absent_voters (codes "absent yes"))
+rule_with_absent_voters_has_this_text = refl
+
+absence_is_part_of_the_study : map (λ line. answer may_be_absent (text_of (absent_voters line)))
+    (codes "absent yes" ∷ codes "absent no" ∷ [])
+    ≡ Confirmed (Possible (0 ∷ 0 ∷ 0 ∷ [])) ∷ Faulty 6 refusal.StudyDiffers ∷ []
+absence_is_part_of_the_study = refl
 
 -- ---- two voters, two alternatives, anonymity and neutrality
 
@@ -252,8 +365,14 @@ last_line_without_its_end_is_form = refl
 anything_after_the_end_is_form : map (λ rest. answer symmetric (text_of no_symmetric_rule_report ++ rest)) (codes "end\n" ∷ codes "\n" ∷ codes "x" ∷ codes "a\nb\n" ∷ []) ≡ replicate 4 (Faulty 31 refusal.Form)
 anything_after_the_end_is_form = refl
 
-other_version_is_form : map (λ line. with_line 1 line) (codes "bench report 2" ∷ codes "bench report 01" ∷ codes "bench report" ∷ []) ≡ replicate 3 (Faulty 1 refusal.Form)
+other_version_is_form : map (λ line. with_line 1 line) (
+    codes "bench report 0" ∷ codes "bench report 3" ∷ codes "bench report 01" ∷ codes "bench report"
+    ∷ codes "bench report 1 1" ∷ []) ≡ replicate 5 (Faulty 1 refusal.Form)
 other_version_is_form = refl
+
+-- report 2 says the ballots before the axioms
+report_1_under_the_title_of_report_2_is_form : with_line 1 (codes "bench report 2") ≡ Faulty 5 refusal.Form
+report_1_under_the_title_of_report_2_is_form = refl
 
 -- a blank at either end, two blanks in a row, a tab, a carriage return, byte 0, a byte past ASCII
 other_separator_is_form : map (λ line. with_line 3 line) (codes " voters 2" ∷ codes "voters 2 " ∷ codes "voters  2" ∷ codes "voters\t2" ∷ codes "voters 2\r" ∷ (codes "voters 2" ++ 0 ∷ []) ∷ (codes "voters 2" ++ 194 ∷ 160 ∷ []) ∷ []) ≡ replicate 7 (Faulty 3 refusal.Form)

@@ -11,8 +11,8 @@ use Rattle.verdicts.specs.declared.refusals.Refusal.TheVariants as refusal
 use Rattle.verdicts.specs.declared.verdicts.Verdict.{Verdict}
 use Rattle.verdicts.specs.declared.verdicts.Verdict.TheVariants.{Possible, Impossible, Undecided}
 use Rattle.verdicts.specs.Texts.{words_of}
-use Rattle.verdicts.specs.Lines.{Line, Title, KindIs, VotersAre, AlternativesAre, AxiomsAre, SaysPossible, SaysImpossible, SaysUndecided, LimitIs, RuleOf, Row, CoreIs, LemmasAre, Heading, Suppose, So, Clash, WithRule, WithOpen, End}
-use Rattle.verdicts.specs.Places.{Place, AtKind, AtVoters, AtAlternatives, AtAxioms, AtVerdict, AtLimit, AtRule, AtRow, AtCore, AtLemmas, AtLemma, AtSuppose, AtStep, AtWitness, AtWitnessRow, AtEnd, AtNothing, Standing, start, wanted}
+use Rattle.verdicts.specs.Lines.{Line, Title, KindIs, VotersAre, AlternativesAre, BallotsAre, AbsentIs, AxiomsAre, SaysPossible, SaysImpossible, SaysUndecided, LimitIs, RuleOf, Row, CoreIs, LemmasAre, Heading, Suppose, So, Clash, WithRule, WithOpen, End}
+use Rattle.verdicts.specs.Places.{Place, AtKind, AtVoters, AtAlternatives, AtBallots, AtAbsent, AtAxioms, AtVerdict, AtLimit, AtRule, AtRow, AtCore, AtLemmas, AtLemma, AtSuppose, AtStep, AtWitness, AtWitnessRow, AtEnd, AtNothing, Standing, start, wanted}
 use Rattle.verdicts.specs.Faults.{places_of, next_core, fault_of}
 
 -- ---- where the reader stands after a line
@@ -43,10 +43,12 @@ module _ (study : Question) where
 
   -- after a line
   abbrev pub advance : Standing → Line → Standing
-  advance s Title = record s { place = AtKind }
+  advance s (Title version) = record s { place = AtKind; version = version }
   advance s (KindIs k) = record s { place = AtVoters }
   advance s (VotersAre n) = record s { place = AtAlternatives }
-  advance s (AlternativesAre n) = record s { place = AtAxioms }
+  advance s (AlternativesAre n) = record s { place = if s.version == 2 then AtBallots else AtAxioms }
+  advance s (BallotsAre places) = record s { place = AtAbsent }
+  advance s (AbsentIs absent) = record s { place = AtAxioms }
   advance s (AxiomsAre names) = record s { place = AtVerdict }
   advance s SaysPossible = record s { place = AtRule }
   advance s SaysImpossible = record s { place = AtCore }

@@ -17,10 +17,10 @@ use Rattle.verdicts.specs.declared.refusals.Refusal.TheVariants.{Form, Fails}
 use Rattle.verdicts.specs.declared.verdicts.Confirmed.{Confirmed as Claim}
 use Rattle.verdicts.specs.declared.verdicts.Verdict.{Verdict}
 use Rattle.verdicts.specs.declared.verdicts.Verdict.TheVariants.{Possible, Impossible}
-use Rattle.verdicts.specs.Report.{lemma_count, has_text, report_text, is_right, IsReport, IsConfirmed}
+use Rattle.verdicts.specs.Report.{lemma_count, has_text, report_text_in, own_version, report_text, is_right, claims, IsReport, IsConfirmed}
 use Rattle.verdicts.specs.Claims.{IsClaimed, ClaimHolds}
 use Rattle.verdicts.specs.Places.{Standing}
-use Rattle.verdicts.specs.Faults.{table_fault}
+use Rattle.verdicts.specs.Faults.{is_version, table_fault}
 use Rattle.verdicts.specs.Judge.{Good, Refused, line_fault, judge, has_no_end, ended, Confirmed, Faulty, conclude, answer, answer_within, pieces}
 
 -- what the laws ask of a study: the bench takes it, at a size of a kind whose outcomes have texts, and its axioms have names
@@ -36,17 +36,36 @@ pub record IsReportable (study : Question) : Type 0 where
 abbrev pub RightVerdictsHaveTexts : Type 0
 RightVerdictsHaveTexts = (study : Question) → IsReportable study → (verdict : Verdict) → IsTrue (is_right study verdict) → IsTrue (has_text study verdict)
 
--- different verdicts that have a text have different texts
+-- there is a report of this version
+abbrev pub IsVersion : ℕ → Type 0
+IsVersion version = (1 ≤ version) × (version ≤ 2)
+
+-- different verdicts that have a text have different texts, and so have the two versions of one verdict
 abbrev pub AreTextsDistinct : Type 0
-AreTextsDistinct = (study : Question) → IsReportable study → (v w : Verdict) → IsTrue (has_text study v) → IsTrue (has_text study w) → report_text study v ≡ report_text study w → v ≡ w
+AreTextsDistinct =
+    (study : Question) → IsReportable study → (v w : ℕ) → IsVersion v → IsVersion w
+    → (x y : Verdict) → IsTrue (has_text study x) → IsTrue (has_text study y)
+    → report_text_in study v x ≡ report_text_in study w y → (v ≡ w) × (x ≡ y)
 
 -- no line is longer than 4,096 bytes, its line end not counted
 abbrev pub IsShort : List ℕ → Type 0
 IsShort text = IsTrue (list_all (λ line. not (nat_lt 4096 (length line))) (pieces text))
 
--- no line of the text of a right verdict is longer, where a machine word counts its lemmas
+-- no line of the text of a right verdict is longer, in a version that the size may have, where a machine word
+-- counts its lemmas
 abbrev pub LinesAreShort : Type 0
-LinesAreShort = (study : Question) → IsReportable study → (verdict : Verdict) → IsTrue (is_right study verdict) → lemma_count verdict < 2 ^ 64 → IsShort (report_text study verdict)
+LinesAreShort =
+    (study : Question) → IsReportable study → (version : ℕ) → IsTrue (is_version study.size version)
+    → (verdict : Verdict) → IsTrue (is_right study verdict) → lemma_count verdict < 2 ^ 64
+    → IsShort (report_text_in study version verdict)
+
+-- the size may have the version that is printed, and so what is printed of a right verdict that claims something
+-- is its report
+abbrev pub PrintedTextsAreReports : Type 0
+PrintedTextsAreReports =
+    (study : Question) → IsTrue (is_version study.size (own_version study))
+    × ((text : List ℕ) (verdict : Verdict) → IsTrue (claims study verdict) → IsTrue (is_right study verdict)
+    → text ≡ report_text study verdict → IsReport study verdict text)
 
 -- ---- confirmed reports
 

@@ -1,20 +1,27 @@
 //! What holds of reports. Each law is the contract of a function that does nothing.
 
-ghost use Rattle.verdicts.specs.Laws.{AreTextsDistinct, ConfirmedClaimsHold, ConfirmedWithinLimit, CutReportsAreForm, FaultsAreFirst, HasNoConfirmedPrefix, IsJudgeComplete, IsJudgeSound, LemmasAreFew, LinesAreAnswered, LinesAreShort, RightClaimsHold, RightVerdictsHaveTexts, TableFaultsAreFirst};
+ghost use Rattle.verdicts.specs.Laws.{AreTextsDistinct, ConfirmedClaimsHold, ConfirmedWithinLimit, CutReportsAreForm, FaultsAreFirst, HasNoConfirmedPrefix, IsJudgeComplete, IsJudgeSound, LemmasAreFew, LinesAreAnswered, LinesAreShort, PrintedTextsAreReports, RightClaimsHold, RightVerdictsHaveTexts, TableFaultsAreFirst};
 
 /// Each right verdict has a text: all that it names is in range.
 pub fn right_verdicts_have_texts()
     ensures { RightVerdictsHaveTexts }
 {}
 
-/// Different verdicts that have a text have different texts.
+/// Different verdicts that have a text have different texts, and so have the two versions of one verdict.
 pub fn texts_are_distinct()
     ensures { AreTextsDistinct }
 {}
 
-/// No line of the text of a right verdict with fewer than 2^64 lemmas is longer than 4,096 bytes.
+/// No line of the text of a right verdict with fewer than 2^64 lemmas is longer than 4,096 bytes, in each
+/// version that the size may have.
 pub fn lines_are_short()
     ensures { LinesAreShort }
+{}
+
+/// The size may have the version that is printed, and so what is printed of a right verdict that claims
+/// something is its report.
+pub fn printed_texts_are_reports()
+    ensures { PrintedTextsAreReports }
 {}
 
 /// What the judge confirms is the report of a right verdict.
