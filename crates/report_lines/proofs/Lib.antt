@@ -1,3 +1,4 @@
+pub mod BallotLemmas
 pub mod LineLemmas
 pub mod LiteralLemmas
 pub mod NameLemmas

@@ -12,13 +12,13 @@ use Rattle.meaning.specs.Texts.{kind_text}
 use Rattle.vocab.specs.Name.{is_name}
 use Rattle.vocab.specs.Study.{Question}
 use Rattle.meaning.specs.declared.stories.Reason.{Reason}
-use Rattle.verdicts.specs.Numbers.{read_number}
+use Rattle.verdicts.specs.Numbers.{number_text, read_number}
 use Rattle.verdicts.specs.Texts.{joined, words_of, named_by, read_kind, read_literal}
-use Rattle.verdicts.specs.Lines.{Line, Title, KindIs, SaysPossible, SaysImpossible, SaysUndecided, Heading, So, Clash, WithRule, WithOpen, End}
-use Rattle.verdicts.specs.Reading.{keyed, one_word, no_word, verdict_word, read_heading, read_named, read_witness, read_reason, read_so}
-use Rattle.verdicts.proofs.WordLaws.{IsIn}
+use Rattle.verdicts.specs.Lines.{Line, Title, KindIs, AbsentIs, SaysPossible, SaysImpossible, SaysUndecided, Heading, So, Clash, WithRule, WithOpen, End}
+use Rattle.verdicts.specs.Reading.{keyed, one_word, no_word, read_version, read_absent, verdict_word, read_heading, read_named, read_witness, read_reason, read_so}
+use Rattle.verdicts.proofs.WordLaws.{IsIn, named_in, text_named}
 use Rattle.verdicts.proofs.PrintLaws.{named_nothing, decimal_is}
-use Rattle.verdicts.proofs.LineLaws.{keyed_is, none_is}
+use Rattle.verdicts.proofs.LineLaws.{keyed_is, one_is, map_is, none_is}
 use Rattle.report_lines.specs.declared.lines.Line.{Line as HeldLine}
 use Rattle.report_lines.specs.declared.lines.Line.TheVariants as held
 use Rattle.report_lines.specs.Held.{held_number, held_reason, held_line}
@@ -50,16 +50,38 @@ differs text other h e = true≢false (sym ((bytes_eq-Decides text other).1 e) �
 whole : (text : List ℕ) → joined (words_of text) ≡ text
 whole text = join_with_byte-slice_split 32 text
 
+abbrev title_word : List ℕ → Option Line
+title_word word = option_map Title (read_version word)
+
+abbrev pub title_line : List (List ℕ) → Option Line
+title_line words = keyed (codes "bench") (keyed (codes "report") (one_word title_word)) words
+
+-- the first line of a version
+abbrev title_text : ℕ → List ℕ
+title_text version = joined (codes "bench" ∷ codes "report" ∷ number_text version ∷ [])
+
 module _ {B : Type 0} (h : Line → B) (text : List ℕ) where
-  pub no_title : bytes_eq text (codes "bench report 1") ≡ false → None ≡ option_map h (keyed (codes "bench") (keyed (codes "report") (keyed (codes "1") (no_word Title))) (words_of text))
-  no_title other = nothing_told h _ (λ l e.
-      let first = keyed_is (codes "bench") (keyed (codes "report") (keyed (codes "1") (no_word Title))) (words_of text) l e in
-      let second = keyed_is (codes "report") (keyed (codes "1") (no_word Title)) first.0 l first.2 in
-      let third = keyed_is (codes "1") (no_word Title) second.0 l second.2 in
-      let last = none_is Title third.0 l third.2 in
-      let words : words_of text ≡ codes "bench" ∷ codes "report" ∷ codes "1" ∷ [] =
-      first.1 ∙ ap (λ ws. codes "bench" ∷ ws) (second.1 ∙ ap (λ ws. codes "report" ∷ ws) (third.1 ∙ ap (λ ws. codes "1" ∷ ws) last.0)) in
-      differs text (codes "bench report 1") other (sym (whole text) ∙ ap joined words))
+  pub is_first : bytes_eq text (codes "bench report 1") ≡ true → Some (h (Title 1)) ≡ option_map h (title_line (words_of text))
+  is_first e = ap (λ t. option_map h (title_line (words_of t))) (sym ((bytes_eq-Decides text (codes "bench report 1")).0 e))
+
+  pub is_second : bytes_eq text (codes "bench report 2") ≡ true → Some (h (Title 2)) ≡ option_map h (title_line (words_of text))
+  is_second e = ap (λ t. option_map h (title_line (words_of t))) (sym ((bytes_eq-Decides text (codes "bench report 2")).0 e))
+
+  pub no_title : bytes_eq text (codes "bench report 1") ≡ false → bytes_eq text (codes "bench report 2") ≡ false → None ≡ option_map h (title_line (words_of text))
+  no_title a b = nothing_told h _ (λ l e.
+      let first = keyed_is (codes "bench") (keyed (codes "report") (one_word title_word)) (words_of text) l e in
+      let second = keyed_is (codes "report") (one_word title_word) first.0 l first.2 in
+      let last = one_is title_word second.0 l second.2 in
+      let version = map_is Title (read_version last.0) l last.2 in
+      let words : words_of text ≡ codes "bench" ∷ codes "report" ∷ last.0 ∷ [] = first.1 ∙ ap (λ ws. codes "bench" ∷ ws) (second.1 ∙ ap (λ ws. codes "report" ∷ ws) last.1) in
+      let named : last.0 ≡ number_text version.0 = text_named number_text (1 ∷ 2 ∷ []) last.0 version.0 version.1 in
+      each version.0 (named_in number_text (1 ∷ 2 ∷ []) last.0 version.0 version.1)
+      (sym (whole text) ∙ ap joined words ∙ ap (λ w. joined (codes "bench" ∷ codes "report" ∷ w ∷ [])) named))
+    where
+      each : (v : ℕ) → IsIn (1 ∷ 2 ∷ []) v → text ≢ title_text v
+      each v (inl e) same = differs text (codes "bench report 1") a (same ∙ ap title_text (sym e))
+      each v (inr (inl e)) same = differs text (codes "bench report 2") b (same ∙ ap title_text (sym e))
+      each v (inr (inr i)) same = i
 
   pub no_end : bytes_eq text (codes "end") ≡ false → None ≡ option_map h (keyed (codes "end") (no_word End) (words_of text))
   no_end other = nothing_told h _ (λ l e.
@@ -86,6 +108,29 @@ module _ {B : Type 0} (h : Line → B) (word : List ℕ) where
       each k (inl e) same = differs word (codes "choice") a (same ∙ ap kind_text (sym e))
       each k (inr (inl e)) same = differs word (codes "ranking") b (same ∙ ap kind_text (sym e))
       each k (inr (inr i)) same = i
+
+-- ---- whether voters may be absent
+
+abbrev absent_text : Bool → List ℕ
+absent_text absent = cond absent (codes "yes") (codes "no")
+
+abbrev pub absent_line : List ℕ → Option Line
+absent_line word = option_map AbsentIs (read_absent word)
+
+module _ {B : Type 0} (h : Line → B) (word : List ℕ) where
+  pub is_yes : bytes_eq word (codes "yes") ≡ true → Some (h (AbsentIs true)) ≡ option_map h (absent_line word)
+  is_yes e = ap (λ w. option_map h (absent_line w)) (sym ((bytes_eq-Decides word (codes "yes")).0 e))
+
+  pub is_no : bytes_eq word (codes "no") ≡ true → Some (h (AbsentIs false)) ≡ option_map h (absent_line word)
+  is_no e = ap (λ w. option_map h (absent_line w)) (sym ((bytes_eq-Decides word (codes "no")).0 e))
+
+  pub is_neither : bytes_eq word (codes "yes") ≡ false → bytes_eq word (codes "no") ≡ false → None ≡ option_map h (absent_line word)
+  is_neither a b = ap (λ o. option_map h (option_map AbsentIs o)) (sym (named_nothing absent_text (true ∷ false ∷ []) word each))
+    where
+      each : (absent : Bool) → IsIn (true ∷ false ∷ []) absent → word ≢ absent_text absent
+      each absent (inl e) same = differs word (codes "yes") a (same ∙ ap absent_text (sym e))
+      each absent (inr (inl e)) same = differs word (codes "no") b (same ∙ ap absent_text (sym e))
+      each absent (inr (inr i)) same = i
 
 -- ---- the verdict
 

@@ -1,4 +1,4 @@
--- The first axiom of a name, and the names of all axioms.
+-- The first axiom of a name, and the texts of all items of a list.
 use Rattle.std.proofs.Common.{◌≡◌, refl, sym, ap, ap₂, ◌∙◌, ℕ, zero, suc, ◌+◌, ◌<◌, ◌≤◌, Bool, true, false, cond, ◌&&◌, inl, inr, Option, Some, None, List, [], ◌∷◌, map, length, drop, arith}
 use Rattle.std.specs.Prelude.{slice_get}
 use Rattle.std.specs.Cmp.Lexicographic.{pointwise}
@@ -46,17 +46,24 @@ module _ (axioms : List Titled) (word : List ℕ) where
   pub no_axiom : ((j : ℕ) → j < length axioms → bytes_eq (name_at axioms j) word ≡ false) → None ≡ read_axiom axioms word
   no_axiom passed = sym (none_from (name_at axioms) word (length axioms) 0 (length axioms) (omega arith) (λ j m i. passed j i))
 
+module _ {X : Type 0} (f : X → List ℕ) where
+  -- the texts of items from a place on
+  texts_from : (xs : List X) (k : ℕ) (x : X) → slice_get xs k ≡ Some x → drop k (map f xs) ≡ f x ∷ drop (k + 1) (map f xs)
+  texts_from [] k x e = absurd (cc)
+  texts_from (y ∷ xs) zero x e = let same : y ≡ x = cc in ap (λ z. f z ∷ map f xs) same
+  texts_from (y ∷ xs) (suc k) x e = texts_from xs k x e ∙ ap (λ n. f x ∷ drop n (map f (y ∷ xs))) (more k)
+    where
+      more : (k : ℕ) → suc (k + 1) ≡ suc k + 1
+      more k = omega arith
+
+  -- one more word and one more item
+  pub texts_more : (xs : List X) (k : ℕ) (x : X) (words more : List (List ℕ)) (word : List ℕ) (b : Bool)
+      → slice_get xs k ≡ Some x → words ≡ word ∷ more → b ≡ bytes_eq word (f x) → pointwise bytes_eq words (drop k (map f xs)) ≡ b && pointwise bytes_eq more (drop (k + 1) (map f xs))
+  texts_more xs k x words more word b h e t =
+      ap₂ (λ ws ns. pointwise bytes_eq ws ns) e (texts_from xs k x h) ∙ ap (λ c. c && pointwise bytes_eq more (drop (k + 1) (map f xs))) (sym t)
+
 abbrev pub names_of : List Titled → List (List ℕ)
 names_of axioms = map (λ a. a.name) axioms
-
--- the names from a place on
-pub names_from : (axioms : List Titled) (k : ℕ) (a : Titled) → slice_get axioms k ≡ Some a → drop k (names_of axioms) ≡ a.name ∷ drop (k + 1) (names_of axioms)
-names_from [] k a e = absurd (cc)
-names_from (b ∷ axioms) zero a e = let same : b ≡ a = cc in ap (λ (t : Titled). t.name ∷ names_of axioms) same
-names_from (b ∷ axioms) (suc k) a e = names_from axioms k a e ∙ ap (λ n. a.name ∷ drop n (names_of (b ∷ axioms))) (more k)
-  where
-    more : (k : ℕ) → suc (k + 1) ≡ suc k + 1
-    more k = omega arith
 
 -- what a call tells of the axiom at a place
 pub item_is : (axioms told : List Titled) (k : ℕ) (a : Titled) → told ≡ axioms → slice_get told k ≡ Some a → slice_get axioms k ≡ Some a
@@ -64,12 +71,6 @@ item_is axioms told k a e h = ap (λ items. slice_get items k) (sym e) ∙ h
 
 pub name_is : (axioms told : List Titled) (k : ℕ) (a : Titled) (name bytes : List ℕ) → told ≡ axioms → slice_get told k ≡ Some a → name ≡ a.name → bytes ≡ name → name_at axioms k ≡ bytes
 name_is axioms told k a name bytes e h n b = ap title_of (item_is axioms told k a e h) ∙ sym n ∙ sym b
-
--- one more word and one more name
-pub names_more : (axioms : List Titled) (k : ℕ) (a : Titled) (words more : List (List ℕ)) (word : List ℕ) (b : Bool)
-    → slice_get axioms k ≡ Some a → words ≡ word ∷ more → b ≡ bytes_eq word a.name → pointwise bytes_eq words (drop k (names_of axioms)) ≡ b && pointwise bytes_eq more (drop (k + 1) (names_of axioms))
-names_more axioms k a words more word b h e t =
-    ap₂ (λ ws ns. pointwise bytes_eq ws ns) e (names_from axioms k a h) ∙ ap (λ c. c && pointwise bytes_eq more (drop (k + 1) (names_of axioms))) (sym t)
 
 -- places of names, above a place
 abbrev pub rises : ℕ → ℕ → Option (List ℕ) → Bool

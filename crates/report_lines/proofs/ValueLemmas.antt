@@ -1,18 +1,19 @@
 -- What a value, a profile or an outcome is named by.
-use Rattle.std.proofs.Common.{length, get_or, ◌⊎◌, inl, inr, ◌≡◌, ◌≢◌, refl, sym, ap, ◌∙◌, ℕ, ◌+◌, ◌-◌, ◌<◌, ◌≤◌, Option, Some, None, List, [], ◌∷◌, arith, option_map, IfSome, IfNone}
+use Rattle.std.proofs.Common.{length, get_or, ◌⊎◌, inl, inr, ◌≡◌, ◌≢◌, refl, sym, ap, ◌∙◌, subst, ℕ, ◌+◌, ◌-◌, ◌<◌, ◌≤◌, Option, Some, None, List, [], ◌∷◌, arith, option_map, IfSome, IfNone}
 use Rattle.vocab.specs.declared.kinds.Kind.{Kind}
 use Rattle.vocab.specs.declared.kinds.Kind.TheVariants.{Choice, Ranking, Sets}
 use Rattle.vocab.specs.declared.kinds.Sort.TheVariants.{Voter, Alt, Ballot, Profile}
-use Rattle.vocab.specs.Size.{HasOutcomes, Extent, IsSize, ballot_count, sort_count, outcome_count}
+use Rattle.vocab.specs.Size.{HasOutcomes, Extent, IsSize, ballot_count, factorial, sort_count, outcome_count}
 use Rattle.meaning.specs.Space.{below}
-use Rattle.meaning.specs.Texts.{letter, ballot_text, profile_text, outcome_text}
+use Rattle.meaning.specs.Texts.{letter, ballot_text, profile_text, ranking_text, outcome_text}
 use Rattle.profiles.proofs.TableLemmas.{factorial_small}
 use Rattle.verdicts.specs.Numbers.{number_text, read_number}
+use Rattle.verdicts.specs.Reading.{read_place}
 use Rattle.verdicts.specs.Texts.{named_by, value_text, read_profile, read_outcome, read_value}
 use Rattle.verdicts.proofs.NumberLaws.{text_read, read_text}
 use Rattle.verdicts.proofs.WordLaws.{named_below, from_below}
 use Rattle.verdicts.proofs.PrintLaws.{named_nothing}
-use Rattle.verdicts.proofs.TextLaws.{profiles_same, ballots_same, outcomes_same, values_same}
+use Rattle.verdicts.proofs.TextLaws.{profiles_same, rankings_same, ballots_same, outcomes_same, values_same}
 use Rattle.report_lines.specs.Held.{held_number}
 
 abbrev Own : (ℕ → List ℕ) → ℕ → Type 0
@@ -43,6 +44,19 @@ module _ (size : Extent) (is : IsSize size) (text : List ℕ) where
 
   pub profile_missing : ((p : ℕ) → p < sort_count size Profile → text ≢ profile_text size p) → None ≡ read_profile size text
   profile_missing h = missing (profile_text size) (sort_count size Profile) text h
+
+  abbrev HasPlace : ℕ → Option ℕ → Type 0
+  HasPlace m r = IfSome r (λ p. (p < factorial m) × (text ≡ ranking_text m p))
+
+  abbrev HasNone : ℕ → Option ℕ → Type 0
+  HasNone m r = IfNone r ((p : ℕ) → p < factorial m → text ≢ ranking_text m p)
+
+  own_place : (r : Option ℕ) → HasPlace size.alternatives r → HasNone size.alternatives r → r ≡ read_place size.alternatives text
+  own_place (Some p) h k = found (ranking_text size.alternatives) (factorial size.alternatives) p text (rankings_same size is) h.0 h.1
+  own_place None h k = missing (ranking_text size.alternatives) (factorial size.alternatives) text k
+
+  pub place_is : (m : ℕ) → m ≡ size.alternatives → (r : Option ℕ) → HasPlace m r → HasNone m r → r ≡ read_place size.alternatives text
+  place_is m same r h k = own_place r (subst (λ n. HasPlace n r) same h) (subst (λ n. HasNone n r) same k)
 
   pub ballot_is : (r : Option ℕ) → IfSome r (λ b. (b < ballot_count size) × (text ≡ ballot_text size b)) → IfNone r ((b : ℕ) → b < ballot_count size → text ≢ ballot_text size b) → r ≡ read_value size Ballot text
   ballot_is (Some b) h k = found (ballot_text size) (ballot_count size) b text (ballots_same size is) h.0 h.1

@@ -1,14 +1,15 @@
 -- What a program holds of a place and of a line.
-use Rattle.std.specs.Prelude.{ℕ, ◌-◌, ◌^◌, min, List, [], map, length, drop}
+use Rattle.std.specs.Prelude.{ℕ, ◌-◌, ◌^◌, min, nat_eq, List, [], map, length, drop}
 use Rattle.std.specs.Cmp.Lexicographic.{pointwise}
 use Rattle.std.specs.Option.{unwrap_or}
 use Rattle.std.specs.Str.{bytes_eq}
+use Rattle.vocab.specs.Size.{ballot_places}
 use Rattle.vocab.specs.Study.{Question}
 use Rattle.meaning.specs.declared.stories.Reason.{Reason}
 use Rattle.meaning.specs.declared.stories.Reason.TheVariants.{Axiom as ByAxiom, Outcome as ByOutcome, Lemma as ByLemma}
 use Rattle.verdicts.specs.Texts.{words_of}
-use Rattle.verdicts.specs.Lines.{Line, Title, KindIs, VotersAre, AlternativesAre, AxiomsAre, SaysPossible, SaysImpossible, SaysUndecided, LimitIs, RuleOf, Row, CoreIs, LemmasAre, Heading, Suppose, So, Clash, WithRule, WithOpen, End}
-use Rattle.verdicts.specs.Places.{Place, AtTitle, AtKind, AtVoters, AtAlternatives, AtAxioms, AtVerdict, AtLimit, AtRule, AtRow, AtCore, AtLemmas, AtLemma, AtSuppose, AtStep, AtWitness, AtWitnessRow, AtEnd, AtNothing}
+use Rattle.verdicts.specs.Lines.{Line, Title, KindIs, VotersAre, AlternativesAre, BallotsAre, AbsentIs, AxiomsAre, SaysPossible, SaysImpossible, SaysUndecided, LimitIs, RuleOf, Row, CoreIs, LemmasAre, Heading, Suppose, So, Clash, WithRule, WithOpen, End}
+use Rattle.verdicts.specs.Places.{Place, AtTitle, AtKind, AtVoters, AtAlternatives, AtBallots, AtAbsent, AtAxioms, AtVerdict, AtLimit, AtRule, AtRow, AtCore, AtLemmas, AtLemma, AtSuppose, AtStep, AtWitness, AtWitnessRow, AtEnd, AtNothing}
 use Rattle.verdicts.specs.Claims.{claim_of}
 use Rattle.verdicts.specs.Faults.{places_of, is_core}
 use Rattle.report_lines.specs.declared.places.Place.{Place as HeldPlace}
@@ -22,6 +23,8 @@ held_place AtTitle = place.AtTitle
 held_place AtKind = place.AtKind
 held_place AtVoters = place.AtVoters
 held_place AtAlternatives = place.AtAlternatives
+held_place AtBallots = place.AtBallots
+held_place AtAbsent = place.AtAbsent
 held_place AtAxioms = place.AtAxioms
 held_place AtVerdict = place.AtVerdict
 held_place AtLimit = place.AtLimit
@@ -48,12 +51,14 @@ held_reason (ByOutcome p) = ByOutcome p
 held_reason (ByLemma j) = ByLemma (min j (2 ^ 32 - 1))
 
 module _ (study : Question) where
-  -- what a line says; of names it is held whether they are the ones that are wanted
+  -- what a line says; of ballots and of names it is held whether they are the ones that are wanted
   abbrev pub held_line : Line → HeldLine
-  held_line Title = held.Title
+  held_line (Title version) = held.Title version
   held_line (KindIs k) = held.KindIs k
   held_line (VotersAre n) = held.VotersAre (held_number n)
   held_line (AlternativesAre n) = held.AlternativesAre (held_number n)
+  held_line (BallotsAre places) = held.BallotsAre (pointwise nat_eq places (ballot_places study.size))
+  held_line (AbsentIs absent) = held.AbsentIs absent
   held_line (AxiomsAre names) = held.AxiomsAre (pointwise bytes_eq names (map (λ a. a.name) study.axioms))
   held_line SaysPossible = held.SaysPossible
   held_line SaysImpossible = held.SaysImpossible

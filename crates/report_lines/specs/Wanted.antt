@@ -2,7 +2,7 @@
 use Rattle.std.specs.Prelude.{ℕ, List, Option, None, option_map, codes}
 use Rattle.vocab.specs.Study.{Question}
 use Rattle.verdicts.specs.Lines.{End}
-use Rattle.verdicts.specs.Places.{AtTitle, AtKind, AtVoters, AtAlternatives, AtAxioms, AtVerdict, AtLimit, AtRule, AtRow, AtCore, AtLemmas, AtLemma, AtSuppose, AtStep, AtWitness, AtWitnessRow, wanted}
+use Rattle.verdicts.specs.Places.{AtTitle, AtKind, AtVoters, AtAlternatives, AtBallots, AtAbsent, AtAxioms, AtVerdict, AtLimit, AtRule, AtRow, AtCore, AtLemmas, AtLemma, AtSuppose, AtStep, AtWitness, AtWitnessRow, wanted}
 use Rattle.verdicts.specs.Reading.{keyed, no_word}
 use Rattle.report_lines.specs.declared.lines.Line.{Line as HeldLine}
 use Rattle.report_lines.specs.declared.places.Place.{Place as HeldPlace}
@@ -17,6 +17,9 @@ module _ (study : Question) where
   held_wanted place.AtVoters number words = option_map (held_line study) (wanted study AtVoters number words)
   held_wanted place.AtAlternatives number words =
       option_map (held_line study) (wanted study AtAlternatives number words)
+  held_wanted place.AtBallots number words =
+      option_map (held_line study) (wanted study AtBallots number words)
+  held_wanted place.AtAbsent number words = option_map (held_line study) (wanted study AtAbsent number words)
   held_wanted place.AtAxioms number words = option_map (held_line study) (wanted study AtAxioms number words)
   held_wanted place.AtVerdict number words =
       option_map (held_line study) (wanted study AtVerdict number words)

@@ -8,21 +8,25 @@ ghost use Rattle.verdicts.specs.Reading.{keyed, one_word};
 ghost use Rattle.report_lines.specs.Held.{held_number};
 ghost use Rattle.report_lines.specs.Wanted.{held_wanted};
 
+use crate::ballots::{are_all_ballots, are_rankings};
 use crate::lines::Line;
 use crate::names::{are_all_axioms, are_core};
 use crate::numbers::read_number;
 use crate::places::Place;
 use crate::words::{after_first, are_names, first_keyed, is_same};
+use profiles::Space;
 use verdicts::Confirmed;
 use vocab::{Kind, Study};
 
-/// The first line.
+/// The first line, with the version of the report.
 pub(crate) fn read_title(text: &[u8]) -> Option<Line>
     ensures { (study : Question) (number : ℕ) →
         result ≡ held_wanted study Place.AtTitle number (words_of text.now) }
 {
     if is_same(text, b"bench report 1") {
-        Some(Line::Title)
+        Some(Line::Title(1))
+    } else if is_same(text, b"bench report 2") {
+        Some(Line::Title(2))
     } else {
         None
     }
@@ -64,6 +68,40 @@ pub(crate) fn read_alternatives(text: &[u8]) -> Option<Line>
         result ≡ held_wanted study Place.AtAlternatives number (words_of text.now) }
 {
     Some(Line::AlternativesAre(read_count(text, b"alternatives")?))
+}
+
+/// The line of the rankings that voters may cast: one or more.
+pub(crate) fn read_ballots(space: &Space, text: &[u8]) -> Option<Line>
+    ensures { (study : Question) (number : ℕ) → study.size ≡ space.now →
+        result ≡ held_wanted study Place.AtBallots number (words_of text.now) }
+{
+    profiles::laws::spaces_have_sizes(space);
+    let Some(rest) = after_first(text, b"ballots") else {
+        return None;
+    };
+    if rest.is_empty() {
+        return None;
+    }
+    if are_rankings(space, rest) {
+        Some(Line::BallotsAre(are_all_ballots(space, rest)))
+    } else {
+        None
+    }
+}
+
+/// The line of whether voters may be absent.
+pub(crate) fn read_absent(text: &[u8]) -> Option<Line>
+    ensures { (study : Question) (number : ℕ) →
+        result ≡ held_wanted study Place.AtAbsent number (words_of text.now) }
+{
+    let word = first_keyed(text, b"absent")?;
+    if is_same(word, b"yes") {
+        Some(Line::AbsentIs(true))
+    } else if is_same(word, b"no") {
+        Some(Line::AbsentIs(false))
+    } else {
+        None
+    }
 }
 
 /// The line of the axioms' names.

@@ -1,6 +1,7 @@
 //! Reads a line of a report: what it says at its place in the grammar.
 #![tactic(auto)]
 
+mod ballots;
 mod core_line;
 mod head;
 mod lines;

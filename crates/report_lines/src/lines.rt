@@ -3,15 +3,18 @@
 use meaning::Reason;
 use vocab::{Kind, Literal, Name};
 
-/// What a line says. A number stands still at the end of `u64`, and the number of a cited lemma, which is counted from
-/// 0, at the end of `u32`. `AxiomsAre` tells whether the names are those of the study's axioms in order, and `CoreIs`
-/// whether they are those of distinct axioms of the study in order.
+/// What a line says. `Title` has the version of the report, 1 or 2. A number stands still at the end of `u64`, and the
+/// number of a cited lemma, which is counted from 0, at the end of `u32`. `BallotsAre` tells whether the rankings are the
+/// ballots of the study's size in order, `AxiomsAre` whether the names are those of the study's axioms in order, and
+/// `CoreIs` whether they are those of distinct axioms of the study in order.
 #[derive(Clone, Copy, Debug, PartialEq, Eq)]
 pub enum Line {
-    Title,
+    Title(u8),
     KindIs(Kind),
     VotersAre(u64),
     AlternativesAre(u64),
+    BallotsAre(bool),
+    AbsentIs(bool),
     AxiomsAre(bool),
     SaysPossible,
     SaysImpossible,

@@ -10,6 +10,8 @@ pub enum Place {
     AtKind,
     AtVoters,
     AtAlternatives,
+    AtBallots,
+    AtAbsent,
     AtAxioms,
     AtVerdict,
     AtLimit,

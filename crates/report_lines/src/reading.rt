@@ -33,6 +33,8 @@ fn read_at<K: OutcomeKind>(
         Place::AtKind => head::read_kind(text),
         Place::AtVoters => head::read_voters(text),
         Place::AtAlternatives => head::read_alternatives(text),
+        Place::AtBallots => head::read_ballots(space, text),
+        Place::AtAbsent => head::read_absent(text),
         Place::AtAxioms => head::read_axioms(study, text),
         Place::AtVerdict => head::read_verdict(text),
         Place::AtLimit => head::read_limit(text),

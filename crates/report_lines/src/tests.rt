@@ -40,16 +40,29 @@ fn study(alloc: Global) -> Result<Study, Fail>
     Ok(Study::new(two_and_two()?, 100, one_axiom(alloc)?))
 }
 
-/// Whether this is read at a place, before or in the third lemma.
+/// The same, where voters may cast `ba` alone.
+fn one_ballot(alloc: Global) -> Result<Study, Fail>
+    ensures { IfOk result (λ study. study.size ≡ record (full_size Kind.Choice 2 2) { ballots = 2 }) }
+{
+    let size = Size::with_domain(Kind::Choice, 2, 2, 2, false);
+    Ok(Study::new(size.ok().ok_or("size")?, 100, one_axiom(alloc)?))
+}
+
+/// Whether this is read at a place of a report of the study, before or in the third lemma.
+fn reads(study: &Study, place: Place, text: &str, line: Option<Line>) -> bool
+    requires { study.now.size.kind ≡ Kind.Choice }
+{
+    let kind = ChoiceKind::new(Space::new(study.size()));
+    read_line(&kind, study, place, 3, text.as_bytes()) == line
+}
+
 fn says(alloc: Global, place: Place, text: &str, line: Option<Line>) -> Result<bool, Fail> {
-    let kind = ChoiceKind::new(Space::new(two_and_two()?));
-    Ok(read_line(&kind, &study(alloc)?, place, 3, text.as_bytes()) == line)
+    Ok(reads(&study(alloc)?, place, text, line))
 }
 
 #[test]
 fn heads_are_read(rt: HostRuntime) -> Result<(), Fail> {
     let alloc = rt.alloc();
-    assert!(rt; says(alloc, Place::AtTitle, "bench report 1", Some(Line::Title))?);
     assert!(rt;
         says(
             alloc,
@@ -90,6 +103,58 @@ fn heads_are_read(rt: HostRuntime) -> Result<(), Fail> {
             Some(Line::CoreIs(false))
         )?
     );
+    Ok(())
+}
+
+fn tells_version(study: &Study, text: &str, version: Option<u8>) -> bool
+    requires { study.now.size.kind ≡ Kind.Choice }
+{
+    reads(study, Place::AtTitle, text, version.map(Line::Title))
+}
+
+#[test]
+fn versions_are_read(rt: HostRuntime) -> Result<(), Fail> {
+    let study = study(rt.alloc())?;
+    assert!(rt; tells_version(&study, "bench report 1", Some(1)));
+    assert!(rt; tells_version(&study, "bench report 2", Some(2)));
+    assert!(rt; tells_version(&study, "bench report 3", None));
+    assert!(rt; tells_version(&study, "bench report 02", None));
+    Ok(())
+}
+
+fn tells_ballots(study: &Study, text: &str, all: Option<bool>) -> bool
+    requires { study.now.size.kind ≡ Kind.Choice }
+{
+    reads(study, Place::AtBallots, text, all.map(Line::BallotsAre))
+}
+
+#[test]
+fn ballots_are_read(rt: HostRuntime) -> Result<(), Fail> {
+    let study = study(rt.alloc())?;
+    assert!(rt; tells_ballots(&study, "ballots ab ba", Some(true)));
+    assert!(rt; tells_ballots(&study, "ballots ba ab", Some(false)));
+    assert!(rt; tells_ballots(&study, "ballots ab", Some(false)));
+    assert!(rt; tells_ballots(&study, "ballots ab ba ba", Some(false)));
+    assert!(rt; tells_ballots(&study, "ballots ac", None));
+    assert!(rt; tells_ballots(&study, "ballots", None));
+    let few = one_ballot(rt.alloc())?;
+    assert!(rt; tells_ballots(&few, "ballots ba", Some(true)));
+    assert!(rt; tells_ballots(&few, "ballots ab ba", Some(false)));
+    Ok(())
+}
+
+fn tells_absence(study: &Study, text: &str, absent: Option<bool>) -> bool
+    requires { study.now.size.kind ≡ Kind.Choice }
+{
+    reads(study, Place::AtAbsent, text, absent.map(Line::AbsentIs))
+}
+
+#[test]
+fn absence_is_read(rt: HostRuntime) -> Result<(), Fail> {
+    let study = study(rt.alloc())?;
+    assert!(rt; tells_absence(&study, "absent yes", Some(true)));
+    assert!(rt; tells_absence(&study, "absent no", Some(false)));
+    assert!(rt; tells_absence(&study, "absent maybe", None));
     Ok(())
 }
 

@@ -1,13 +1,14 @@
-//! Values and outcomes by their texts.
+//! Values, rankings and outcomes by their texts.
 
 ghost use Rattle.std.specs.Prelude.{◌≡◌, ◌≢◌, ℕ, ◌<◌, [], ◌∷◌, MatchOption};
 ghost use Rattle.vocab.specs.declared.kinds.Sort.TheVariants.{Voter, Alt, Ballot};
 ghost use Rattle.meaning.specs.Texts.{letter};
+ghost use Rattle.verdicts.specs.Reading.{read_place};
 ghost use Rattle.verdicts.specs.Texts.{read_profile, read_outcome, read_value};
 
 use crate::numbers::read_number;
 use outcomes::OutcomeKind;
-use profiles::Space;
+use profiles::{Space, place_of};
 use vocab::Sort;
 
 /// The alternative of a letter.
@@ -73,6 +74,14 @@ fn read_alternative(space: &Space, word: &[u8]) -> Option<u32>
         Some(alternative) => Some(u32::from(alternative)),
         None => None,
     }
+}
+
+/// The place of the ranking of a word among all rankings of the size's alternatives, whether voters may cast it or not.
+pub(crate) fn read_place(space: &Space, word: &[u8]) -> Option<u32>
+    ensures { result ≡ read_place space.now.alternatives word.now }
+{
+    profiles::laws::spaces_have_sizes(space);
+    place_of(space.size().alternatives(), word)
 }
 
 fn read_ballot(space: &Space, word: &[u8]) -> Option<u32>

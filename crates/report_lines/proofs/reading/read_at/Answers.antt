@@ -1,3 +1,4 @@
+use Rattle.std.proofs.Common.{◌∙◌, sym}
 use Rattle.verdicts.specs.Texts.{words_of}
 use Rattle.report_lines.specs.declared.places.Place.TheVariants as held
 use Rattle.report_lines.proofs.PlaceLemmas.{at_place}
@@ -14,6 +15,12 @@ returns-in-AtVoters g c = at_place c.args.study.now c.args.place held.AtVoters c
 
 pub returns-in-AtAlternatives : goal.returns-in-AtAlternatives
 returns-in-AtAlternatives g c = at_place c.args.study.now c.args.place held.AtAlternatives c.args.number (words_of c.args.text.now) c.read_alternatives.result c.in-AtAlternatives.is (c.read_alternatives.ensures c.args.study.now c.args.number)
+
+pub returns-in-AtBallots : goal.returns-in-AtBallots
+returns-in-AtBallots g c = at_place c.args.study.now c.args.place held.AtBallots c.args.number (words_of c.args.text.now) c.read_ballots.result c.in-AtBallots.is (c.read_ballots.ensures c.args.study.now c.args.number (c.requires ∙ sym c.space-space.ensures))
+
+pub returns-in-AtAbsent : goal.returns-in-AtAbsent
+returns-in-AtAbsent g c = at_place c.args.study.now c.args.place held.AtAbsent c.args.number (words_of c.args.text.now) c.read_absent.result c.in-AtAbsent.is (c.read_absent.ensures c.args.study.now c.args.number)
 
 pub returns-in-AtAxioms : goal.returns-in-AtAxioms
 returns-in-AtAxioms g c = at_place c.args.study.now c.args.place held.AtAxioms c.args.number (words_of c.args.text.now) c.read_axioms.result c.in-AtAxioms.is (c.read_axioms.ensures c.args.number)
