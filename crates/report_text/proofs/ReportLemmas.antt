@@ -1,5 +1,5 @@
 -- The names, the rules and the witnesses of a report, and all of it.
-use Rattle.std.proofs.Common.{◌≡◌, refl, sym, ap, ap₂, ◌∙◌, subst, ℕ, zero, suc, ◌+◌, ◌<◌, inl, inr, Bool, true, length, List, [], ◌∷◌, ◌++◌, map, drop, get_or, Some, codes, add-one, append-nil, append_assoc, drop-cons, ltb-true, arith}
+use Rattle.std.proofs.Common.{◌≡◌, refl, sym, ap, ap₂, ◌∙◌, subst, ℕ, zero, suc, ◌+◌, ◌<◌, inl, inr, Bool, true, false, length, List, [], ◌∷◌, ◌++◌, map, drop, get_or, Some, codes, cond, add-one, append-nil, append_assoc, drop-cons, ltb-true, arith}
 use Rattle.std.specs.Prelude.{nat_lt, slice_get, slice_index}
 use Rattle.std.specs.List.{list_all}
 use Rattle.std.specs.Cmp.Lexicographic.{pointwise}
@@ -7,19 +7,19 @@ use Rattle.std.proofs.lemmas.Bool.{and_parts, cases_lt, false≢true}
 use Rattle.std.proofs.lemmas.Grind.{flat_map-append}
 use Rattle.std.proofs.lemmas.List.{drop_all}
 use Rattle.vocab.specs.declared.kinds.Sort.TheVariants.{Profile}
-use Rattle.vocab.specs.Size.{Extent, sort_count, outcome_count}
+use Rattle.vocab.specs.Size.{Extent, ballot_places, sort_count, outcome_count}
 use Rattle.vocab.specs.Study.{Question}
 use Rattle.vocab.specs.Titled.{Titled}
 use Rattle.meaning.specs.declared.cores.Witness.{Witness}
 use Rattle.meaning.specs.declared.cores.Witness.TheVariants.{Rule, Open}
 use Rattle.meaning.specs.declared.stories.Lemma.{Lemma}
-use Rattle.meaning.specs.Texts.{kind_text, profile_text, outcome_text}
+use Rattle.meaning.specs.Texts.{kind_text, profile_text, ranking_text, outcome_text}
 use Rattle.meaning.specs.Truth.{is_rule}
 use Rattle.verdicts.specs.declared.verdicts.Verdict.{Verdict}
 use Rattle.verdicts.specs.declared.verdicts.Verdict.TheVariants.{Possible, Impossible, Undecided}
-use Rattle.verdicts.specs.Lines.{AxiomsAre, End, name_at, title_of}
+use Rattle.verdicts.specs.Lines.{Line, BallotsAre, AbsentIs, AxiomsAre, End, name_at, title_of}
 use Rattle.verdicts.specs.Numbers.{number_text}
-use Rattle.verdicts.specs.Report.{row_lines, lemma_lines, story_lines, head_lines, witness_lines, all_witness_lines, verdict_lines, report_text}
+use Rattle.verdicts.specs.Report.{row_lines, lemma_lines, story_lines, domain_lines, head_lines, own_version, witness_lines, all_witness_lines, verdict_lines, report_text}
 use Rattle.report_text.specs.Pieces.{count_text, ended, lines_text, spaced}
 use Rattle.texts.specs.Spelled.{spelled}
 use Rattle.report_text.proofs.WordLemmas.{joined_spaced}
@@ -39,16 +39,42 @@ names_spelled f n (x ∷ xs) = ap (λ (rest : List ℕ). (32 ∷ f x) ++ rest) (
 pub name_there : (axioms : List Titled) (k : ℕ) (a : Titled) → slice_get axioms k ≡ Some a → a.name ≡ name_at axioms k
 name_there axioms k a at = sym (ap title_of at)
 
+-- the lines that say which rankings voters may cast and whether they may be absent
+pub domain_text : (study : Question) (size : Extent) → study.size ≡ size →
+    (codes "ballots" ++ (spelled (λ _ (place : ℕ). 32 ∷ ranking_text size.alternatives place) 0 (ballot_places size) ++ 10 ∷ [])) ++ (codes "absent " ++ (cond study.size.absent (codes "yes") (codes "no") ++ 10 ∷ []))
+    ≡ lines_text study (domain_lines study 2)
+domain_text study size same =
+    let places : List ℕ = ballot_places study.size in
+    let texts : List (List ℕ) = map (ranking_text study.size.alternatives) places in
+    let absent : List ℕ = ended study (AbsentIs study.size.absent) in
+    ap (λ (e : Extent). (codes "ballots" ++ (spelled (λ _ (place : ℕ). 32 ∷ ranking_text e.alternatives place) 0 (ballot_places e) ++ 10 ∷ [])) ++ absent) (sym same)
+    ∙ ap (λ (words : List ℕ). (codes "ballots" ++ (words ++ 10 ∷ [])) ++ absent) (names_spelled (ranking_text study.size.alternatives) 0 places)
+    ∙ ap (λ (words : List ℕ). (words ++ 10 ∷ []) ++ absent) (sym (joined_spaced (codes "ballots") texts))
+    ∙ ap (λ (last : List ℕ). ended study (BallotsAre places) ++ last) (sym (append-nil absent))
+
+-- version 1 has no such lines
+pub no_domain : (study : Question) (full : Bool) → full ≡ true → [] ≡ lines_text study (domain_lines study (cond full 1 2))
+no_domain study true h = refl
+no_domain study false h = absurd (false≢true h)
+
+-- version 2 has them
+pub own_domain : (study : Question) (full : Bool) → full ≡ false → lines_text study (domain_lines study 2) ≡ lines_text study (domain_lines study (cond full 1 2))
+own_domain study true h = absurd (false≢true (sym h))
+own_domain study false h = refl
+
 -- the lines that say what the study is
-pub head_text : (study : Question) →
-    (codes "bench report 1\nkind " ++ (kind_text study.size.kind ++ 10 ∷ [])) ++ (count_text (codes "voters ") study.size.voters ++ (count_text (codes "alternatives ") study.size.alternatives ++ (codes "axioms" ++ (spelled (λ _ (a : Titled). 32 ∷ a.name) 0 study.axioms ++ 10 ∷ []))))
-    ≡ lines_text study (head_lines study)
-head_text study =
+pub head_text : (study : Question) (version : ℕ) →
+    count_text (codes "bench report ") version ++ ((codes "kind " ++ (kind_text study.size.kind ++ 10 ∷ [])) ++ (count_text (codes "voters ") study.size.voters ++ (count_text (codes "alternatives ") study.size.alternatives
+    ++ (lines_text study (domain_lines study version) ++ (codes "axioms" ++ (spelled (λ _ (a : Titled). 32 ∷ a.name) 0 study.axioms ++ 10 ∷ []))))))
+    ≡ lines_text study (head_lines study version)
+head_text study version =
     let names : codes "axioms" ++ (spelled (λ _ (a : Titled). 32 ∷ a.name) 0 study.axioms ++ 10 ∷ []) ≡ lines_text study (AxiomsAre (map (λ (a : Titled). a.name) study.axioms) ∷ [])
     = ap (λ (words : List ℕ). codes "axioms" ++ (words ++ 10 ∷ [])) (names_spelled (λ (a : Titled). a.name) 0 study.axioms)
     ∙ ap (λ (words : List ℕ). words ++ 10 ∷ []) (sym (joined_spaced (codes "axioms") (map (λ (a : Titled). a.name) study.axioms)))
     ∙ sym (append-nil (ended study (AxiomsAre (map (λ (a : Titled). a.name) study.axioms)))) in
-    ap (λ (rest : List ℕ). (codes "bench report 1\nkind " ++ (kind_text study.size.kind ++ 10 ∷ [])) ++ (count_text (codes "voters ") study.size.voters ++ (count_text (codes "alternatives ") study.size.alternatives ++ rest))) names
+    ap (λ (rest : List ℕ). count_text (codes "bench report ") version ++ ((codes "kind " ++ (kind_text study.size.kind ++ 10 ∷ [])) ++ (count_text (codes "voters ") study.size.voters ++ (count_text (codes "alternatives ") study.size.alternatives ++ rest))))
+    (ap (λ (last : List ℕ). lines_text study (domain_lines study version) ++ last) names
+    ∙ sym (flat_map-append (ended study) (domain_lines study version) (AxiomsAre (map (λ (a : Titled). a.name) study.axioms) ∷ [])))
 
 -- ---- rules
 
@@ -127,24 +153,28 @@ as_many f (k ∷ core) (w ∷ witnesses) h = ap suc (as_many f core witnesses (a
 
 -- ---- reports
 
--- what the study is, the verdict and the end
-report_parts : (study : Question) (verdict : Verdict) → report_text study verdict ≡ (lines_text study (head_lines study) ++ lines_text study (verdict_lines study verdict)) ++ codes "end\n"
-report_parts study verdict =
-    flat_map-append (ended study) (head_lines study ++ verdict_lines study verdict) (End ∷ [])
-    ∙ ap (λ (front : List ℕ). front ++ codes "end\n") (flat_map-append (ended study) (head_lines study) (verdict_lines study verdict))
+-- what the study is, in the version that is printed
+abbrev own_head : Question → List Line
+own_head study = head_lines study (own_version study)
 
-pub undecided_text : (study : Question) → lines_text study (head_lines study) ++ (count_text (codes "verdict undecided\nconflicts ") study.conflicts ++ codes "end\n") ≡ report_text study Undecided
-undecided_text study = regroup (lines_text study (head_lines study)) (codes "verdict undecided\nconflicts " ++ (number_text study.conflicts ++ 10 ∷ [])) (codes "end\n") ∙ sym (report_parts study Undecided)
+-- what the study is, the verdict and the end
+report_parts : (study : Question) (verdict : Verdict) → report_text study verdict ≡ (lines_text study (own_head study) ++ lines_text study (verdict_lines study verdict)) ++ codes "end\n"
+report_parts study verdict =
+    flat_map-append (ended study) (own_head study ++ verdict_lines study verdict) (End ∷ [])
+    ∙ ap (λ (front : List ℕ). front ++ codes "end\n") (flat_map-append (ended study) (own_head study) (verdict_lines study verdict))
+
+pub undecided_text : (study : Question) → lines_text study (own_head study) ++ (count_text (codes "verdict undecided\nconflicts ") study.conflicts ++ codes "end\n") ≡ report_text study Undecided
+undecided_text study = regroup (lines_text study (own_head study)) (codes "verdict undecided\nconflicts " ++ (number_text study.conflicts ++ 10 ∷ [])) (codes "end\n") ∙ sym (report_parts study Undecided)
   where
     regroup : (a b c : List ℕ) → a ++ (b ++ c) ≡ (a ++ (b ++ [])) ++ c
     regroup a b c = ap (λ (b : List ℕ). a ++ (b ++ c)) (sym (append-nil b)) ∙ sym (append_assoc a (b ++ []) c)
 
 pub possible_text : (study : Question) (size : Extent) → study.size ≡ size → (table : List ℕ) →
-    lines_text study (head_lines study) ++ (count_text (codes "verdict possible\nrule ") (sort_count size Profile) ++ (spelled (row_text size) 0 table ++ codes "end\n")) ≡ report_text study (Possible table)
+    lines_text study (own_head study) ++ (count_text (codes "verdict possible\nrule ") (sort_count size Profile) ++ (spelled (row_text size) 0 table ++ codes "end\n")) ≡ report_text study (Possible table)
 possible_text study size same table =
-    ap (λ (e : Extent). lines_text study (head_lines study) ++ (count_text (codes "verdict possible\nrule ") (sort_count e Profile) ++ (spelled (row_text e) 0 table ++ codes "end\n"))) (sym same)
-    ∙ ap (λ (rows : List ℕ). lines_text study (head_lines study) ++ (count_text (codes "verdict possible\nrule ") (sort_count study.size Profile) ++ (rows ++ codes "end\n"))) (rows_spelled study 0 table)
-    ∙ regroup (lines_text study (head_lines study)) (count_text (codes "verdict possible\nrule ") (sort_count study.size Profile)) (lines_text study (row_lines 0 table)) (codes "end\n")
+    ap (λ (e : Extent). lines_text study (own_head study) ++ (count_text (codes "verdict possible\nrule ") (sort_count e Profile) ++ (spelled (row_text e) 0 table ++ codes "end\n"))) (sym same)
+    ∙ ap (λ (rows : List ℕ). lines_text study (own_head study) ++ (count_text (codes "verdict possible\nrule ") (sort_count study.size Profile) ++ (rows ++ codes "end\n"))) (rows_spelled study 0 table)
+    ∙ regroup (lines_text study (own_head study)) (count_text (codes "verdict possible\nrule ") (sort_count study.size Profile)) (lines_text study (row_lines 0 table)) (codes "end\n")
     ∙ sym (report_parts study (Possible table))
   where
     regroup : (a b c d : List ℕ) → a ++ (b ++ (c ++ d)) ≡ (a ++ (b ++ c)) ++ d
@@ -162,11 +192,11 @@ claim_parts : (names lemmas story witnesses : List ℕ) →
 claim_parts names lemmas story witnesses = simp append_assoc
 
 pub impossible_text : (study : Question) (core : List ℕ) (story : List Lemma) (witnesses : List Witness) →
-    (lines_text study (head_lines study) ++ ((codes "verdict impossible\ncore" ++ spelled (λ _ (k : ℕ). 32 ∷ name_at study.axioms k) 0 core) ++ (count_text (codes "\nlemmas ") (length story) ++ spelled (λ number lemma. lines_text study (lemma_lines number lemma)) 1 story)))
+    (lines_text study (own_head study) ++ ((codes "verdict impossible\ncore" ++ spelled (λ _ (k : ℕ). 32 ∷ name_at study.axioms k) 0 core) ++ (count_text (codes "\nlemmas ") (length story) ++ spelled (λ number lemma. lines_text study (lemma_lines number lemma)) 1 story)))
     ++ (lines_text study (all_witness_lines study core witnesses) ++ codes "end\n")
     ≡ report_text study (Impossible core story witnesses)
 impossible_text study core story witnesses =
-    let head : List ℕ = lines_text study (head_lines study) in
+    let head : List ℕ = lines_text study (own_head study) in
     let names : List ℕ = spaced (map (name_at study.axioms) core) in
     let lemmas : List ℕ = count_text (codes "lemmas ") (length story) in
     let told : List ℕ = lines_text study (story_lines 1 story) in

@@ -1,6 +1,6 @@
-//! Reports of a study of one voter and two alternatives, and sinks that fail.
+//! Reports of studies of one or two voters and two alternatives, and sinks that fail.
 
-ghost use Rattle.std.specs.Prelude.{◌≡◌, [], ◌∷◌, codes, IfOk, IsTrue};
+ghost use Rattle.std.specs.Prelude.{◌≡◌, true, [], ◌∷◌, codes, IfOk, IsTrue};
 ghost use Rattle.meaning.specs.Truth.{is_rule};
 ghost use Rattle.vocab.specs.Size.{full_size};
 ghost use Rattle.vocab.specs.Tree.{All, Leaf, Equal, Var};
@@ -32,12 +32,12 @@ fn one_axiom(alloc: Global) -> Result<Study, Fail>
     Ok(Study::new(size, 100, axioms))
 }
 
-/// The rule that gives the voter's best alternative.
-fn best(alloc: Global) -> Result<Table, Fail>
-    ensures { IfOk result (λ table. table ≡ 0 ∷ 1 ∷ []) }
+/// The rule of these outcomes.
+fn table_of(alloc: Global, outcomes: &[u8]) -> Result<Table, Fail>
+    ensures { IfOk result (λ table. table ≡ outcomes.now) }
 {
     let mut table = Items::new(alloc);
-    table.append(&[0, 1])?;
+    table.append(outcomes)?;
     Ok(table)
 }
 
@@ -76,7 +76,7 @@ fn impossible(alloc: Global) -> Result<Verdict, Fail>
     let mut story = Items::new(alloc);
     story.push(one_lemma(alloc)?)?;
     let mut witnesses = Items::new(alloc);
-    witnesses.push(Witness::Rule(best(alloc)?))?;
+    witnesses.push(Witness::Rule(table_of(alloc, &[0, 1])?))?;
     Ok(Verdict::Impossible {
         core,
         story,
@@ -113,7 +113,12 @@ const UNDECIDED: &str =
 fn verdicts_are_written(rt: HostRuntime) -> Result<(), Fail> {
     let alloc = rt.alloc();
     let study = one_axiom(alloc)?;
-    let (text, done) = written(alloc, 1000, &study, &Verdict::Possible(best(alloc)?))?;
+    let (text, done) = written(
+        alloc,
+        1000,
+        &study,
+        &Verdict::Possible(table_of(alloc, &[0, 1])?),
+    )?;
     assert_eq!(rt; text.as_slice(), POSSIBLE.as_bytes());
     assert!(rt; done.is_ok());
     let (text, done) = written(alloc, 1000, &study, &impossible(alloc)?)?;
@@ -122,6 +127,50 @@ fn verdicts_are_written(rt: HostRuntime) -> Result<(), Fail> {
     let (text, done) = written(alloc, 1000, &study, &Verdict::Undecided)?;
     assert_eq!(rt; text.as_slice(), UNDECIDED.as_bytes());
     assert!(rt; done.is_ok());
+    Ok(())
+}
+
+/// A study without axioms, of one voter, who may cast `ba` alone.
+fn one_ballot(alloc: Global) -> Result<Study, Fail>
+    ensures { IfOk result (λ study. study ≡ record {
+      size = record (full_size Kind.Choice 1 2) { ballots = 2 };
+      conflicts = 100;
+      axioms = [];
+    }) }
+{
+    let size = Size::with_domain(Kind::Choice, 1, 2, 2, false);
+    Ok(Study::new(size.ok().ok_or("size")?, 100, Items::new(alloc)))
+}
+
+/// A study without axioms, of two voters, who may cast any ranking or be absent, but not both of them.
+fn absence(alloc: Global) -> Result<Study, Fail>
+    ensures { IfOk result (λ study. study ≡ record {
+      size = record (full_size Kind.Choice 2 2) { absent = true };
+      conflicts = 100;
+      axioms = [];
+    }) }
+{
+    let size = Size::with_domain(Kind::Choice, 2, 2, 3, true);
+    Ok(Study::new(size.ok().ok_or("size")?, 100, Items::new(alloc)))
+}
+
+const ONE_BALLOT: &str =
+    "bench report 2\nkind choice\nvoters 1\nalternatives 2\nballots ba\nabsent no\naxioms\nverdict possible\nrule 1\nba b\nend\n";
+
+const ABSENCE: &str =
+    "bench report 2\nkind choice\nvoters 2\nalternatives 2\nballots ab ba\nabsent yes\naxioms\nverdict possible\nrule 8\nab|ab a\nab|ba a\nab|- a\nba|ab b\nba|ba b\nba|- b\n-|ab a\n-|ba b\nend\n";
+
+#[test]
+fn domains_are_written(rt: HostRuntime) -> Result<(), Fail> {
+    let alloc = rt.alloc();
+    let study = one_ballot(alloc)?;
+    let rule = Verdict::Possible(table_of(alloc, &[1])?);
+    let (text, _) = written(alloc, 1000, &study, &rule)?;
+    assert_eq!(rt; text.as_slice(), ONE_BALLOT.as_bytes());
+    let study = absence(alloc)?;
+    let rule = Verdict::Possible(table_of(alloc, &[0, 0, 0, 1, 1, 1, 0, 1])?);
+    let (text, _) = written(alloc, 1000, &study, &rule)?;
+    assert_eq!(rt; text.as_slice(), ABSENCE.as_bytes());
     Ok(())
 }
 

@@ -37,6 +37,10 @@ fn pour_impossible<'a, K: OutcomeKind, O: Sink>(
         (O.faults out.old) (O.faults out.new) result
         (report_text study.now (Impossible core.now story.now witnesses.now)) }
 {
+    let of = Subject {
+        study,
+        space: kind.space(),
+    };
     let names = CoreNames {
         study,
         core: core.as_slice(),
@@ -45,16 +49,12 @@ fn pour_impossible<'a, K: OutcomeKind, O: Sink>(
         key: b"\nlemmas ",
         count: story.len() as u64,
     };
-    let of = Subject {
-        study,
-        space: kind.space(),
-    };
     let lines = StoryLines {
         of,
         lemmas: story.as_slice(),
     };
     let claim = Two(Raw(b"verdict impossible\ncore"), names);
-    Two(Head { study }, Two(claim, Two(lemmas, lines))).pour(page, out)?;
+    Two(Head { of }, Two(claim, Two(lemmas, lines))).pour(page, out)?;
     pour_witnesses(
         kind,
         study,
@@ -79,14 +79,18 @@ pub fn pour_verdict<K: OutcomeKind, O: Sink>(
     ensures { Pours (O.taken out.old) (O.taken out.new) page.old page.new
         (O.faults out.old) (O.faults out.new) result (report_text study.now verdict.now) }
 {
+    let of = Subject {
+        study,
+        space: kind.space(),
+    };
     match verdict {
         Verdict::Possible(table) => {
             let count = Count {
                 key: b"verdict possible\nrule ",
-                count: u64::from(kind.space().count()),
+                count: u64::from(of.space.count()),
             };
             let rows = Two(Rows { kind, table }, Raw(b"end\n"));
-            Two(Head { study }, Two(count, rows)).pour(page, out)
+            Two(Head { of }, Two(count, rows)).pour(page, out)
         }
         Verdict::Impossible {
             core,
@@ -98,7 +102,7 @@ pub fn pour_verdict<K: OutcomeKind, O: Sink>(
                 key: b"verdict undecided\nconflicts ",
                 count: u64::from(study.conflicts()),
             };
-            Two(Head { study }, Two(limit, Raw(b"end\n"))).pour(page, out)
+            Two(Head { of }, Two(limit, Raw(b"end\n"))).pour(page, out)
         }
     }
 }
