@@ -146,6 +146,7 @@ module _ (study : Question) (r : Reading) where
         Stands study (record r { suppose = xs; board = b }) (advance study s (Suppose l))
     with_supposed l xs b none e size known = record {
       place = h.place;
+      version = h.version;
       rows = h.rows;
       core = h.core;
       count = h.count;
@@ -178,6 +179,7 @@ module _ (study : Question) (r : Reading) where
     pub with_step : (l : Literal) (w : Reason) (b : Known) → b.size ≡ r.board.size → b.literals ≡ r.board.literals ++ l ∷ [] → Stands study (record r { place = place.AtStep; board = b }) (advance study s (So l w))
     with_step l w b size known = record {
       place = refl;
+      version = h.version;
       rows = h.rows;
       core = h.core;
       count = h.count;

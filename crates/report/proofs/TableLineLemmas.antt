@@ -90,6 +90,7 @@ module _ (study : Question) where
   with_row : (r : Reading) (s : Standing) (o : ℕ) (rows : List ℕ) → Stands study r s → rows ≡ r.rows ++ o ∷ [] → Stands study (record r { rows = rows }) (record s { rows = s.rows ++ o ∷ [] })
   with_row r s o rows h e = record {
     place = h.place;
+    version = h.version;
     rows = e ∙ ap (λ rows. rows ++ o ∷ []) h.rows;
     core = h.core;
     count = h.count;
@@ -159,6 +160,7 @@ module _ (study : Question) where
   with_witness : (r : Reading) (s : Standing) (rows : List ℕ) → Stands study r s → rows ≡ [] → Stands study (record r { rows = rows; witnesses = r.witnesses + 1 }) (record s { rows = []; witnesses = s.witnesses ++ Rule s.rows ∷ [] })
   with_witness r s rows h e = record {
     place = h.place;
+    version = h.version;
     rows = e;
     core = h.core;
     count = h.count;

@@ -1,6 +1,6 @@
 -- What a line that is read says, and what it finds held.
 use Rattle.std.proofs.Common.{◌≡◌, refl, sym, ap, ◌∙◌, subst, ℕ, ◌+◌, ◌<◌, true, List, [], ◌∷◌, map, length, drop, Option, Some, Result, arith, option_map}
-use Rattle.std.specs.Prelude.{nat_lt, codes}
+use Rattle.std.specs.Prelude.{nat_lt, nat_eq, codes}
 use Rattle.std.specs.List.{list_all}
 use Rattle.std.specs.Str.{bytes_eq}
 use Rattle.std.specs.Cmp.Lexicographic.{pointwise}
@@ -8,7 +8,7 @@ use Rattle.lists.specs.declared.memory.NoMemory.{NoMemory}
 use Rattle.vocab.specs.declared.kinds.Sort.TheVariants.{Profile}
 use Rattle.vocab.specs.declared.literals.Literal.{Literal}
 use Rattle.vocab.specs.Name.{is_name}
-use Rattle.vocab.specs.Size.{sort_count, outcome_count}
+use Rattle.vocab.specs.Size.{ballot_places, sort_count, outcome_count}
 use Rattle.vocab.specs.Study.{Question}
 use Rattle.meaning.specs.declared.cores.Witness.{Witness}
 use Rattle.meaning.specs.declared.stories.Reason.{Reason}
@@ -16,7 +16,7 @@ use Rattle.meaning.specs.Literals.{is_literal}
 use Rattle.verdicts.specs.declared.refusals.Refusal.{Refusal}
 use Rattle.verdicts.specs.Texts.{words_of}
 use Rattle.verdicts.specs.Reading.{names}
-use Rattle.verdicts.specs.Lines.{Line, Title, KindIs, VotersAre, AlternativesAre, AxiomsAre, SaysPossible, SaysImpossible, SaysUndecided, LimitIs, RuleOf, Row, CoreIs, LemmasAre, Heading, Suppose, So, Clash, WithRule, WithOpen, End}
+use Rattle.verdicts.specs.Lines.{Line, Title, KindIs, VotersAre, AlternativesAre, BallotsAre, AbsentIs, AxiomsAre, SaysPossible, SaysImpossible, SaysUndecided, LimitIs, RuleOf, Row, CoreIs, LemmasAre, Heading, Suppose, So, Clash, WithRule, WithOpen, End}
 use Rattle.verdicts.specs.Places.{Place, AtRow, AtCore, AtSuppose, AtStep, AtWitness, AtWitnessRow, Standing, wanted}
 use Rattle.verdicts.specs.Faults.{places_of, is_core, next_after}
 use Rattle.verdicts.specs.Judge.{read_line}
@@ -37,10 +37,12 @@ use Rattle.report.proofs.TableLineLemmas.{is_witness_row}
 module _ (study : Question) where
   -- what a line says, by what is held of it
   abbrev pub Said : HeldLine → Line → Type 0
-  Said held.Title w = w ≡ Title
+  Said (held.Title version) w = w ≡ Title version
   Said (held.KindIs k) w = w ≡ KindIs k
   Said (held.VotersAre c) w = (n : ℕ) × (w ≡ VotersAre n) × (c ≡ held_number n)
   Said (held.AlternativesAre c) w = (n : ℕ) × (w ≡ AlternativesAre n) × (c ≡ held_number n)
+  Said (held.BallotsAre b) w = (places : List ℕ) × (w ≡ BallotsAre places) × (b ≡ pointwise nat_eq places (ballot_places study.size))
+  Said (held.AbsentIs absent) w = w ≡ AbsentIs absent
   Said (held.AxiomsAre b) w = (ns : List (List ℕ)) × (w ≡ AxiomsAre ns) × (b ≡ pointwise bytes_eq ns (map (λ a. a.name) study.axioms))
   Said held.SaysPossible w = w ≡ SaysPossible
   Said held.SaysImpossible w = w ≡ SaysImpossible
@@ -59,10 +61,12 @@ module _ (study : Question) where
   Said held.End w = w ≡ End
 
   said : (w : Line) → Said (held_line study w) w
-  said Title = refl
+  said (Title version) = refl
   said (KindIs k) = refl
   said (VotersAre n) = (n, refl, refl)
   said (AlternativesAre n) = (n, refl, refl)
+  said (BallotsAre places) = (places, refl, refl)
+  said (AbsentIs absent) = refl
   said (AxiomsAre ns) = (ns, refl, refl)
   said SaysPossible = refl
   said SaysImpossible = refl

@@ -67,12 +67,13 @@ module _ (study : Question) (r : Reading) where
 
     -- at another place
     pub moved : (p : HeldPlace) (q : Place) → p ≡ held_place q → Stands study (record r { place = p }) (record s { place = q })
-    moved p q e = record { place = e; rows = h.rows; core = h.core; count = h.count; earlier = h.earlier; alone = h.alone; few = h.few; suppose = h.suppose; size = h.size; known = h.known; witnesses = h.witnesses }
+    moved p q e = record { place = e; version = h.version; rows = h.rows; core = h.core; count = h.count; earlier = h.earlier; alone = h.alone; few = h.few; suppose = h.suppose; size = h.size; known = h.known; witnesses = h.witnesses }
 
     -- with one more witness
     pub with_witness : (w : Witness) → Stands study (record r { witnesses = r.witnesses + 1 }) (record s { witnesses = s.witnesses ++ w ∷ [] })
     with_witness w = record {
       place = h.place;
+      version = h.version;
       rows = h.rows;
       core = h.core;
       count = h.count;

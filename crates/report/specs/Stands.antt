@@ -20,6 +20,7 @@ supposed lemmas = map (λ lemma. lemma.suppose) lemmas
 -- what is held is what the lines so far have given; of the lemmas that are read it is what they suppose alone, and a reason has a number for each of them
 pub record Stands (study : Question) (r : Reading) (s : Standing) : Type 0 where
   pub place : r.place ≡ held_place s.place
+  pub version : r.version ≡ s.version
   pub rows : r.rows ≡ s.rows
   pub core : r.core ≡ s.core
   pub count : r.count ≡ held_number s.count

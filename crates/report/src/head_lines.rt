@@ -1,12 +1,13 @@
 //! Takes the lines that say what the study and the verdict are.
 
-ghost use Rattle.std.specs.Prelude.{◌≡◌, ℕ, List, map};
+ghost use Rattle.std.specs.Prelude.{◌≡◌, ℕ, ◌==◌, nat_eq, List, map, if◌then◌else◌};
 ghost use Rattle.std.specs.Str.{bytes_eq};
 ghost use Rattle.std.specs.Cmp.Lexicographic.{pointwise};
+ghost use Rattle.vocab.specs.Size.{ballot_places};
 ghost use Rattle.vocab.specs.Study.{Question};
-ghost use Rattle.verdicts.specs.Lines.{Title, KindIs, VotersAre, AlternativesAre, AxiomsAre, SaysPossible, SaysImpossible, SaysUndecided, LimitIs, RuleOf, End};
-ghost use Rattle.verdicts.specs.Places.{Place as WantedPlace, Standing};
-ghost use Rattle.verdicts.specs.Faults.{unless_so, same_kind};
+ghost use Rattle.verdicts.specs.Lines.{Title, KindIs, VotersAre, AlternativesAre, BallotsAre, AbsentIs, AxiomsAre, SaysPossible, SaysImpossible, SaysUndecided, LimitIs, RuleOf, End};
+ghost use Rattle.verdicts.specs.Places.{Place as WantedPlace, AtBallots, AtAxioms, Standing};
+ghost use Rattle.verdicts.specs.Faults.{unless_so, same_kind, is_version};
 ghost use Rattle.verdicts.specs.Judge.{after_end};
 ghost use Rattle.report_lines.specs.Held.{held_number, held_place};
 ghost use Rattle.report.specs.Stands.{Stands};
@@ -17,13 +18,31 @@ use crate::subject::Subject;
 use outcomes::OutcomeKind;
 use report_lines::Place;
 use verdicts::Refusal;
-use vocab::{Kind, Study};
+use vocab::{Kind, Size, Study};
 
 /// Whether two kinds are the same.
 fn is_kind(kind: Kind, wanted: Kind) -> bool
     ensures { result ≡ same_kind kind wanted }
 {
     kind == wanted
+}
+
+/// Whether a report of this version may be of a study of this size.
+fn is_version(size: Size, version: u8) -> bool
+    ensures { result ≡ is_version size version }
+{
+    version == 2 || version == 1 && size.full()
+}
+
+/// The place after the number of alternatives, in a report of this version.
+fn after_alternatives(version: u8) -> Place
+    ensures { result ≡ held_place (if version == 2 then AtBallots else AtAxioms) }
+{
+    if version == 2 {
+        Place::AtBallots
+    } else {
+        Place::AtAxioms
+    }
 }
 
 /// The place after the last line.
@@ -46,13 +65,14 @@ impl Reading {
         if passes { None } else { Some(refusal) }
     }
 
-    /// Takes the first line.
-    pub(crate) fn take_title(&mut self) -> Option<Refusal>
-        ensures { (study : Question) (s : Standing) → Stands study self.old s →
-            Took study s Title self.new result }
+    /// Takes the first line, which has the version of the report.
+    pub(crate) fn take_title(&mut self, study: &Study, version: u8) -> Option<Refusal>
+        ensures { (s : Standing) → Stands study.now self.old s →
+            Took study.now s (Title version) self.new result }
     {
-        self.place = Place::AtKind;
-        None
+        self.version = version;
+        let may = is_version(study.size(), version);
+        self.pass(may, Refusal::StudyDiffers, Place::AtKind)
     }
 
     /// Takes the kind of rule.
@@ -79,6 +99,25 @@ impl Reading {
             Took study.now s (AlternativesAre n) self.new result }
     {
         let same = count == study.size().alternatives() as u64;
+        let next = after_alternatives(self.version);
+        self.pass(same, Refusal::StudyDiffers, next)
+    }
+
+    /// Takes the rankings that voters may cast, which are the ballots of the study or not.
+    pub(crate) fn take_ballots(&mut self, same: bool) -> Option<Refusal>
+        ensures { (study : Question) (s : Standing) (places : List ℕ) → Stands study self.old s →
+            same ≡ pointwise nat_eq places (ballot_places study.size) →
+            Took study s (BallotsAre places) self.new result }
+    {
+        self.pass(same, Refusal::StudyDiffers, Place::AtAbsent)
+    }
+
+    /// Takes whether voters may be absent.
+    pub(crate) fn take_absent(&mut self, study: &Study, absent: bool) -> Option<Refusal>
+        ensures { (s : Standing) → Stands study.now self.old s →
+            Took study.now s (AbsentIs absent) self.new result }
+    {
+        let same = absent == study.size().absent();
         self.pass(same, Refusal::StudyDiffers, Place::AtAxioms)
     }
 

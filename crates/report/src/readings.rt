@@ -12,12 +12,13 @@ use report_lines::Place;
 use vocab::{Places, Table};
 use worlds::Board;
 
-/// What the lines so far have given: the place in the grammar; the outcomes of the table that is being read; the core; how
-/// many lemmas there will be; the suppositions of those that are read; what the present one supposes; on the board, all that
-/// it has supposed or forced; and how many witnesses are read.
+/// What the lines so far have given: the place in the grammar; the version of the report; the outcomes of the table that is
+/// being read; the core; how many lemmas there will be; the suppositions of those that are read; what the present one
+/// supposes; on the board, all that it has supposed or forced; and how many witnesses are read.
 #[derive(Drop)]
 pub(crate) struct Reading {
     pub(crate) place: Place,
+    pub(crate) version: u8,
     pub(crate) rows: Table,
     pub(crate) core: Places,
     pub(crate) count: u64,
@@ -34,6 +35,7 @@ impl Reading {
     {
         Ok(Reading {
             place: Place::AtTitle,
+            version: 1,
             rows: Items::new(subject.alloc),
             core: Items::new(subject.alloc),
             count: 0,

@@ -76,10 +76,12 @@ impl Reading {
             Takes subject.now.study.now s wanted self.new result }
     {
         match line {
-            Line::Title => Ok(self.take_title()),
+            Line::Title(version) => Ok(self.take_title(subject.study, *version)),
             Line::KindIs(kind) => Ok(self.take_kind(subject.study, *kind)),
             Line::VotersAre(count) => Ok(self.take_voters(subject.study, *count)),
             Line::AlternativesAre(count) => Ok(self.take_alternatives(subject.study, *count)),
+            Line::BallotsAre(same) => Ok(self.take_ballots(*same)),
+            Line::AbsentIs(absent) => Ok(self.take_absent(subject.study, *absent)),
             Line::AxiomsAre(same) => Ok(self.take_axioms(*same)),
             Line::SaysPossible => Ok(self.take_possible()),
             Line::SaysImpossible => Ok(self.take_impossible()),

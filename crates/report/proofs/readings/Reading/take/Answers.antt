@@ -1,5 +1,5 @@
 use Rattle.std.proofs.Common.{Ok}
-use Rattle.verdicts.specs.Lines.{Title, VotersAre, AlternativesAre, AxiomsAre, SaysPossible, SaysImpossible, SaysUndecided, LimitIs, RuleOf, CoreIs, LemmasAre, Heading, Suppose, So, Clash, WithRule, WithOpen, End}
+use Rattle.verdicts.specs.Lines.{Title, VotersAre, AlternativesAre, BallotsAre, AbsentIs, AxiomsAre, SaysPossible, SaysImpossible, SaysUndecided, LimitIs, RuleOf, CoreIs, LemmasAre, Heading, Suppose, So, Clash, WithRule, WithOpen, End}
 use Rattle.report_lines.specs.declared.lines.Line.TheVariants as held
 use Rattle.report.proofs.TakingLemmas.{said_of, taken_as, at_suppose, at_so, at_clash, at_rule, at_open, core_names, holds_rows, suppose_in, so_in}
 use Rattle.report.proofs.readings.Reading.take.Goals as goal
@@ -28,8 +28,8 @@ take_so-requires-clause-literal g c κs within = so_in c.args.subject.now.study.
 pub returns-in-Title : goal.returns-in-Title
 returns-in-Title g c = λ s w h e f.
     let study = c.args.subject.now.study.now in
-    let t = said_of study c.args.line.now held.Title w c.in-Title.is f in
-    taken_as study s w Title c.take_title.new.self (Ok c.take_title.result) t (c.take_title.ensures study s h)
+    let t = said_of study c.args.line.now (held.Title c.in-Title.version) w c.in-Title.is f in
+    taken_as study s w (Title c.in-Title.version) c.take_title.new.self (Ok c.take_title.result) t (c.take_title.ensures s h)
 
 pub returns-in-VotersAre : goal.returns-in-VotersAre
 returns-in-VotersAre g c = λ s w h e f.
@@ -42,6 +42,18 @@ returns-in-AlternativesAre g c = λ s w h e f.
     let study = c.args.subject.now.study.now in
     let t = said_of study c.args.line.now (held.AlternativesAre c.in-AlternativesAre.count) w c.in-AlternativesAre.is f in
     taken_as study s w (AlternativesAre t.0) c.take_alternatives.new.self (Ok c.take_alternatives.result) t.1 (c.take_alternatives.ensures s t.0 h t.2)
+
+pub returns-in-BallotsAre : goal.returns-in-BallotsAre
+returns-in-BallotsAre g c = λ s w h e f.
+    let study = c.args.subject.now.study.now in
+    let t = said_of study c.args.line.now (held.BallotsAre c.in-BallotsAre.same) w c.in-BallotsAre.is f in
+    taken_as study s w (BallotsAre t.0) c.take_ballots.new.self (Ok c.take_ballots.result) t.1 (c.take_ballots.ensures study s t.0 h t.2)
+
+pub returns-in-AbsentIs : goal.returns-in-AbsentIs
+returns-in-AbsentIs g c = λ s w h e f.
+    let study = c.args.subject.now.study.now in
+    let t = said_of study c.args.line.now (held.AbsentIs c.in-AbsentIs.absent) w c.in-AbsentIs.is f in
+    taken_as study s w (AbsentIs c.in-AbsentIs.absent) c.take_absent.new.self (Ok c.take_absent.result) t (c.take_absent.ensures s h)
 
 pub returns-in-AxiomsAre : goal.returns-in-AxiomsAre
 returns-in-AxiomsAre g c = λ s w h e f.
