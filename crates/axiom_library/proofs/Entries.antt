@@ -37,7 +37,7 @@ under_name P (x ∷ entries) all name text found =
 
 choice_readable : AllByRecursion (λ e. IsReadable e.name e.text) choice
 unfolding choice
-choice_readable = (reading.unanimity, (reading.pareto, (reading.onto, (reading.non_dictatorship, (reading.strategyproof, (reading.maskin, (reading.condorcet, (reading.anonymity, (reading.neutrality, tt)))))))))
+choice_readable = (reading.unanimity, (reading.pareto, (reading.onto, (reading.non_dictatorship, (reading.strategyproof, (reading.maskin, (reading.condorcet, (reading.anonymity, (reading.neutrality, (reading.participation, tt))))))))))
 
 ranking_readable : AllByRecursion (λ e. IsReadable e.name e.text) ranking
 unfolding ranking
@@ -58,7 +58,7 @@ name_shaped kind place e at = at_place (λ e. IsReadable e.name e.text) (library
 
 choice_found : AllByRecursion (λ e. text_under Choice e.name ≡ Some e.text) choice
 unfolding choice
-choice_found = (refl, (refl, (refl, (refl, (refl, (refl, (refl, (refl, (refl, tt)))))))))
+choice_found = (refl, (refl, (refl, (refl, (refl, (refl, (refl, (refl, (refl, (refl, tt))))))))))
 
 ranking_found : AllByRecursion (λ e. text_under Ranking e.name ≡ Some e.text) ranking
 unfolding ranking

@@ -42,6 +42,9 @@ anonymity = readable _ _ trees.anonymity refl refl refl (lit≤ tt) (lit≤ tt) 
 pub neutrality : IsReadable (codes "neutrality") (codes "all p: profile. all x: alt. all y: alt. all z: alt. (wins(z, p) <-> wins(swap(x, y, z), swap_alts(p, x, y)))")
 neutrality = readable _ _ trees.neutrality refl refl refl (lit≤ tt) (lit≤ tt) (lit≤ tt)
 
+pub participation : IsReadable (codes "participation") (codes "all p: profile. all i: voter. all b: ballot. all x: alt. all y: alt. ((!some c: ballot. casts(i, c, p) & (wins(x, p) & wins(y, with(p, i, b)))) -> !better(b, x, y))")
+participation = readable _ _ trees.participation refl refl refl (lit≤ tt) (lit≤ tt) (lit≤ tt)
+
 pub pareto_of_rankings : IsReadable (codes "pareto") (codes "all p: profile. all x: alt. all y: alt. (all i: voter. prefers(i, x, y, p) -> ranks(x, y, p))")
 pareto_of_rankings = readable _ _ trees.pareto_of_rankings refl refl refl (lit≤ tt) (lit≤ tt) (lit≤ tt)
 

@@ -50,6 +50,11 @@ neutrality =
     let p = tree.Var (codes "p") in let x = tree.Var (codes "x") in let y = tree.Var (codes "y") in let z = tree.Var (codes "z") in
     tree.All (codes "p") Profile (tree.All (codes "x") Alt (tree.All (codes "y") Alt (tree.All (codes "z") Alt (tree.Same (tree.Pred (codes "wins") (arguments_of (z ∷ p ∷ []))) (tree.Pred (codes "wins") (arguments_of ((tree.Call (codes "swap") (arguments_of (x ∷ y ∷ z ∷ []))) ∷ (tree.Call (codes "swap_alts") (arguments_of (p ∷ x ∷ y ∷ []))) ∷ [])))))))
 
+abbrev pub participation : NamedTree
+participation =
+    let b = tree.Var (codes "b") in let c = tree.Var (codes "c") in let i = tree.Var (codes "i") in let p = tree.Var (codes "p") in let x = tree.Var (codes "x") in let y = tree.Var (codes "y") in
+    tree.All (codes "p") Profile (tree.All (codes "i") Voter (tree.All (codes "b") Ballot (tree.All (codes "x") Alt (tree.All (codes "y") Alt (tree.Implies (tree.Both (tree.Not (tree.Exists (codes "c") Ballot (tree.Pred (codes "casts") (arguments_of (i ∷ c ∷ p ∷ []))))) (tree.Both (tree.Pred (codes "wins") (arguments_of (x ∷ p ∷ []))) (tree.Pred (codes "wins") (arguments_of (y ∷ (tree.Call (codes "with") (arguments_of (p ∷ i ∷ b ∷ []))) ∷ []))))) (tree.Not (tree.Pred (codes "better") (arguments_of (b ∷ x ∷ y ∷ [])))))))))
+
 abbrev pub pareto_of_rankings : NamedTree
 pareto_of_rankings =
     let i = tree.Var (codes "i") in let p = tree.Var (codes "p") in let x = tree.Var (codes "x") in let y = tree.Var (codes "y") in

@@ -9,7 +9,8 @@ pub record Entry : Type 0 where
   pub name : List ℕ
   pub text : List ℕ
 
--- axioms of rules that choose an alternative
+-- axioms of rules that choose an alternative. `participation` says that no absent voter does better by staying away:
+-- Moulin, "Condorcet's principle implies the no show paradox" (1988)
 unfoldable pub choice : List Entry
 choice =
     record { name = codes "unanimity"; text = codes "all p: profile. all x: alt. (all i: voter. all y: alt. (x = y | prefers(i, x, y, p)) -> wins(x, p))" } ∷
@@ -21,6 +22,7 @@ choice =
     record { name = codes "condorcet"; text = codes "all p: profile. all x: alt. (all y: alt. (x = y | majority(x, y, p)) -> wins(x, p))" } ∷
     record { name = codes "anonymity"; text = codes "all p: profile. all i: voter. all j: voter. all x: alt. (wins(x, p) <-> wins(x, swap_voters(p, i, j)))" } ∷
     record { name = codes "neutrality"; text = codes "all p: profile. all x: alt. all y: alt. all z: alt. (wins(z, p) <-> wins(swap(x, y, z), swap_alts(p, x, y)))" } ∷
+    record { name = codes "participation"; text = codes "all p: profile. all i: voter. all b: ballot. all x: alt. all y: alt. ((!some c: ballot. casts(i, c, p) & (wins(x, p) & wins(y, with(p, i, b)))) -> !better(b, x, y))" } ∷
     []
 
 -- axioms of rules that rank the alternatives

@@ -20,11 +20,14 @@ fn choice_name(place: u32) -> Option<&'static [u8]>
         6 => Some(b"condorcet"),
         7 => Some(b"anonymity"),
         8 => Some(b"neutrality"),
+        9 => Some(b"participation"),
         _ => None,
     }
 }
 
-/// The text at a place of the library of rules that choose an alternative.
+/// The text at a place of the library of rules that choose an alternative. The last, `participation`, says that a voter
+/// who is absent gets no worse winner by coming to cast a ballot (Moulin, "Condorcet's principle implies the no show
+/// paradox", 1988).
 #[tactic(auto, unfolding(crate::specs::Library::choice))]
 fn choice_text(place: u32) -> Option<&'static [u8]>
     ensures { option_map (λ text. text.now) result ≡ option_map (λ e. e.text) (slice_get choice place) }
@@ -54,6 +57,9 @@ fn choice_text(place: u32) -> Option<&'static [u8]>
         ),
         8 => Some(
             b"all p: profile. all x: alt. all y: alt. all z: alt. (wins(z, p) <-> wins(swap(x, y, z), swap_alts(p, x, y)))",
+        ),
+        9 => Some(
+            b"all p: profile. all i: voter. all b: ballot. all x: alt. all y: alt. ((!some c: ballot. casts(i, c, p) & (wins(x, p) & wins(y, with(p, i, b)))) -> !better(b, x, y))",
         ),
         _ => None,
     }
@@ -105,7 +111,7 @@ pub fn count(kind: Kind) -> u32
     ensures { result ≡ length (library kind) }
 {
     match kind {
-        Kind::Choice => 9,
+        Kind::Choice => 10,
         Kind::Ranking => 5,
         Kind::Sets => 0,
     }

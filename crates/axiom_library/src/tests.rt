@@ -6,7 +6,7 @@ use vocab::{Kind, Name};
 
 #[test]
 fn libraries_have_their_lengths(rt: HostRuntime) {
-    for (kind, count) in [(Kind::Choice, 9), (Kind::Ranking, 5), (Kind::Sets, 0)] {
+    for (kind, count) in [(Kind::Choice, 10), (Kind::Ranking, 5), (Kind::Sets, 0)] {
         assert!(rt; name_at(kind, count).is_none() && text_at(kind, count).is_none());
         assert!(rt; count == 0 || name_at(kind, count - 1).is_some());
     }
@@ -18,6 +18,7 @@ fn axioms_are_found_by_kind(rt: HostRuntime) -> Result<(), Fail> {
         (b"maskin".as_slice(), true, false),
         (b"independence".as_slice(), false, true),
         (b"neutrality".as_slice(), true, true),
+        (b"participation".as_slice(), true, false),
         (b"neutral".as_slice(), false, false),
     ] {
         let name = Name::new(name).ok_or("a name")?;

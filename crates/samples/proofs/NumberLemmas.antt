@@ -48,7 +48,8 @@ few_chosen digits (e ∷ entries) = by_digit (digits % 2 == 1) (few_chosen (digi
     by_digit true few = omega (arith, few)
     by_digit false few = omega (arith, few)
 
-none_chosen : (p : Entry → Bool) (digits : ℕ) (entries : List Entry) → list_any p entries ≡ false → list_any p (entries_by digits entries) ≡ false
+-- what none of the entries is, none that is chosen is
+pub none_chosen : (p : Entry → Bool) (digits : ℕ) (entries : List Entry) → list_any p entries ≡ false → list_any p (entries_by digits entries) ≡ false
 none_chosen p digits [] none = refl
 none_chosen p digits (e ∷ entries) none =
     let parts = or_parts (p e) (list_any p entries) none in

@@ -1,5 +1,7 @@
 -- The study of a number, by which studies are made.
-use Rattle.std.specs.Prelude.{◌≡◌, ℕ, ◌+◌, ◌/◌, ◌%◌, ◌==◌, List, [], ◌∷◌, take, Ok, if◌then◌else◌}
+use Rattle.std.specs.Prelude.{◌≡◌, ℕ, ◌+◌, ◌/◌, ◌%◌, ◌==◌, false, List, [], ◌∷◌, take, Ok, if◌then◌else◌, codes}
+use Rattle.std.specs.List.{list_any}
+use Rattle.std.specs.Str.{bytes_eq}
 use Rattle.vocab.specs.declared.kinds.Kind.{Kind}
 use Rattle.vocab.specs.declared.kinds.Kind.TheVariants.{Choice, Ranking, Sets}
 use Rattle.vocab.specs.Size.{full_size}
@@ -42,3 +44,8 @@ IsSampleStudy n study = IsAnswer (sample_listing n) (Ok study)
 abbrev pub SamplesAreStudies : Type 0
 SamplesAreStudies =
     (n : ℕ) → (study : Question) × IsSampleStudy n study × ((other : Question) → IsSampleStudy n other → other ≡ study)
+
+-- no study of a number has the axiom `participation`, the tenth of rules that choose
+abbrev pub SamplesLackParticipation : Type 0
+SamplesLackParticipation =
+    (n : ℕ) (study : Question) → IsSampleStudy n study → list_any (λ a. bytes_eq a.name (codes "participation")) study.axioms ≡ false

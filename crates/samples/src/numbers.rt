@@ -87,7 +87,7 @@ fn sample_listing(alloc: Global, number: u32) -> Result<Listing, NoMemory>
 /// | 2 and higher | 1: the axiom of this place is listed, digit 2 standing for the first axiom of the library for the kind |
 ///
 /// The places are the first nine of the library of rules that choose, and the first five of that of rules that rank;
-/// higher digits mean nothing. There are three alternatives, each ranking of them may be cast, no voter is absent, and a
+/// higher digits mean nothing, and no number has `participation` (`laws::samples_lack_participation`). There are three alternatives, each ranking of them may be cast, no voter is absent, and a
 /// search may learn at most 20,000 clauses. Each number has exactly one study (`laws::samples_are_studies`).
 pub fn sample(alloc: Global, number: u32) -> Result<Study, NoMemory>
     ensures { IfOk result (λ study. IsSampleStudy number study) }

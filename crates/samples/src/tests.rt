@@ -10,6 +10,10 @@ const SAMPLES: &[(u32, &str)] = &[
     (0, "choice 2 3 20000"),
     (2, "choice 3 3 20000"),
     (112, "choice 2 3 20000 onto non_dictatorship strategyproof"),
+    (
+        4_294_967_294,
+        "choice 3 3 20000 unanimity pareto onto non_dictatorship strategyproof maskin condorcet anonymity neutrality",
+    ),
     (29, "ranking 2 3 20000 pareto independence non_dictatorship"),
     (
         4_294_967_295,
