@@ -1,10 +1,13 @@
 pub mod OneAnswer
 pub mod Collected
 pub mod Listings
+pub mod ListedBallots
+pub mod StudySizes
 pub mod Resolved
 pub mod Counting
 pub mod Whole
 pub mod StudyKinds
+pub mod StudyBallots
 pub mod SoundAxioms
 pub mod NamedAxioms
 pub mod WholeStudies

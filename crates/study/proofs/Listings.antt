@@ -6,12 +6,13 @@ use Rattle.std.proofs.lemmas.List.Folds.{list_any-append}
 use Rattle.std.specs.List.{list_any}
 use Rattle.std.specs.Str.{bytes_eq}
 use Rattle.vocab.specs.declared.kinds.Kind.{Kind}
-use Rattle.vocab.specs.SizeFault.{is_between, size_of}
+use Rattle.vocab.specs.SizeFault.{is_between}
 use Rattle.axiom_library.specs.Library.{Entry}
 use Rattle.study.specs.declared.drafts.Draft.{Draft}
 use Rattle.study.specs.declared.faults.StudyFault.{StudyFault}
 use Rattle.study.specs.declared.faults.StudyFault.TheVariants as fault
 use Rattle.study.specs.declared.listing.Listing.{Listing}
+use Rattle.study.specs.Ballots.{sized}
 use Rattle.study.specs.Listing.{limit_of, few_of, text_of, entry_of, listed, is_in_both, once, listing_of, have_own_names, IsListing}
 use Rattle.study.specs.Refusing.{and_then, refused_as}
 
@@ -55,6 +56,11 @@ came_from f (Err x) y e = absurd cc
 
 pub ok_once : {A E : Type 0} {x y : A} → Path (Result A E) (Ok x) (Ok y) → x ≡ y
 ok_once e = cc
+
+-- a step that was refused in other words came through before
+pub known : {A E F : Type 0} (f : E → F) (r : Result A E) (x : A) → refused_as f r ≡ Ok x → r ≡ Ok x
+known f (Ok y) x h = ap Ok (ok_once h)
+known f (Err e) x h = absurd (cc)
 
 between : (z : ℤ) → is_between 1 z 1000000 ≡ true → (1 ≤ nat_abs z) × (nat_abs z ≤ 1000000)
 between (pos n) within = let (from, to) = and_parts (nat_le 1 n) (nat_le n 1000000) within in (leb-true 1 n from, leb-true n 1000000 to)
@@ -119,7 +125,7 @@ own_names kind own earlier (e ∷ entries) h =
 pub listing_whole : (draft : Draft) (listing : Listing) → listing_of draft ≡ Ok listing → IsListing listing
 unfolding listing_of
 listing_whole draft listing e =
-    let size = came_from _ (refused_as fault.Size (size_of draft.head.kind draft.head.voters draft.head.alternatives)) listing e in
+    let size = came_from _ (sized draft.head) listing e in
     let limit = came_from _ (limit_of draft.head.conflicts) listing size.after in
     let few = came_from _ (few_of draft.axioms) listing limit.after in
     let entries = came_from _ (listed draft.head.kind draft.sentences draft.axioms) listing few.after in

@@ -18,8 +18,7 @@ use Rattle.study.specs.declared.faults.StudyFault.TheVariants as fault
 use Rattle.study.specs.Refusing.{and_then, refused_as}
 use Rattle.study.specs.Sentences.{Worded, resolved_one, resolved_all}
 use Rattle.study.specs.Unresolved.{IsSmall, AreSmall, is_sound}
-use Rattle.study.proofs.Listings.{came_from, ok_once}
-use Rattle.study.proofs.StudyKinds.{known}
+use Rattle.study.proofs.Listings.{came_from, known, ok_once}
 
 none_first : (found : List SortFault) (t tree : Tree) → first_or found t ≡ Ok tree → (found ≡ []) × (t ≡ tree)
 none_first [] t tree e = (refl, ok_once e)

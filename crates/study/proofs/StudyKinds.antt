@@ -1,14 +1,12 @@
 -- The kind of a study that bytes give.
 use Rattle.std.proofs.Common.{◌≡◌, refl, sym, ◌∙◌, ap, subst, ℕ, List, [], Bool, true, false, Option, None, Some, Result, Ok, Err, codes}
-use Rattle.std.specs.Prelude.{if◌then◌else◌, ℤ, nat_abs, nat_le}
+use Rattle.std.specs.Prelude.{if◌then◌else◌}
 use Rattle.std.specs.Option.{ok_or}
 use Rattle.std.specs.Str.{bytes_eq}
 use Rattle.toml.specs.Data.{Data, string, Members, get_member}
 use Rattle.vocab.specs.declared.kinds.Kind.{Kind}
 use Rattle.vocab.specs.declared.kinds.Kind.TheVariants.{Choice, Ranking}
-use Rattle.vocab.specs.Size.{HasOutcomes, Extent, all_ballots, sort_count}
-use Rattle.vocab.specs.declared.kinds.Sort.TheVariants.{Profile}
-use Rattle.vocab.specs.SizeFault.{extent_of, has_domain, is_between, size_of}
+use Rattle.vocab.specs.Size.{HasOutcomes, Extent}
 use Rattle.vocab.specs.Study.{Question}
 use Rattle.study.specs.declared.faults.StudyFault.{StudyFault}
 use Rattle.study.specs.declared.faults.StudyFault.TheVariants as fault
@@ -16,13 +14,15 @@ use Rattle.study.specs.declared.limits.Limit.TheVariants.{Instances, Body, Work}
 use Rattle.study.specs.declared.listing.Listing.{Listing}
 use Rattle.study.specs.declared.drafts.Draft.{Draft}
 use Rattle.study.specs.declared.drafts.Head.{Head}
-use Rattle.study.specs.Document.{kind_of, integer_of, conflicts_of, axioms_of, sentences_of, known_keys, head_of, draft_of, document_of}
+use Rattle.study.specs.Document.{kind_of, integer_of, absent_of, conflicts_of, ballots_of, axioms_of, sentences_of, known_keys, head_of, draft_of, document_of}
+use Rattle.study.specs.Ballots.{sized}
 use Rattle.study.specs.Listing.{limit_of, few_of, listed, once, listing_of}
 use Rattle.study.specs.Laws.{HaveKinds}
 use Rattle.study.specs.Reading.{IsAnswered, IsAnswer, refused, read, listing_in}
 use Rattle.study.specs.Refusing.{refused_as}
 use Rattle.study.specs.Sentences.{Worded, resolved_all, opened, within, study_of}
-use Rattle.study.proofs.Listings.{came_from, ok_once}
+use Rattle.study.proofs.Listings.{came_from, known, ok_once}
+use Rattle.study.proofs.StudySizes.{sized_by}
 
 pub some_value : {A E : Type 0} (o : Option A) (e : E) (x : A) → ok_or o e ≡ Ok x → o ≡ Some x
 some_value None e x h = absurd (cc)
@@ -45,7 +45,9 @@ head_kind document h e =
     let kind = came_from _ (ok_or (kind_of (get_member (codes "kind") document)) (codes "kind")) h e in
     let voters = came_from _ (ok_or (integer_of (get_member (codes "voters") document)) (codes "voters")) h kind.after in
     let alternatives = came_from _ (ok_or (integer_of (get_member (codes "alternatives") document)) (codes "alternatives")) h voters.after in
-    let conflicts = came_from _ (ok_or (conflicts_of (get_member (codes "conflicts") document)) (codes "conflicts")) h alternatives.after in
+    let ballots = came_from _ (ballots_of (get_member (codes "ballots") document)) h alternatives.after in
+    let absent = came_from _ (ok_or (absent_of (get_member (codes "absent") document)) (codes "absent")) h ballots.after in
+    let conflicts = came_from _ (ok_or (conflicts_of (get_member (codes "conflicts") document)) (codes "conflicts")) h absent.after in
     subst (λ (x : Head). HasOutcomes x.kind) (ok_once conflicts.after) (kind_named (get_member (codes "kind") document) kind.value (some_value _ _ kind.value kind.first))
 
 draft_kind : (document : Members) (d : Draft) → draft_of document ≡ Ok d → HasOutcomes d.head.kind
@@ -57,29 +59,15 @@ draft_kind document d e =
     let others = came_from _ (known_keys document) d sentences.after in
     subst (λ (x : Draft). HasOutcomes x.head.kind) (ok_once others.after) (head_kind document head.value head.first)
 
--- a step that was refused in other words came through before
-pub known : {A E F : Type 0} (f : E → F) (r : Result A E) (x : A) → refused_as f r ≡ Ok x → r ≡ Ok x
-known f (Ok y) x h = ap Ok (ok_once h)
-known f (Err e) x h = absurd (cc)
-
-size_kind : (kind : Kind) (n m : ℤ) (voters alternatives domain few : Bool) (s : Extent) → is_between 1 n 8 ≡ voters → is_between 1 m 5 ≡ alternatives → has_domain (extent_of kind n m (all_ballots (nat_abs m)) false) ≡ domain → nat_le (sort_count (extent_of kind n m (all_ballots (nat_abs m)) false) Profile) 20000 ≡ few
-    → size_of kind n m ≡ Ok s → s.kind ≡ kind
-size_kind kind n m false a d f s e e' e1 e'' h = absurd (let h' = rw e at h in cc)
-size_kind kind n m true false d f s e e' e1 e'' h = absurd (let h' = rw (e, e') at h in cc)
-size_kind kind n m true true false f s e e' e1 e'' h = absurd (let h' = rw (e, e', e1) at h in cc)
-size_kind kind n m true true true false s e e' e1 e'' h = absurd (let h' = rw (e, e', e1, e'') at h in cc)
-size_kind kind n m true true true true s e e' e1 e'' h = let h' = rw (e, e', e1, e'') at h in ap (λ (x : Extent). x.kind) (sym (ok_once h'))
-
 listing_kind : (draft : Draft) (listing : Listing) → listing_of draft ≡ Ok listing → listing.size.kind ≡ draft.head.kind
 unfolding listing_of
 listing_kind draft listing e =
-    let size = came_from _ (refused_as fault.Size (size_of draft.head.kind draft.head.voters draft.head.alternatives)) listing e in
+    let size = came_from _ (sized draft.head) listing e in
     let limit = came_from _ (limit_of draft.head.conflicts) listing size.after in
     let few = came_from _ (few_of draft.axioms) listing limit.after in
     let entries = came_from _ (listed draft.head.kind draft.sentences draft.axioms) listing few.after in
     let alone = came_from _ (once draft.head.kind draft.sentences [] entries.value) listing entries.after in
-    subst (λ (x : Listing). x.size.kind ≡ draft.head.kind) (ok_once alone.after)
-    (size_kind draft.head.kind draft.head.voters draft.head.alternatives _ _ _ _ size.value refl refl refl refl (known fault.Size _ size.value size.first))
+    subst (λ (x : Listing). x.size.kind ≡ draft.head.kind) (ok_once alone.after) (ap (λ (x : Extent). x.kind) (sized_by draft.head size.value size.first).same)
 
 study_size : (size : Extent) (conflicts : ℕ) (sentences : List Worded) (q : Question) → study_of size conflicts sentences ≡ Ok q → q.size ≡ size
 unfolding study_of

@@ -1,15 +1,9 @@
 -- Each study that bytes give is whole.
-use Rattle.std.proofs.Common.{◌≡◌, ◌≤◌, ℕ, List, [], Bool, true, false, Option, None, Some, Result, Ok, Err, IsTrue, refl, sym, ◌∙◌, subst}
-use Rattle.std.specs.Prelude.{ℤ, pos, negsuc, nat_abs, nat_le, nat_lt, ◌^◌}
-use Rattle.std.proofs.Common.{ltb-true}
-use Rattle.std.proofs.lemmas.Bool.{false≢true, and_parts, leb-true}
+use Rattle.std.proofs.Common.{◌≡◌, ℕ, List, [], Option, None, Some, Result, Ok, Err, IsTrue, map, refl, sym, ap, ◌∙◌, subst}
 use Rattle.std.specs.List.{list_all}
 use Rattle.toml.specs.Data.{Members}
-use Rattle.vocab.specs.declared.kinds.Kind.{Kind}
 use Rattle.vocab.specs.Name.{is_name}
-use Rattle.vocab.specs.Size.{Extent, IsSize, all_ballots, ballot_count, factorial, sort_count}
-use Rattle.vocab.specs.declared.kinds.Sort.TheVariants.{Profile}
-use Rattle.vocab.specs.SizeFault.{extent_of, has_domain, is_between, size_of}
+use Rattle.vocab.specs.Size.{Extent, IsSize}
 use Rattle.vocab.specs.Study.{Question, IsStudy}
 use Rattle.study.specs.declared.drafts.Draft.{Draft}
 use Rattle.study.specs.declared.faults.StudyFault.{StudyFault}
@@ -18,40 +12,34 @@ use Rattle.study.specs.declared.limits.Limit.TheVariants.{Instances, Body, Work}
 use Rattle.study.specs.declared.listing.Listing.{Listing}
 use Rattle.study.specs.Document.{document_of, draft_of}
 use Rattle.study.specs.Laws.{AreWhole}
+use Rattle.study.specs.Ballots.{sized}
 use Rattle.study.specs.Listing.{limit_of, few_of, listed, once, listing_of, IsListing}
 use Rattle.study.specs.Reading.{IsAnswered, IsAnswer, refused, read, listing_in}
 use Rattle.study.specs.Refusing.{refused_as}
 use Rattle.study.specs.Sentences.{Worded, AreReadAs, resolved_all, opened, within, study_of}
-use Rattle.study.proofs.Listings.{came_from, ok_once, listing_whole}
+use Rattle.study.proofs.Listings.{came_from, known, ok_once, listing_whole}
 use Rattle.study.proofs.NamedAxioms.{AreNamed, draft_named, listed_named, axioms_named}
 use Rattle.study.proofs.SoundAxioms.{sound_all}
-use Rattle.study.proofs.StudyKinds.{known}
+use Rattle.study.proofs.StudySizes.{sized_by}
 use Rattle.study.proofs.Whole.{small_from_read, read_names, resolved_names, whole_study}
 
-between : (low : ℕ) (z : ℤ) (high : ℕ) → is_between low z high ≡ true → (low ≤ nat_abs z) × (nat_abs z ≤ high)
-between low (pos n) high within = let (from, to) = and_parts (nat_le low n) (nat_le n high) within in (leb-true low n from, leb-true n high to)
-between low (negsuc n) high within = absurd (false≢true within)
+-- ---- a study has the names of what was listed
 
-size_tested : (kind : Kind) (n m : ℤ) (voters alternatives domain few : Bool) (s : Extent) → is_between 1 n 8 ≡ voters → is_between 1 m 5 ≡ alternatives → has_domain (extent_of kind n m (all_ballots (nat_abs m)) false) ≡ domain → nat_le (sort_count (extent_of kind n m (all_ballots (nat_abs m)) false) Profile) 20000 ≡ few
-    → size_of kind n m ≡ Ok s → IsSize s
-size_tested kind n m false a d f s e e' e1 e'' h = absurd (let h' = rw e at h in cc)
-size_tested kind n m true false d f s e e' e1 e'' h = absurd (let h' = rw (e, e') at h in cc)
-size_tested kind n m true true false f s e e' e1 e'' h = absurd (let h' = rw (e, e', e1) at h in cc)
-size_tested kind n m true true true false s e e' e1 e'' h = absurd (let h' = rw (e, e', e1, e'') at h in cc)
-size_tested kind n m true true true true s e e' e1 e'' h =
-    let h' = rw (e, e', e1, e'') at h in
-    let (some_voter, few_voters) = between 1 n 8 e in
-    let (some_alternative, few_alternatives) = between 1 m 5 e' in
-    let domain = and_parts (nat_le 1 (ballot_count (extent_of kind n m (all_ballots (nat_abs m)) false))) (nat_lt (all_ballots (nat_abs m)) (2 ^ factorial (nat_abs m))) e1 in
-    subst IsSize (ok_once h') (record {
-      some_voter = some_voter;
-      few_voters = few_voters;
-      some_alternative = some_alternative;
-      few_alternatives = few_alternatives;
-      some_ballot = leb-true 1 _ domain.0;
-      no_other_ballot = ltb-true _ _ domain.1;
-      few_profiles = leb-true _ 20000 e'';
-    })
+study_names : (size : Extent) (conflicts : ℕ) (sentences : List Worded) (q : Question) → study_of size conflicts sentences ≡ Ok q → map (λ a. a.name) q.axioms ≡ map (λ w. w.name) sentences
+unfolding study_of
+study_names size conflicts sentences q e =
+    let axioms = came_from _ (resolved_all size sentences) q e in
+    let open_to = came_from _ (opened size axioms.value) q axioms.after in
+    let instances = came_from _ (within size Instances axioms.value) q open_to.after in
+    let body = came_from _ (within size Body axioms.value) q instances.after in
+    let work = came_from _ (within size Work axioms.value) q body.after in
+    ap (λ (x : Question). map (λ a. a.name) x.axioms) (sym (ok_once work.after)) ∙ resolved_names size sentences axioms.value axioms.first
+
+pub answer_names : (listing : Listing) (q : Question) → IsAnswer listing (Ok q) → map (λ a. a.name) q.axioms ≡ map (λ e. e.name) listing.axioms
+answer_names listing q (refused name reason unread e) = absurd (cc)
+answer_names listing q (read sentences all e) = study_names listing.size listing.conflicts sentences q (sym e) ∙ read_names listing.axioms sentences all
+
+-- ---- what is listed is whole
 
 -- what holds of each listing that a document gives
 record IsNamedListing (listing : Listing) : Type 0 where
@@ -62,15 +50,14 @@ record IsNamedListing (listing : Listing) : Type 0 where
 draft_listing : (draft : Draft) (listing : Listing) → AreNamed draft.sentences → listing_of draft ≡ Ok listing → IsNamedListing listing
 unfolding listing_of
 draft_listing draft listing own e =
-    let size = came_from _ (refused_as fault.Size (size_of draft.head.kind draft.head.voters draft.head.alternatives)) listing e in
+    let size = came_from _ (sized draft.head) listing e in
     let limit = came_from _ (limit_of draft.head.conflicts) listing size.after in
     let few = came_from _ (few_of draft.axioms) listing limit.after in
     let entries = came_from _ (listed draft.head.kind draft.sentences draft.axioms) listing few.after in
     let alone = came_from _ (once draft.head.kind draft.sentences [] entries.value) listing entries.after in
     record {
       whole = listing_whole draft listing e;
-      size = subst (λ (x : Listing). IsSize x.size) (ok_once alone.after)
-          (size_tested draft.head.kind draft.head.voters draft.head.alternatives _ _ _ _ size.value refl refl refl refl (known fault.Size _ size.value size.first));
+      size = subst (λ (x : Listing). IsSize x.size) (ok_once alone.after) (sized_by draft.head size.value size.first).valid;
       named = subst (λ (x : Listing). AreNamed x.axioms) (ok_once alone.after) (listed_named draft.head.kind draft.sentences draft.axioms entries.value own entries.first);
     }
 

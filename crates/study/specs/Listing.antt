@@ -3,13 +3,14 @@ use Rattle.std.specs.Prelude.{ℕ, ◌≤◌, List, [], ◌∷◌, ◌++◌, len
 use Rattle.std.specs.List.{list_any}
 use Rattle.std.specs.Str.{bytes_eq}
 use Rattle.vocab.specs.declared.kinds.Kind.{Kind}
-use Rattle.vocab.specs.SizeFault.{is_between, size_of}
+use Rattle.vocab.specs.SizeFault.{is_between}
 use Rattle.axiom_library.specs.Library.{Entry, text_among, text_under}
 use Rattle.study.specs.declared.drafts.Draft.{Draft}
 use Rattle.study.specs.declared.faults.StudyFault.{StudyFault}
 use Rattle.study.specs.declared.faults.StudyFault.TheVariants as fault
 use Rattle.study.specs.declared.listing.Listing.{Listing}
-use Rattle.study.specs.Refusing.{◌>>=◌, refused_as}
+use Rattle.study.specs.Ballots.{sized}
+use Rattle.study.specs.Refusing.{◌>>=◌}
 
 -- the limit of a search is from 1 to 1,000,000
 abbrev pub limit_of : ℤ → Result ℕ StudyFault
@@ -51,7 +52,7 @@ module _ (kind : Kind) (own : List Entry) where
 -- what a draft lists, or the first refusal: of the size, the limit, the number of axioms, an unknown name, a name that stands twice
 unfoldable pub listing_of : Draft → Result Listing StudyFault
 listing_of draft = do
-  size ← refused_as fault.Size (size_of draft.head.kind draft.head.voters draft.head.alternatives)
+  size ← sized draft.head
   conflicts ← limit_of draft.head.conflicts
   _ ← few_of draft.axioms
   axioms ← listed draft.head.kind draft.sentences draft.axioms

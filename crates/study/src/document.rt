@@ -3,7 +3,7 @@
 ghost use Rattle.std.specs.Prelude.{◌≡◌, ◌≢◌, IfOk, option_map, string_bytes};
 ghost use Rattle.toml.specs.Data.{get_member};
 ghost use Rattle.toml.specs.View.{view, items_view, table_view};
-ghost use Rattle.study.specs.Document.{kind_of, integer_of, conflicts_of, texts_in, axioms_of, own_sentence, sentences_in, sentences_of, is_key, known_keys, head_of, draft_of};
+ghost use Rattle.study.specs.Document.{kind_of, integer_of, absent_of, conflicts_of, texts_in, ballots_of, axioms_of, own_sentence, sentences_in, sentences_of, is_key, known_keys, head_of, draft_of};
 ghost use Rattle.study.specs.Refusing.{refused_as, Gives};
 
 use crate::drafts::{Draft, Head};
@@ -52,6 +52,17 @@ fn integer_of(value: Option<&Value>) -> Option<i64>
     }
 }
 
+/// Whether voters may be absent.
+fn absent_of(value: Option<&Value>) -> Option<bool>
+    ensures { result ≡ absent_of (option_map (λ value. view value.now) value.entry) }
+{
+    match value {
+        None => Some(false),
+        Some(Value::Boolean(absent)) => Some(*absent),
+        _ => None,
+    }
+}
+
 /// The most clauses that a search may learn.
 fn conflicts_of(value: Option<&Value>) -> Option<i64>
     ensures { result ≡ conflicts_of (option_map (λ value. view value.now) value.entry) }
@@ -61,31 +72,6 @@ fn conflicts_of(value: Option<&Value>) -> Option<i64>
         Some(Value::Integer(number)) => Some(*number),
         _ => None,
     }
-}
-
-/// The kind and the numbers of a study.
-#[tactic(auto, unfolding(crate::specs::Document::head_of))]
-fn head_of(alloc: Global, table: &Table) -> Result<Head, StudyFault>
-    ensures { Gives (refused_as StudyFault.Key (head_of (table_view table.now))) result }
-{
-    let Some(kind) = kind_of(value_at(table, "kind")) else {
-        return Err(key_fault(alloc, "kind"));
-    };
-    let Some(voters) = integer_of(value_at(table, "voters")) else {
-        return Err(key_fault(alloc, "voters"));
-    };
-    let Some(alternatives) = integer_of(value_at(table, "alternatives")) else {
-        return Err(key_fault(alloc, "alternatives"));
-    };
-    let Some(conflicts) = conflicts_of(value_at(table, "conflicts")) else {
-        return Err(key_fault(alloc, "conflicts"));
-    };
-    Ok(Head {
-        kind,
-        voters,
-        alternatives,
-        conflicts,
-    })
 }
 
 /// The texts that the values are, if each is a string.
@@ -101,6 +87,51 @@ fn texts_in(alloc: Global, values: &[Value]) -> Result<Option<Texts>, NoMemory>
         texts.push(copied(alloc, text.as_bytes())?)?;
     }
     Ok(Some(texts))
+}
+
+/// The texts of the ballots, which may be missing.
+fn ballots_of(alloc: Global, value: Option<&Value>) -> Result<Option<Texts>, StudyFault>
+    ensures { Gives (refused_as StudyFault.Key (ballots_of (option_map (λ value. view value.now) value.entry))) result }
+{
+    match value {
+        None => Ok(None),
+        Some(Value::Array(values)) => match texts_in(alloc, values)? {
+            Some(texts) => Ok(Some(texts)),
+            None => Err(key_fault(alloc, "ballots")),
+        },
+        Some(_) => Err(key_fault(alloc, "ballots")),
+    }
+}
+
+/// The kind, the numbers, the ballots and the word on absence of a study.
+#[tactic(auto, unfolding(crate::specs::Document::head_of))]
+fn head_of(alloc: Global, table: &Table) -> Result<Head, StudyFault>
+    ensures { Gives (refused_as StudyFault.Key (head_of (table_view table.now))) result }
+{
+    let Some(kind) = kind_of(value_at(table, "kind")) else {
+        return Err(key_fault(alloc, "kind"));
+    };
+    let Some(voters) = integer_of(value_at(table, "voters")) else {
+        return Err(key_fault(alloc, "voters"));
+    };
+    let Some(alternatives) = integer_of(value_at(table, "alternatives")) else {
+        return Err(key_fault(alloc, "alternatives"));
+    };
+    let ballots = ballots_of(alloc, value_at(table, "ballots"))?;
+    let Some(absent) = absent_of(value_at(table, "absent")) else {
+        return Err(key_fault(alloc, "absent"));
+    };
+    let Some(conflicts) = conflicts_of(value_at(table, "conflicts")) else {
+        return Err(key_fault(alloc, "conflicts"));
+    };
+    Ok(Head {
+        kind,
+        voters,
+        alternatives,
+        ballots,
+        absent,
+        conflicts,
+    })
 }
 
 /// The names of the axioms.
@@ -155,7 +186,14 @@ fn is_key(key: &str) -> bool
 {
     matches!(
         key,
-        "kind" | "voters" | "alternatives" | "conflicts" | "axioms" | "sentences"
+        "kind"
+            | "voters"
+            | "alternatives"
+            | "ballots"
+            | "absent"
+            | "conflicts"
+            | "axioms"
+            | "sentences"
     )
 }
 

@@ -3,16 +3,31 @@
 use crate::entries::{Entries, Texts};
 use vocab::Kind;
 
-/// The kind and the numbers.
-#[derive(Clone, Copy)]
+/// The kind and the numbers, the texts of the ballots where they are listed, and whether voters may be absent.
 pub(crate) struct Head {
     pub(crate) kind: Kind,
     pub(crate) voters: i64,
     pub(crate) alternatives: i64,
+    pub(crate) ballots: Option<Texts>,
+    pub(crate) absent: bool,
     pub(crate) conflicts: i64,
 }
 
-/// The kind and the numbers, the names of the axioms, and the study's own sentences.
+/// Written out, so that letting go of a head is one call.
+impl Drop for Head {
+    fn drop(self) {
+        let Head {
+            kind: _,
+            voters: _,
+            alternatives: _,
+            ballots: _,
+            absent: _,
+            conflicts: _,
+        } = self;
+    }
+}
+
+/// The head, the names of the axioms, and the study's own sentences.
 #[derive(Drop)]
 pub(crate) struct Draft {
     pub(crate) head: Head,

@@ -12,8 +12,9 @@ use vocab::{Name, SizeFault};
 /// The bytes of a string.
 pub type Text = Items<u8>;
 
-/// Why bytes are no study. Of several reasons the first in this order counts, and each goes over all axioms, in the
-/// order in which the study lists them, before the next.
+/// Why bytes are no study. Of several reasons the first in this order counts, but that a fault of the ballots as a whole
+/// or of the profiles comes after `Ballot`. Each goes over all axioms, in the order in which the study lists them, before
+/// the next.
 #[derive(Debug, Drop, Error)]
 pub enum StudyFault {
     /// The bytes are no TOML document, or no UTF-8.
@@ -22,9 +23,12 @@ pub enum StudyFault {
     /// This key is missing, or has not its form, or is no key of a study.
     #[error("a key is missing, or has not its form, or is no key of a study")]
     Key(Text),
-    /// The numbers of voters and alternatives are no size.
-    #[error("the numbers of voters and alternatives are no size")]
+    /// The numbers of voters and alternatives are no size, or are none with these ballots.
+    #[error("the numbers of voters and alternatives are no size, or are none with these ballots")]
     Size(SizeFault),
+    /// This entry of `ballots` is no ranking of the alternatives, or stands earlier in the list.
+    #[error("a ballot is no ranking of the alternatives, or is listed twice")]
+    Ballot(Text),
     /// The most clauses that a search may learn are not from 1 to 1,000,000.
     #[error("the limit on learned clauses is out of its range")]
     Conflicts(i64),

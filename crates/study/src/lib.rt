@@ -1,6 +1,7 @@
 //! Reads a study, the question that the bench is asked, from the bytes of a TOML document, or from a listing.
 #![tactic(auto)]
 
+mod ballots;
 mod document;
 mod drafts;
 mod entries;

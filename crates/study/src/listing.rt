@@ -7,6 +7,7 @@ ghost use Rattle.axiom_library.specs.Library.{text_among};
 ghost use Rattle.study.specs.Listing.{limit_of, few_of, text_of, entry_of, listed, is_in_both, once, listing_of};
 ghost use Rattle.study.specs.Refusing.{Gives};
 
+use crate::ballots::sized;
 use crate::drafts::Draft;
 use crate::entries::{Entries, Entry, Texts, copied};
 use crate::faults::{StudyFault, Text};
@@ -18,7 +19,7 @@ use vocab::{Kind, Name, Size};
 /// A size, a limit on learned clauses, and axioms with their texts.
 #[derive(Drop)]
 pub struct Listing {
-    /// The voters, the alternatives and the rankings that may be cast.
+    /// The voters, the alternatives, the rankings that may be cast, and whether voters may be absent.
     pub size: Size,
     /// The most clauses that a search may learn.
     pub conflicts: u32,
@@ -135,11 +136,8 @@ fn once(kind: Kind, own: &Entries, entries: &[Entry]) -> Result<(), StudyFault>
 pub(crate) fn listing_of(alloc: Global, draft: &Draft) -> Result<Listing, StudyFault>
     ensures { Gives (listing_of draft.now) result }
 {
-    let head = draft.head;
-    let size = match Size::check(head.kind, head.voters, head.alternatives) {
-        Ok(size) => size,
-        Err(fault) => return Err(StudyFault::Size(fault)),
-    };
+    let head = &draft.head;
+    let size = sized(alloc, head)?;
     let conflicts = limit_of(head.conflicts)?;
     few_of(&draft.axioms)?;
     let axioms = listed(alloc, head.kind, &draft.sentences, &draft.axioms)?;

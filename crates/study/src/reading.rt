@@ -73,7 +73,9 @@ fn listing_in(alloc: Global, bytes: &[u8]) -> Result<Listing, StudyFault>
 /// | Key | Value |
 /// |---|---|
 /// | `kind` | the string `choice` or `ranking` |
-/// | `voters`, `alternatives` | integers that are a size |
+/// | `voters`, `alternatives` | integers, from 1 to 8 and from 1 to 5, that make at most 20,000 profiles |
+/// | `ballots` | an array of strings: the rankings that may be cast, each once; or missing, which stands for all |
+/// | `absent` | a truth value: whether voters may be absent; or missing, which stands for `false` |
 /// | `conflicts` | an integer from 1 to 1,000,000, or missing, which stands for 100,000 |
 /// | `axioms` | an array of strings, at most 40, each once, of the library for the kind or among `sentences` |
 /// | `sentences` | a table of names, each with the text of a sentence, or missing |

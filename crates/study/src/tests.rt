@@ -148,6 +148,114 @@ const CASES: &[(&str, &str, &str)] = &[
     ),
 ];
 
+/// A part of the plain document, what stands in its place, and what the document then gives: the ballots of a size are
+/// digits in base 2, the first ranking's last.
+const BALLOTS: &[(&str, &str, &str)] = &[
+    ("3", "2\nballots = ['ba']", "2 2 100000 pareto of 10"),
+    (
+        "axioms",
+        "ballots = ['cba', 'abc', 'bca', 'bac']\naxioms",
+        "2 3 100000 pareto of 101101",
+    ),
+    (
+        "axioms",
+        "ballots = ['cba', 'cab', 'bca', 'bac', 'acb', 'abc']\naxioms",
+        "2 3 100000 pareto",
+    ),
+    ("axioms", "absent = false\naxioms", "2 3 100000 pareto"),
+    (
+        "axioms",
+        "absent = true\naxioms",
+        "2 3 100000 pareto absent",
+    ),
+    (
+        "axioms",
+        "absent = true\nballots = ['acb']\naxioms",
+        "2 3 100000 pareto of 10 absent",
+    ),
+    // The keys.
+    ("axioms", "ballots = 'abc'\naxioms", "key ballots"),
+    ("axioms", "ballots = ['abc', 1]\naxioms", "key ballots"),
+    ("axioms", "absent = 1\naxioms", "key absent"),
+    (
+        "3",
+        "'3'\nballots = 1\nabsent = 1\nconflicts = ''",
+        "key alternatives",
+    ),
+    (
+        "axioms",
+        "ballots = 1\nabsent = 1\nconflicts = ''\naxioms",
+        "key ballots",
+    ),
+    ("axioms", "absent = 1\nconflicts = ''\naxioms", "key absent"),
+    // The ballots.
+    ("3", "2\nballots = ['ab', 'ab']", "ballot ab"),
+    ("3", "2\nballots = ['ab', 'ac']", "ballot ac"),
+    ("3", "2\nballots = ['ab', 'ba', 'aa', 'ab']", "ballot aa"),
+    ("3", "2\nballots = ['ab', 'abc']", "ballot abc"),
+    ("3", "2\nballots = ['']", "ballot "),
+    ("3", "2\nballots = []", "no ballots"),
+    // Two faults of a size.
+    ("2", "9\nballots = ['']", "voters 9"),
+    ("3", "6\nballots = ['']", "alternatives 6"),
+    (
+        "2",
+        "8\nballots = ['abc', 'acb', 'bac', 'bca', 'abc']",
+        "ballot abc",
+    ),
+    (
+        "2\nalternatives = 3",
+        "8\nalternatives = 5\nballots = []",
+        "no ballots",
+    ),
+    (
+        "2",
+        "8\nconflicts = 0\nballots = ['abc', 'acb', 'bac', 'bca']",
+        "profiles 65536",
+    ),
+    (
+        "2",
+        "8\nballots = ['abc', 'acb', 'bac']",
+        "8 3 100000 pareto of 111",
+    ),
+    (
+        "2",
+        "8\nabsent = true\nballots = ['abc', 'acb', 'bac']",
+        "profiles 65535",
+    ),
+    // The sentences.
+    (
+        "3\naxioms = ['pareto']",
+        "2\nballots = ['ba']\nsentences = { a = 'better(<ab>, @a, @b)' }\naxioms = ['a']",
+        "sort",
+    ),
+    (
+        "axioms = ['pareto'",
+        "ballots = ['abc', 'bac', 'bca', 'cba']\naxioms = ['pareto', 'neutrality'",
+        "open neutrality",
+    ),
+    (
+        "axioms = ['pareto'",
+        "absent = true\naxioms = ['neutrality'",
+        "2 3 100000 neutrality absent",
+    ),
+    (
+        "axioms = ['pareto'",
+        "ballots = ['abc', 'bac', 'bca', 'cba']\nsentences = { a = 'all x: profile. all x: profile. all x: profile. all x: profile. all x: profile. all x: profile. all x: profile. x = x' }\naxioms = ['a'",
+        "instances a 268435456",
+    ),
+    (
+        "axioms = ['pareto'",
+        "ballots = ['abc', 'bac', 'bca', 'cba']\nsentences = { a = 'all x: profile. all x: profile. all x: profile. all x: profile. all x: profile. all x: profile. all x: profile. x = x' }\naxioms = ['a', 'neutrality'",
+        "open neutrality",
+    ),
+    (
+        "axioms = ['pareto'",
+        "ballots = ['abc', 'bac', 'bca', 'cba']\nsentences = { a = 'all x: profile. all x: profile. all x: profile. all x: profile. all x: profile. all x: profile. all x: profile. wins(@a, swap_alts(x, @a, @b))' }\naxioms = ['a'",
+        "open a",
+    ),
+];
+
 /// Quantifiers of a sentence over five voters and two alternatives, what follows them, and what is then said.
 const SIZES: &[(&str, &str, &str)] = &[
     ("VVVVVVVPAAA", "x = x", "5 2 100000 a"),
@@ -223,6 +331,7 @@ fn refused(alloc: Global, fault: &StudyFault) -> Result<String, AllocError> {
         StudyFault::Toml => String::from_str(alloc, "toml"),
         StudyFault::Key(key) => said(alloc, "key", key.as_slice()),
         StudyFault::Size(fault) => no_size(alloc, *fault),
+        StudyFault::Ballot(text) => said(alloc, "ballot", text.as_slice()),
         StudyFault::Conflicts(number) => format!(in alloc; "conflicts {number}"),
         StudyFault::Many(count) => format!(in alloc; "many {count}"),
         StudyFault::Unknown(text) => said(alloc, "unknown", text.as_slice()),
@@ -237,7 +346,7 @@ fn refused(alloc: Global, fault: &StudyFault) -> Result<String, AllocError> {
     }
 }
 
-/// The numbers of a study, and the names of its axioms.
+/// The numbers of a study, the names of its axioms, its ballots where these are not all, and whether voters may be absent.
 fn shown(alloc: Global, study: &Study) -> Result<String, AllocError> {
     let voters = study.size().voters();
     let alternatives = study.size().alternatives();
@@ -245,6 +354,13 @@ fn shown(alloc: Global, study: &Study) -> Result<String, AllocError> {
     let mut text = format!(in alloc; "{voters} {alternatives} {conflicts}")?;
     for named in study.axioms().as_slice() {
         text.push_str(said(alloc, "", named.name().bytes())?.as_str())?;
+    }
+    if !study.size().has_all_ballots() {
+        let ballots = study.size().ballots();
+        text.push_str(format!(in alloc; " of {ballots:b}")?.as_str())?;
+    }
+    if study.size().absent() {
+        text.push_str(" absent")?;
     }
     Ok(text)
 }
@@ -257,19 +373,32 @@ fn answer(alloc: Global, bytes: &[u8]) -> Result<String, AllocError> {
     }
 }
 
+/// What the plain document gives with something else in the place of a part.
+fn changed(alloc: Global, part: &str, other: &str) -> Result<String, Fail> {
+    let (before, after) = PLAIN.split_once(part).ok_or("a part of the document")?;
+    let text = format!(in alloc; "{before}{other}{after}")?;
+    Ok(answer(alloc, text.as_bytes())?)
+}
+
 #[test]
 fn documents_give_studies(rt: HostRuntime) -> Result<(), Fail> {
     let alloc = rt.alloc();
     for (part, other, want) in CASES {
-        let (before, after) = PLAIN
-            .split_once(*part)
-            .expect(&rt, "a part of the document");
-        let text = format!(in alloc; "{before}{other}{after}")?;
-        let found = answer(alloc, text.as_bytes())?;
-        assert_eq!(rt; found.as_str(), *want, "at {text}");
+        let found = changed(alloc, *part, *other)?;
+        assert_eq!(rt; found.as_str(), *want, "at {other}");
     }
     let found = answer(alloc, b"kind = 'choice\xff'")?;
     assert_eq!(rt; found.as_str(), "toml");
+    Ok(())
+}
+
+#[test]
+fn studies_may_list_ballots(rt: HostRuntime) -> Result<(), Fail> {
+    let alloc = rt.alloc();
+    for (part, other, want) in BALLOTS {
+        let found = changed(alloc, *part, *other)?;
+        assert_eq!(rt; found.as_str(), *want, "at {other}");
+    }
     Ok(())
 }
 

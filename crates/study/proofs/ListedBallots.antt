@@ -1,0 +1,217 @@
+-- The rankings whose texts are listed, as digits of a number, one text after another.
+use Rattle.std.proofs.Common.{◌≡◌, ◌≢◌, refl, sym, ◌∙◌, ap, subst, ℕ, zero, suc, ◌+◌, ◌-◌, ◌*◌, ◌^◌, ◌%◌, ◌<◌, ◌≤◌, List, [], ◌∷◌, ◌++◌, length, get_or, take, drop, filter, Bool, true, false, cond, not, ◌&&◌, ◌||◌, if◌then◌else◌, Some, Ok, Err, inl, inr, bit_or, arith, add-one, le_refl, lit<}
+use Rattle.std.specs.Prelude.{◌==◌, sum_by}
+use Rattle.std.specs.Int.{bit_at, w128}
+use Rattle.std.specs.List.{list_any}
+use Rattle.std.specs.Str.{bytes_eq}
+use Rattle.std.specs.Cmp.Lexicographic.{same_text}
+use Rattle.std.proofs.lemmas.Bool.{and_from, cases_eq, cases_lt, eq-eqb, eqb-true, false≢true, false_from_ne_true, ne_eqb, not_from_false, or_from, or_left, or_right}
+use Rattle.std.proofs.lemmas.Slice.Eq.{bytes_eq-Decides}
+use Rattle.std.proofs.lemmas.List.{drop_all, drop_more, take_all, take_more}
+use Rattle.std.proofs.lemmas.List.Folds.{list_any-append}
+use Rattle.std.proofs.lemmas.List.Sums.{sum_by-append}
+use Rattle.std.proofs.lemmas.Nat.{one_shl, or_lt, pow_below, pow_pos}
+use Rattle.std.proofs.lemmas.Nat.Bits.{bit_at-lt, bit_at-zero, bit_at_cat_high, bit_at_cat_low, bit_at_set_other, bit_at_set_same, same_from_bits_below}
+use Rattle.vocab.specs.Range.{up_from, below}
+use Rattle.vocab.specs.Size.{factorial, is_digit_set}
+use Rattle.vocab.proofs.Powers.{pow-add-one}
+use Rattle.vocab.proofs.Ranges.{kept-more}
+use Rattle.meaning.specs.Texts.{ranking_text}
+use Rattle.profiles.specs.Weights.{rank_of}
+use Rattle.profiles.proofs.TableLemmas.{rank-ranking}
+use Rattle.study.specs.declared.faults.StudyFault.TheVariants as fault
+use Rattle.study.specs.Ballots.{is_ranking, own_rankings, is_listed, listed_digits, ballots_in}
+use Rattle.study.specs.Refusing.{and_then}
+
+-- ---- a number by its digits
+
+-- the number in which digit j is set exactly where a test holds of j, of those below n
+abbrev digits_by : (ℕ → Bool) → ℕ → ℕ
+digits_by t n = sum_by (λ place. 2 ^ place) (filter t (below n))
+
+last_digit : (n a : ℕ) (b : Bool) → a + sum_by (λ place. 2 ^ place) (cond b (n ∷ []) []) ≡ cond b 1 0 * 2 ^ n + a
+last_digit n a true = omega arith
+last_digit n a false = omega arith
+
+digits-more : (t : ℕ → Bool) (n : ℕ) → digits_by t (n + 1) ≡ cond (t n) 1 0 * 2 ^ n + digits_by t n
+digits-more t n = ap (sum_by (λ place. 2 ^ place)) (kept-more t n) ∙ sum_by-append (λ place. 2 ^ place) (filter t (below n)) (cond (t n) (n ∷ []) []) ∙ last_digit n (digits_by t n) (t n)
+
+one_digit : (b : Bool) (k : ℕ) → cond b 1 0 * k ≤ k
+one_digit true k = omega arith
+one_digit false k = omega arith
+
+digits_below : (t : ℕ → Bool) (n : ℕ) → digits_by t n < 2 ^ n
+digits_below t zero = lit< tt
+digits_below t (suc n) =
+    let before = digits_below t n in
+    let more = digits-more t n in
+    let digit = one_digit (t n) (2 ^ n) in
+    let power = pow-add-one 2 n in
+    let next : digits_by t (n + 1) < 2 ^ (n + 1) = omega (arith, before, more, digit, power) in
+    subst (λ k. digits_by t k < 2 ^ k) (add-one n) next
+
+lowest_digit : (b : Bool) → bit_at (cond b 1 0) 0 ≡ cond b 1 0
+lowest_digit true = refl
+lowest_digit false = refl
+
+digit_of : (t : ℕ → Bool) (n j : ℕ) → j < n → bit_at (digits_by t n) j ≡ cond (t j) 1 0
+digit_of t zero j h = absurd (omega arith)
+digit_of t (suc n) j h =
+    subst (λ k. bit_at (digits_by t k) j ≡ cond (t j) 1 0) (add-one n) (ap (λ d. bit_at d j) (digits-more t n) ∙ elim (cases_lt j n) [
+      | inl lt ↦ bit_at_cat_low (cond (t n) 1 0) n (digits_by t n) j lt ∙ digit_of t n j lt
+      | inr ge ↦
+          let same : n ≡ j = omega arith in
+          let none : n - n ≡ 0 = omega arith in
+          let own : bit_at (cond (t n) 1 0 * 2 ^ n + digits_by t n) n ≡ cond (t n) 1 0 =
+          bit_at_cat_high (cond (t n) 1 0) n (digits_by t n) n (digits_below t n) (le_refl n) ∙ ap (bit_at (cond (t n) 1 0)) none ∙ lowest_digit (t n) in
+          subst (λ i. bit_at (cond (t n) 1 0 * 2 ^ n + digits_by t n) i ≡ cond (t i) 1 0) same own
+    ])
+
+digit_test : (b : Bool) → (cond b 1 0 == 1) ≡ b
+digit_test true = refl
+digit_test false = refl
+
+-- its digits are those that pass the test
+pub digits_set : (t : ℕ → Bool) (n j : ℕ) → j < n → is_digit_set (digits_by t n) j ≡ t j
+digits_set t n j h = ap (λ d. d == 1) (digit_of t n j h) ∙ digit_test (t j)
+
+digit_by : (d : ℕ) (b : Bool) → d < 2 → (d == 1) ≡ b → d ≡ cond b 1 0
+digit_by d true small h = eqb-true d 1 h
+digit_by d false small h = let other : d ≢ 1 = λ e. false≢true (sym h ∙ eq-eqb d 1 e) in omega arith
+
+-- a number with these digits is that one
+same_digits : (t : ℕ → Bool) (n a : ℕ) → a < 2 ^ n → ((j : ℕ) → j < n → is_digit_set a j ≡ t j) → digits_by t n ≡ a
+same_digits t n a small h =
+    same_from_bits_below n (digits_by t n) a (digits_below t n) small (λ j l. digit_of t n j l ∙ sym (digit_by (bit_at a j) (t j) (bit_at-lt a j) (h j l)))
+
+or_none : (b : Bool) → (b || false) ≡ b
+or_none true = refl
+or_none false = refl
+
+and_none : (b : Bool) → (b && not true) ≡ false
+and_none true = refl
+and_none false = refl
+
+-- one more digit is set
+digit_added : (a place j : ℕ) → place < 128 → is_digit_set (bit_or a (1 * 2 ^ place % 2 ^ 128)) j ≡ (is_digit_set a j || (j == place))
+digit_added a place j h = elim (cases_eq j place) [
+  | inl same ↦
+      let here : bit_at (bit_or a (1 * 2 ^ place % 2 ^ 128)) j ≡ 1 = subst (λ i. bit_at (bit_or a (1 * 2 ^ place % 2 ^ 128)) i ≡ 1) (sym same) (bit_at_set_same w128 a place h) in
+      ap (λ d. d == 1) here ∙ sym (or_right (is_digit_set a j) (j == place) (eq-eqb j place same))
+  | inr other ↦
+      let kept : bit_at (bit_or a (1 * 2 ^ place % 2 ^ 128)) j ≡ bit_at a j = bit_at_set_other w128 a place h j other in
+      ap (λ d. d == 1) kept ∙ sym (ap (λ b. is_digit_set a j || b) (ne_eqb j place other) ∙ or_none (is_digit_set a j))
+]
+
+digit_fits : (n a place : ℕ) → n ≤ 128 → a < 2 ^ n → place < n → bit_or a (1 * 2 ^ place % 2 ^ 128) < 2 ^ n
+digit_fits n a place most small h =
+    let within : place < 128 = omega arith in
+    subst (λ d. bit_or a d < 2 ^ n) (sym (one_shl place 128 within)) (or_lt n a (2 ^ place) small (pow_below place n h))
+
+-- ---- the rankings of a text
+
+pub few_rankings : (m : ℕ) → m ≤ 5 → factorial m ≤ 120
+few_rankings zero h = omega arith
+few_rankings (suc zero) h = omega arith
+few_rankings (suc (suc zero)) h = omega arith
+few_rankings (suc (suc (suc zero))) h = omega arith
+few_rankings (suc (suc (suc (suc zero)))) h = omega arith
+few_rankings (suc (suc (suc (suc (suc zero))))) h = omega arith
+few_rankings (suc (suc (suc (suc (suc (suc m)))))) h = absurd (omega arith)
+
+any_below : (p : ℕ → Bool) (n a place : ℕ) → a ≤ place → place < a + n → p place ≡ true → list_any p (up_from a n) ≡ true
+any_below p zero a place low high h = absurd (omega arith)
+any_below p (suc n) a place low high h = elim (cases_eq a place) [
+  | inl same ↦ or_left (p a) (list_any p (up_from (suc a) n)) (ap p same ∙ h)
+  | inr other ↦ or_right (p a) (list_any p (up_from (suc a) n)) (any_below p n (suc a) place (omega arith) (omega arith) h)
+]
+
+none_below : (p : ℕ → Bool) (n a : ℕ) → ((k : ℕ) → k < a + n → p k ≡ false) → list_any p (up_from a n) ≡ false
+none_below p zero a h = refl
+none_below p (suc n) a h = or_from (p a) (list_any p (up_from (suc a) n)) (h a (omega arith)) (none_below p n (suc a) (λ k l. h k (omega arith)))
+
+text_tested : (xs ys : List ℕ) → xs ≡ ys → bytes_eq xs ys ≡ true
+text_tested xs ys e = (bytes_eq-Decides xs ys).1 e
+
+text_refused : (xs ys : List ℕ) → xs ≢ ys → bytes_eq xs ys ≡ false
+text_refused xs ys other = false_from_ne_true (bytes_eq xs ys) (λ h. other (same_text xs ys (sym h)))
+
+-- a text that is that of a ranking, and one that is that of none
+pub ranking_found : (m place : ℕ) (text : List ℕ) → place < factorial m → text ≡ ranking_text m place → is_ranking m text ≡ true
+ranking_found m place text h e =
+    any_below (λ k. bytes_eq text (ranking_text m k)) (factorial m) 0 place (omega arith) (omega arith) (text_tested text (ranking_text m place) e)
+
+pub ranking_missed : (m : ℕ) (text : List ℕ) → ((place : ℕ) → place < factorial m → text ≢ ranking_text m place) → is_ranking m text ≡ false
+ranking_missed m text none =
+    none_below (λ k. bytes_eq text (ranking_text m k)) (factorial m) 0 (λ k l. text_refused text (ranking_text m k) (none k (omega arith)))
+
+-- rankings have texts of their own
+ranking_tested : (m j place : ℕ) → 1 ≤ m → m ≤ 5 → j < factorial m → place < factorial m → bytes_eq (ranking_text m j) (ranking_text m place) ≡ (j == place)
+ranking_tested m j place some few h l = elim (cases_eq j place) [
+  | inl same ↦ text_tested (ranking_text m j) (ranking_text m place) (ap (ranking_text m) same) ∙ sym (eq-eqb j place same)
+  | inr other ↦
+      text_refused (ranking_text m j) (ranking_text m place) (λ e. other (sym (rank-ranking m j some few h) ∙ ap rank_of e ∙ rank-ranking m place some few l))
+      ∙ sym (ne_eqb j place other)
+]
+
+-- ---- text by text
+
+module _ (m : ℕ) (texts : List (List ℕ)) where
+  -- of some texts from the first, each is that of a ranking that stands nowhere earlier, and these are their digits
+  pub record AreTaken (i ballots : ℕ) : Type 0 where
+    pub so_far : own_rankings m (take i texts) (drop i texts) ≡ own_rankings m [] texts
+    pub digits : (j : ℕ) → j < factorial m → is_digit_set ballots j ≡ is_listed m (take i texts) j
+    pub small : ballots < 2 ^ factorial m
+
+  pub none_taken : AreTaken 0 0
+  none_taken = record { so_far = refl; digits = λ j l. ap (λ d. d == 1) (bit_at-zero j); small = pow_pos (factorial m) }
+
+  -- one more text
+  abbrev is_own : ℕ → List ℕ → Bool
+  is_own i text = is_ranking m text && not (list_any (bytes_eq text) (take i texts))
+
+  own_at : (i : ℕ) (text : List ℕ) → i < length texts → text ≡ get_or texts i text
+      → own_rankings m (take i texts) (drop i texts) ≡ (if is_own i text then own_rankings m (take (i + 1) texts) (drop (i + 1) texts) else Err (fault.Ballot text))
+  own_at i text within is = rw (take_more texts i text within, drop_more texts i text within, ← is) refl
+
+  stops : (i ballots : ℕ) (text : List ℕ) → i < length texts → text ≡ get_or texts i text → AreTaken i ballots → is_own i text ≡ false → ballots_in m (Some texts) ≡ Err (fault.Ballot text)
+  stops i ballots text within is taken bad =
+      let here : own_rankings m [] texts ≡ Err (fault.Ballot text) = sym taken.so_far ∙ own_at i text within is ∙ rw bad refl in
+      ap (and_then (λ (_ : Unit {0}). Ok (listed_digits m texts))) here
+
+  earlier_text : (i ballots place : ℕ) (text : List ℕ) → AreTaken i ballots → place < factorial m → text ≡ ranking_text m place → list_any (bytes_eq text) (take i texts) ≡ is_digit_set ballots place
+  earlier_text i ballots place text taken h spelled = ap (λ t. list_any (bytes_eq t) (take i texts)) spelled ∙ sym (taken.digits place h)
+
+  -- that is no ranking
+  pub missed_text : (i ballots : ℕ) (text : List ℕ) → i < length texts → text ≡ get_or texts i text → AreTaken i ballots → ((place : ℕ) → place < factorial m → text ≢ ranking_text m place)
+      → ballots_in m (Some texts) ≡ Err (fault.Ballot text)
+  missed_text i ballots text within is taken none = stops i ballots text within is taken (ap (λ b. b && not (list_any (bytes_eq text) (take i texts))) (ranking_missed m text none))
+
+  -- that stands earlier
+  pub repeated_text : (i ballots place : ℕ) (text : List ℕ) → i < length texts → text ≡ get_or texts i text → AreTaken i ballots → place < factorial m → text ≡ ranking_text m place → is_digit_set ballots place ≡ true
+      → ballots_in m (Some texts) ≡ Err (fault.Ballot text)
+  repeated_text i ballots place text within is taken h spelled set =
+      stops i ballots text within is taken (ap (λ b. is_ranking m text && not b) (earlier_text i ballots place text taken h spelled ∙ set) ∙ and_none (is_ranking m text))
+
+  -- that is a ranking and stands nowhere earlier
+  pub taken_more : (i ballots place : ℕ) (text : List ℕ) → 1 ≤ m → m ≤ 5 → i < length texts → text ≡ get_or texts i text → AreTaken i ballots → place < factorial m → text ≡ ranking_text m place → is_digit_set ballots place ≡ false
+      → AreTaken (i + 1) (bit_or ballots (1 * 2 ^ place % 2 ^ 128))
+  taken_more i ballots place text some few within is taken h spelled new =
+      let few_places = few_rankings m few in
+      let own : is_own i text ≡ true = and_from _ _ (ranking_found m place text h spelled) (not_from_false _ (earlier_text i ballots place text taken h spelled ∙ new)) in
+      let next : take (i + 1) texts ≡ take i texts ++ text ∷ [] = take_more texts i text within ∙ ap (λ t. take i texts ++ t ∷ []) (sym is) in
+      let last : (j : ℕ) → j < factorial m → is_listed m (text ∷ []) j ≡ (j == place) = λ j l. or_none (bytes_eq (ranking_text m j) text) ∙ ap (bytes_eq (ranking_text m j)) spelled ∙ ranking_tested m j place some few l h in
+      record {
+        so_far = sym (own_at i text within is ∙ rw own refl) ∙ taken.so_far;
+        digits = λ j l.
+            digit_added ballots place j (omega arith) ∙ ap (λ b. b || (j == place)) (taken.digits j l) ∙ ap (λ b. is_listed m (take i texts) j || b) (sym (last j l))
+            ∙ sym (ap (λ ts. is_listed m ts j) next ∙ list_any-append (bytes_eq (ranking_text m j)) (take i texts) (text ∷ []));
+        small = digit_fits (factorial m) ballots place (omega arith) taken.small h;
+      }
+
+  -- all texts
+  pub taken_all : (i ballots : ℕ) → length texts ≤ i → AreTaken i ballots → ballots_in m (Some texts) ≡ Ok ballots
+  taken_all i ballots past taken =
+      let done : own_rankings m [] texts ≡ Ok tt = sym taken.so_far ∙ ap (own_rankings m (take i texts)) (drop_all i texts past) in
+      let same = same_digits (is_listed m texts) (factorial m) ballots taken.small (λ j l. taken.digits j l ∙ ap (λ ts. is_listed m ts j) (take_all i texts past)) in
+      ap (and_then (λ (_ : Unit {0}). Ok (listed_digits m texts))) done ∙ ap Ok same
