@@ -107,6 +107,7 @@ impl Text for FaultWords<'_> {
             StudyFault::Toml => page.put(out, b"not toml"),
             StudyFault::Key(key) => Two(Raw(b"key "), Raw(key.as_slice())).pour(page, out),
             StudyFault::Size(fault) => SizeWords(*fault).pour(page, out),
+            StudyFault::Ballot(text) => Two(Raw(b"ballot "), Raw(text.as_slice())).pour(page, out),
             StudyFault::Conflicts(n) => Two(Raw(b"conflicts "), Integer(*n)).pour(page, out),
             StudyFault::Many(count) => Two(Raw(b"axioms "), Number(*count)).pour(page, out),
             StudyFault::Unknown(text) => {

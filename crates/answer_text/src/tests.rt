@@ -28,7 +28,7 @@ fn string(alloc: Global, bytes: &[u8]) -> Result<Items<u8>, Fail> {
 }
 
 /// The faults of a study that name no axiom, each with its line.
-fn plain_faults(alloc: Global) -> Result<[(StudyFault, &'static str); 8], Fail> {
+fn plain_faults(alloc: Global) -> Result<[(StudyFault, &'static str); 10], Fail> {
     let fair = Name::new(b"fair").ok_or("name")?;
     Ok([
         (StudyFault::Toml, "study: not toml\n"),
@@ -43,6 +43,11 @@ fn plain_faults(alloc: Global) -> Result<[(StudyFault, &'static str); 8], Fail> 
         (
             StudyFault::Size(SizeFault::Profiles(1_728_000)),
             "study: profiles 1728000\n",
+        ),
+        (StudyFault::Size(SizeFault::Domain), "study: no ballots\n"),
+        (
+            StudyFault::Ballot(string(alloc, b"ab")?),
+            "study: ballot ab\n",
         ),
         (StudyFault::Conflicts(0), "study: conflicts 0\n"),
         (StudyFault::Many(41), "study: axioms 41\n"),
@@ -161,7 +166,7 @@ fn reports_are_judged(rt: HostRuntime) -> Result<(), Fail> {
 fn libraries_have_a_line_an_axiom(rt: HostRuntime) -> Result<(), Fail> {
     let alloc = rt.alloc();
     for (kind, first, lines) in [
-        (Kind::Choice, "unanimity: all p: profile. ", 9),
+        (Kind::Choice, "unanimity: all p: profile. ", 10),
         (Kind::Ranking, "pareto: all p: profile. ", 5),
         (Kind::Sets, "", 0),
     ] {

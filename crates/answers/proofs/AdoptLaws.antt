@@ -21,6 +21,7 @@ use Rattle.answers.specs.Call.{IsCall, are_told}
 use Rattle.answers.specs.Laws.{Wrote, AdoptsIt, WrittenProofsAreAdopted}
 use Rattle.answers.specs.RowLaws.{IsConclusive, IsAdoptedRight, AdoptedHolds, WrittenAdoptionsHold, AdoptedAreConfirmed, AdoptsAsLrat, ProvedAreAdopted, EnoughAdopts}
 use Rattle.answers.proofs.RowLemmas.{some_same, over_study, granted}
+use Rattle.verdicts.proofs.ReportLaws.{printed_is_report}
 use Rattle.answers.proofs.FitLemmas.{right_judged}
 use Rattle.answers.proofs.DecidedLaws.{impossible, conclusive, bare_conclusive}
 use Rattle.answers.proofs.ReportLaws.{reportable}
@@ -96,7 +97,8 @@ adopted_confirmed files name proof run text study row g zero_is fits =
     let (bytes, lines, held, refutes, told) = retold files proof study run text zero_is (granted files name run text (λ s. Adopts files proof s run text) study g zero_is row) in
     let f = told.found in
     let verdict = Impossible told.core told.story told.witnesses in
-    (verdict, f.told, right_judged study text verdict (reportable files name study g) (record { claims_some = f.claims_some; right = f.right; is = told.is }) fits)
+    let report = printed_is_report study text verdict f.claims_some f.right told.is in
+    (verdict, f.told, right_judged study text verdict (reportable files name study g) report fits)
 
 adopted_as_said : (files : Files) (name proof : List ℕ) (run : Run) (text bytes : List ℕ) (study : Question) → IsAdoption files name proof run text → GivesStudy files name study
     → fault_of study ≡ None → files proof ≡ Some bytes → EndsAsSaid files proof study run text bytes

@@ -10,6 +10,7 @@ use Rattle.verdicts.specs.Laws.{IsReportable}
 use Rattle.verdicts.specs.Report.{IsConfirmed, IsReport}
 use Rattle.verdicts.proofs.ClaimLaws.{claims_hold, within_limit}
 use Rattle.verdicts.proofs.JudgeLaws.{judge_sound}
+use Rattle.verdicts.proofs.ReportLaws.{printed_is_report}
 use Rattle.study.proofs.StudyKinds.{kinds_known}
 use Rattle.study.proofs.WholeStudies.{studies_whole}
 use Rattle.words.specs.Words.{Check}
@@ -81,4 +82,5 @@ pub decided_confirmed : DecidedAreConfirmed
 decided_confirmed files name run text study row g zero_is fits =
     let r = granted files name run text (λ s. IsReported s run text) study g zero_is row in
     let f = found_at study run r.verdict zero_is r.decides in
-    (r.verdict, f.told, right_judged study text r.verdict (reportable files name study g) (record { claims_some = f.claims_some; right = f.right; is = r.is }) fits)
+    let report = printed_is_report study text r.verdict f.claims_some f.right r.is in
+    (r.verdict, f.told, right_judged study text r.verdict (reportable files name study g) report fits)

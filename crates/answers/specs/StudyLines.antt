@@ -45,6 +45,7 @@ abbrev pub fault_text : StudyFault → List ℕ
 fault_text study.Toml = codes "not toml"
 fault_text (study.Key key) = codes "key " ++ key
 fault_text (study.Size fault) = size_text fault
+fault_text (study.Ballot text) = codes "ballot " ++ text
 fault_text (study.Conflicts n) = codes "conflicts " ++ signed_decimal n
 fault_text (study.Many count) = codes "axioms " ++ decimal count
 fault_text (study.Unknown text) = codes "unknown axiom " ++ text
