@@ -56,7 +56,7 @@ fn decides_among<R: Threads + Sync>(
 }
 
 /// The same with 1, 2 and 16 workers.
-fn decides<R: Threads + Sync>(
+pub fn decides<R: Threads + Sync>(
     rt: &R,
     alloc: Global,
     study: &str,

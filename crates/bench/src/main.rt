@@ -52,6 +52,8 @@ mod calls;
 #[cfg(test)]
 mod decide_tests;
 #[cfg(test)]
+mod domain_tests;
+#[cfg(test)]
 mod fault_tests;
 #[cfg(test)]
 mod lrat_tests;

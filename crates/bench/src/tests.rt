@@ -396,7 +396,7 @@ fn the_library_is_printed(rt: HostRuntime) -> Result<(), Fail> {
     let cases = [
         (
             "choice",
-            9,
+            10,
             "unanimity: all p: profile. all x: alt. (all i: voter. all y: alt. (x = y | prefers(i, x, y, p)) -> wins(x, p))\n",
         ),
         (

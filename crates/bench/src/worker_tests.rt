@@ -9,7 +9,7 @@ use std::thread::Threads;
 
 /// Whether `export` into a sink with so much room ends with the status and writes the text, or begins with it where more is to follow;
 /// with 2, 3 and 16 workers it writes the same bytes as with one.
-fn exports<R: Threads + Sync>(
+pub fn exports<R: Threads + Sync>(
     rt: &R,
     alloc: Global,
     study: &str,
@@ -82,7 +82,7 @@ fn clauses_are_refused_or_written(rt: HostRuntime) -> Result<(), Fail> {
 
 /// Whether `proof` with this word for the workers ends with the status and writes the text; where the text is empty, whether `lrat`
 /// confirms what it writes over the clauses that `export` writes.
-fn proves<R: Threads + Sync>(
+pub fn proves<R: Threads + Sync>(
     rt: &R,
     alloc: Global,
     workers: &str,
