@@ -82,8 +82,8 @@ fn axiom_faults() -> Result<[(StudyFault, &'static str); 8], Fail> {
         ),
         (StudyFault::Open(fair), "study: fair: open\n"),
         (
-            StudyFault::Instances(fair, 20_000_001),
-            "study: fair: instances 20000001\n",
+            StudyFault::Instances(fair, 40_000_001),
+            "study: fair: instances 40000001\n",
         ),
         (
             StudyFault::Body(fair, 1_000_001),

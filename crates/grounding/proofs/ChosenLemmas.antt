@@ -72,13 +72,13 @@ module _ (study : Question) (place : ℕ) (a : Titled) where
   pub sentence_at : IsStudy study → slice_get study.axioms place ≡ Some a → is_sentence study.size a ≡ true
   sentence_at is at = in_list (is_sentence study.size) study.axioms place a is.sentences at
 
-  pub few_at : IsStudy study → slice_get study.axioms place ≡ Some a → instance_count study.size a.sentence ≤ 20000000
+  pub few_at : IsStudy study → slice_get study.axioms place ≡ Some a → instance_count study.size a.sentence ≤ 40000000
   few_at is at =
       let within = in_list (λ (x : Titled). is_within_limits study.size x.sentence) study.axioms place a is.limits at in
       let one = and_parts _ (nat_le (atom_count study.size a.sentence) 200000000) within in
       let two = and_parts _ (nat_le (atom_count study.size (body_of a.sentence)) 1000000) one.0 in
-      let three = and_parts (nat_le (depth a.sentence) 64) (nat_le (instance_count study.size a.sentence) 20000000) two.0 in
-      leb-true (instance_count study.size a.sentence) 20000000 three.1
+      let three = and_parts (nat_le (depth a.sentence) 64) (nat_le (instance_count study.size a.sentence) 40000000) two.0 in
+      leb-true (instance_count study.size a.sentence) 40000000 three.1
 
 -- the places that are left begin with this one
 left : (chosen : List ℕ) (i : ℕ) → i < length chosen → drop i chosen ≡ slice_index_or chosen i 0 ∷ drop (i + 1) chosen

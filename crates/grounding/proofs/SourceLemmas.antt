@@ -136,7 +136,7 @@ module _ (size : Extent) (sentence : Tree) (base : ℕ) where
   instance-sources place k e h = sourced-same (rows_at size sentence k) (base + k) (Instance place k) (instance-here (base + k) place k (omega (arith, e)) h)
 
 -- of the clauses of all instances of an axiom the first of equal ones
-pub axiom-sources : (size : Extent) (a : Titled) (base place count : ℕ) → base ≡ (place + 1) * 4294967296 → count ≡ instance_count size a.sentence → count ≤ 20000000 →
+pub axiom-sources : (size : Extent) (a : Titled) (base place count : ℕ) → base ≡ (place + 1) * 4294967296 → count ≡ instance_count size a.sentence → count ≤ 40000000 →
     fold kept_with [] (sources_of size a.sentence base 0 count) ≡ from_axiom size place (Some a)
 axiom-sources size a base place count e whole few =
     let none : count - 0 ≡ instance_count size a.sentence = omega (arith, whole) in

@@ -84,7 +84,7 @@ module _ (size : Extent) (a : Titled) where
   -- a sentence of few instances has those from one number up to another
   pub record AreInstances (from to : ℕ) : Type 0 where
     pub sentence : IsTrue (is_sentence size a)
-    pub few : instance_count size a.sentence ≤ 20000000
+    pub few : instance_count size a.sentence ≤ 40000000
     pub rising : from ≤ to
     pub within : to ≤ instance_count size a.sentence
 

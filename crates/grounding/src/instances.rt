@@ -20,7 +20,7 @@ use worlds::laws::bodies_have_values;
 /// digits of its number, the first most significant.
 fn values_after(space: &Space, formula: &Formula, env: &Env, number: u64) -> Env
     requires room { length env.now + length (bases_of space.now (tree_of formula.now)) ≤ 12 }
-    requires few { instance_count space.now (tree_of formula.now) ≤ 20000000 }
+    requires few { instance_count space.now (tree_of formula.now) ≤ 40000000 }
     requires within { number < instance_count space.now (tree_of formula.now) }
     ensures { result ≡ env.now ++ digits_of (bases_of space.now (tree_of formula.now)) number }
 {
@@ -37,7 +37,7 @@ fn values_after(space: &Space, formula: &Formula, env: &Env, number: u64) -> Env
 /// The values that an instance of an axiom gives its leading universals.
 pub(crate) fn values_of<K: OutcomeKind>(kind: &K, named: &Axiom, number: u64) -> Env
     requires sentence { IsTrue (is_sentence (K.size kind.now) named.now) }
-    requires few { instance_count (K.size kind.now) named.now.sentence ≤ 20000000 }
+    requires few { instance_count (K.size kind.now) named.now.sentence ≤ 40000000 }
     requires within { number < instance_count (K.size kind.now) named.now.sentence }
     ensures values { result ≡ instance_values (K.size kind.now) named.now.sentence number }
     ensures fits { IsFormulaAt (K.size kind.now) (body_of named.now.sentence) result }

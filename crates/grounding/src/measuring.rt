@@ -109,7 +109,7 @@ pub(crate) fn measure_axiom<R: Threads + Sync, K: OutcomeKind, G: Gate>(
     sums: &mut Vec<Counts>,
 ) -> Result<Option<WideInstance>, NoMemory>
     requires sentence { IsTrue (is_sentence (K.size kind.now) named.now) }
-    requires few { instance_count (K.size kind.now) named.now.sentence ≤ 20000000 }
+    requires few { instance_count (K.size kind.now) named.now.sentence ≤ 40000000 }
     ensures { IfOk result
         (λ found. IsFirstWide (K.size kind.now) named.now.sentence 0
         (instance_count (K.size kind.now) named.now.sentence) found) }

@@ -154,7 +154,7 @@ fn is_much(total: Counts) -> bool {
 
 /// How many pieces a round has that begins after so many: as many as their measures allow, and at least one.
 fn round_len(sums: &[Counts], done: u64) -> u64
-    requires { done ≤ 20000000 }
+    requires { done ≤ 40000000 }
     ensures some { 1 ≤ result }
     ensures few { result ≤ 256 }
 {
@@ -184,10 +184,10 @@ pub(crate) fn add_axiom<R: Threads + Sync, K: OutcomeKind, G: Gate>(
     out: &mut Clauses,
 ) -> Result<(), PushFault>
     requires sentence { IsTrue (is_sentence (K.size kind.now) named.now) }
-    requires few { instance_count (K.size kind.now) named.now.sentence ≤ 20000000 }
+    requires few { instance_count (K.size kind.now) named.now.sentence ≤ 40000000 }
     requires narrow { AreNarrow (K.size kind.now) named.now.sentence 0
         (instance_count (K.size kind.now) named.now.sentence) }
-    requires place { place < 40 }
+    requires place { place < 4000000 }
     ensures made { OnOk result (sourced out.new.clauses out.new.origins ≡
         sourced out.old.clauses out.old.origins ++ from_axiom (K.size kind.now) place (Some named.now)) }
     ensures full { result ≡ Err PushFault.Full →

@@ -32,7 +32,7 @@ pub(crate) struct Measured {
 /// The measures of the instances from `from` up to `to`.
 pub(crate) fn measure_all<K: OutcomeKind>(kind: &K, named: &Axiom, from: u64, to: u64) -> Measured
     requires sentence { IsTrue (is_sentence (K.size kind.now) named.now) }
-    requires few { instance_count (K.size kind.now) named.now.sentence ≤ 20000000 }
+    requires few { instance_count (K.size kind.now) named.now.sentence ≤ 40000000 }
     requires within { to ≤ instance_count (K.size kind.now) named.now.sentence }
     ensures { IsFirstWide (K.size kind.now) named.now.sentence from to result.wide }
 {
@@ -67,7 +67,7 @@ pub(crate) fn clauses_of_all<K: OutcomeKind>(
     to: u64,
 ) -> Result<Part, NoMemory>
     requires sentence { IsTrue (is_sentence (K.size kind.now) named.now) }
-    requires few { instance_count (K.size kind.now) named.now.sentence ≤ 20000000 }
+    requires few { instance_count (K.size kind.now) named.now.sentence ≤ 40000000 }
     requires within { to ≤ instance_count (K.size kind.now) named.now.sentence }
     requires rising { from ≤ to }
     requires base { base ≤ 2 ^ 40 }

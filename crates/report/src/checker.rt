@@ -2,6 +2,7 @@
 
 ghost use Rattle.std.specs.Prelude.{◌≡◌, ◌≢◌, ◌+◌, ◌≤◌, ◌<◌, List, ℕ, [], ◌∷◌, ◌++◌, length, Some, Err, IfOk, OnOk, MatchResult, IsTrue};
 ghost use Rattle.std.specs.List.{list_all};
+ghost use Rattle.vocab.specs.Study.{HasFewAxioms};
 ghost use Rattle.verdicts.specs.declared.verdicts.Verdict.TheVariants.{Undecided};
 ghost use Rattle.verdicts.specs.Judge.{judge, conclude, at_end, has_no_end, ended};
 ghost use Rattle.verdicts.specs.Places.{Place as WantedPlace, AtNothing};
@@ -48,7 +49,8 @@ pub struct Checker<'a, K: OutcomeKind> {
 }
 
 impl<'a, K: OutcomeKind> Checker<'a, K> {
-    /// A checker that stands for no line. The axioms of a rule are checked among so many workers, from 1 to 16.
+    /// A checker that stands for no line. The study has at most 40 axioms, and those of a rule are checked among so many
+    /// workers, from 1 to 16.
     pub fn new(
         alloc: Global,
         kind: &'a K,
@@ -58,6 +60,7 @@ impl<'a, K: OutcomeKind> Checker<'a, K> {
         requires some { 1 ≤ workers }
         requires few { workers ≤ 16 }
         requires size { study.now.size ≡ K.size kind.now }
+        requires listed { HasFewAxioms study.now }
         ensures study { IfOk result (λ checker. checker.subject.study.now ≡ study.now) }
         ensures kind { IfOk result (λ checker. checker.subject.kind.now ≡ kind.now) }
         ensures workers { IfOk result (λ checker. checker.subject.workers ≡ workers) }

@@ -1,6 +1,7 @@
 //! What a report is checked against.
 
 ghost use Rattle.std.specs.Prelude.{◌≡◌, ◌≤◌};
+ghost use Rattle.vocab.specs.Study.{HasFewAxioms};
 
 use outcomes::OutcomeKind;
 use std::alloc::Global;
@@ -16,4 +17,5 @@ pub struct Subject<'a, K: OutcomeKind> {
     ghost some: { 1 ≤ workers },
     ghost few: { workers ≤ 16 },
     ghost size: { study.now.size ≡ K.size kind.now },
+    ghost listed: { HasFewAxioms study.now },
 }

@@ -28,7 +28,7 @@ use vocab::Table;
 /// The places of all axioms.
 #[tactic(auto, using(crate::proofs::TableLineLemmas::below_more))]
 fn all_places(alloc: Global, count: usize) -> Result<Vec<u32>, NoMemory>
-    requires { count ≤ 40 }
+    requires { count ≤ 4000000 }
     ensures { IfOk result (λ places. places.items ≡ below count) }
 {
     let mut places = Vec::new(alloc);

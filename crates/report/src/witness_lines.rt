@@ -91,7 +91,7 @@ impl Reading {
         requires { IsRead subject.now.study.now self.now }
         ensures fault { (s : Standing) → Stands subject.now.study.now self.now s →
             name_fault subject.now.study.now (next_core s) name.now ≡ unless_so result Fault.Core }
-        ensures few { IsTrue result → self.now.witnesses < 40 }
+        ensures few { IsTrue result → self.now.witnesses < 4000000 }
     {
         match self.next_core() {
             None => false,

@@ -4,6 +4,7 @@ ghost use Rattle.std.specs.Prelude.{◌≡◌, ◌≤◌, List, ℕ, [], length,
 ghost use Rattle.edge.specs.Faults.{Rose};
 ghost use Rattle.edge.specs.Shelf.{OthersStay, NoneFell};
 ghost use Rattle.vocab.specs.Size.{IsSize};
+ghost use Rattle.vocab.specs.Study.{HasFewAxioms};
 ghost use Rattle.verdicts.specs.Judge.{Judgement, answer_within};
 ghost use Rattle.report.specs.Answers.{Concludes};
 ghost use Rattle.report.specs.Stands.{IsReady};
@@ -197,7 +198,7 @@ fn worth_of<R: Threads + Sync, S: Shelf, K: OutcomeKind, G: Gate>(
     Ok(worth)
 }
 
-/// What the report under the name is worth over the study. It is read in pieces of 65,536 bytes, and no further than to its
+/// What the report under the name is worth over the study, which has at most 40 axioms. It is read in pieces of 65,536 bytes, and no further than to its
 /// first faulty line or to 268,435,456 bytes; of the report no more is held than a checker holds, and the front of a line
 /// that has not ended. The answer is the same for every number of workers, from 1 to 16.
 pub fn check_file<R: Threads + Sync, S: Shelf, K: OutcomeKind, G: Gate>(
@@ -213,6 +214,7 @@ pub fn check_file<R: Threads + Sync, S: Shelf, K: OutcomeKind, G: Gate>(
     requires some { 1 ≤ workers }
     requires few { workers ≤ 16 }
     requires size { study.now.size ≡ K.size kind.now }
+    requires listed { HasFewAxioms study.now }
     ensures worth { IfSome (S.files shelf.old) (λ files. IfOk result (IsWorthOf study.now files name.now)) }
     ensures right { IfSome (S.files shelf.old) (λ files. FileIsRight study.now files name.now result) }
     ensures all { IfSome (S.files shelf.old) (λ files. FileIsConfirmed study.now files name.now result) }

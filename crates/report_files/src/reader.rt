@@ -1,6 +1,7 @@
 //! Reads a report in pieces of its bytes.
 
 ghost use Rattle.std.specs.Prelude.{◌≡◌, ◌≢◌, ◌+◌, ◌≤◌, ◌<◌, List, ℕ, [], ◌∷◌, ◌++◌, length, is_some, Err, IfOk, OnOk, ◌⊎◌};
+ghost use Rattle.vocab.specs.Study.{HasFewAxioms};
 ghost use Rattle.verdicts.specs.Judge.{answer};
 ghost use Rattle.report.specs.Answers.{Concludes, ConfirmsRight, ConfirmsAll, ConfirmsTrue};
 ghost use Rattle.report.specs.Stands.{StandsFor, IsReady};
@@ -39,6 +40,7 @@ impl<'a, K: OutcomeKind> Reader<'a, K> {
         requires some { 1 ≤ workers }
         requires few { workers ≤ 16 }
         requires size { study.now.size ≡ K.size kind.now }
+        requires listed { HasFewAxioms study.now }
         ensures study { IfOk result (λ reader. reader.checker.subject.study.now ≡ study.now) }
         ensures kind { IfOk result (λ reader. reader.checker.subject.kind.now ≡ kind.now) }
         ensures workers { IfOk result (λ reader. reader.checker.subject.workers ≡ workers) }
@@ -150,7 +152,7 @@ impl<'a, K: OutcomeKind> Reader<'a, K> {
     }
 }
 
-/// What is answered of the text of a report over the study: Ok exactly where it is confirmed, and else its first faulty line
+/// What is answered of the text of a report over the study, which has at most 40 axioms: Ok exactly where it is confirmed, and else its first faulty line
 /// with its refusal. Want of memory may come in place of both. The answer is the same for every number of workers, from 1 to
 /// 16.
 pub fn check_report<R: Threads + Sync, K: OutcomeKind, G: Gate>(
@@ -165,6 +167,7 @@ pub fn check_report<R: Threads + Sync, K: OutcomeKind, G: Gate>(
     requires some { 1 ≤ workers }
     requires few { workers ≤ 16 }
     requires size { study.now.size ≡ K.size kind.now }
+    requires listed { HasFewAxioms study.now }
     requires room { length text.now < 4294967294 }
     ensures value { (result ≡ Err ReportFault.NoMemory) ⊎ Concludes (answer study.now text.now) result }
     ensures right { ConfirmsRight study.now text.now result }

@@ -14,7 +14,7 @@ use vocab::Study;
 pub(crate) fn read_axiom(study: &Study, word: &[u8]) -> Option<u32>
     ensures value { result ≡ read_axiom study.now.axioms word.now }
     ensures within { IfSome result (λ k. k < length study.now.axioms) }
-    ensures few { IfSome result (λ k. k < 40) }
+    ensures few { IfSome result (λ k. k < 4000000) }
 {
     let axioms = study.axioms();
     for k in 0..axioms.len() {

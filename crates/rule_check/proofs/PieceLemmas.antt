@@ -10,7 +10,7 @@ pub zero_more : (n : ℕ) → 0 + n ≡ n
 zero_more n = omega arith
 
 -- few instances are counted whole
-pub counted_whole : (count instances : ℕ) → count ≡ min instances (2 ^ 64 - 1) → instances ≤ 20000000 → count ≡ instances
+pub counted_whole : (count instances : ℕ) → count ≡ min instances (2 ^ 64 - 1) → instances ≤ 40000000 → count ≡ instances
 counted_whole count instances cut few = omega (arith, cut, few)
 
 module _ (size : Extent) (table : List ℕ) (a : Titled) where

@@ -29,7 +29,7 @@ fn axiom_failure<R: Threads + Sync, K: OutcomeKind, G: Gate>(
 ) -> Result<Option<u64>, NoMemory>
     requires rule { IsTrue (is_rule (K.size kind.now) table.now) }
     requires sentence { IsTrue (is_sentence (K.size kind.now) named.now) }
-    requires limit { instance_count (K.size kind.now) named.now.sentence ≤ 20000000 }
+    requires limit { instance_count (K.size kind.now) named.now.sentence ≤ 40000000 }
     ensures { IfOk result (λ found. IsLeastFalse (K.size kind.now) table.now named.now 0
         (instance_count (K.size kind.now) named.now.sentence) found) }
 {

@@ -111,17 +111,22 @@ each_sentence size (a ∷ axioms) sound open_to =
     let (asked, more) = opened_first size a axioms _ refl open_to in
     and_from _ _ (and_from _ _ (sorted_if_askable size [] a.sentence sorted asked) few) (each_sentence size axioms rest more)
 
+-- there is an axiom for each name that is listed
+pub axioms_listed : (listing : Listing) (ws : List Worded) (axioms : List Titled) → AreReadAs listing.axioms ws → resolved_all listing.size ws ≡ Ok axioms → length listing.axioms ≡ length axioms
+axioms_listed listing ws axioms r resolved =
+    let names : map (λ a. a.name) axioms ≡ map (λ e. e.name) listing.axioms = resolved_names listing.size ws axioms resolved ∙ read_names listing.axioms ws r in
+    sym (length_names (λ e. e.name) listing.axioms) ∙ ap length (sym names) ∙ length_names (λ a. a.name) axioms
+
 -- a listing whose texts read, resolve and are within the limits makes a study
 pub whole_study : (listing : Listing) (ws : List Worded) (axioms : List Titled) → IsListing listing → AreReadAs listing.axioms ws → resolved_all listing.size ws ≡ Ok axioms → list_all (is_sound listing.size) axioms ≡ true → opened listing.size axioms ≡ Ok tt
     → within listing.size Instances axioms ≡ Ok tt → within listing.size Body axioms ≡ Ok tt → within listing.size Work axioms ≡ Ok tt → IsStudy (record { size = listing.size; conflicts = listing.conflicts; axioms = axioms })
 whole_study listing ws axioms whole r resolved sound open_to instances body work =
     let names : map (λ a. a.name) axioms ≡ map (λ e. e.name) listing.axioms = resolved_names listing.size ws axioms resolved ∙ read_names listing.axioms ws r in
-    let lengths : length listing.axioms ≡ length axioms = sym (length_names (λ e. e.name) listing.axioms) ∙ ap length (sym names) ∙ length_names (λ a. a.name) axioms in
     record {
       sentences = each_sentence listing.size axioms sound open_to;
       limits = each_within listing.size axioms sound instances body work;
       own_names = distinct_axioms axioms ∙ ap are_distinct names ∙ sym (distinct_entries listing.axioms) ∙ whole.own_names;
-      few_axioms = subst (λ n. n ≤ 40) lengths whole.few_axioms;
+      few_axioms = omega (arith, axioms_listed listing ws axioms r resolved, whole.few_axioms);
       some_conflicts = whole.some_conflicts;
       few_conflicts = whole.few_conflicts;
     }

@@ -4,7 +4,7 @@ use Rattle.std.specs.List.{list_all}
 use Rattle.toml.specs.Data.{Members}
 use Rattle.vocab.specs.Name.{is_name}
 use Rattle.vocab.specs.Size.{Extent, IsSize}
-use Rattle.vocab.specs.Study.{Question, IsStudy}
+use Rattle.vocab.specs.Study.{Question, IsStudy, HasFewAxioms}
 use Rattle.study.specs.declared.drafts.Draft.{Draft}
 use Rattle.study.specs.declared.faults.StudyFault.{StudyFault}
 use Rattle.study.specs.declared.faults.StudyFault.TheVariants as fault
@@ -21,7 +21,7 @@ use Rattle.study.proofs.Listings.{came_from, known, ok_once, listing_whole}
 use Rattle.study.proofs.NamedAxioms.{AreNamed, draft_named, listed_named, axioms_named}
 use Rattle.study.proofs.SoundAxioms.{sound_all}
 use Rattle.study.proofs.StudySizes.{sized_by}
-use Rattle.study.proofs.Whole.{small_from_read, read_names, resolved_names, whole_study}
+use Rattle.study.proofs.Whole.{small_from_read, read_names, resolved_names, axioms_listed, whole_study}
 
 -- ---- a study has the names of what was listed
 
@@ -63,7 +63,7 @@ draft_listing draft listing own e =
 
 -- what the law says of a study
 abbrev IsWhole : Question → Type 0
-IsWhole study = IsStudy study × IsSize study.size × IsTrue (list_all (λ a. is_name a.name) study.axioms)
+IsWhole study = IsStudy study × IsSize study.size × IsTrue (list_all (λ a. is_name a.name) study.axioms) × HasFewAxioms study
 
 listing_study : (listing : Listing) (sentences : List Worded) (study : Question) → IsNamedListing listing → AreReadAs listing.axioms sentences → study_of listing.size listing.conflicts sentences ≡ Ok study → IsWhole study
 unfolding study_of
@@ -78,6 +78,7 @@ listing_study listing sentences study is all e =
       whole_study listing sentences axioms.value is.whole all axioms.first sound open_to.first instances.first body.first work.first,
       is.size,
       axioms_named listing.axioms axioms.value is.named (resolved_names listing.size sentences axioms.value axioms.first ∙ read_names listing.axioms sentences all),
+      subst (λ n. n ≤ 40) (axioms_listed listing sentences axioms.value all axioms.first) is.whole.few_axioms,
     )
 
 answer_study : (listing : Listing) (study : Question) → IsNamedListing listing → IsAnswer listing (Ok study) → IsWhole study
@@ -95,6 +96,6 @@ document_study (Some document) study h = cases (listing_in (Some document)) refl
         let named = draft_named document draft.value (known fault.Key (draft_of document) draft.value draft.first) in
         answer_study listing study (draft_listing draft.value listing named draft.after) given
 
--- a study is one that the bench takes, at a size, and its axioms have names
+-- a study is one that the bench takes, at a size, and its axioms have names and are few
 pub studies_whole : AreWhole
 studies_whole bytes study h = document_study (document_of bytes) study h

@@ -6,7 +6,7 @@ use Rattle.vocab.specs.Name.{is_name}
 use Rattle.vocab.specs.Range.{below}
 use Rattle.vocab.specs.Size.{Extent, HasOutcomes, IsSize, all_ballots, ballot_places, factorial}
 use Rattle.vocab.specs.SizeFault.{size_of}
-use Rattle.vocab.specs.Study.{Question, IsStudy}
+use Rattle.vocab.specs.Study.{Question, IsStudy, HasFewAxioms}
 use Rattle.study.specs.declared.drafts.Head.{Head}
 use Rattle.study.specs.declared.faults.StudyFault.{StudyFault}
 use Rattle.study.specs.declared.faults.StudyFault.TheVariants as fault
@@ -23,9 +23,11 @@ HaveOneAnswer = (bytes : List ℕ) (a b : Result Question StudyFault) → IsStud
 abbrev pub HaveKinds : Type 0
 HaveKinds = (bytes : List ℕ) (study : Question) → IsStudyOf bytes (Ok study) → HasOutcomes study.size.kind
 
--- each study that bytes give is one that the bench takes, at a size, and its axioms have names
+-- each study that bytes give is one that the bench takes, at a size, and its axioms have names and are few
 abbrev pub AreWhole : Type 0
-AreWhole = (bytes : List ℕ) (study : Question) → IsStudyOf bytes (Ok study) → IsStudy study × IsSize study.size × IsTrue (list_all (λ a. is_name a.name) study.axioms)
+AreWhole =
+    (bytes : List ℕ) (study : Question) → IsStudyOf bytes (Ok study)
+    → IsStudy study × IsSize study.size × IsTrue (list_all (λ a. is_name a.name) study.axioms) × HasFewAxioms study
 
 -- what a size has of a document: its ballots are the rankings whose texts are listed, in order, or all where there is no
 -- list, and voters may be absent exactly where the document says so

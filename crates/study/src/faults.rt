@@ -50,7 +50,7 @@ pub enum StudyFault {
     /// The axiom's sentence exchanges alternatives in a profile, and not every ranking may be cast.
     #[error("an axiom exchanges alternatives, and not every ranking may be cast")]
     Open(Name),
-    /// The axiom has more than 20,000,000 instances: so many, or 2^64 - 1 where there are more.
+    /// The axiom has more than 40,000,000 instances: so many, or 2^64 - 1 where there are more.
     #[error("an axiom has more instances than a study takes")]
     Instances(Name, u64),
     /// The body of the axiom has more than 1,000,000 atoms: so many, or 2^64 - 1 where there are more.

@@ -54,7 +54,7 @@ fn most(limit: Limit) -> u64
     ensures { result ≡ most_of limit }
 {
     match limit {
-        Limit::Instances => 20_000_000,
+        Limit::Instances => 40_000_000,
         Limit::Body => 1_000_000,
         Limit::Work => 200_000_000,
     }

@@ -5,7 +5,7 @@ use Rattle.std.specs.List.{list_all, join_with_byte, onto_first}
 use Rattle.std.proofs.lemmas.List.Splits.{join_with_byte-slice_split, length-slice_split, slice_split-cons_no}
 use Rattle.std.proofs.lemmas.Bool.{and_parts, and_from, cases_lt, not-true}
 use Rattle.vocab.specs.Size.{is_full}
-use Rattle.vocab.specs.Study.{Question}
+use Rattle.vocab.specs.Study.{Question, HasFewAxioms}
 use Rattle.verdicts.specs.Texts.{words_of}
 use Rattle.verdicts.specs.Lines.{Line, line_text}
 use Rattle.verdicts.specs.declared.verdicts.Verdict.{Verdict}
@@ -283,25 +283,25 @@ few_versions version (inr (inl e)) = subst (λ n. n < 2 ^ 64) e (omega arith)
 few_versions version (inr (inr i)) = absurd i
 
 module _ (study : Question) (is : IsReportable study) where
-  shorts : (version : ℕ) → is_version study.size version ≡ true
+  shorts : HasFewAxioms study → (version : ℕ) → is_version study.size version ≡ true
       → (v : Verdict) → is_right study v ≡ true → lemma_count v < 2 ^ 64
       → list_all short (texts_of study version v) ≡ true
-  shorts version allowed v h few =
+  shorts listed version allowed v h few =
       let low = few_versions version (allowed_known study.size version allowed) in
       list_all-map_of (is_short study is) short (line_text study) (report_lines study version v) (λ l e. e)
-      (report_short study is version v low h few)
+      (report_short study is listed version v low h few)
 
-  lines_short : (version : ℕ) → is_version study.size version ≡ true
+  lines_short : HasFewAxioms study → (version : ℕ) → is_version study.size version ≡ true
       → (v : Verdict) → is_right study v ≡ true → lemma_count v < 2 ^ 64
       → IsShort (report_text_in study version v)
-  lines_short version allowed v h few =
+  lines_short listed version allowed v h few =
       let known = allowed_known study.size version allowed in
       let run = text_run study is version known v (right_has_text study is v h) in
       let said = report_lines study version v in
       let lines = texts_of study version v in
       ap (λ t. list_all short (pieces t)) (sym (ended_map study said) ∙ sym (append-nil (ended lines)))
       ∙ ap (list_all short) (split_ended 10 lines [] (lines_lack study is false start run.0 said run.1))
-      ∙ list_all-both short lines ([] ∷ []) (shorts version allowed v h few) refl
+      ∙ list_all-both short lines ([] ∷ []) (shorts listed version allowed v h few) refl
 
   -- the judge goes along some lines of a report, and wants another
   stops_before : (n : ℕ) (s t : Standing) (ls : List Line) (before : List (List ℕ)) (line : List ℕ) (more : List (List ℕ)) → Runs study is true s ls t → list_all short (map (line_text study) ls) ≡ true → map (line_text study) ls ≡ before ++ line ∷ more →
@@ -350,25 +350,25 @@ module _ (study : Question) (is : IsReportable study) where
       ap (conclude (length (pieces text)) (final (pieces text))) stop.1
       ∙ at_end_other (length (pieces text)) (final (pieces text)) stop.0.place stop.2
 
-pub right_lines_short : (study : Question) → IsReportable study
+pub right_lines_short : (study : Question) → IsReportable study → HasFewAxioms study
     → (version : ℕ) → is_version study.size version ≡ true
     → (v : Verdict) → is_right study v ≡ true → lemma_count v < 2 ^ 64
     → IsShort (report_text_in study version v)
-right_lines_short study is version allowed v h few = lines_short study is version allowed v h few
+right_lines_short study is listed version allowed v h few = lines_short study is listed version allowed v h few
 
-pub right_is_confirmed : (study : Question) → IsReportable study
+pub right_is_confirmed : (study : Question) → IsReportable study → HasFewAxioms study
     → (text : List ℕ) (v : Verdict) → IsReport study v text → lemma_count v < 2 ^ 64
     → answer study text ≡ Confirmed v
-right_is_confirmed study is text v r few =
-    let lines = lines_short study is r.version r.allowed v r.right few in
+right_is_confirmed study is listed text v r few =
+    let lines = lines_short study is listed r.version r.allowed v r.right few in
     judge_complete study is text v (subst IsShort (sym r.is) lines) r
 
-pub cut_is_form : (study : Question) → IsReportable study
+pub cut_is_form : (study : Question) → IsReportable study → HasFewAxioms study
     → (v : Verdict) (text rest : List ℕ) → IsReport study v (text ++ rest)
     → lemma_count v < 2 ^ 64 → rest ≢ []
     → answer study text ≡ Faulty (length (pieces text)) Form
-cut_is_form study is v text rest r few some =
-    let lines = shorts study is r.version r.allowed v r.right few in
+cut_is_form study is listed v text rest r few some =
+    let lines = shorts study is listed r.version r.allowed v r.right few in
     cut_here study is v text rest r lines (pieces (final (pieces text) ++ rest)) refl some
 
 -- ---- what is printed

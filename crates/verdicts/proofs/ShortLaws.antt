@@ -18,7 +18,7 @@ use Rattle.vocab.specs.Formula.{quantifier_depth}
 use Rattle.vocab.specs.Name.{is_name, has_name_shape}
 use Rattle.vocab.specs.Size.{Extent, IsSize, ballot_places, cast_count, factorial, sort_count}
 use Rattle.vocab.specs.Sorted.{is_sorted}
-use Rattle.vocab.specs.Study.{Question, is_sentence}
+use Rattle.vocab.specs.Study.{Question, is_sentence, HasFewAxioms}
 use Rattle.vocab.specs.Titled.{Titled}
 use Rattle.vocab.proofs.PrefixLemmas.{prefix_within_depth}
 use Rattle.meaning.specs.Space.{rankings, ranking, ranking_at, casts_of, cast_bases}
@@ -291,12 +291,12 @@ module _ (study : Question) (is : IsReportable study) where
       by_test true = and_from _ _ ballots_short (and_from _ _ (absent_short study.size.absent) refl)
       by_test false = refl
 
-  head_short : (version : ℕ) → version < 2 ^ 64 → list_all is_short (head_lines study version) ≡ true
-  head_short version few =
+  head_short : HasFewAxioms study → (version : ℕ) → version < 2 ^ 64 → list_all is_short (head_lines study version) ≡ true
+  head_short listed version few =
       let title = few_words (Title version) (short_number version few) (omega arith) in
       let voters = few_words (VotersAre study.size.voters) (short_number study.size.voters (omega (arith, is.size.few_voters))) (omega arith) in
       let alternatives = few_words (AlternativesAre study.size.alternatives) (short_number study.size.alternatives (omega (arith, is.size.few_alternatives))) (omega arith) in
-      let names = few_words (AxiomsAre (map (λ a. a.name) study.axioms)) (own_names_within study.axioms is.names) (omega (arith, length-map study.axioms (λ (a : Titled). a.name), is.taken.few_axioms)) in
+      let names = few_words (AxiomsAre (map (λ a. a.name) study.axioms)) (own_names_within study.axioms is.names) (omega (arith, length-map study.axioms (λ (a : Titled). a.name), listed)) in
       let front =
       Title version ∷ KindIs study.size.kind ∷ VotersAre study.size.voters
       ∷ AlternativesAre study.size.alternatives ∷ [] in
@@ -320,25 +320,25 @@ module _ (study : Question) (is : IsReportable study) where
       let p = and_parts (is_witness study.size study.axioms study.conflicts whole k witness) _ h in
       list_all-both is_short (witness_lines study k witness) (all_witness_lines study core witnesses) (witness_short whole k witness p.0) (witnesses_short whole core witnesses p.1)
 
-  verdict_short : (verdict : Verdict) → is_right study verdict ≡ true → lemma_count verdict < 2 ^ 64 → list_all is_short (verdict_lines study verdict) ≡ true
-  verdict_short (Possible table) h few = and_from _ _ (few_words (RuleOf (sort_count study.size Profile)) (short_number (sort_count study.size Profile) few_profiles) (omega arith)) (rows_short 0 table)
-  verdict_short (Impossible core story witnesses) h few =
+  verdict_short : HasFewAxioms study → (verdict : Verdict) → is_right study verdict ≡ true → lemma_count verdict < 2 ^ 64 → list_all is_short (verdict_lines study verdict) ≡ true
+  verdict_short listed (Possible table) h few = and_from _ _ (few_words (RuleOf (sort_count study.size Profile)) (short_number (sort_count study.size Profile) few_profiles) (omega arith)) (rows_short 0 table)
+  verdict_short listed (Impossible core story witnesses) h few =
       let p = and_parts (is_story study.size study.axioms core story) _ h in
       let q = and_parts (is_core_from 0 (length study.axioms) core) _ p.1 in
       let lemmas = sound_story study is core (length story) [] story (omega arith) p.0 in
-      let names = few_words (CoreIs (map (name_at study.axioms) core)) (core_names_within study.axioms is.names core) (omega (arith, length-map core (name_at study.axioms), few_places 0 (length study.axioms) core (omega arith) q.0, is.taken.few_axioms)) in
+      let names = few_words (CoreIs (map (name_at study.axioms) core)) (core_names_within study.axioms is.names core) (omega (arith, length-map core (name_at study.axioms), few_places 0 (length study.axioms) core (omega arith) q.0, listed)) in
       let count = few_words (LemmasAre (length story)) (short_number (length story) few) (omega arith) in
       list_all-both is_short (SaysImpossible ∷ CoreIs (map (name_at study.axioms) core) ∷ LemmasAre (length story) ∷ story_lines 1 story) (all_witness_lines study core witnesses)
       (and_from _ _ names (and_from _ _ count (story_short (length story) few 1 story (omega (arith, few)) lemmas)))
       (witnesses_short core core witnesses q.1)
-  verdict_short Undecided h few = and_from _ _ (few_words (LimitIs study.conflicts) (short_number study.conflicts (omega (arith, is.taken.few_conflicts))) (omega arith)) refl
+  verdict_short listed Undecided h few = and_from _ _ (few_words (LimitIs study.conflicts) (short_number study.conflicts (omega (arith, is.taken.few_conflicts))) (omega arith)) refl
 
   -- each line of the report of a right verdict is short
-  pub report_short : (version : ℕ) (verdict : Verdict) → version < 2 ^ 64
+  pub report_short : HasFewAxioms study → (version : ℕ) (verdict : Verdict) → version < 2 ^ 64
       → is_right study verdict ≡ true → lemma_count verdict < 2 ^ 64
       → list_all is_short (report_lines study version verdict) ≡ true
-  report_short version verdict low h few =
+  report_short listed version verdict low h few =
       let head = head_lines study version in
       let said = verdict_lines study verdict in
       list_all-both is_short (head ++ said) (End ∷ [])
-      (list_all-both is_short head said (head_short version low) (verdict_short verdict h few)) refl
+      (list_all-both is_short head said (head_short listed version low) (verdict_short listed verdict h few)) refl

@@ -4,7 +4,7 @@ use Rattle.std.specs.List.{list_all, list_any}
 use Rattle.vocab.specs.Limits.{instance_count}
 use Rattle.vocab.specs.Name.{is_name}
 use Rattle.vocab.specs.Size.{HasOutcomes, IsSize}
-use Rattle.vocab.specs.Study.{Question, IsStudy}
+use Rattle.vocab.specs.Study.{Question, IsStudy, HasFewAxioms}
 use Rattle.vocab.specs.Titled.{Titled}
 use Rattle.meaning.specs.declared.cores.Witness.{Witness}
 use Rattle.meaning.specs.declared.cores.Witness.TheVariants.{Rule, Open}
@@ -51,11 +51,11 @@ AreTextsDistinct =
 abbrev pub IsShort : List ℕ → Type 0
 IsShort text = IsTrue (list_all (λ line. not (nat_lt 4096 (length line))) (pieces text))
 
--- no line of the text of a right verdict is longer, in a version that the size may have, where a machine word
--- counts its lemmas
+-- no line of the text of a right verdict of a study of few axioms is longer, in a version that the size may have,
+-- where a machine word counts its lemmas
 abbrev pub LinesAreShort : Type 0
 LinesAreShort =
-    (study : Question) → IsReportable study → (version : ℕ) → IsTrue (is_version study.size version)
+    (study : Question) → IsReportable study → HasFewAxioms study → (version : ℕ) → IsTrue (is_version study.size version)
     → (verdict : Verdict) → IsTrue (is_right study verdict) → lemma_count verdict < 2 ^ 64
     → IsShort (report_text_in study version verdict)
 
@@ -73,9 +73,11 @@ PrintedTextsAreReports =
 abbrev pub IsJudgeSound : Type 0
 IsJudgeSound = (study : Question) (text : List ℕ) (verdict : Verdict) → answer study text ≡ Confirmed verdict → IsReport study verdict text
 
--- the judge confirms the report of each right verdict, where a machine word counts its lemmas
+-- the judge confirms the report of each right verdict of a study of few axioms, where a machine word counts its lemmas
 abbrev pub IsJudgeComplete : Type 0
-IsJudgeComplete = (study : Question) → IsReportable study → (text : List ℕ) (verdict : Verdict) → IsReport study verdict text → lemma_count verdict < 2 ^ 64 → answer study text ≡ Confirmed verdict
+IsJudgeComplete =
+    (study : Question) → IsReportable study → HasFewAxioms study → (text : List ℕ) (verdict : Verdict)
+    → IsReport study verdict text → lemma_count verdict < 2 ^ 64 → answer study text ≡ Confirmed verdict
 
 -- lines none of which has a line end within it are answered as the text that has them, each with its line end
 abbrev pub LinesAreAnswered : Type 0
@@ -159,7 +161,9 @@ TableFaultsAreFirst = (study : Question) (table places : List ℕ) → IsTrue (l
     ((table_fault study table places ≡ None) ↔ IsTrue (list_all (λ k. is_axiom_true study.size table (slice_get study.axioms k)) places))
     × ((name : List ℕ) (instance : ℕ) → (table_fault study table places ≡ Some (Fails name instance)) ↔ IsFirstFailing study table places name instance)
 
--- a right report that is cut anywhere before its end has its first faulty line where it is cut, which is not what the grammar wants
+-- a right report of a study of few axioms that is cut anywhere before its end has its first faulty line where it is cut, which is not what the grammar wants
 abbrev pub CutReportsAreForm : Type 0
-CutReportsAreForm = (study : Question) → IsReportable study → (verdict : Verdict) (text rest : List ℕ) → IsReport study verdict (text ++ rest) → lemma_count verdict < 2 ^ 64 → rest ≢ [] →
-    answer study text ≡ Faulty (length (pieces text)) Form
+CutReportsAreForm =
+    (study : Question) → IsReportable study → HasFewAxioms study → (verdict : Verdict) (text rest : List ℕ)
+    → IsReport study verdict (text ++ rest) → lemma_count verdict < 2 ^ 64 → rest ≢ []
+    → answer study text ≡ Faulty (length (pieces text)) Form

@@ -13,7 +13,7 @@ pub fn texts_are_distinct()
 {}
 
 /// No line of the text of a right verdict with fewer than 2^64 lemmas is longer than 4,096 bytes, in each
-/// version that the size may have.
+/// version that the size may have, where the study has at most 40 axioms.
 pub fn lines_are_short()
     ensures { LinesAreShort }
 {}
@@ -29,7 +29,8 @@ pub fn judge_is_sound()
     ensures { IsJudgeSound }
 {}
 
-/// The judge confirms the report of each right verdict with fewer than 2^64 lemmas.
+/// The judge confirms the report of each right verdict with fewer than 2^64 lemmas, where the study has at
+/// most 40 axioms.
 pub fn judge_is_complete()
     ensures { IsJudgeComplete }
 {}
@@ -49,8 +50,8 @@ pub fn right_claims_hold()
     ensures { RightClaimsHold }
 {}
 
-/// A confirmed rule satisfies all axioms; no rule satisfies the core of a confirmed impossibility, and where no mark
-/// is open some rule satisfies it without any one of its axioms.
+/// A confirmed rule satisfies all axioms; no rule satisfies the core of a confirmed impossibility, and where
+/// no mark is open some rule satisfies it without any one of its axioms.
 pub fn confirmed_claims_hold()
     ensures { ConfirmedClaimsHold }
 {}
@@ -60,7 +61,8 @@ pub fn prefixes_are_refused()
     ensures { HasNoConfirmedPrefix }
 {}
 
-/// Where only so many bytes of a text are read, exactly those confirmed reports are confirmed that have no more.
+/// Where only so many bytes of a text are read, exactly those confirmed reports are confirmed that have no
+/// more.
 pub fn confirmed_within_limit()
     ensures { ConfirmedWithinLimit }
 {}
@@ -70,12 +72,14 @@ pub fn faults_are_first()
     ensures { FaultsAreFirst }
 {}
 
-/// The fault of a table is the first axiom that it does not satisfy, at its least instance, and there is none where it satisfies all.
+/// The fault of a table is the first axiom that it does not satisfy, at its least instance, and there is none
+/// where it satisfies all.
 pub fn table_faults_are_first()
     ensures { TableFaultsAreFirst }
 {}
 
-/// A right report that is cut anywhere before its end is refused where it is cut.
+/// A right report that is cut anywhere before its end is refused where it is cut, where the study has at most
+/// 40 axioms.
 pub fn cut_reports_are_form()
     ensures { CutReportsAreForm }
 {}

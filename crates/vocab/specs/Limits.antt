@@ -58,7 +58,7 @@ atom_count size (Same f g) = atom_count size f + atom_count size g
 atom_count size (All s f) = sort_count size s * atom_count size f
 atom_count size (Exists s f) = sort_count size s * atom_count size f
 
--- the limits of the bench: depth 64, 20,000,000 instances, 1,000,000 atoms in the body and 200,000,000 in the whole
+-- the limits of the bench: depth 64, 40,000,000 instances, 1,000,000 atoms in the body and 200,000,000 in the whole
 abbrev pub is_within_limits : Extent → Tree → Bool
 is_within_limits size f =
-    nat_le (depth f) 64 && nat_le (instance_count size f) 20000000 && nat_le (atom_count size (body_of f)) 1000000 && nat_le (atom_count size f) 200000000
+    nat_le (depth f) 64 && nat_le (instance_count size f) 40000000 && nat_le (atom_count size (body_of f)) 1000000 && nat_le (atom_count size f) 200000000
