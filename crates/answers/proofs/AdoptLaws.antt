@@ -24,7 +24,7 @@ use Rattle.answers.proofs.RowLemmas.{some_same, over_study, granted}
 use Rattle.verdicts.proofs.ReportLaws.{printed_is_report}
 use Rattle.answers.proofs.FitLemmas.{right_judged}
 use Rattle.answers.proofs.DecidedLaws.{impossible, conclusive, bare_conclusive}
-use Rattle.answers.proofs.ReportLaws.{reportable}
+use Rattle.answers.proofs.ReportLaws.{reportable, listed}
 use Rattle.answers.proofs.DeviceLaws.{written_at}
 use Rattle.answers.proofs.CallLaws.{settled_row, rest_of}
 use Rattle.answers.proofs.ExportLemmas.{IsReadAgain, export_read}
@@ -98,7 +98,7 @@ adopted_confirmed files name proof run text study row g zero_is fits =
     let f = told.found in
     let verdict = Impossible told.core told.story told.witnesses in
     let report = printed_is_report study text verdict f.claims_some f.right told.is in
-    (verdict, f.told, right_judged study text verdict (reportable files name study g) report fits)
+    (verdict, f.told, right_judged study text verdict (reportable files name study g) (listed files name study g) report fits)
 
 adopted_as_said : (files : Files) (name proof : List ℕ) (run : Run) (text bytes : List ℕ) (study : Question) → IsAdoption files name proof run text → GivesStudy files name study
     → fault_of study ≡ None → files proof ≡ Some bytes → EndsAsSaid files proof study run text bytes

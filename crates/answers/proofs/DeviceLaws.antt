@@ -32,7 +32,7 @@ use Rattle.answers.specs.RowLaws.{WrittenDecisionsHold}
 use Rattle.answers.proofs.DecidedLaws.{decided_hold}
 use Rattle.answers.proofs.FitLemmas.{right_judged}
 use Rattle.answers.proofs.OneAnswer.{one_refusal}
-use Rattle.answers.proofs.ReportLaws.{reportable, zero_confirms, confirmed_report, confirmed_claims}
+use Rattle.answers.proofs.ReportLaws.{reportable, listed, zero_confirms, confirmed_report, confirmed_claims}
 use Rattle.answers.proofs.RowLemmas.{some_same, row_of, over_study, not_refused}
 
 module _ (words : List (List ℕ)) (d : Devices) (run : Run) (call : IsCall words d run) (request : Option Request) (asked : request_of words ≡ request) where
@@ -127,7 +127,7 @@ module _ (words : List (List ℕ)) (d : Devices) (run : Run) (files : Files) (na
   right_says : run.status ≤ 4 → (study : Question) (bytes : List ℕ) (verdict : Verdict) → GivesStudy files name study → files report ≡ Some bytes → IsReport study verdict bytes
       → length bytes ≤ most_report_bytes → Says d run 0 (answer_text (Confirmed verdict))
   right_says low study bytes verdict g held right fits =
-      subst (λ (a : Judgement). Says d run (status_of a) (answer_text a)) (right_judged study bytes verdict (reportable files name study g) right fits) (judged_says low study bytes g held)
+      subst (λ (a : Judgement). Says d run (status_of a) (answer_text a)) (right_judged study bytes verdict (reportable files name study g) (listed files name study g) right fits) (judged_says low study bytes g held)
 
   confirmed_row : (text : List ℕ) → run.status ≡ 0 → Appends d.taken_before d.taken_now text → OverStudy files name run text (λ study. IsJudged files report study run text)
       → IsConfirmedRight d files name report

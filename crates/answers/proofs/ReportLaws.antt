@@ -2,7 +2,7 @@
 use Rattle.std.proofs.Common.{◌≡◌, ◌∙◌, ◌↔◌, refl, sym, subst, ap, true≢false, ℕ, ◌≤◌, List, length, Some, arith}
 use Rattle.edge.specs.Shelf.{Files}
 use Rattle.vocab.specs.Size.{IsSize}
-use Rattle.vocab.specs.Study.{Question}
+use Rattle.vocab.specs.Study.{Question, HasFewAxioms}
 use Rattle.verdicts.specs.declared.verdicts.Verdict.{Verdict}
 use Rattle.verdicts.specs.declared.verdicts.Verdict.TheVariants.{Possible, Impossible, Undecided}
 use Rattle.verdicts.specs.Judge.{Judgement, Confirmed, Faulty, TooLong}
@@ -32,6 +32,10 @@ reportable files name study g =
     let whole = studies_whole g.bytes study g.read in
     record { taken = whole.0; size = whole.1; kind = kinds_known g.bytes study g.read; names = whole.2 }
 
+-- and it has at most 40 axioms
+pub listed : (files : Files) (name : List ℕ) (study : Question) → GivesStudy files name study → HasFewAxioms study
+listed files name study g = (studies_whole g.bytes study g.read).3
+
 -- status 0 says that the answer is a confirmation
 pub zero_confirms : (a : Judgement) → status_of a ≡ 0 → (verdict : Verdict) × (a ≡ Confirmed verdict)
 zero_confirms (Confirmed verdict) e = (verdict, refl)
@@ -60,8 +64,8 @@ module _ (study : Question) (bytes : List ℕ) where
       let right = confirmed_report c.0 c.1 in
       ((c.0, right.0), right.1)
 
-  by_report : IsReportable study → IsConfirmed study bytes → length bytes ≤ most_report_bytes → status_of (judgement study bytes) ≡ 0
-  by_report whole c fits = ap status_of (right_judged study bytes c.0 whole c.1 fits)
+  by_report : IsReportable study → HasFewAxioms study → IsConfirmed study bytes → length bytes ≤ most_report_bytes → status_of (judgement study bytes) ≡ 0
+  by_report whole few c fits = ap status_of (right_judged study bytes c.0 whole few c.1 fits)
 
 checked_row : (files : Files) (name report : List ℕ) (run : Run) (text : List ℕ) (study : Question) (bytes : List ℕ) → GivesStudy files name study → files report ≡ Some bytes
     → IsJudged files report study run text → (run.status ≡ 0) ↔ (IsConfirmed study bytes × (length bytes ≤ most_report_bytes))
@@ -69,7 +73,7 @@ checked_row files name report run text study bytes g held j =
     let same : j.bytes ≡ bytes = some_same (files report) j.bytes bytes j.held held in
     let status : run.status ≡ status_of (judgement study bytes) = subst (λ (x : List ℕ). run.status ≡ status_of (judgement study x)) same j.ends.ends in (
       λ e. by_status study bytes (sym status ∙ e),
-      λ c. status ∙ by_report study bytes (reportable files name study g) c.0 c.1,
+      λ c. status ∙ by_report study bytes (reportable files name study g) (listed files name study g) c.0 c.1,
     )
 
 pub checked_right : CheckedAreRight
@@ -83,4 +87,4 @@ decided_confirmed files name run text study row g zero_is fits =
     let r = granted files name run text (λ s. IsReported s run text) study g zero_is row in
     let f = found_at study run r.verdict zero_is r.decides in
     let report = printed_is_report study text r.verdict f.claims_some f.right r.is in
-    (r.verdict, f.told, right_judged study text r.verdict (reportable files name study g) report fits)
+    (r.verdict, f.told, right_judged study text r.verdict (reportable files name study g) (listed files name study g) report fits)

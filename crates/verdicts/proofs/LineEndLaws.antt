@@ -1,7 +1,7 @@
 -- Lines that are given one by one, and the text that has them.
 use Rattle.std.proofs.Common.{◌≡◌, ◌∙◌, refl, sym, ap, subst, ℕ, suc, ◌+◌, ◌≤◌, ◌<◌, ◌^◌, true, List, [], ◌∷◌, ◌++◌, map, length, arith, append-nil, length-append}
 use Rattle.std.specs.List.{flat_map, list_all}
-use Rattle.vocab.specs.Study.{Question}
+use Rattle.vocab.specs.Study.{Question, HasFewAxioms}
 use Rattle.meaning.specs.declared.stories.Lemma.{Lemma}
 use Rattle.verdicts.specs.declared.verdicts.Verdict.{Verdict}
 use Rattle.verdicts.specs.declared.verdicts.Verdict.TheVariants.{Possible, Impossible, Undecided}
@@ -81,7 +81,7 @@ lemmas_fit study text verdict is =
 
 -- ---- the report of a right verdict, given line by line, is confirmed
 
-module _ (study : Question) (is : IsReportable study) (lines : List (List ℕ)) (h : list_all has_no_end lines ≡ true) where
+module _ (study : Question) (is : IsReportable study) (listed : HasFewAxioms study) (lines : List (List ℕ)) (h : list_all has_no_end lines ≡ true) where
   as_many : (v : Verdict) (r : IsReport study v (ended lines))
       → length lines ≡ length (report_lines study r.version v)
   as_many v r =
@@ -100,4 +100,4 @@ module _ (study : Question) (is : IsReportable study) (lines : List (List ℕ)) 
       let many : length lines ≡ length (report_lines study r.version v) = as_many v r in
       let lemmas : lemma_count v ≤ length (report_lines study r.version v) =
       lemmas_in_lines study r.version v in
-      sym (lines_answered study lines h) ∙ right_is_confirmed study is (ended lines) v r (omega (arith, many, lemmas, few))
+      sym (lines_answered study lines h) ∙ right_is_confirmed study is listed (ended lines) v r (omega (arith, many, lemmas, few))
