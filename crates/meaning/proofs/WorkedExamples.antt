@@ -66,6 +66,10 @@ profile_7_is_one_ballot_twice = refl
 profile_27_is_cab_bca : profile_text (choice 2 3) 27 ≡ codes "cab|bca"
 profile_27_is_cab_bca = refl
 
+-- at ab|ba there is a voter on each side, and so no majority
+equal_camps_are_no_majority : (majority (choice 2 2) 0 1 1 ≡ false) × (majority (choice 2 2) 1 0 1 ≡ false)
+equal_camps_are_no_majority = (refl, refl)
+
 -- ---- fewer ballots, and absence
 
 -- the second ranking alone
