@@ -23,8 +23,10 @@ fn two_and_two() -> Result<Size, Fail>
 
 /// That each alternative is itself, said of each voter, by the name `same`.
 fn one_axiom(alloc: Global) -> Result<Axioms, Fail>
-    ensures { IfOk result (λ axioms. axioms ≡
-        record { name = codes "same"; sentence = All Sort.Voter (All Sort.Alt (Leaf (Equal (Var 1) (Var 1)))) } ∷ []) }
+    ensures { IfOk result (λ axioms. axioms ≡ record {
+      name = codes "same";
+      sentence = All Sort.Voter (All Sort.Alt (Leaf (Equal (Var 1) (Var 1))));
+    } ∷ []) }
 {
     let name = Name::new(b"same").ok_or("name")?;
     let same = Formula::Leaf(Atom::Equal(Term::Var(1), Term::Var(1)));

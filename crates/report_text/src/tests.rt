@@ -22,7 +22,14 @@ use vocab::{
 
 /// A study with the axiom that each voter is itself, by the name `same`.
 fn one_axiom(alloc: Global) -> Result<Study, Fail>
-    ensures { IfOk result (λ study. study ≡ record { size = full_size Kind.Choice 1 2; conflicts = 100; axioms = record { name = codes "same"; sentence = All Sort.Voter (Leaf (Equal (Var 0) (Var 0))) } ∷ [] }) }
+    ensures { IfOk result (λ study. study ≡ record {
+      size = full_size Kind.Choice 1 2;
+      conflicts = 100;
+      axioms = record {
+        name = codes "same";
+        sentence = All Sort.Voter (Leaf (Equal (Var 0) (Var 0)));
+      } ∷ [];
+    }) }
 {
     let size = Size::check(Kind::Choice, 1, 2).ok().ok_or("size")?;
     let name = Name::new(b"same").ok_or("name")?;
@@ -45,7 +52,8 @@ fn table_of(alloc: Global, outcomes: &[u8]) -> Result<Table, Fail>
 fn one_lemma(alloc: Global) -> Result<Lemma, Fail>
     ensures { IfOk result (λ lemma. lemma ≡ record {
       suppose = Literal.Wins 0 0 ∷ [];
-      steps = record { literal = Literal.Loses 1 1; reason = Reason.Lemma 0 } ∷ record { literal = Literal.Wins 1 0; reason = Reason.Outcome 1 } ∷ [];
+      steps = record { literal = Literal.Loses 1 1; reason = Reason.Lemma 0 }
+          ∷ record { literal = Literal.Wins 1 0; reason = Reason.Outcome 1 } ∷ [];
       last = Reason.Axiom 0 (0 ∷ []);
     }) }
 {
@@ -69,7 +77,14 @@ fn one_lemma(alloc: Global) -> Result<Lemma, Fail>
 
 /// A claim with that lemma alone. No claim is checked before it is written.
 fn impossible(alloc: Global) -> Result<Verdict, Fail>
-    ensures { IfOk result (λ verdict. IsTrue (has_text (record { size = full_size Kind.Choice 1 2; conflicts = 100; axioms = record { name = codes "same"; sentence = All Sort.Voter (Leaf (Equal (Var 0) (Var 0))) } ∷ [] }) verdict)) }
+    ensures { IfOk result (λ verdict. IsTrue (has_text (record {
+      size = full_size Kind.Choice 1 2;
+      conflicts = 100;
+      axioms = record {
+        name = codes "same";
+        sentence = All Sort.Voter (Leaf (Equal (Var 0) (Var 0)));
+      } ∷ [];
+    }) verdict)) }
 {
     let mut core = Items::new(alloc);
     core.push(0)?;
