@@ -3,7 +3,7 @@ use Rattle.std.proofs.Common.{◌≡◌, ◌≢◌, ◌∙◌, refl, sym, ap, su
 use Rattle.std.specs.Prelude.{IsSomeAnd}
 use Rattle.std.specs.List.{list_all}
 use Rattle.vocab.specs.Size.{IsSize}
-use Rattle.vocab.specs.Study.{Question}
+use Rattle.vocab.specs.Study.{Question, HasFewAxioms}
 use Rattle.verdicts.specs.declared.verdicts.Confirmed.{Confirmed}
 use Rattle.verdicts.specs.declared.verdicts.Verdict.{Verdict}
 use Rattle.verdicts.specs.declared.verdicts.Verdict.TheVariants.{Undecided}
@@ -74,7 +74,9 @@ module _ (study : Question) (lines : List (List ℕ)) where
       record { verdict = a.0; report = concluded_sound study (length lines + 1) lines a.0 a.1; claims = a.2 }
   lines_right (Err fault) h = tt
 
-  pub lines_all : (result : Result Confirmed ReportFault) → length lines ≤ 4294967294 → list_all has_no_end lines ≡ true → Concludes (conclude (length lines + 1) [] (judge study lines)) result → ConfirmsAll study (ended lines) result
-  lines_all result few none h = λ is claim c.
+  pub lines_all : HasFewAxioms study → (result : Result Confirmed ReportFault) → length lines ≤ 4294967294
+      → list_all has_no_end lines ≡ true → Concludes (conclude (length lines + 1) [] (judge study lines)) result
+      → ConfirmsAll study (ended lines) result
+  lines_all listed result few none h = λ is claim c.
       let less : length lines < 2 ^ 64 = omega (arith, few) in
-      concludes_claim (conclude (length lines + 1) [] (judge study lines)) c.verdict claim result (lines_complete study is lines none c.verdict c.report less) c.claims h
+      concludes_claim (conclude (length lines + 1) [] (judge study lines)) c.verdict claim result (lines_complete study is listed lines none c.verdict c.report less) c.claims h

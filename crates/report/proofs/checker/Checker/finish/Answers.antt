@@ -10,7 +10,8 @@ returns-clause-right g c = λ lines h. lines_right c.args.self.now.subject.study
 pub returns-clause-all : goal.returns-clause-all
 returns-clause-all g c = λ lines h none.
     let few : length lines ≤ 4294967294 = subst (λ (n : ℕ). n ≤ 4294967294) h.0 c.requires.room in
-    lines_all c.args.self.now.subject.study.now lines c.conclude.result few none (c.conclude.ensures.value lines h)
+    let subject = c.args.self.now.subject in
+    lines_all subject.study.now lines subject.listed c.conclude.result few none (c.conclude.ensures.value lines h)
 
 pub returns-clause-holds : goal.returns-clause-holds
 returns-clause-holds g c = λ lines h.
