@@ -1,6 +1,6 @@
 -- What is confirmed of a text is right.
 use Rattle.std.proofs.Common.{◌≡◌, ℕ, ◌<◌, ◌^◌, ◌⊎◌, inl, inr, List, length, Result, Ok, Err, arith}
-use Rattle.vocab.specs.Study.{Question}
+use Rattle.vocab.specs.Study.{Question, HasFewAxioms}
 use Rattle.verdicts.specs.declared.verdicts.Confirmed.{Confirmed}
 use Rattle.verdicts.specs.Judge.{answer}
 use Rattle.verdicts.specs.Report.{lemma_count}
@@ -20,8 +20,10 @@ module _ (study : Question) (text : List ℕ) where
       record { verdict = a.0; report = judge_sound study text a.0 a.1; claims = a.2 }
   text_right (Err fault) h = tt
 
-  pub text_all : (result : Result Confirmed ReportFault) → length text < 4294967294 → (result ≡ Err NoMemory) ⊎ Concludes (answer study text) result → (result ≡ Err NoMemory) ⊎ ConfirmsAll study text result
-  text_all result few (inl e) = inl e
-  text_all result few (inr h) = inr (λ is claim c.
+  pub text_all : HasFewAxioms study → (result : Result Confirmed ReportFault) → length text < 4294967294
+      → (result ≡ Err NoMemory) ⊎ Concludes (answer study text) result
+      → (result ≡ Err NoMemory) ⊎ ConfirmsAll study text result
+  text_all listed result few (inl e) = inl e
+  text_all listed result few (inr h) = inr (λ is claim c.
       let less : lemma_count c.verdict < 2 ^ 64 = omega (arith, lemmas_fit study text c.verdict c.report, few) in
-      concludes_claim (answer study text) c.verdict claim result (right_is_confirmed study is text c.verdict c.report less) c.claims h)
+      concludes_claim (answer study text) c.verdict claim result (right_is_confirmed study is listed text c.verdict c.report less) c.claims h)

@@ -5,7 +5,7 @@ use Rattle.edge.specs.Shelf.{Files}
 use Rattle.std.proofs.lemmas.Bool.{cases_lt, le-ltb}
 use Rattle.std.specs.Io.KnownBytes.{Consumes, IsAtEnd}
 use Rattle.vocab.specs.Size.{IsSize}
-use Rattle.vocab.specs.Study.{Question}
+use Rattle.vocab.specs.Study.{Question, HasFewAxioms}
 use Rattle.verdicts.specs.declared.refusals.Refusal.{Refusal}
 use Rattle.verdicts.specs.declared.verdicts.Verdict.{Verdict}
 use Rattle.verdicts.specs.Claims.{claim_of}
@@ -230,13 +230,14 @@ module _ (study : Question) (files : Files) (name : List ℕ) where
   same_bytes : (o : Option (List ℕ)) (xs ys : List ℕ) → o ≡ Some xs → o ≡ Some ys → xs ≡ ys
   same_bytes o xs ys e f = cc
 
-  pub right_file : (result : Result Worth FileFault) → IfOk result (IsWorthOf study files name) → FileIsConfirmed study files name result
-  right_file (Err fault) h is claim c = tt
-  right_file (Ok w) (held, at, is_worth) is claim c =
+  pub right_file : HasFewAxioms study → (result : Result Worth FileFault)
+      → IfOk result (IsWorthOf study files name) → FileIsConfirmed study files name result
+  right_file listed (Err fault) h is claim c = tt
+  right_file listed (Ok w) (held, at, is_worth) is claim c =
       let same : c.bytes ≡ held = same_bytes (files name) c.bytes held c.held at in
       let v = c.right.verdict in
       let few : lemma_count v < 2 ^ 64 = omega (arith, lemmas_fit study c.bytes v c.right.report, c.fits) in
-      let confirmed : answer_within most_report_bytes study c.bytes ≡ IsConfirmed v = (within_limit most_report_bytes study c.bytes v).1 (c.fits, right_is_confirmed study is c.bytes v c.right.report few) in
+      let confirmed : answer_within most_report_bytes study c.bytes ≡ IsConfirmed v = (within_limit most_report_bytes study c.bytes v).1 (c.fits, right_is_confirmed study is listed c.bytes v c.right.report few) in
       let worth_is : IsWorth (answer_within most_report_bytes study c.bytes) w = subst (λ (xs : List ℕ). IsWorth (answer_within most_report_bytes study xs) w) (sym same) is_worth in
       confirmed_some (claim_of v) claim w c.right.claims (subst (λ (a : Judgement). IsWorth a w) confirmed worth_is)
 

@@ -198,9 +198,10 @@ fn worth_of<R: Threads + Sync, S: Shelf, K: OutcomeKind, G: Gate>(
     Ok(worth)
 }
 
-/// What the report under the name is worth over the study, which has at most 40 axioms. It is read in pieces of 65,536 bytes, and no further than to its
-/// first faulty line or to 268,435,456 bytes; of the report no more is held than a checker holds, and the front of a line
-/// that has not ended. The answer is the same for every number of workers, from 1 to 16.
+/// What the report under the name is worth over the study, which has at most 40 axioms. It is read in pieces of
+/// 65,536 bytes, and no further than to its first faulty line or to 268,435,456 bytes; of the report no more is held
+/// than a checker holds, and the front of a line that has not ended. The answer is the same for every number of
+/// workers, from 1 to 16.
 pub fn check_file<R: Threads + Sync, S: Shelf, K: OutcomeKind, G: Gate>(
     rt: &R,
     alloc: Global,

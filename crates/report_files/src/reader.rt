@@ -30,7 +30,7 @@ pub struct Reader<'a, K: OutcomeKind> {
 }
 
 impl<'a, K: OutcomeKind> Reader<'a, K> {
-    /// A reader that has read nothing.
+    /// A reader that has read nothing. The study has at most 40 axioms.
     pub fn new(
         alloc: Global,
         kind: &'a K,
@@ -152,9 +152,9 @@ impl<'a, K: OutcomeKind> Reader<'a, K> {
     }
 }
 
-/// What is answered of the text of a report over the study, which has at most 40 axioms: Ok exactly where it is confirmed, and else its first faulty line
-/// with its refusal. Want of memory may come in place of both. The answer is the same for every number of workers, from 1 to
-/// 16.
+/// What is answered of the text of a report over the study, which has at most 40 axioms: Ok exactly where it is
+/// confirmed, and else its first faulty line with its refusal. Want of memory may come in place of both. The answer is
+/// the same for every number of workers, from 1 to 16.
 pub fn check_report<R: Threads + Sync, K: OutcomeKind, G: Gate>(
     rt: &R,
     alloc: Global,

@@ -19,7 +19,7 @@ returns-clause-right g c =
 pub returns-clause-all : goal.returns-clause-all
 returns-clause-all g c =
     if_some (g.S.Shelf.files c.args.shelf.now) (returns-clause-worth g c) (λ files h.
-    right_file c.args.study.now files c.args.name.now c.worth_of.result h)
+    right_file c.args.study.now files c.args.name.now c.requires.listed c.worth_of.result h)
 
 pub returns-clause-holds : goal.returns-clause-holds
 returns-clause-holds g c =

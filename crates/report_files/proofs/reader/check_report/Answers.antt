@@ -25,7 +25,7 @@ pub returns-clause-right : goal.returns-clause-right
 returns-clause-right g c = text_right c.args.study.now c.args.text.now c.end.result (returns-clause-value g c)
 
 pub returns-clause-all : goal.returns-clause-all
-returns-clause-all g c = text_all c.args.study.now c.args.text.now c.end.result c.requires.room (returns-clause-value g c)
+returns-clause-all g c = text_all c.args.study.now c.args.text.now c.requires.listed c.end.result c.requires.room (returns-clause-value g c)
 
 pub returns-clause-holds : goal.returns-clause-holds
 returns-clause-holds g c =
