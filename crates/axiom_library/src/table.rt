@@ -119,7 +119,8 @@ pub fn count(kind: Kind) -> u32
 
 /// The bytes of the name at a place of the library of a kind.
 pub(crate) fn name_bytes(kind: Kind, place: u32) -> Option<&'static [u8]>
-    ensures { option_map (λ name. name.now) result ≡ option_map (λ e. e.name) (slice_get (library kind) place) }
+    ensures { option_map (λ name. name.now) result ≡
+        option_map (λ e. e.name) (slice_get (library kind) place) }
 {
     match kind {
         Kind::Choice => choice_name(place),
@@ -130,7 +131,8 @@ pub(crate) fn name_bytes(kind: Kind, place: u32) -> Option<&'static [u8]>
 
 /// The text at a place of the library of a kind, from 0: `None` past the last place. The texts are canonical.
 pub fn text_at(kind: Kind, place: u32) -> Option<&'static [u8]>
-    ensures { option_map (λ text. text.now) result ≡ option_map (λ e. e.text) (slice_get (library kind) place) }
+    ensures { option_map (λ text. text.now) result ≡
+        option_map (λ e. e.text) (slice_get (library kind) place) }
 {
     match kind {
         Kind::Choice => choice_text(place),

@@ -91,7 +91,8 @@ fn texts_in(alloc: Global, values: &[Value]) -> Result<Option<Texts>, NoMemory>
 
 /// The texts of the ballots, which may be missing.
 fn ballots_of(alloc: Global, value: Option<&Value>) -> Result<Option<Texts>, StudyFault>
-    ensures { Gives (refused_as StudyFault.Key (ballots_of (option_map (λ value. view value.now) value.entry))) result }
+    ensures { Gives
+        (refused_as StudyFault.Key (ballots_of (option_map (λ value. view value.now) value.entry))) result }
 {
     match value {
         None => Ok(None),
@@ -172,7 +173,8 @@ fn sentences_in(alloc: Global, table: &Table) -> Result<Entries, StudyFault>
 
 /// The study's own sentences, which may be missing.
 fn sentences_of(alloc: Global, value: Option<&Value>) -> Result<Entries, StudyFault>
-    ensures { Gives (refused_as StudyFault.Key (sentences_of (option_map (λ value. view value.now) value.entry))) result }
+    ensures { Gives
+        (refused_as StudyFault.Key (sentences_of (option_map (λ value. view value.now) value.entry))) result }
 {
     match value {
         None => Ok(Entries::new(alloc)),

@@ -130,6 +130,17 @@ const CASES: &[(&str, &str, &str)] = &[
         "sentences = { a = 'some p: profile. wins(@c, p)' }\naxioms = ['a', 'pareto']",
         "2 3 100000 a pareto",
     ),
+    // Instances, one for each choice of values.
+    (
+        "3\naxioms = ['pareto']",
+        "4\nsentences = { big = 'all p: profile. all q: profile. all x: alt. all y: alt. all z: alt. x = x' }\naxioms = ['big']",
+        "2 4 100000 big",
+    ),
+    (
+        "3\naxioms = ['pareto']",
+        "4\nsentences = { big = 'all p: profile. all q: profile. all x: alt. all y: alt. all z: alt. all w: alt. x = x' }\naxioms = ['big']",
+        "instances big 84934656",
+    ),
     // Counts that pass every number.
     (
         "3\naxioms = ['pareto']",
