@@ -12,3 +12,4 @@ pub mod SoundAxioms
 pub mod NamedAxioms
 pub mod WholeStudies
 pub mod Fitting
+pub mod StepLaws

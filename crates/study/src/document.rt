@@ -1,10 +1,12 @@
 //! What the values of a TOML document say of a study. All that touches a value of `toml` stands here.
 
-ghost use Rattle.std.specs.Prelude.{◌≡◌, ◌≢◌, IfOk, option_map, string_bytes};
+ghost use Rattle.std.specs.Option.{ok_or};
+ghost use Rattle.std.specs.Prelude.{◌≡◌, ◌≢◌, IfOk, codes, option_map, string_bytes};
 ghost use Rattle.toml.specs.Data.{get_member};
 ghost use Rattle.toml.specs.View.{view, items_view, table_view};
 ghost use Rattle.study.specs.Document.{kind_of, integer_of, absent_of, conflicts_of, texts_in, ballots_of, axioms_of, own_sentence, sentences_in, sentences_of, is_key, known_keys, head_of, draft_of};
 ghost use Rattle.study.specs.Refusing.{refused_as, Gives};
+ghost use Rattle.study.specs.Steps.{last_of};
 
 use crate::drafts::{Draft, Head};
 use crate::entries::{Entries, Entry, Texts, copied};
@@ -136,12 +138,16 @@ fn head_of(alloc: Global, table: &Table) -> Result<Head, StudyFault>
 }
 
 /// The names of the axioms.
-fn axioms_of(alloc: Global, value: Option<&Value>) -> Result<Option<Texts>, NoMemory>
-    ensures { IfOk result (λ found. found ≡ axioms_of (option_map (λ value. view value.now) value.entry)) }
+fn axioms_of(alloc: Global, value: Option<&Value>) -> Result<Texts, StudyFault>
+    ensures { Gives (refused_as StudyFault.Key
+        (ok_or (axioms_of (option_map (λ value. view value.now) value.entry)) (codes "axioms"))) result }
 {
     match value {
-        Some(Value::Array(values)) => texts_in(alloc, values),
-        _ => Ok(None),
+        Some(Value::Array(values)) => match texts_in(alloc, values)? {
+            Some(texts) => Ok(texts),
+            None => Err(key_fault(alloc, "axioms")),
+        },
+        _ => Err(key_fault(alloc, "axioms")),
     }
 }
 
@@ -211,20 +217,35 @@ fn known_keys(alloc: Global, table: &Table) -> Result<(), StudyFault>
     Ok(())
 }
 
+/// The study's own sentences, in a document without a key that no study has.
+fn last_of(alloc: Global, table: &Table) -> Result<Entries, StudyFault>
+    ensures { Gives (refused_as StudyFault.Key (last_of (table_view table.now))) result }
+{
+    let sentences = sentences_of(alloc, value_at(table, "sentences"))?;
+    match known_keys(alloc, table) {
+        Ok(()) => Ok(sentences),
+        Err(fault) => Err(fault),
+    }
+}
+
 /// All that a document says of a study.
-#[tactic(auto, unfolding(crate::specs::Document::draft_of))]
 pub(crate) fn draft_of(alloc: Global, table: &Table) -> Result<Draft, StudyFault>
     ensures { Gives (refused_as StudyFault.Key (draft_of (table_view table.now))) result }
 {
-    let head = head_of(alloc, table)?;
-    let Some(axioms) = axioms_of(alloc, value_at(table, "axioms"))? else {
-        return Err(key_fault(alloc, "axioms"));
+    let head = match head_of(alloc, table) {
+        Ok(head) => head,
+        Err(fault) => return Err(fault),
     };
-    let sentences = sentences_of(alloc, value_at(table, "sentences"))?;
-    known_keys(alloc, table)?;
-    Ok(Draft {
-        head,
-        axioms,
-        sentences,
-    })
+    let axioms = match axioms_of(alloc, value_at(table, "axioms")) {
+        Ok(axioms) => axioms,
+        Err(fault) => return Err(fault),
+    };
+    match last_of(alloc, table) {
+        Ok(sentences) => Ok(Draft {
+            head,
+            axioms,
+            sentences,
+        }),
+        Err(fault) => Err(fault),
+    }
 }

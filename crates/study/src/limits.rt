@@ -3,14 +3,16 @@
 ghost use Rattle.std.specs.Prelude.{◌≡◌};
 ghost use Rattle.vocab.specs.Limits.{instance_count, atom_count};
 ghost use Rattle.vocab.specs.Tree.{tree_of};
+ghost use Rattle.study.specs.Refusing.{Gives};
 ghost use Rattle.study.specs.Sentences.{told, most_of, count_of, refusal_of, opened, within};
+ghost use Rattle.study.specs.Steps.{fitting};
 
 use crate::faults::StudyFault;
 use vocab::{Axiom, Formula, Name, Size};
 
 /// What is limited of an axiom: its instances, the atoms of its body, and those of the whole, quantifiers written out.
 #[derive(Clone, Copy)]
-pub(crate) enum Limit {
+enum Limit {
     Instances,
     Body,
     Work,
@@ -83,7 +85,7 @@ fn refusal(limit: Limit, name: Name, count: u64) -> StudyFault
 }
 
 /// Refuses the first axiom that passes a limit.
-pub(crate) fn within(limit: Limit, size: Size, axioms: &[Axiom]) -> Result<(), StudyFault>
+fn within(limit: Limit, size: Size, axioms: &[Axiom]) -> Result<(), StudyFault>
     ensures { result ≡ within size limit axioms.now }
 {
     let most = most(limit);
@@ -105,5 +107,17 @@ pub(crate) fn opened(size: Size, axioms: &[Axiom]) -> Result<(), StudyFault>
             return Err(StudyFault::Open(named.name()));
         }
     }
+    Ok(())
+}
+
+/// Refuses the first axiom that exchanges alternatives where it may not, and then the first that passes a limit, one limit
+/// after the other.
+pub(crate) fn fitting(size: Size, axioms: &[Axiom]) -> Result<(), StudyFault>
+    ensures { Gives (fitting size axioms.now) result }
+{
+    opened(size, axioms)?;
+    within(Limit::Instances, size, axioms)?;
+    within(Limit::Body, size, axioms)?;
+    within(Limit::Work, size, axioms)?;
     Ok(())
 }

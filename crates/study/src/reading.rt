@@ -10,7 +10,7 @@ ghost use Rattle.study.specs.Unresolved.{worded_of};
 
 use crate::document::draft_of;
 use crate::faults::StudyFault;
-use crate::limits::{Limit, opened, within};
+use crate::limits::fitting;
 use crate::listing::{Listing, listing_of};
 use crate::sentences::{Unresolved, read_all, resolve_all};
 use std::alloc::Global;
@@ -25,11 +25,10 @@ fn study_of(alloc: Global, listing: &Listing, sentences: &[Unresolved]) -> Resul
 {
     let size = listing.size;
     let axioms = resolve_all(alloc, size, sentences)?;
-    opened(size, axioms.as_slice())?;
-    within(Limit::Instances, size, axioms.as_slice())?;
-    within(Limit::Body, size, axioms.as_slice())?;
-    within(Limit::Work, size, axioms.as_slice())?;
-    Ok(Study::new(size, listing.conflicts, axioms))
+    match fitting(size, axioms.as_slice()) {
+        Ok(()) => Ok(Study::new(size, listing.conflicts, axioms)),
+        Err(fault) => Err(fault),
+    }
 }
 
 /// The study of a listing, whether bytes gave it or the caller made it, or the first refusal of a text or a sentence.

@@ -1,5 +1,6 @@
-use Rattle.std.proofs.Common.{sym, map}
+use Rattle.std.proofs.Common.{Ok, Err, ◌∙◌, sym, ap, map}
 use Rattle.study.specs.Unresolved.{worded_of}
+use Rattle.study.proofs.StepLaws.{study_tested, pass_each}
 use Rattle.study.proofs.Whole.{small_from_read, whole_study}
 use Rattle.study.proofs.reading.study_of.Goals as goal
 
@@ -8,5 +9,14 @@ resolve_all-requires c = small_from_read c.args.listing.now.axioms (map worded_o
 
 pub new-requires : goal.new-requires
 new-requires c =
+    let each = pass_each c.args.listing.now.size c.in_ok-axioms.axioms (rw (← c.as_slice.ensures) c.in-Ok.ensures) in
     whole_study c.args.listing.now (map worded_of c.args.sentences.now) c.in_ok-axioms.axioms c.requires.whole c.requires.read c.in_ok-axioms.ensures.gives c.in_ok-axioms.ensures.sentences
-    (rw (← c.as_slice.ensures) (sym c.in_ok-opened.ensures)) (rw (← c.as_slice-2.ensures) (sym c.in_ok-within.ensures)) (rw (← c.as_slice-3.ensures) (sym c.in_ok-within-2.ensures)) (rw (← c.as_slice-4.ensures) (sym c.in_ok-within-3.ensures))
+    each.open_to each.instances each.body each.work
+
+pub returns-in-Ok : goal.returns-in-Ok
+returns-in-Ok c =
+    study_tested c.args.listing.now.size c.args.listing.now.conflicts (map worded_of c.args.sentences.now) c.in_ok-axioms.axioms (Ok tt) c.in_ok-axioms.ensures.gives (rw (← c.as_slice.ensures) c.in-Ok.ensures) ∙ sym (ap Ok c.new.ensures)
+
+pub returns-in-Err : goal.returns-in-Err
+returns-in-Err c other =
+    study_tested c.args.listing.now.size c.args.listing.now.conflicts (map worded_of c.args.sentences.now) c.in_ok-axioms.axioms (Err c.in-Err.fault) c.in_ok-axioms.ensures.gives (rw (← c.as_slice.ensures) (c.in-Err.ensures other))
