@@ -1,5 +1,5 @@
 -- What stands at the front of lexemes, by what stands there first.
-use Rattle.std.proofs.Common.{arith, length, ◌<◌, ◌≡◌, ℕ, true, List, [], ◌∷◌, refl, sym, ap, ◌∙◌, subst, Result, Ok, Err, IfOk}
+use Rattle.std.proofs.Common.{Box, Global, arith, length, ◌<◌, ◌≡◌, ℕ, true, List, [], ◌∷◌, refl, sym, ap, ◌∙◌, subst, Result, Ok, Err, IfOk}
 use Rattle.vocab.specs.NamedTree as tree
 use Rattle.vocab.specs.NamedTree.{NamedTermTree, NamedTermTrees, NamedTree}
 use Rattle.syntax.specs.declared.lexemes.Lexeme.{Lexeme}
@@ -318,18 +318,18 @@ formula_at_atom ls rest end first f e o at = record {
   only = λ g ys d h. at.only g ys (subst (λ l. IsAtom l g ys) (sym e) (other_is_atom o (subst (λ l. IsFormula l g ys) e d))) h;
 }
 
-pub formula_at_atoms : (r : Result (Named × Bor (List Lexeme)) Stop) (ls rest : List Lexeme) (first : Lexeme) → ls ≡ first ∷ rest → IsOther first → IfOk r (λ x. AtomAt ls (named_tree x.0) x.1.now) → IfOk r (λ x. FormulaAt ls (named_tree x.0) x.1.now)
-formula_at_atoms (Ok x) ls rest first e o at = formula_at_atom ls rest x.1.now first (named_tree x.0) e o at
+pub formula_at_atoms : (r : Result (Box Named Global × Bor (List Lexeme)) Stop) (ls rest : List Lexeme) (first : Lexeme) → ls ≡ first ∷ rest → IsOther first → IfOk r (λ x. AtomAt ls (named_tree x.0.value) x.1.now) → IfOk r (λ x. FormulaAt ls (named_tree x.0.value) x.1.now)
+formula_at_atoms (Ok x) ls rest first e o at = formula_at_atom ls rest x.1.now first (named_tree x.0.value) e o at
 formula_at_atoms (Err x) ls rest first e o at = at
 
 pub no_formula_atom : (ls rest : List Lexeme) (first : Lexeme) → ls ≡ first ∷ rest → IsOther first → NoAtom ls → NoFormula ls
 no_formula_atom ls rest first e o never g ys d h = never g ys (subst (λ l. IsAtom l g ys) (sym e) (other_is_atom o (subst (λ l. IsFormula l g ys) e d))) h
 
 -- lexemes that begin with a mark, as a function that reads what follows the mark says it
-pub formula_at_front : (r : Result (Named × Bor (List Lexeme)) Stop) (ls rest : List Lexeme) (first mark : Lexeme) → ls ≡ first ∷ rest → first ≡ mark → IfOk r (λ x. FormulaAt (mark ∷ rest) (named_tree x.0) x.1.now) → IfOk r (λ x. FormulaAt ls (named_tree x.0) x.1.now)
-formula_at_front r ls rest first mark e o at = subst (λ l. IfOk r (λ x. FormulaAt l (named_tree x.0) x.1.now)) (sym (front e o)) at
+pub formula_at_front : (r : Result (Box Named Global × Bor (List Lexeme)) Stop) (ls rest : List Lexeme) (first mark : Lexeme) → ls ≡ first ∷ rest → first ≡ mark → IfOk r (λ x. FormulaAt (mark ∷ rest) (named_tree x.0.value) x.1.now) → IfOk r (λ x. FormulaAt ls (named_tree x.0.value) x.1.now)
+formula_at_front r ls rest first mark e o at = subst (λ l. IfOk r (λ x. FormulaAt l (named_tree x.0.value) x.1.now)) (sym (front e o)) at
 
-pub shorter_front : (r : Result (Named × Bor (List Lexeme)) Stop) (ls rest : List Lexeme) (first : Lexeme) → ls ≡ first ∷ rest → IfOk r (λ x. length x.1.now < length rest) → IfOk r (λ x. length x.1.now < length ls)
+pub shorter_front : (r : Result (Box Named Global × Bor (List Lexeme)) Stop) (ls rest : List Lexeme) (first : Lexeme) → ls ≡ first ∷ rest → IfOk r (λ x. length x.1.now < length rest) → IfOk r (λ x. length x.1.now < length ls)
 shorter_front (Ok x) ls rest first e h = let n = ap length e in omega arith
 shorter_front (Err x) ls rest first e h = h
 

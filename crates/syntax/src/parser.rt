@@ -62,6 +62,14 @@ fn after(lexemes: &[Lexeme], mark: Lexeme) -> Option<&[Lexeme]>
     }
 }
 
+/// A formula in a box. The parser holds its formulas so: to drop a formula in place would write out the drop of each of its
+/// forms at each early exit, where the drop of a box is one call.
+fn boxed(alloc: Global, formula: Named) -> Result<Box<Named>, NoMemory>
+    ensures { IfOk result (λ b. named_tree b.value ≡ named_tree formula) }
+{
+    Ok(Box::new(alloc, formula)?)
+}
+
 /// The term that the lexemes begin with, and what follows it.
 #[cycle(terms)]
 #[inline(never)]
@@ -114,18 +122,18 @@ fn terms<'a>(alloc: Global, lexemes: &'a [Lexeme], parts: &mut Terms) -> Result<
 
 /// The atom that the lexemes begin with, and what follows it. A term comes first, and then `=` tells which.
 #[inline(never)]
-fn atom(alloc: Global, lexemes: &[Lexeme]) -> Result<(Named, &[Lexeme]), Stop>
-    ensures found { IfOk result (λ x. AtomAt lexemes.now (named_tree x.0) x.1.now) }
+fn atom(alloc: Global, lexemes: &[Lexeme]) -> Result<(Box<Named>, &[Lexeme]), Stop>
+    ensures found { IfOk result (λ x. AtomAt lexemes.now (named_tree x.0.value) x.1.now) }
     ensures none { IsErrOf result Stop.NoReading → NoAtom lexemes.now }
     ensures shorter { IfOk result (λ x. length x.1.now < length lexemes.now) }
 {
     let (left, rest) = term(alloc, lexemes)?;
     if let Some(more) = after(rest, Lexeme::Equals) {
         let (right, end) = term(alloc, more)?;
-        return Ok((Named::Equal(left, right), end));
+        return Ok((boxed(alloc, Named::Equal(left, right))?, end));
     }
     match left {
-        NamedTerm::Call(name, parts) => Ok((Named::Pred(name, parts), rest)),
+        NamedTerm::Call(name, parts) => Ok((boxed(alloc, Named::Pred(name, parts))?, rest)),
         NamedTerm::Var(_) | NamedTerm::Voter(_) | NamedTerm::Alt(_) | NamedTerm::Ballot(_) => {
             Err(Stop::NoReading)
         }
@@ -227,37 +235,41 @@ fn may_chain(joint: Joint) -> bool
     matches!(joint, Joint::Both | Joint::Either)
 }
 
-fn join(alloc: Global, joint: Joint, left: Named, right: Named) -> Result<Named, NoMemory>
-    ensures { IfOk result (λ t. named_tree t ≡ joined joint (named_tree left) (named_tree right)) }
+fn join(
+    alloc: Global,
+    joint: Joint,
+    left: Box<Named>,
+    right: Box<Named>,
+) -> Result<Box<Named>, NoMemory>
+    ensures { IfOk result
+        (λ b. named_tree b.value ≡ joined joint (named_tree left.value) (named_tree right.value)) }
 {
-    let left = Box::new(alloc, left)?;
-    let right = Box::new(alloc, right)?;
     match joint {
-        Joint::Both => Ok(Named::Both(left, right)),
-        Joint::Either => Ok(Named::Either(left, right)),
-        Joint::Implies => Ok(Named::Implies(left, right)),
-        Joint::Same => Ok(Named::Same(left, right)),
+        Joint::Both => boxed(alloc, Named::Both(left, right)),
+        Joint::Either => boxed(alloc, Named::Either(left, right)),
+        Joint::Implies => boxed(alloc, Named::Implies(left, right)),
+        Joint::Same => boxed(alloc, Named::Same(left, right)),
     }
 }
 
-fn negated(alloc: Global, inner: Named) -> Result<Named, NoMemory>
-    ensures { IfOk result (λ t. named_tree t ≡ trees.Not (named_tree inner)) }
+fn negated(alloc: Global, inner: Box<Named>) -> Result<Box<Named>, NoMemory>
+    ensures { IfOk result (λ b. named_tree b.value ≡ trees.Not (named_tree inner.value)) }
 {
-    Ok(Named::Not(Box::new(alloc, inner)?))
+    boxed(alloc, Named::Not(inner))
 }
 
 fn quantify(
     alloc: Global,
     quantifier: Quantifier,
     variable: Variable,
-    inner: Named,
-) -> Result<Named, NoMemory>
-    ensures { IfOk result (λ t. named_tree t ≡ bound quantifier variable.name variable.sort (named_tree inner)) }
+    inner: Box<Named>,
+) -> Result<Box<Named>, NoMemory>
+    ensures { IfOk result (λ b. named_tree b.value ≡
+        bound quantifier variable.name variable.sort (named_tree inner.value)) }
 {
-    let inner = Box::new(alloc, inner)?;
     match quantifier {
-        Quantifier::All => Ok(Named::All(variable.name, variable.sort, inner)),
-        Quantifier::Exists => Ok(Named::Exists(variable.name, variable.sort, inner)),
+        Quantifier::All => boxed(alloc, Named::All(variable.name, variable.sort, inner)),
+        Quantifier::Exists => boxed(alloc, Named::Exists(variable.name, variable.sort, inner)),
     }
 }
 
@@ -294,8 +306,8 @@ fn opening_of(first: Lexeme) -> Opening
 /// The formula that the lexemes begin with, and what follows it.
 #[cycle(formulas)]
 #[inline(never)]
-fn formula(alloc: Global, lexemes: &[Lexeme]) -> Result<(Named, &[Lexeme]), Stop>
-    ensures found { IfOk result (λ x. FormulaAt lexemes.now (named_tree x.0) x.1.now) }
+fn formula(alloc: Global, lexemes: &[Lexeme]) -> Result<(Box<Named>, &[Lexeme]), Stop>
+    ensures found { IfOk result (λ x. FormulaAt lexemes.now (named_tree x.0.value) x.1.now) }
     ensures none { IsErrOf result Stop.NoReading → NoFormula lexemes.now }
     ensures shorter { IfOk result (λ x. length x.1.now < length lexemes.now) }
 {
@@ -317,9 +329,9 @@ fn quantified(
     alloc: Global,
     quantifier: Quantifier,
     rest: &[Lexeme],
-) -> Result<(Named, &[Lexeme]), Stop>
+) -> Result<(Box<Named>, &[Lexeme]), Stop>
     ensures found { IfOk result
-        (λ x. FormulaAt (Lexeme.Word (word_of_quantifier quantifier) ∷ rest.now) (named_tree x.0) x.1.now) }
+        (λ x. FormulaAt (Lexeme.Word (word_of_quantifier quantifier) ∷ rest.now) (named_tree x.0.value) x.1.now) }
     ensures none { IsErrOf result Stop.NoReading → NoFormula (Lexeme.Word (word_of_quantifier quantifier) ∷ rest.now) }
     ensures shorter { IfOk result (λ x. length x.1.now < length rest.now) }
 {
@@ -333,8 +345,8 @@ fn quantified(
 /// What follows a `!`.
 #[cycle(formulas)]
 #[inline(never)]
-fn negation(alloc: Global, rest: &[Lexeme]) -> Result<(Named, &[Lexeme]), Stop>
-    ensures found { IfOk result (λ x. FormulaAt (Lexeme.Not ∷ rest.now) (named_tree x.0) x.1.now) }
+fn negation(alloc: Global, rest: &[Lexeme]) -> Result<(Box<Named>, &[Lexeme]), Stop>
+    ensures found { IfOk result (λ x. FormulaAt (Lexeme.Not ∷ rest.now) (named_tree x.0.value) x.1.now) }
     ensures none { IsErrOf result Stop.NoReading → NoFormula (Lexeme.Not ∷ rest.now) }
     ensures shorter { IfOk result (λ x. length x.1.now < length rest.now) }
 {
@@ -345,8 +357,8 @@ fn negation(alloc: Global, rest: &[Lexeme]) -> Result<(Named, &[Lexeme]), Stop>
 /// What follows a `(`.
 #[cycle(formulas)]
 #[inline(never)]
-fn group(alloc: Global, rest: &[Lexeme]) -> Result<(Named, &[Lexeme]), Stop>
-    ensures found { IfOk result (λ x. FormulaAt (Lexeme.Open ∷ rest.now) (named_tree x.0) x.1.now) }
+fn group(alloc: Global, rest: &[Lexeme]) -> Result<(Box<Named>, &[Lexeme]), Stop>
+    ensures found { IfOk result (λ x. FormulaAt (Lexeme.Open ∷ rest.now) (named_tree x.0.value) x.1.now) }
     ensures none { IsErrOf result Stop.NoReading → NoFormula (Lexeme.Open ∷ rest.now) }
     ensures shorter { IfOk result (λ x. length x.1.now < length rest.now) }
 {
@@ -364,8 +376,8 @@ fn group(alloc: Global, rest: &[Lexeme]) -> Result<(Named, &[Lexeme]), Stop>
 /// What follows a joint in a group.
 #[cycle(formulas)]
 #[inline(never)]
-fn chain(alloc: Global, joint: Joint, lexemes: &[Lexeme]) -> Result<(Named, &[Lexeme]), Stop>
-    ensures found { IfOk result (λ x. IsChain joint lexemes.now (named_tree x.0) x.1.now) }
+fn chain(alloc: Global, joint: Joint, lexemes: &[Lexeme]) -> Result<(Box<Named>, &[Lexeme]), Stop>
+    ensures found { IfOk result (λ x. IsChain joint lexemes.now (named_tree x.0.value) x.1.now) }
     ensures none { IsErrOf result Stop.NoReading → NoChain joint lexemes.now }
     ensures shorter { IfOk result (λ x. length x.1.now < length lexemes.now) }
 {
@@ -384,13 +396,14 @@ fn chain(alloc: Global, joint: Joint, lexemes: &[Lexeme]) -> Result<(Named, &[Le
 }
 
 /// The sentence that the lexemes are.
-pub fn sentence(alloc: Global, lexemes: &[Lexeme]) -> Result<Named, Stop>
-    ensures found { IfOk result (λ t. Reads lexemes.now (named_tree t)) }
+pub fn sentence(alloc: Global, lexemes: &[Lexeme]) -> Result<Box<Named>, Stop>
+    ensures found { IfOk result (λ b. Reads lexemes.now (named_tree b.value)) }
     ensures none { IsErrOf result Stop.NoReading → (f : trees.NamedTree) → Reads lexemes.now f → ⊥ }
 {
     let (named, rest) = formula(alloc, lexemes)?;
-    if !rest.is_empty() {
-        return Err(Stop::NoReading);
+    if rest.is_empty() {
+        Ok(named)
+    } else {
+        Err(Stop::NoReading)
     }
-    Ok(named)
 }

@@ -32,5 +32,5 @@ pub fn read(alloc: Global, text: &[u8]) -> Result<Named, SyntaxFault>
     if !has_few(&named, QUANTIFIERS) {
         return Err(SyntaxFault::Variables);
     }
-    Ok(named)
+    Ok(Box::into_inner(named))
 }

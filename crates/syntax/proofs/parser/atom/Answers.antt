@@ -18,10 +18,10 @@ returns-in_err-right-clause-none c =
     rw (p.1, p.2) (λ is. no_atom_right _ _ _ _ c.in_ok-left.ensures.found c.in-Some.ensures (c.in_err-right.ensures.none (cc)))
 
 pub returns-in-Some-clause-found : goal.returns-in-Some-clause-found
-returns-in-Some-clause-found c = rw named_tree-Equal (atom_at_equal _ _ _ _ _ _ c.in_ok-left.ensures.found c.in-Some.ensures c.in_ok-right.ensures.found)
+returns-in-Some-clause-found c = rw (c.in_ok-boxed.ensures, named_tree-Equal) (atom_at_equal _ _ _ _ _ _ c.in_ok-left.ensures.found c.in-Some.ensures c.in_ok-right.ensures.found)
 
-pub returns-in-Call-clause-found : goal.returns-in-Call-clause-found
-returns-in-Call-clause-found c = rw named_tree-Pred (atom_at_pred _ _ _ _ _ c.in_ok-left.ensures.found (ap named_term_tree c.in-Call.is ∙ named_term_tree-Call c.in-Call.name c.in-Call.parts) c.in_default.ensures)
+pub returns-in_ok-boxed-in-Call-clause-found : goal.returns-in_ok-boxed-in-Call-clause-found
+returns-in_ok-boxed-in-Call-clause-found c = rw (c.in_ok-boxed-in-Call.ensures, named_tree-Pred) (atom_at_pred _ _ _ _ _ c.in_ok-left.ensures.found (ap named_term_tree c.in-Call.is ∙ named_term_tree-Call c.in-Call.name c.in-Call.parts) c.in_default.ensures)
 
 pub returns-in-Var : goal.returns-in-Var
 returns-in-Var c =
