@@ -3,7 +3,7 @@
 use vocab::Name;
 
 /// A name, a constant or a mark.
-#[derive(Clone, Copy, Debug, PartialEq, Eq)]
+#[derive(Clone, Copy, PartialEq, Eq)]
 pub enum Lexeme {
     Word(Name),
     Voter(u16),
@@ -23,7 +23,7 @@ pub enum Lexeme {
 }
 
 /// What stands between the parts of a group.
-#[derive(Clone, Copy, Debug, PartialEq, Eq)]
+#[derive(Clone, Copy)]
 pub enum Joint {
     Both,
     Either,
@@ -32,7 +32,7 @@ pub enum Joint {
 }
 
 /// What a variable is bound by: `all` or `some`.
-#[derive(Clone, Copy, Debug, PartialEq, Eq)]
+#[derive(Clone, Copy)]
 pub enum Quantifier {
     All,
     Exists,

@@ -19,7 +19,7 @@ use std::alloc::Global;
 use vocab::{Name, Named, NamedTerm, Sort, Terms};
 
 /// Why lexemes give no tree.
-#[derive(Clone, Copy, Debug, PartialEq, Eq)]
+#[derive(Clone, Copy)]
 pub enum Stop {
     NoReading,
     NoMemory,
