@@ -33,8 +33,8 @@ fn texts_and_numbers(rt: HostRuntime) {
     for (voters, alternatives, p, text) in rows {
         let space = space(&rt, voters, alternatives);
         assert!(rt; p < space.count());
-        assert_eq!(rt; space.profile_text(p).bytes(), text, "profile {p}");
-        assert_eq!(rt; space.read_profile(text), Ok(p), "profile {p}");
+        assert!(rt; space.profile_text(p).bytes() == text);
+        assert!(rt; space.read_profile(text) == Ok(p));
     }
 }
 
@@ -53,8 +53,8 @@ fn ballots(rt: HostRuntime) {
     for (alternatives, b, text) in rows {
         let space = space(&rt, 2, alternatives);
         assert!(rt; b < space.size().sort_len(vocab::Sort::Ballot));
-        assert_eq!(rt; space.ballot_text(b).bytes(), text, "ballot {b}");
-        assert_eq!(rt; space.read_ballot(text), Some(b), "ballot {b}");
+        assert!(rt; space.ballot_text(b).bytes() == text);
+        assert!(rt; space.read_ballot(text) == Some(b));
     }
 }
 
@@ -66,7 +66,7 @@ fn refusals(rt: HostRuntime) {
         b"ab/ab", b"|ab|ab", b"ab| ab", b"ab|ab ",
     ];
     for text in texts {
-        assert_eq!(rt; space.read_profile(text), Err(NotAProfile));
+        assert!(rt; space.read_profile(text) == Err(NotAProfile));
     }
 }
 
@@ -76,7 +76,7 @@ fn every_number_is_that_of_its_text(rt: HostRuntime) {
         let space = space(&rt, voters, alternatives);
         for p in 0..space.count() {
             let text = space.profile_text(p);
-            assert_eq!(rt; space.read_profile(text.bytes()), Ok(p), "profile {p}");
+            assert!(rt; space.read_profile(text.bytes()) == Ok(p));
         }
     }
 }
@@ -94,7 +94,7 @@ fn counts(rt: HostRuntime) {
         (2, 5, 14400),
     ];
     for (voters, alternatives, count) in rows {
-        assert_eq!(rt; space(&rt, voters, alternatives).count(), count);
+        assert!(rt; space(&rt, voters, alternatives).count() == count);
     }
 }
 
@@ -103,7 +103,7 @@ fn not_ballots(rt: HostRuntime) {
     let space = space(&rt, 2, 3);
     let texts: [&[u8]; 8] = [b"", b"ab", b"abcd", b"aba", b"abd", b"ABC", b"aaa", b"cab|"];
     for text in texts {
-        assert_eq!(rt; space.read_ballot(text), None);
+        assert!(rt; space.read_ballot(text) == None);
     }
 }
 
@@ -128,14 +128,14 @@ fn votes(rt: HostRuntime) {
     for (x, y, first, second, most) in rows {
         assert!(rt; x < 3);
         assert!(rt; y < 3);
-        assert_eq!(rt; space.prefers(0, x, y, 27), first, "{x} above {y}");
-        assert_eq!(rt; space.prefers(1, x, y, 27), second, "{x} above {y}");
-        assert_eq!(rt; space.better(4, x, y), first, "{x} above {y}");
-        assert_eq!(rt; space.majority(x, y, 27), most, "{x} above {y}");
+        assert!(rt; space.prefers(0, x, y, 27) == first);
+        assert!(rt; space.prefers(1, x, y, 27) == second);
+        assert!(rt; space.better(4, x, y) == first);
+        assert!(rt; space.majority(x, y, 27) == most);
     }
     assert!(rt; space.casts(0, 4, 27));
     assert!(rt; !space.casts(1, 4, 27));
-    assert_eq!(rt; space.ballot_of(27, 1), 3);
+    assert!(rt; space.ballot_of(27, 1) == 3);
 }
 
 #[test]
@@ -145,14 +145,14 @@ fn changes(rt: HostRuntime) {
     assert!(rt; space.size().voters() == 2);
     assert!(rt; space.size().alternatives() == 3);
     assert!(rt; space.size().has_all_ballots());
-    assert_eq!(rt; space.with(27, 1, 0), 24, "cab|abc");
-    assert_eq!(rt; space.swap_voters(27, 0, 1), 22, "bca|cab");
-    assert_eq!(rt; space.swap_voters(27, 1, 1), 27, "cab|bca");
-    assert_eq!(rt; space.swap_alts(27, 0, 1), 31, "cba|acb");
-    assert_eq!(rt; space.swap_alts(27, 2, 2), 27, "cab|bca");
+    assert!(rt; space.with(27, 1, 0) == 24); // cab|abc
+    assert!(rt; space.swap_voters(27, 0, 1) == 22); // bca|cab
+    assert!(rt; space.swap_voters(27, 1, 1) == 27); // cab|bca
+    assert!(rt; space.swap_alts(27, 0, 1) == 31); // cba|acb
+    assert!(rt; space.swap_alts(27, 2, 2) == 27); // cab|bca
     for (z, other) in [(0, 1), (1, 0), (2, 2)] {
         assert!(rt; z < 3);
-        assert_eq!(rt; space.swap(0, 1, z), other, "at {z}");
+        assert!(rt; space.swap(0, 1, z) == other);
     }
 }
 
@@ -165,7 +165,7 @@ fn two_exchanges_of_two_alternatives_are_none(rt: HostRuntime) {
         for (x, y) in [(0, 1), (0, 2), (1, 2), (1, 1)] {
             assert!(rt; x < 3 && y < 3);
             let once = space.swap_alts(p, x, y);
-            assert_eq!(rt; space.swap_alts(once, x, y), p, "profile {p}");
+            assert!(rt; space.swap_alts(once, x, y) == p);
         }
     }
 }
@@ -203,12 +203,12 @@ fn fewer_ballots(rt: HostRuntime) {
     let space = domain(&rt, 3, 3, 45, false);
     assert!(rt; space.count() == 64);
     assert!(rt; space.ballots() == 4);
-    assert_eq!(rt; space.ballot_text(2).bytes(), b"bca".as_slice());
-    assert_eq!(rt; space.read_ballot(b"bca"), Some(2));
-    assert_eq!(rt; space.read_ballot(b"acb"), None);
-    assert_eq!(rt; space.profile_text(27).bytes(), b"bac|bca|cba".as_slice());
-    assert_eq!(rt; space.read_profile(b"bac|bca|cba"), Ok(27));
-    assert_eq!(rt; space.read_profile(b"bac|acb|cba"), Err(NotAProfile));
+    assert!(rt; space.ballot_text(2).bytes() == b"bca".as_slice());
+    assert!(rt; space.read_ballot(b"bca") == Some(2));
+    assert!(rt; space.read_ballot(b"acb") == None);
+    assert!(rt; space.profile_text(27).bytes() == b"bac|bca|cba".as_slice());
+    assert!(rt; space.read_profile(b"bac|bca|cba") == Ok(27));
+    assert!(rt; space.read_profile(b"bac|acb|cba") == Err(NotAProfile));
 }
 
 // At bac|bca|cba all have b above a, and the second and third have c above a.
@@ -230,10 +230,10 @@ fn absence_is_a_cast(rt: HostRuntime) {
     assert!(rt; space.count() == 8);
     for p in 0..space.count() {
         let text = space.profile_text(p);
-        assert_eq!(rt; space.read_profile(text.bytes()), Ok(p), "profile {p}");
+        assert!(rt; space.read_profile(text.bytes()) == Ok(p));
     }
-    assert_eq!(rt; space.profile_text(2).bytes(), b"ab|-".as_slice());
-    assert_eq!(rt; space.read_profile(b"-|-"), Err(NotAProfile));
+    assert!(rt; space.profile_text(2).bytes() == b"ab|-".as_slice());
+    assert!(rt; space.read_profile(b"-|-") == Err(NotAProfile));
 }
 
 #[test]
@@ -244,10 +244,10 @@ fn changes_with_an_absent_voter(rt: HostRuntime) {
     assert!(rt; space.size().alternatives() == 2);
     assert!(rt; space.size().has_all_ballots());
     assert!(rt; space.ballots() == 2);
-    assert_eq!(rt; space.ballot_of(2, 1), 2);
-    assert_eq!(rt; space.swap_voters(2, 0, 1), 6, "-|ab");
-    assert_eq!(rt; space.with(2, 1, 1), 1, "ab|ba");
-    assert_eq!(rt; space.swap_alts(2, 0, 1), 5, "ba|-");
+    assert!(rt; space.ballot_of(2, 1) == 2);
+    assert!(rt; space.swap_voters(2, 0, 1) == 6); // -|ab
+    assert!(rt; space.with(2, 1, 1) == 1); // ab|ba
+    assert!(rt; space.swap_alts(2, 0, 1) == 5); // ba|-
 }
 
 // At ab|- the voter who is there decides.
@@ -271,11 +271,11 @@ fn one_ballot(rt: HostRuntime) {
     assert!(rt; space.count() == 1);
     assert!(rt; space.ballots() == 1);
     assert!(rt; space.size().alternatives() == 2);
-    assert_eq!(rt; space.ballot_text(0).bytes(), b"ba".as_slice());
-    assert_eq!(rt; space.read_ballot(b"ba"), Some(0));
-    assert_eq!(rt; space.read_ballot(b"ab"), None);
-    assert_eq!(rt; space.profile_text(0).bytes(), b"ba|ba".as_slice());
-    assert_eq!(rt; space.read_profile(b"ba|ba"), Ok(0));
+    assert!(rt; space.ballot_text(0).bytes() == b"ba".as_slice());
+    assert!(rt; space.read_ballot(b"ba") == Some(0));
+    assert!(rt; space.read_ballot(b"ab") == None);
+    assert!(rt; space.profile_text(0).bytes() == b"ba|ba".as_slice());
+    assert!(rt; space.read_profile(b"ba|ba") == Ok(0));
     assert!(rt; space.better(0, 1, 0));
     assert!(rt; !space.better(0, 0, 1));
     assert!(rt; space.majority(1, 0, 0));
@@ -305,8 +305,8 @@ fn each_text_has_its_number(rt: &impl Abort, space: &Space, texts: &[&[u8]]) {
     let mut p = 0;
     for text in texts {
         assert!(rt; p < space.count());
-        assert_eq!(rt; space.profile_text(p).bytes(), *text, "profile {p}");
-        assert_eq!(rt; space.read_profile(text), Ok(p), "profile {p}");
+        assert!(rt; space.profile_text(p).bytes() == *text);
+        assert!(rt; space.read_profile(text) == Ok(p));
         p += 1;
     }
 }
@@ -332,7 +332,7 @@ fn refusals_of_a_domain(rt: HostRuntime) {
     ];
     for (ballots, absent, text) in rows {
         let space = domain(&rt, 2, 2, ballots, absent);
-        assert_eq!(rt; space.read_profile(text), Err(NotAProfile));
+        assert!(rt; space.read_profile(text) == Err(NotAProfile));
     }
 }
 
@@ -349,11 +349,11 @@ fn every_number_of_a_domain_is_that_of_its_text(rt: HostRuntime) {
         let space = domain(&rt, voters, alternatives, ballots, absent);
         for p in 0..space.count() {
             let text = space.profile_text(p);
-            assert_eq!(rt; space.read_profile(text.bytes()), Ok(p), "profile {p}");
+            assert!(rt; space.read_profile(text.bytes()) == Ok(p));
         }
         for b in 0..space.ballots() {
             let text = space.ballot_text(b);
-            assert_eq!(rt; space.read_ballot(text.bytes()), Some(b), "ballot {b}");
+            assert!(rt; space.read_ballot(text.bytes()) == Some(b));
         }
     }
 }
@@ -370,7 +370,7 @@ fn votes_around_an_absent_voter(rt: HostRuntime) {
     assert!(rt; space.count() == 124);
     assert!(rt; space.size().voters() == 3);
     assert!(rt; space.size().alternatives() == 3);
-    assert_eq!(rt; space.profile_text(73).bytes(), b"bca|-|cba".as_slice());
+    assert!(rt; space.profile_text(73).bytes() == b"bca|-|cba".as_slice());
     // x, y, whether voter 1, voter 2, voter 3 and the majority have x above y
     let rows = [
         (0, 1, false, false, false),
@@ -383,10 +383,10 @@ fn votes_around_an_absent_voter(rt: HostRuntime) {
     for (x, y, first, third, most) in rows {
         assert!(rt; x < 3);
         assert!(rt; y < 3);
-        assert_eq!(rt; space.prefers(0, x, y, 73), first, "{x} above {y}");
-        assert!(rt; !space.prefers(1, x, y, 73), "{x} above {y}");
-        assert_eq!(rt; space.prefers(2, x, y, 73), third, "{x} above {y}");
-        assert_eq!(rt; space.majority(x, y, 73), most, "{x} above {y}");
+        assert!(rt; space.prefers(0, x, y, 73) == first);
+        assert!(rt; !space.prefers(1, x, y, 73));
+        assert!(rt; space.prefers(2, x, y, 73) == third);
+        assert!(rt; space.majority(x, y, 73) == most);
     }
 }
 
@@ -399,13 +399,13 @@ fn casts_around_an_absent_voter(rt: HostRuntime) {
     assert!(rt; space.casts(0, 2, 73));
     assert!(rt; space.casts(2, 3, 73));
     for b in 0..4 {
-        assert!(rt; !space.casts(1, b, 73), "ballot {b}");
+        assert!(rt; !space.casts(1, b, 73));
     }
-    assert_eq!(rt; space.ballot_of(73, 1), 4, "absent");
-    assert_eq!(rt; space.with(73, 1, 0), 53, "bca|abc|cba");
-    assert_eq!(rt; space.with(73, 2, 1), 71, "bca|-|bac");
-    assert_eq!(rt; space.swap_voters(73, 0, 1), 113, "-|bca|cba");
-    assert_eq!(rt; space.swap_voters(73, 2, 0), 97, "cba|-|bca");
+    assert!(rt; space.ballot_of(73, 1) == 4); // absent
+    assert!(rt; space.with(73, 1, 0) == 53); // bca|abc|cba
+    assert!(rt; space.with(73, 2, 1) == 71); // bca|-|bac
+    assert!(rt; space.swap_voters(73, 0, 1) == 113); // -|bca|cba
+    assert!(rt; space.swap_voters(73, 2, 0) == 97); // cba|-|bca
 }
 
 // At abc|-|- the one voter who is there is a majority, and two absent voters exchange nothing.
@@ -415,11 +415,11 @@ fn one_voter_of_three_is_there(rt: HostRuntime) {
     assert!(rt; space.count() == 124);
     assert!(rt; space.size().voters() == 3);
     assert!(rt; space.size().alternatives() == 3);
-    assert_eq!(rt; space.profile_text(24).bytes(), b"abc|-|-".as_slice());
+    assert!(rt; space.profile_text(24).bytes() == b"abc|-|-".as_slice());
     assert!(rt; space.majority(0, 2, 24));
     assert!(rt; !space.majority(2, 0, 24));
-    assert_eq!(rt; space.swap_voters(24, 1, 2), 24);
-    assert_eq!(rt; space.swap_voters(24, 0, 2), 120, "-|-|abc");
+    assert!(rt; space.swap_voters(24, 1, 2) == 24);
+    assert!(rt; space.swap_voters(24, 0, 2) == 120); // -|-|abc
 }
 
 // Whatever a size's ballots are: among all rankings acb has place 1 and cab place 4.
@@ -427,14 +427,14 @@ fn one_voter_of_three_is_there(rt: HostRuntime) {
 fn rankings_by_place(rt: HostRuntime) {
     for (alternatives, count) in [(0, 1), (1, 1), (2, 2), (3, 6), (4, 24), (5, 120)] {
         assert!(rt; alternatives <= 5);
-        assert_eq!(rt; ranking_count(alternatives), count);
+        assert!(rt; ranking_count(alternatives) == count);
     }
-    assert_eq!(rt; place_of(3, b"acb"), Some(1));
-    assert_eq!(rt; place_of(3, b"cab"), Some(4));
-    assert_eq!(rt; place_of(3, b"caa"), None);
-    assert_eq!(rt; place_of(4, b"cab"), None);
-    assert_eq!(rt; ranking_text(3, 4).bytes(), b"cab".as_slice());
-    assert_eq!(rt; ranking_text(4, 6).bytes(), b"bacd".as_slice());
+    assert!(rt; place_of(3, b"acb") == Some(1));
+    assert!(rt; place_of(3, b"cab") == Some(4));
+    assert!(rt; place_of(3, b"caa") == None);
+    assert!(rt; place_of(4, b"cab") == None);
+    assert!(rt; ranking_text(3, 4).bytes() == b"cab".as_slice());
+    assert!(rt; ranking_text(4, 6).bytes() == b"bacd".as_slice());
     assert!(rt; is_above(3, 4, 2, 0));
     assert!(rt; !is_above(3, 4, 1, 0));
     assert!(rt; !is_above(3, 4, 0, 0));
