@@ -161,6 +161,8 @@ fn restart_if_due(restarts: &mut Restarts, trail: &mut Trail, order: &mut Order,
     ensures restarted { Restarted restarts.old restarts.new trail.old trail.new }
     ensures form { IsTrail trail.new }
     ensures all { HasAll trail.new order.new variables }
+    ensures activity { order.new.activity ≡ order.old.activity }
+    ensures signs { KeepsSigns trail.old trail.new.level order.new }
 {
     if !restarts.is_due() {
         return;
@@ -173,6 +175,8 @@ fn choose(trail: &Trail, order: &mut Order, variables: u32) -> Option<Lit>
     requires few { variables < 2 ^ 31 }
     requires all { HasAll trail.now order.old variables }
     ensures variables { length order.new.places ≡ variables }
+    ensures activity { order.new.activity ≡ order.old.activity }
+    ensures signs { order.new.phases ≡ order.old.phases }
     ensures some { IfSome result
         (λ l. (1 ≤ l.variable) × (l.variable ≤ variables) × IsUnassigned (known trail.now) l) }
     ensures first { IfSome result (λ l. IsChosen trail.now order.old variables (l.variable - 1)) }
@@ -258,6 +262,8 @@ fn descend(trail: &mut Trail, order: &mut Order, variables: u32) -> Option<u32>
     requires form { IsTrail trail.old }
     requires rests { RestsBelow trail.old }
     ensures all { IfSome result (λ k. HasAll trail.new order.new variables) }
+    ensures activity { order.new.activity ≡ order.old.activity }
+    ensures signs { order.new.phases ≡ order.old.phases }
     ensures descends { Descends trail.old trail.new }
     ensures conflict { IfSome result
         (λ k. (k < length trail.new.clauses) ×
@@ -360,6 +366,7 @@ fn learn(
     ensures raised { OnOk result
         (order.new.activity ≡ raised_by order.old.activity
         (clause_at trail.new (length trail.old.clauses))) }
+    ensures signs { OnOk result (KeepsSigns trail.old trail.new.level order.new) }
     ensures seen { OnOk result (length seen.new ≡ variables) }
     ensures searching { OnOk result (IsSearching clauses.now.clauses variables trail.new lines.new) }
     ensures one_more { OnOk result (length lines.new ≡ length lines.old + 1) }
