@@ -1,19 +1,17 @@
 //! The decision of a study, and the reduction of a given proof.
 
-ghost use Rattle.std.specs.Prelude.{◌≡◌, ◌<◌, ◌≤◌, ◌-◌, ◌^◌, length, IfOk, IsTrue};
+ghost use Rattle.std.specs.Prelude.{◌≡◌, ◌<◌, ◌-◌, ◌^◌, length, IfOk, IsTrue};
 ghost use Rattle.cnf.specs.Derived.{IsAccepted};
 ghost use Rattle.cnf.specs.Fresh.{AreOver};
 ghost use Rattle.meaning.specs.Cores.{is_core_from};
 ghost use Rattle.meaning.specs.Laws.{clauses_for};
 ghost use Rattle.meaning.specs.StudyClauses.{study_clauses};
 ghost use Rattle.meaning.specs.Variables.{variable_count};
-ghost use Rattle.std.specs.List.{AllByRecursion};
-ghost use Rattle.search_logs.specs.Spent.{all_places, IsSpentLog};
-ghost use Rattle.core_reduce.specs.Answers.{IsAnswer, IsReduced, IsRefutation};
+ghost use Rattle.search_logs.specs.Spent.{all_places};
+ghost use Rattle.core_reduce.specs.Answers.{IsAnswer, IsReduced};
 ghost use Rattle.core_reduce.specs.Reducing.{IsReducing, IsFrom};
-ghost use Rattle.vocab.specs.Size.{HasOutcomes};
 
-use crate::answers::{Answer, Finding, Reduced, Refutation};
+use crate::answers::{Answer, Finding, Reduced};
 use crate::leaving::places_kept;
 use crate::needs::{Focus, focus_on};
 use crate::reduction::{Reduction, search, step};
@@ -22,22 +20,10 @@ use cdcl::Search;
 use clause_form::Ground;
 use cnf::Derivation;
 use lists::{Items, NoMemory};
-use meaning::{Witness, Witnesses};
 use outcomes::{OutcomeKind, laws};
 use search_logs::{SearchLog, all_places};
 use std::alloc::Global;
 use vocab::{Places, Study};
-
-/// A list of the witnesses.
-fn listed(alloc: Global, witnesses: Vec<Witness>) -> Result<Witnesses, NoMemory>
-    ensures { IfOk result (λ list. list ≡ witnesses.items) }
-{
-    let mut list = Items::new(alloc);
-    for witness in witnesses {
-        list.push(witness)?;
-    }
-    Ok(list)
-}
 
 /// The axioms that a proof needs, before any search.
 fn start(
@@ -70,35 +56,6 @@ fn start(
     })
 }
 
-/// The refutation of a reduction that has a witness for each axiom of its core.
-fn finish(alloc: Global, study: &Study, reduction: Reduction) -> Result<Reduced, NoMemory>
-    requires reducing { IsReducing study.now reduction }
-    requires whole { length reduction.core ≤ length reduction.witnesses.items }
-    requires known { HasOutcomes study.now.size.kind }
-    ensures refutation { IfOk result (λ r. IsRefutation study.now r.logs r.refutation) }
-    ensures logs { IfOk result (λ r. AllByRecursion (IsSpentLog study.now) r.logs) }
-    ensures core { IfOk result (λ r. r.refutation.core ≡ reduction.core) }
-{
-    let _axioms = study.axioms();
-    let Reduction {
-        core,
-        clauses,
-        proof,
-        witnesses,
-        logs,
-    } = reduction;
-    let list = listed(alloc, witnesses)?;
-    Ok(Reduced {
-        refutation: Refutation {
-            core,
-            clauses,
-            proof,
-            witnesses: list,
-        },
-        logs,
-    })
-}
-
 /// Reduces a refutation of the clauses of the chosen axioms, whoever found it, to a core with a witness for each axiom: each axiom
 /// of the core is one of the chosen, and a hint of `proof` names a clause of it. What `proof` does not need plays no part. One axiom
 /// after the other is left out, in the order of the study, and a search goes over the clauses of the rest; where it spends the
@@ -126,7 +83,7 @@ pub fn reduce<K: OutcomeKind>(
     while reduction.witnesses.as_slice().len() < reduction.core.as_slice().len() {
         reduction = step(alloc, kind, study, reduction)?;
     }
-    let reduced = finish(alloc, study, reduction)?;
+    let reduced = reduction.finish(alloc, study)?;
     Ok(reduced)
 }
 

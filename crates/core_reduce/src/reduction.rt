@@ -1,6 +1,8 @@
 //! The reduction of a refutation to a core.
 
-ghost use Rattle.std.specs.Prelude.{◌≡◌, ◌<◌, ◌-◌, ◌^◌, length, IfOk, IsTrue};
+ghost use Rattle.std.specs.Prelude.{◌≡◌, ◌<◌, ◌≤◌, ◌-◌, ◌^◌, length, IfOk, IsTrue};
+ghost use Rattle.std.specs.List.{AllByRecursion};
+ghost use Rattle.vocab.specs.Size.{HasOutcomes};
 ghost use Rattle.cnf.specs.Derived.{IsAccepted};
 ghost use Rattle.cnf.specs.Fresh.{AreOver, IsSpent};
 ghost use Rattle.cdcl.specs.Answer.{Answers};
@@ -9,8 +11,11 @@ ghost use Rattle.meaning.specs.StudyClauses.{study_clauses};
 ghost use Rattle.meaning.specs.Truth.{satisfies};
 ghost use Rattle.meaning.specs.Variables.{variable_count};
 ghost use Rattle.clause_form.specs.Sources.{clauses_in};
+ghost use Rattle.search_logs.specs.Spent.{IsSpentLog};
+ghost use Rattle.core_reduce.specs.Answers.{IsRefutation};
 ghost use Rattle.core_reduce.specs.Reducing.{others, next_open, IsReducing, IsNext};
 
+use crate::answers::{Reduced, Refutation};
 use crate::leaving::{leave_out, marks_kept, places_kept};
 use crate::needs::{Focus, focus_on};
 use crate::rests::rest_of;
@@ -18,8 +23,8 @@ use crate::tables::rule_of;
 use cdcl::{Search, solve};
 use clause_form::Ground;
 use cnf::Derivation;
-use lists::NoMemory;
-use meaning::Witness;
+use lists::{Items, NoMemory};
+use meaning::{Witness, Witnesses};
 use outcomes::OutcomeKind;
 use search_logs::{Logs, SearchLog};
 use std::alloc::Global;
@@ -27,13 +32,25 @@ use vocab::{Places, Study, Table};
 
 /// A core that is being reduced: its clauses, a proof over them, the witnesses of its first axioms, and the searches that spent
 /// their limit.
-#[derive(Drop)]
 pub struct Reduction {
     pub core: Places,
     pub clauses: Ground,
     pub proof: Derivation,
     pub witnesses: Vec<Witness>,
     pub logs: Logs,
+}
+
+/// Written out, so that letting go of a reduction is one call.
+impl Drop for Reduction {
+    fn drop(self) {
+        let Reduction {
+            core: _,
+            clauses: _,
+            proof: _,
+            witnesses: _,
+            logs: _,
+        } = self;
+    }
 }
 
 /// The number of variables of a study of a kind.
@@ -99,46 +116,88 @@ fn with_mark(
     Ok(reduction)
 }
 
-/// The core without its first axiom that has no witness, and without those that a refutation of the rest does not need.
-fn without(
-    alloc: Global,
-    study: &Study,
-    reduction: Reduction,
-    clauses: &Ground,
-    lines: &Derivation,
-    k: u32,
-) -> Result<Reduction, NoMemory>
-    requires reducing { IsReducing study.now reduction }
-    requires open { length reduction.witnesses.items < length reduction.core }
-    requires k { k ≡ next_open reduction }
-    requires clauses { clauses.now ≡ study_clauses study.now.size study.now.axioms (others k reduction.core) }
-    requires accepted { IsAccepted (clauses_in clauses.now) lines.now }
-    requires over { AreOver (variable_count study.now.size) lines.now }
-    requires few { length lines.now < 2 ^ 32 - 1 }
-    ensures { IfOk result (IsNext study.now reduction) }
+/// A list of the witnesses.
+fn listed(alloc: Global, witnesses: Vec<Witness>) -> Result<Witnesses, NoMemory>
+    ensures { IfOk result (λ list. list ≡ witnesses.items) }
 {
-    let Reduction {
-        core: before,
-        clauses: _,
-        proof: _,
-        witnesses,
-        logs,
-    } = reduction;
-    let Focus {
-        mut gone,
-        clauses: left,
-        proof,
-    } = focus_on(alloc, clauses, lines, study.axioms().len())?;
-    leave_out(&mut gone, k);
-    let core = places_kept(alloc, before.as_slice(), gone.as_slice())?;
-    let marks = marks_kept(alloc, before.as_slice(), witnesses, gone.as_slice())?;
-    Ok(Reduction {
-        core,
-        clauses: left,
-        proof,
-        witnesses: marks,
-        logs,
-    })
+    let mut list = Items::new(alloc);
+    for witness in witnesses {
+        list.push(witness)?;
+    }
+    Ok(list)
+}
+
+impl Reduction {
+    /// The core without its first axiom that has no witness, and without those that a refutation of the rest does not need.
+    fn without(
+        self,
+        alloc: Global,
+        study: &Study,
+        clauses: &Ground,
+        lines: &Derivation,
+        k: u32,
+    ) -> Result<Reduction, NoMemory>
+        requires reducing { IsReducing study.now self }
+        requires open { length self.witnesses.items < length self.core }
+        requires k { k ≡ next_open self }
+        requires clauses { clauses.now ≡ study_clauses study.now.size study.now.axioms (others k self.core) }
+        requires accepted { IsAccepted (clauses_in clauses.now) lines.now }
+        requires over { AreOver (variable_count study.now.size) lines.now }
+        requires few { length lines.now < 2 ^ 32 - 1 }
+        ensures { IfOk result (IsNext study.now self) }
+    {
+        let Reduction {
+            core: before,
+            clauses: _,
+            proof: _,
+            witnesses,
+            logs,
+        } = self;
+        let Focus {
+            mut gone,
+            clauses: left,
+            proof,
+        } = focus_on(alloc, clauses, lines, study.axioms().len())?;
+        leave_out(&mut gone, k);
+        let core = places_kept(alloc, before.as_slice(), gone.as_slice())?;
+        let marks = marks_kept(alloc, before.as_slice(), witnesses, gone.as_slice())?;
+        Ok(Reduction {
+            core,
+            clauses: left,
+            proof,
+            witnesses: marks,
+            logs,
+        })
+    }
+
+    /// The refutation of a reduction that has a witness for each axiom of its core.
+    pub fn finish(self, alloc: Global, study: &Study) -> Result<Reduced, NoMemory>
+        requires reducing { IsReducing study.now self }
+        requires whole { length self.core ≤ length self.witnesses.items }
+        requires known { HasOutcomes study.now.size.kind }
+        ensures refutation { IfOk result (λ r. IsRefutation study.now r.logs r.refutation) }
+        ensures logs { IfOk result (λ r. AllByRecursion (IsSpentLog study.now) r.logs) }
+        ensures core { IfOk result (λ r. r.refutation.core ≡ self.core) }
+    {
+        let _axioms = study.axioms();
+        let Reduction {
+            core,
+            clauses,
+            proof,
+            witnesses,
+            logs,
+        } = self;
+        let list = listed(alloc, witnesses)?;
+        Ok(Reduced {
+            refutation: Refutation {
+                core,
+                clauses,
+                proof,
+                witnesses: list,
+            },
+            logs,
+        })
+    }
 }
 
 /// The first axiom of the core that has no witness.
@@ -168,7 +227,7 @@ pub fn step<K: OutcomeKind>(
             let table = rule_of(alloc, kind, study, &rest.places, &bits)?;
             with_rule(study, reduction, table)
         }
-        Search::Refuted(lines) => without(alloc, study, reduction, &rest.clauses, &lines, k),
-        Search::Spent(lines) => with_mark(study, reduction, rest.places, lines),
+        Search::Refuted(lines) => reduction.without(alloc, study, &rest.clauses, &lines, k),
+        Search::Spent(lines) => with_mark(study, reduction, rest.into_places(), lines),
     }
 }

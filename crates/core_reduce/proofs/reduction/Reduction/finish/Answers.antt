@@ -10,12 +10,12 @@ use Rattle.meaning.specs.Cores.{is_core_right}
 use Rattle.clause_form.specs.Sources.{clauses_in}
 use Rattle.search_logs.specs.Spent.{HaveEvidence}
 use Rattle.core_reduce.proofs.FinishLaws.{marked_right, marked_evidence, no_rule_satisfies}
-use Rattle.core_reduce.proofs.deciding.finish.Goals as goal
+use Rattle.core_reduce.proofs.reduction.Reduction.finish.Goals as goal
 
 pub returns-clause-refutation : goal.returns-clause-refutation
 returns-clause-refutation c =
     let s = c.args.study.now in
-    let r = c.args.reduction in
+    let r = c.args.self in
     let h = c.requires.reducing in
     let cs : List Clause = clauses_for s.size s.axioms r.core in
     let trimmed : is_trimmed cs r.proof ≡ true = subst (λ (xs : List Clause). is_trimmed xs r.proof ≡ true) (ap clauses_in h.clauses) h.trimmed in

@@ -11,18 +11,18 @@ use Rattle.clause_form.proofs.RestLaws.{rest_is_ground}
 use Rattle.core_reduce.specs.Kept.{keeps}
 use Rattle.core_reduce.specs.Reducing.{kept_marks, others, next_open, AreMarked}
 use Rattle.core_reduce.proofs.CoreLaws.{all-filter, core-filter, filter-others, marked_part, marks_fewer, place_in_range}
-use Rattle.core_reduce.proofs.reduction.without.Goals as goal
+use Rattle.core_reduce.proofs.reduction.Reduction.without.Goals as goal
 
 pub leave_out-requires : goal.leave_out-requires
 leave_out-requires c =
-    let in_k = place_in_range (length c.args.study.now.axioms) c.args.reduction.core (length c.args.reduction.witnesses.items) c.requires.reducing.core c.requires.open in
+    let in_k = place_in_range (length c.args.study.now.axioms) c.args.self.core (length c.args.self.witnesses.items) c.requires.reducing.core c.requires.open in
     let n = c.len.ensures ∙ ap length c.axioms.ensures.axioms in
     omega (arith, in_k, c.requires.k, n, c.in_ok-gone.ensures.flags)
 
 pub returns : goal.returns
 returns c =
     let s = c.args.study.now in
-    let r = c.args.reduction in
+    let r = c.args.self in
     let h = c.requires.reducing in
     let ws : List Witness = r.witnesses.items in
     let focus = c.in_ok-gone.ensures in
