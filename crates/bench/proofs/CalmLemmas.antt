@@ -1,5 +1,5 @@
 -- Calls over devices that count no fault.
-use Rattle.std.proofs.Common.{◌≡◌, ◌≢◌, ◌∙◌, sym, ap, subst, ℕ, ◌≤◌, List, arith}
+use Rattle.std.proofs.Common.{◌≡◌, subst, ℕ, List, arith}
 use Rattle.edge.specs.Faults.{Rose}
 use Rattle.words.specs.Words.{request_of}
 use Rattle.answers.specs.declared.runs.Run.{Run}

@@ -1,13 +1,3 @@
 -- In proof order.
-mod AnswerLemmas
-mod OpenLemmas
-mod StudyLemmas
-mod PairLemmas
-mod CheckLemmas
-mod ClauseLemmas
-mod DecideLemmas
-mod ProofLemmas
-mod LratLemmas
-mod SampleLemmas
-mod AdoptionLemmas
+mod CallLemmas
 mod CalmLemmas

@@ -1,17 +1,6 @@
 //! A theorem bench for social choice: decides whether a rule satisfies axioms, tells why none does, and checks reports of both.
 #![tactic(auto)]
 
-mod adoption;
-mod answer;
-mod check;
-mod decide;
-mod derivations;
-mod export;
-mod grounds;
-mod lrat;
-mod proof;
-mod sample;
-mod studies;
 mod top;
 
 use edge::{FileShelf, Open, StdSink};

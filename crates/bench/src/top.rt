@@ -3,18 +3,18 @@
 ghost use Rattle.std.specs.Prelude.{◌≢◌, None};
 ghost use Rattle.words.specs.Words.{texts, request_of};
 ghost use Rattle.answers.specs.Call.{IsCall};
-ghost use Rattle.bench.specs.Answered.{Answers};
+ghost use Rattle.command_parts.specs.Answered.{Answers};
 
-use crate::adoption::adopt;
-use crate::answer::{Answer, Stop};
-use crate::check::check;
-use crate::decide::decide;
-use crate::export::export;
-use crate::lrat::lrat;
-use crate::proof::proof;
-use crate::sample::sample;
 use answers::{Run, laws};
+use check_commands::check::check;
+use check_commands::lrat::lrat;
+use command_parts::{Answer, Stop};
 use edge::{CalmShelf, CalmSink, Failed, Gate, Shelf, Sink};
+use search_commands::adoption::adopt;
+use search_commands::decide::decide;
+use search_commands::export::export;
+use search_commands::proof::proof;
+use search_commands::sample::sample;
 use std::alloc::Global;
 use std::thread::Threads;
 use texts::write_text;

@@ -1,6 +1,6 @@
 use Rattle.std.proofs.Common.{refl}
 use Rattle.words.specs.Words.{texts}
-use Rattle.bench.proofs.AnswerLemmas.{unread, cut}
+use Rattle.bench.proofs.CallLemmas.{unread, cut}
 use Rattle.bench.proofs.top.bench.Goals as goal
 
 pub returns-in-Err-ReadFault : goal.returns-in-Err-ReadFault

@@ -1,0 +1,125 @@
+-- From the answer of a command to the promises of a call.
+use Rattle.std.proofs.Common.{◌≡◌, ◌≢◌, ◌∙◌, sym, refl, subst, ℕ, ◌≤◌, inl, inr, cond, Bool, true, false, ◌||◌, List, [], ◌∷◌, take, Option, None, Some, Result, Ok, Err, arith}
+use Rattle.std.specs.Prelude.{◌==◌, IsTrue, IsFalse}
+use Rattle.std.specs.List.{list_any}
+use Rattle.std.specs.Str.{bytes_eq}
+use Rattle.std.specs.Io.KnownBytes.{Appends, Keeps}
+use Rattle.edge.specs.Shelf.{Files}
+use Rattle.edge.specs.Faults.{Rose}
+use Rattle.edge.specs.Told.{AppendsPrefix}
+use Rattle.vocab.specs.declared.kinds.Kind.{Kind}
+use Rattle.words.specs.Words.{Request, Decide, Check, Export, Proof, Lrat, Axioms, Sample, Adopt, request_of}
+use Rattle.answers.specs.declared.runs.Run.{Run}
+use Rattle.answers.specs.Runs.{IsBare, with_status}
+use Rattle.answers.specs.Devices.{Devices}
+use Rattle.answers.specs.Call.{IsCall, HasReadCause, files_of, statuses_of, touched_at}
+use Rattle.command_parts.specs.declared.answer.Answer.{Answer}
+use Rattle.command_parts.specs.declared.answer.Answer.TheVariants.{Usage, Library}
+use Rattle.command_parts.specs.declared.answer.Stop.{Stop}
+use Rattle.command_parts.specs.declared.answer.Stop.TheVariants as stop
+use Rattle.command_parts.specs.Answers.{run_of, status_of, text_of}
+use Rattle.command_parts.specs.Answered.{Answers}
+use Rattle.command_parts.proofs.AnswerLemmas.{bare_answer}
+
+-- ---- commands
+
+-- the text of each command may be cut short
+pub may_be_cut : (request : Option Request) → IsTrue (list_any (λ n. n == 6) (statuses_of request))
+may_be_cut None = refl
+may_be_cut (Some (Check study report workers)) = refl
+may_be_cut (Some (Axioms kind)) = refl
+may_be_cut (Some (Decide study workers)) = refl
+may_be_cut (Some (Export study workers)) = refl
+may_be_cut (Some (Proof study workers)) = refl
+may_be_cut (Some (Lrat cnf proof)) = refl
+may_be_cut (Some (Sample number)) = refl
+may_be_cut (Some (Adopt study proof workers)) = refl
+
+module _ (request : Option Request) (told : Option Files) (left : Files) (faults : List ℕ → ℕ) where
+  -- the library, for the words that ask for it
+  pub library_answer : (kind : Kind) → request ≡ Some (Axioms kind) → Answers request told left left faults faults (Ok (Library kind))
+  library_answer kind asked =
+      subst (λ (r : Option Request). Answers r told left left faults faults (Ok (Library kind))) (sym asked)
+      (bare_answer (Some (Axioms kind)) told left faults (Library kind) (omega arith) tt refl (λ files. (record { ends = refl; no_verdict = refl; no_logs = refl }, refl)))
+
+  -- the usage line, for words that are no command
+  pub usage_answer : request ≡ None → Answers request told left left faults faults (Ok Usage)
+  usage_answer asked =
+      subst (λ (r : Option Request). Answers r told left left faults faults (Ok Usage)) (sym asked)
+      (bare_answer None told left faults Usage (omega arith) tt refl (λ files. (record { ends = refl; no_verdict = refl; no_logs = refl }, refl)))
+
+-- ---- calls
+
+not_in_front : (test : List ℕ → Bool) (s : ℕ) (names : List (List ℕ)) → list_any test names ≡ false → list_any test (touched_at s names) ≡ false
+not_in_front test s names free = by_status (s == 3) names free
+  where
+    first_alone : (names : List (List ℕ)) → list_any test names ≡ false → list_any test (take 1 names) ≡ false
+    first_alone [] free = refl
+    first_alone (name ∷ names) free = one (test name) (list_any test names) free
+      where
+        one : (a b : Bool) → (a || b) ≡ false → (a || false) ≡ false
+        one true b e = e
+        one false b e = refl
+
+    by_status : (b : Bool) (names : List (List ℕ)) → list_any test names ≡ false → list_any test (cond b (take 1 names) names) ≡ false
+    by_status true names free = first_alone names free
+    by_status false names free = free
+
+keeps : (o : Option (List ℕ)) → Keeps o o
+keeps None = tt
+keeps (Some xs) = refl
+
+module _ (words : List (List ℕ)) (d : Devices) where
+  abbrev Held : Result Answer Stop → Type 0
+  Held result = Answers (request_of words) d.told d.left_before d.left_now d.faults_before d.faults_now result
+
+  -- the text was written
+  pub written : (answer : Answer) → Held (Ok answer) → Appends d.taken_before d.taken_now (text_of answer) → IsCall words d (run_of answer)
+  written answer a bytes = record {
+    status = a.status;
+    lawful = λ files h low. record { text = text_of answer; lawful = a.lawful files h; written = bytes };
+    cut_short = λ files h six. absurd (omega (arith, six, a.low));
+    silent = λ e. elim e [ inl five ↦ absurd (omega (arith, five, a.low)) | inr seven ↦ absurd (omega (arith, seven, a.low)) ];
+    read_fault = λ five. absurd (omega (arith, five, a.low));
+    write_fault = λ six. absurd (omega (arith, six, a.low));
+    untouched = a.untouched;
+    uncounted = a.uncounted;
+  }
+
+  -- the front of it was
+  pub cut : (answer : Answer) → Held (Ok answer) → AppendsPrefix d.taken_before d.taken_now (text_of answer) → Rose d.sink_faults_before d.sink_faults_now
+      → IsCall words d (with_status 6 (run_of answer))
+  cut answer a bytes rose = record {
+    status = may_be_cut (request_of words);
+    lawful = λ files h low. absurd (omega (arith, low));
+    cut_short = λ files h six. record { status = status_of answer; text = text_of answer; lawful = a.lawful files h; written = bytes; untouched = a.untouched };
+    silent = λ e. elim e [ inl five ↦ absurd (omega (arith, five)) | inr seven ↦ absurd (omega (arith, seven)) ];
+    read_fault = λ five. absurd (omega (arith, five));
+    write_fault = λ six. rose;
+    untouched = λ name free. a.untouched name (not_in_front (bytes_eq name) (status_of answer) (files_of (request_of words)) free);
+    uncounted = a.uncounted;
+  }
+
+  -- nothing was
+  silent_call : (run : Run) (s : ℕ) → IsBare run s → 5 ≤ s → s ≢ 6 → d.taken_now ≡ d.taken_before → IsTrue (list_any (λ n. n == s) (statuses_of (request_of words)))
+      → (s ≡ 5 → HasReadCause (request_of words) d.told d.left_before d.left_now d.faults_before d.faults_now (files_of (request_of words)))
+      → ((name : List ℕ) → IsFalse (list_any (bytes_eq name) (touched_at s (files_of (request_of words)))) → d.left_now name ≡ d.left_before name)
+      → (files_of (request_of words) ≡ [] → (name : List ℕ) → d.faults_now name ≡ d.faults_before name) → IsCall words d run
+  silent_call run s bare high other same one cause untouched uncounted = record {
+    status = subst (λ (n : ℕ). IsTrue (list_any (λ m. m == n) (statuses_of (request_of words)))) (sym bare.ends) one;
+    lawful = λ files h low. let e = bare.ends in absurd (omega (arith, low, e, high));
+    cut_short = λ files h six. absurd (other (sym bare.ends ∙ six));
+    silent = λ e. record { kept = subst (λ (o : Option (List ℕ)). Keeps d.taken_before o) (sym same) (keeps d.taken_before); no_verdict = bare.no_verdict; no_logs = bare.no_logs };
+    read_fault = λ five. cause (sym bare.ends ∙ five);
+    write_fault = λ six. absurd (other (sym bare.ends ∙ six));
+    untouched = λ name free. untouched name (subst (λ (n : ℕ). IsFalse (list_any (bytes_eq name) (touched_at n (files_of (request_of words))))) bare.ends free);
+    uncounted = uncounted;
+  }
+
+  -- a file could not be read
+  pub unread : (run : Run) → IsBare run 5 → d.taken_now ≡ d.taken_before → Held (Err stop.ReadFault) → IsCall words d run
+  unread run bare same a = silent_call run 5 bare (omega arith) (λ e. absurd (omega (arith, e))) same a.status (λ e. a.read_fault refl) a.untouched a.uncounted
+
+  -- there was no memory for the answer
+  pub wanted : (run : Run) → IsBare run 7 → d.taken_now ≡ d.taken_before → Held (Err stop.NoMemory) → IsCall words d run
+  wanted run bare same a = silent_call run 7 bare (omega arith) (λ e. absurd (omega (arith, e))) same a.status (λ e. absurd (omega (arith, e))) a.untouched a.uncounted

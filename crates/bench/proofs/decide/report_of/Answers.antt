@@ -1,5 +1,0 @@
-use Rattle.bench.proofs.DecideLemmas.{reported_text}
-use Rattle.bench.proofs.decide.report_of.Goals as goal
-
-pub returns-clause-has_text : goal.returns-clause-has_text
-returns-clause-has_text g c = reported_text c.args.study c.args.decision.logs c.in_ok-verdict.verdict c.requires.reportable c.in_ok-verdict.ensures

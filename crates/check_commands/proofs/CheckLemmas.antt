@@ -1,0 +1,77 @@
+-- `check`, from what each part promises to what the command does.
+use Rattle.std.proofs.Common.{◌≡◌, sym, refl, subst, ℕ, ◌≤◌, List, [], ◌∷◌, Option, None, Some, IfSome, Result, Ok, Err, IfOk, arith}
+use Rattle.edge.specs.Shelf.{Files}
+use Rattle.vocab.specs.Study.{Question}
+use Rattle.verdicts.specs.declared.verdicts.Verdict.TheVariants.{Possible, Impossible, Undecided}
+use Rattle.verdicts.specs.Judge.{Judgement, Confirmed, Faulty, TooLong}
+use Rattle.verdicts.specs.Words.{answer_text}
+use Rattle.report_files.specs.declared.files.Worth.{Worth}
+use Rattle.report_files.specs.declared.files.Worth.TheVariants as worth
+use Rattle.report_files.specs.Files.{IsWorth, IsWorthOf}
+use Rattle.words.specs.Words.{Check}
+use Rattle.answers.specs.Studies.{GivesStudy, study_refused, study_given}
+use Rattle.answers.specs.Check.{IsChecked, IsJudged, judgement, status_of as judged_status}
+use Rattle.answers.specs.Call.{AreFiles, are_told, none_read}
+use Rattle.command_parts.specs.declared.answer.Answer.{Answer}
+use Rattle.command_parts.specs.declared.answer.Answer.TheVariants.{Judged}
+use Rattle.command_parts.specs.declared.answer.Stop.{Stop}
+use Rattle.answer_text.specs.Said.{worth_text}
+use Rattle.command_parts.specs.Answers.{run_of, text_of, worth_status}
+use Rattle.command_parts.specs.Opened.{IsRead, Refuses}
+use Rattle.command_parts.proofs.OpenLemmas.{given, if_some}
+use Rattle.command_parts.proofs.PairLemmas.{IsPairCommand}
+
+-- ---- what is said of a report
+
+abbrev SaidAs : Judgement → Worth → Type 0
+SaidAs a w = (worth_status w ≡ judged_status a) × (worth_text w ≡ answer_text a)
+
+-- what is said for what a report is worth is what the judge answers
+by_judgement : (a : Judgement) (w : Worth) → IsWorth a w → SaidAs a w
+by_judgement (Confirmed (Possible table)) w is = subst (λ (x : Worth). SaidAs (Confirmed (Possible table)) x) (sym is) (refl, refl)
+by_judgement (Confirmed (Impossible core story witnesses)) w is = subst (λ (x : Worth). SaidAs (Confirmed (Impossible core story witnesses)) x) (sym is) (refl, refl)
+by_judgement (Confirmed Undecided) w is = absurd is
+by_judgement (Faulty line word) w is = subst (λ (x : Worth). SaidAs (Faulty line word) x) (sym is) (refl, refl)
+by_judgement TooLong w is = subst (λ (x : Worth). SaidAs TooLong x) (sym is) (refl, refl)
+
+-- the judgement of a report in a file that may be told
+pub judged_file : (told : Option Files) (study : Question) (report : List ℕ) (w : Worth) → IfSome told (λ files. IsWorthOf study files report w)
+    → (files : Files) → told ≡ Some files → IsJudged files report study (run_of (Judged w)) (text_of (Judged w))
+judged_file told study report w is files e =
+    let (bytes, held, worth_is) = if_some told (λ files. IsWorthOf study files report w) files is e in
+    let said = by_judgement (judgement study bytes) w worth_is in
+    record { bytes = bytes; held = held; ends = record { ends = said.0; no_verdict = refl; no_logs = refl }; is = said.1 }
+
+-- its status is at most 1
+pub judged_low : (w : Worth) → worth_status w ≤ 1
+judged_low (worth.Confirmed claim) = omega arith
+judged_low (worth.Faulty line word) = omega arith
+judged_low worth.TooLong = omega arith
+
+-- ---- the command
+
+pub check_command : (name report : List ℕ) (workers : ℕ) → IsPairCommand (Some (Check name report workers)) name report
+check_command name report workers = record { two = refl; statuses = refl }
+
+module _ (told : Option Files) (name report : List ℕ) where
+  -- a study that was read is taken
+  pub study_taken : (study : Question) → IsRead told name study → IfSome told (λ files. (study : Question) × GivesStudy files name study)
+  study_taken study read = go told refl
+    where
+      go : (o : Option Files) → told ≡ o → IfSome o (λ files. (study : Question) × GivesStudy files name study)
+      go None e = tt
+      go (Some files) e = (study, given told name study files read e)
+
+  -- the report is judged over it
+  pub judged_rows : (study : Question) (result : Result Answer Stop) → IsRead told name study
+      → IfOk result (λ answer. (files : Files) → told ≡ Some files → IsJudged files report study (run_of answer) (text_of answer))
+      → (files : Files) → AreFiles told (name ∷ report ∷ []) files → IfOk result (λ answer. IsChecked files name report (run_of answer) (text_of answer))
+  judged_rows study (Ok answer) read judged files (are_told e) = study_given study (given told name study files read e) (judged files e)
+  judged_rows study (Ok answer) read judged files (none_read e) = absurd (cc)
+  judged_rows study (Err stop) read judged files h = tt
+
+  -- the study is refused
+  pub refused_row : (answer : Answer) → Refuses told name answer → (files : Files) → AreFiles told (name ∷ report ∷ []) files
+      → IsChecked files name report (run_of answer) (text_of answer)
+  refused_row answer refuses files (are_told e) = study_refused (refuses.line files e) refuses.bare
+  refused_row answer refuses files (none_read e) = absurd (cc)

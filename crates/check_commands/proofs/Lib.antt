@@ -1,0 +1,3 @@
+-- In proof order.
+mod CheckLemmas
+mod LratLemmas

@@ -1,0 +1,2 @@
+-- What a file of clauses gives.
+pub mod Given

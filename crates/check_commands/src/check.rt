@@ -1,0 +1,110 @@
+//! The command `check`: reads a study, and then a report over it.
+
+ghost use Rattle.std.specs.Prelude.{◌≡◌, ◌≤◌, Some, IfSome, IfOk, IsErrOf};
+ghost use Rattle.edge.specs.Faults.{Rose};
+ghost use Rattle.edge.specs.Shelf.{Files, OthersStay};
+ghost use Rattle.vocab.specs.declared.kinds.Kind.TheVariants.{Sets};
+ghost use Rattle.report_files.specs.Files.{IsWorthOf};
+ghost use Rattle.words.specs.Words.{Check};
+ghost use Rattle.answers.specs.Check.{IsJudged};
+ghost use Rattle.command_parts.specs.Answers.{HasText, run_of, status_of, text_of};
+ghost use Rattle.command_parts.specs.Answered.{Answers};
+ghost use Rattle.vocab.specs.Size.{HasOutcomes};
+ghost use Rattle.vocab.specs.Study.{HasFewAxioms};
+
+use command_parts::{Answer, Opened, Stop, open_study};
+use edge::{Gate, Shelf};
+use outcomes::{ChoiceKind, RankingKind};
+use profiles::Space;
+use report_files::{FileFault, Worth, check_file};
+use std::alloc::Global;
+use std::thread::Threads;
+use vocab::{Kind, Study};
+
+/// What a report is worth over a study, by the study's kind.
+fn check_by_kind<R: Threads + Sync, S: Shelf, G: Gate>(
+    rt: &R,
+    alloc: Global,
+    gate: &G,
+    workers: u8,
+    shelf: &mut S,
+    study: &Study,
+    report: &str,
+) -> Result<Worth, FileFault>
+    requires some { 1 ≤ workers }
+    requires few { workers ≤ 16 }
+    requires known { HasOutcomes study.now.size.kind }
+    requires listed { HasFewAxioms study.now }
+    ensures worth { IfSome (S.files shelf.old) (λ files. IfOk result (IsWorthOf study.now files report.now)) }
+    ensures failed { IsErrOf result FileFault.Failed →
+        Rose (S.faults shelf.old report.now) (S.faults shelf.new report.now) }
+    ensures others { OthersStay (S.left shelf.old) (S.left shelf.new) report.now }
+{
+    let space = Space::new(study.size());
+    match study.size().kind() {
+        Kind::Choice => {
+            let kind = ChoiceKind::new(space);
+            check_file(rt, alloc, gate, workers, &kind, study, shelf, report)
+        }
+        Kind::Ranking => {
+            let kind = RankingKind::new(space);
+            check_file(rt, alloc, gate, workers, &kind, study, shelf, report)
+        }
+        Kind::Sets => unreachable!(),
+    }
+}
+
+/// Reads the report and judges it.
+fn judge_report<R: Threads + Sync, S: Shelf, G: Gate>(
+    rt: &R,
+    alloc: Global,
+    gate: &G,
+    workers: u8,
+    shelf: &mut S,
+    study: &Study,
+    report: &str,
+) -> Result<Answer, Stop>
+    requires some { 1 ≤ workers }
+    requires few { workers ≤ 16 }
+    requires known { HasOutcomes study.now.size.kind }
+    requires listed { HasFewAxioms study.now }
+    ensures judged { IfOk result (λ answer. (files : Files) → S.files shelf.old ≡ Some files →
+        IsJudged files report.now study.now (run_of answer) (text_of answer)) }
+    ensures status { IfOk result (λ answer. status_of answer ≤ 1) }
+    ensures has_text { IfOk result HasText }
+    ensures fault { IsErrOf result Stop.ReadFault →
+        Rose (S.faults shelf.old report.now) (S.faults shelf.new report.now) }
+    ensures others { OthersStay (S.left shelf.old) (S.left shelf.new) report.now }
+{
+    match check_by_kind(rt, alloc, gate, workers, shelf, study, report) {
+        Ok(worth) => Ok(Answer::Judged(worth)),
+        Err(FileFault::Failed) => Err(Stop::ReadFault),
+        Err(FileFault::NoMemory) => Err(Stop::NoMemory),
+    }
+}
+
+/// Reads the study, and then the report over it. Where the study is refused, what the shelf has left under the report's name
+/// stays as it was. The axioms of a rule are checked among 1 to 16 workers, which changes no answer; the gate is told of each
+/// piece of that work. Errors: `Stop::ReadFault` where the shelf fails, and `Stop::NoMemory`.
+pub fn check<R: Threads + Sync, S: Shelf, G: Gate>(
+    rt: &R,
+    alloc: Global,
+    gate: &G,
+    workers: u8,
+    shelf: &mut S,
+    study: &str,
+    report: &str,
+) -> Result<Answer, Stop>
+    requires some { 1 ≤ workers }
+    requires few { workers ≤ 16 }
+    ensures { Answers (Some (Check study.now report.now workers)) (S.files shelf.old)
+        (S.left shelf.old) (S.left shelf.new) (S.faults shelf.old) (S.faults shelf.new) result }
+{
+    match open_study(alloc, shelf, study) {
+        Ok(Opened::Study(question)) => judge_report(
+            rt, alloc, gate, workers, shelf, &question, report,
+        ),
+        Ok(Opened::Refused(answer)) => Ok(answer),
+        Err(stop) => Err(stop),
+    }
+}

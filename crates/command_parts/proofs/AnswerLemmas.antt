@@ -1,0 +1,56 @@
+-- What each command promises of its answer, at its simplest.
+use Rattle.std.proofs.Common.{◌≡◌, refl, ℕ, ◌≤◌, List, Option, None, Some, Ok, Err, IsSomeAnd}
+use Rattle.std.specs.Prelude.{◌==◌, IsTrue}
+use Rattle.std.specs.List.{list_any}
+use Rattle.edge.specs.Shelf.{Files}
+use Rattle.words.specs.Words.{Request, Decide, Check, Export, Proof, Lrat, Axioms, Sample, Adopt}
+use Rattle.answers.specs.Lawful.{IsAnswer}
+use Rattle.answers.specs.Call.{statuses_of}
+use Rattle.command_parts.specs.declared.answer.Answer.{Answer}
+use Rattle.command_parts.specs.declared.answer.Stop.TheVariants as stop
+use Rattle.command_parts.specs.Answers.{HasText, run_of, status_of, text_of}
+use Rattle.command_parts.specs.Answered.{Answers}
+
+pub some_and : {A : Type 0} (r : Option A) (P : A → Type 0) → IsSomeAnd r P → (x : A) × (r ≡ Some x) × P x
+some_and None P h = absurd h
+some_and (Some x) P h = (x, refl, h)
+
+-- ---- commands
+
+-- each command may want memory
+pub may_want_memory : (request : Option Request) → IsTrue (list_any (λ n. n == 7) (statuses_of request))
+may_want_memory None = refl
+may_want_memory (Some (Check study report workers)) = refl
+may_want_memory (Some (Axioms kind)) = refl
+may_want_memory (Some (Decide study workers)) = refl
+may_want_memory (Some (Export study workers)) = refl
+may_want_memory (Some (Proof study workers)) = refl
+may_want_memory (Some (Lrat cnf proof)) = refl
+may_want_memory (Some (Sample number)) = refl
+may_want_memory (Some (Adopt study proof workers)) = refl
+
+module _ (request : Option Request) (told : Option Files) (left : Files) (faults : List ℕ → ℕ) where
+  -- want of memory, where the shelf is as it was
+  pub no_memory : Answers request told left left faults faults (Err stop.NoMemory)
+  no_memory = record {
+    lawful = λ files h. tt;
+    status = may_want_memory request;
+    low = tt;
+    has_text = tt;
+    read_fault = λ e. absurd (cc);
+    untouched = λ name free. refl;
+    uncounted = λ none name. refl;
+  }
+
+  -- an answer that read no file
+  pub bare_answer : (answer : Answer) → status_of answer ≤ 4 → HasText answer → IsTrue (list_any (λ s. s == status_of answer) (statuses_of request))
+      → ((files : Files) → IsAnswer request files (run_of answer) (text_of answer)) → Answers request told left left faults faults (Ok answer)
+  bare_answer answer low has_text one lawful = record {
+    lawful = λ files h. lawful files;
+    status = one;
+    low = low;
+    has_text = has_text;
+    read_fault = λ e. absurd (cc);
+    untouched = λ name free. refl;
+    uncounted = λ none name. refl;
+  }

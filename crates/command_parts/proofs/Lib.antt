@@ -1,0 +1,6 @@
+-- In proof order.
+pub mod AnswerLemmas
+pub mod OpenLemmas
+pub mod ProofTextLemmas
+pub mod StudyLemmas
+pub mod PairLemmas

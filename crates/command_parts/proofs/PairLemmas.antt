@@ -1,0 +1,136 @@
+-- Commands over two files, of which the second is read where the first is not refused.
+use Rattle.std.proofs.Common.{◌≡◌, ◌∙◌, sym, refl, subst, ℕ, ◌≤◌, true, false, List, [], ◌∷◌, Option, IfSome, Result, Ok, Err, IfOk, IsErrOf, arith, zero, suc}
+use Rattle.std.specs.Prelude.{◌==◌, IsFalse}
+use Rattle.std.specs.List.{list_any}
+use Rattle.std.specs.Str.{bytes_eq}
+use Rattle.std.proofs.lemmas.Bool.{or_parts}
+use Rattle.edge.specs.Shelf.{Files, OthersStay, NoneFell}
+use Rattle.edge.specs.Faults.{Rose}
+use Rattle.words.specs.Words.{Request}
+use Rattle.answers.specs.Runs.{IsBare}
+use Rattle.answers.specs.Lawful.{IsAnswer}
+use Rattle.answers.specs.Call.{AreFiles, IsFirstTaken, at_first, at_second, files_of, statuses_of, touched_at}
+use Rattle.command_parts.specs.declared.answer.Answer.{Answer}
+use Rattle.command_parts.specs.declared.answer.Stop.{Stop}
+use Rattle.command_parts.specs.declared.answer.Stop.TheVariants as stop
+use Rattle.command_parts.specs.Answers.{HasText, run_of, status_of, text_of}
+use Rattle.command_parts.specs.Answered.{Answers}
+use Rattle.command_parts.proofs.StudyLemmas.{not_first}
+
+-- ---- statuses
+
+abbrev pub pair_statuses : List ℕ
+pair_statuses = 0 ∷ 1 ∷ 3 ∷ 5 ∷ 6 ∷ 7 ∷ []
+
+low_status : (s : ℕ) → s ≤ 1 → list_any (λ n. n == s) pair_statuses ≡ true
+low_status zero low = refl
+low_status (suc zero) low = refl
+low_status (suc (suc s)) low = absurd (omega (arith, low))
+
+-- with a status of at most 1 both files may be touched
+both_touched : (s : ℕ) (names : List (List ℕ)) → s ≤ 1 → touched_at s names ≡ names
+both_touched zero names low = refl
+both_touched (suc zero) names low = refl
+both_touched (suc (suc s)) names low = absurd (omega (arith, low))
+
+rose_since : (a b c : ℕ) → a ≤ b → Rose b c → Rose a c
+rose_since a b c h k = omega arith
+
+-- a command reads these two files, with these statuses
+pub record IsPairCommand (request : Option Request) (name second : List ℕ) : Type 0 where
+  pub two : files_of request ≡ name ∷ second ∷ []
+  pub statuses : statuses_of request ≡ pair_statuses
+
+module _ (request : Option Request) (name second : List ℕ) (command : IsPairCommand request name second)
+    (told : Option Files) (left_before left_middle : Files) (faults_before faults_middle : List ℕ → ℕ) (others : OthersStay left_before left_middle name) where
+  status_is : (s : ℕ) → list_any (λ n. n == s) pair_statuses ≡ true → list_any (λ n. n == s) (statuses_of request) ≡ true
+  status_is s h = subst (λ (ss : List ℕ). list_any (λ n. n == s) ss ≡ true) (sym command.statuses) h
+
+  reads_two : files_of request ≡ [] → ⊥
+  reads_two e = let no : name ∷ second ∷ [] ≡ [] = sym command.two ∙ e in cc
+
+  files_are : (files : Files) → AreFiles told (files_of request) files → AreFiles told (name ∷ second ∷ []) files
+  files_are files h = subst (λ (names : List (List ℕ)). AreFiles told names files) command.two h
+
+  -- a name that is none of those that a status lets be touched
+  free_at : (s : ℕ) (other : List ℕ) → IsFalse (list_any (bytes_eq other) (touched_at s (files_of request)))
+      → IsFalse (list_any (bytes_eq other) (touched_at s (name ∷ second ∷ [])))
+  free_at s other free = subst (λ (names : List (List ℕ)). list_any (bytes_eq other) (touched_at s names) ≡ false) command.two free
+
+  module _ (left_now : Files) (faults_now : List ℕ → ℕ) where
+    abbrev Held : Result Answer Stop → Type 0
+    Held result = Answers request told left_before left_now faults_before faults_now result
+
+    two_files : OthersStay left_middle left_now second → (other : List ℕ) → list_any (bytes_eq other) (name ∷ second ∷ []) ≡ false → left_now other ≡ left_before other
+    two_files more other free =
+        more other (not_first other second [] (or_parts (bytes_eq other name) _ free).1) ∙ others other (not_first other name (second ∷ []) free)
+
+    -- the first file is taken, and the second was judged
+    pub second_judged : (result : Result Answer Stop) → IfSome told (λ files. IsFirstTaken request files name) → NoneFell faults_before faults_middle
+        → ((files : Files) → AreFiles told (name ∷ second ∷ []) files → IfOk result (λ answer. IsAnswer request files (run_of answer) (text_of answer)))
+        → IfOk result (λ answer. status_of answer ≤ 1) → IfOk result HasText
+        → (IsErrOf result stop.ReadFault → Rose (faults_middle second) (faults_now second)) → OthersStay left_middle left_now second → Held result
+    second_judged (Ok answer) taken fell row low has_text rose more = record {
+      lawful = λ files h. row files (files_are files h);
+      status = status_is (status_of answer) (low_status (status_of answer) low);
+      low = omega (arith, low);
+      has_text = has_text;
+      read_fault = λ e. absurd (cc);
+      untouched = λ other free. two_files more other
+          (subst (λ (names : List (List ℕ)). list_any (bytes_eq other) names ≡ false) (both_touched (status_of answer) (name ∷ second ∷ []) low) (free_at (status_of answer) other free));
+      uncounted = λ e. absurd (reads_two e);
+    }
+    second_judged (Err stop.ReadFault) taken fell row low has_text rose more = record {
+      lawful = λ files h. tt;
+      status = status_is 5 refl;
+      low = tt;
+      has_text = tt;
+      read_fault = λ e. at_second name second command.two (rose_since (faults_before second) (faults_middle second) (faults_now second) (fell second) (rose refl)) taken;
+      untouched = λ other free. two_files more other (free_at 5 other free);
+      uncounted = λ e. absurd (reads_two e);
+    }
+    second_judged (Err stop.NoMemory) taken fell row low has_text rose more = record {
+      lawful = λ files h. tt;
+      status = status_is 7 refl;
+      low = tt;
+      has_text = tt;
+      read_fault = λ e. absurd (cc);
+      untouched = λ other free. two_files more other (free_at 7 other free);
+      uncounted = λ e. absurd (reads_two e);
+    }
+
+  -- the first file is refused, and the second was not opened
+  pub first_refused : (answer : Answer) → IsBare (run_of answer) 3 → HasText answer
+      → ((files : Files) → AreFiles told (name ∷ second ∷ []) files → IsAnswer request files (run_of answer) (text_of answer))
+      → Held left_middle faults_middle (Ok answer)
+  first_refused answer bare has_text row = record {
+    lawful = λ files h. row files (files_are files h);
+    status = status_is (status_of answer) (subst (λ (s : ℕ). list_any (λ n. n == s) pair_statuses ≡ true) (sym bare.ends) refl);
+    low = let three = bare.ends in omega (arith, three);
+    has_text = has_text;
+    read_fault = λ e. absurd (cc);
+    untouched = λ other free. others other (not_first other name []
+        (subst (λ (s : ℕ). list_any (bytes_eq other) (touched_at s (name ∷ second ∷ [])) ≡ false) bare.ends (free_at (status_of answer) other free)));
+    uncounted = λ e. absurd (reads_two e);
+  }
+
+  -- the first file could not be read, or memory was wanting
+  pub first_stopped : {T : Type 0} (e : Stop) → (IsErrOf {T = T} (Err e) stop.ReadFault → Rose (faults_before name) (faults_middle name)) → Held left_middle faults_middle (Err e)
+  first_stopped stop.ReadFault rose = record {
+    lawful = λ files h. tt;
+    status = status_is 5 refl;
+    low = tt;
+    has_text = tt;
+    read_fault = λ e. at_first name (second ∷ []) command.two (rose refl) others;
+    untouched = λ other free. others other (not_first other name (second ∷ []) (free_at 5 other free));
+    uncounted = λ e. absurd (reads_two e);
+  }
+  first_stopped stop.NoMemory rose = record {
+    lawful = λ files h. tt;
+    status = status_is 7 refl;
+    low = tt;
+    has_text = tt;
+    read_fault = λ e. absurd (cc);
+    untouched = λ other free. others other (not_first other name (second ∷ []) (free_at 7 other free));
+    uncounted = λ e. absurd (reads_two e);
+  }

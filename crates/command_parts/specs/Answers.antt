@@ -1,0 +1,94 @@
+-- What is said with an answer: its status, what its search found, and its text.
+use Rattle.std.specs.Prelude.{ℕ, List, [], codes, Option, Some, None, IsTrue}
+use Rattle.report_files.specs.declared.files.Worth.{Worth}
+use Rattle.report_files.specs.declared.files.Worth.TheVariants as worth
+use Rattle.search_logs.specs.declared.logs.SearchLog.{SearchLog}
+use Rattle.verdicts.specs.declared.verdicts.Verdict.{Verdict}
+use Rattle.verdicts.specs.declared.verdicts.Verdict.TheVariants.{Undecided}
+use Rattle.verdicts.specs.Report.{has_text, report_text}
+use Rattle.clause_form.specs.Sources.{clauses_in}
+use Rattle.clause_text.specs.Dimacs.{dimacs_text, size_text}
+use Rattle.clause_text.specs.Lrat.{lrat_text}
+use Rattle.answer_text.specs.Claims.{claim_line}
+use Rattle.answer_text.specs.Said.{worth_text}
+use Rattle.answers.specs.declared.runs.Run.{Run}
+use Rattle.answers.specs.StudyLines.{study_line}
+use Rattle.answers.specs.Grounding.{refusal_line}
+use Rattle.answers.specs.Lrat.{cnf_line, line_fault_text, proof_line, reading_text}
+use Rattle.answers.specs.Usage.{usage_line}
+use Rattle.answers.specs.Axioms.{library_text}
+use Rattle.answers.specs.Sample.{summary_text}
+use Rattle.command_parts.specs.declared.answer.Answer.{Answer}
+use Rattle.command_parts.specs.declared.answer.Answer.TheVariants as answer
+use Rattle.vocab.specs.Size.{HasOutcomes}
+
+-- what a report is worth: 0 where it is confirmed, and 1 where it is refused
+abbrev pub worth_status : Worth → ℕ
+worth_status (worth.Confirmed claim) = 0
+worth_status (worth.Faulty line word) = 1
+worth_status worth.TooLong = 1
+
+-- the report of a verdict: 4 where the search spent its limit
+abbrev pub report_status : Verdict → ℕ
+report_status Undecided = 4
+report_status verdict = 0
+
+abbrev pub status_of : Answer → ℕ
+status_of answer.Usage = 2
+status_of answer.LongStudy = 3
+status_of (answer.NoStudy fault) = 3
+status_of (answer.NoClauses study fault) = 3
+status_of (answer.Report study verdict logs) = report_status verdict
+status_of (answer.Judged worth) = worth_status worth
+status_of (answer.Clauses size variables clauses) = 0
+status_of (answer.Refutation lines) = 0
+status_of (answer.Claim verdict logs) = report_status verdict
+status_of answer.LongCnf = 3
+status_of (answer.NoCnf fault) = 3
+status_of answer.LongProof = 1
+status_of (answer.NoProof fault) = 1
+status_of (answer.BadProof line fault) = 1
+status_of answer.GoodProof = 0
+status_of (answer.Library kind) = 0
+status_of (answer.Summary number study clauses verdict logs) = report_status verdict
+
+-- what its search found, where it tells of one
+abbrev pub verdict_of : Answer → Option Verdict
+verdict_of (answer.Report study verdict logs) = Some verdict
+verdict_of (answer.Claim verdict logs) = Some verdict
+verdict_of (answer.Summary number study clauses verdict logs) = Some verdict
+verdict_of a = None
+
+-- the searches that spent their limit
+abbrev pub logs_of : Answer → List SearchLog
+logs_of (answer.Report study verdict logs) = logs
+logs_of (answer.Claim verdict logs) = logs
+logs_of (answer.Summary number study clauses verdict logs) = logs
+logs_of a = []
+
+abbrev pub run_of : Answer → Run
+run_of a = record { status = status_of a; verdict = verdict_of a; logs = logs_of a }
+
+abbrev pub text_of : Answer → List ℕ
+text_of answer.Usage = usage_line
+text_of answer.LongStudy = codes "study: too long\n"
+text_of (answer.NoStudy fault) = study_line fault
+text_of (answer.NoClauses study fault) = refusal_line study fault
+text_of (answer.Report study verdict logs) = report_text study verdict
+text_of (answer.Judged worth) = worth_text worth
+text_of (answer.Clauses size variables clauses) = dimacs_text (size_text size) variables (clauses_in clauses)
+text_of (answer.Refutation lines) = lrat_text lines
+text_of (answer.Claim verdict logs) = claim_line verdict
+text_of answer.LongCnf = codes "cnf: too long\n"
+text_of (answer.NoCnf fault) = cnf_line fault
+text_of answer.LongProof = codes "proof: too long\n"
+text_of (answer.NoProof fault) = reading_text fault
+text_of (answer.BadProof line fault) = proof_line line (line_fault_text fault)
+text_of answer.GoodProof = codes "confirmed\n"
+text_of (answer.Library kind) = library_text kind
+text_of (answer.Summary number study clauses verdict logs) = summary_text number study clauses verdict
+
+-- the report of a verdict has a text where all that the verdict names is in range
+abbrev pub HasText : Answer → Type 0
+HasText (answer.Report study verdict logs) = (HasOutcomes study.size.kind) × IsTrue (has_text study verdict)
+HasText a = Unit {0}

@@ -1,0 +1,5 @@
+-- In reading order.
+pub mod Answers
+pub mod Answered
+pub mod Opened
+pub mod GivenProof

@@ -1,0 +1,60 @@
+//! The clauses of all axioms of a study.
+
+ghost use Rattle.std.specs.Prelude.{◌≡◌, None, IfOk, IfErr};
+ghost use Rattle.vocab.specs.declared.kinds.Kind.TheVariants.{Sets};
+ghost use Rattle.clause_form.specs.Refusals.{IsRefused};
+ghost use Rattle.meaning.specs.StudyClauses.{study_clauses};
+ghost use Rattle.search_logs.specs.Spent.{all_places};
+ghost use Rattle.answers.specs.Grounding.{fault_of};
+ghost use Rattle.vocab.specs.Size.{HasOutcomes};
+
+use clause_form::{Ground, GroundFault};
+use crew::Crew;
+use edge::Gate;
+use grounding::ground;
+use outcomes::{ChoiceKind, OutcomeKind, RankingKind};
+use profiles::Space;
+use search_logs::all_places;
+use std::alloc::Global;
+use std::thread::Threads;
+use vocab::{Kind, Study};
+
+/// The clauses of all axioms of a study, over a kind of its size, made among workers, which changes none of them. Error: the
+/// first refusal, or want of memory.
+pub fn ground_all<R: Threads + Sync, K: OutcomeKind, G: Gate>(
+    alloc: Global,
+    crew: &Crew<R, G>,
+    kind: &K,
+    study: &Study,
+) -> Result<Ground, GroundFault>
+    requires size { study.now.size ≡ K.size kind.now }
+    ensures clauses { IfOk result (λ made. made ≡
+        study_clauses study.now.size study.now.axioms (all_places study.now)) }
+    ensures none { IfOk result (λ made. fault_of study.now ≡ None) }
+    ensures fault { IfErr result (λ fault. IsRefused fault (fault_of study.now)) }
+{
+    let Ok(all) = all_places(alloc, study) else {
+        return Err(GroundFault::NoMemory);
+    };
+    ground(alloc, crew, kind, study, &all)
+}
+
+/// The same of a study, over its own kind.
+pub fn ground_study<R: Threads + Sync, G: Gate>(
+    alloc: Global,
+    crew: &Crew<R, G>,
+    study: &Study,
+) -> Result<Ground, GroundFault>
+    requires known { HasOutcomes study.now.size.kind }
+    ensures clauses { IfOk result (λ made. made ≡
+        study_clauses study.now.size study.now.axioms (all_places study.now)) }
+    ensures none { IfOk result (λ made. fault_of study.now ≡ None) }
+    ensures fault { IfErr result (λ fault. IsRefused fault (fault_of study.now)) }
+{
+    let space = Space::new(study.size());
+    match study.size().kind() {
+        Kind::Choice => ground_all(alloc, crew, &ChoiceKind::new(space), study),
+        Kind::Ranking => ground_all(alloc, crew, &RankingKind::new(space), study),
+        Kind::Sets => unreachable!(),
+    }
+}

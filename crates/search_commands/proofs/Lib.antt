@@ -1,0 +1,6 @@
+-- In proof order.
+mod ClauseLemmas
+mod DecideLemmas
+mod ProofLemmas
+pub mod SampleLemmas
+mod AdoptionLemmas

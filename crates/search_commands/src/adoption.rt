@@ -1,0 +1,171 @@
+//! The command `adopt`: reads a study, and then a refutation of its clauses, which becomes a story.
+
+ghost use Rattle.std.specs.Prelude.{◌≡◌, ◌≢◌, ◌<◌, ◌≤◌, ◌-◌, ◌^◌, length, Some, Err, IfOk, IsErrOf, IsTrue};
+ghost use Rattle.std.specs.List.{list_all};
+ghost use Rattle.edge.specs.Faults.{Rose};
+ghost use Rattle.edge.specs.Shelf.{Files, OthersStay};
+ghost use Rattle.vocab.specs.declared.kinds.Kind.TheVariants.{Sets};
+ghost use Rattle.cnf.specs.Fresh.{AreOver};
+ghost use Rattle.meaning.specs.StudyClauses.{study_clauses};
+ghost use Rattle.meaning.specs.Variables.{variable_count};
+ghost use Rattle.search_logs.specs.Spent.{all_places};
+ghost use Rattle.verdicts.specs.Laws.{IsReportable};
+ghost use Rattle.lrat_check.specs.Ranges.{has_next};
+ghost use Rattle.adopt.specs.Told.{IsAdopted};
+ghost use Rattle.words.specs.Words.{Adopt};
+ghost use Rattle.answers.specs.Adopt.{Adopts, IsRetold};
+ghost use Rattle.command_parts.specs.Answers.{HasText, run_of, status_of, text_of};
+ghost use Rattle.command_parts.specs.Answered.{Answers};
+ghost use Rattle.search_commands.specs.Retold.{IsDerivationJudged};
+
+use adopt::{AdoptFault, Adopted};
+use clause_form::{Ground, GroundFault};
+use cnf::Derivation;
+use command_parts::{Answer, GivenProof, Opened, Stop, ground_study, open_derivation, open_study};
+use core_reduce::variables;
+use crew::Crew;
+use edge::{Gate, Shelf};
+use outcomes::{ChoiceKind, OutcomeKind, RankingKind};
+use profiles::Space;
+use std::alloc::Global;
+use std::thread::Threads;
+use verdicts::Verdict;
+use vocab::{Kind, Study};
+
+/// The report of a proof that was adopted.
+fn report_of(study: Study, adopted: Adopted, lines: &Derivation) -> Answer
+    requires reportable { IsReportable study }
+    requires adopted { IsAdopted study lines.now adopted }
+    ensures retold { IsRetold study lines.now (run_of result) (text_of result) }
+    ensures has_text { HasText result }
+{
+    let _ = lines;
+    let Adopted {
+        core,
+        story,
+        witnesses,
+        logs,
+    } = adopted;
+    let verdict = Verdict::Impossible {
+        core,
+        story,
+        witnesses,
+    };
+    Answer::Report(study, verdict, logs)
+}
+
+/// The report of a derivation from the clauses of a study of a kind, or what is said of its first faulty line.
+fn judge_lines<K: OutcomeKind>(
+    alloc: Global,
+    kind: &K,
+    study: Study,
+    clauses: Ground,
+    lines: &Derivation,
+) -> Result<Answer, Stop>
+    requires size { study.size ≡ K.size kind.now }
+    requires reportable { IsReportable study }
+    requires clauses { clauses ≡ study_clauses study.size study.axioms (all_places study) }
+    requires over { AreOver (variable_count study.size) lines.now }
+    requires numbers { IsTrue (list_all has_next lines.now) }
+    requires few { length lines.now < 2 ^ 32 - 1 }
+    ensures judged { IfOk result (IsDerivationJudged study lines.now) }
+    ensures has_text { IfOk result HasText }
+    ensures read { result ≢ Err Stop.ReadFault }
+{
+    match adopt::adopt(alloc, kind, &study, clauses, lines) {
+        Ok(adopted) => Ok(report_of(study, adopted, lines)),
+        Err(AdoptFault::Proof { at, fault }) => Ok(Answer::BadProof { line: at, fault }),
+        Err(AdoptFault::NoMemory) => Err(Stop::NoMemory),
+    }
+}
+
+/// Reads the proof of a file, and judges it over the clauses of a study of a kind.
+fn judge_over<S: Shelf, K: OutcomeKind>(
+    alloc: Global,
+    shelf: &mut S,
+    kind: &K,
+    study: Study,
+    clauses: Ground,
+    proof: &str,
+) -> Result<Answer, Stop>
+    requires size { study.size ≡ K.size kind.now }
+    requires reportable { IsReportable study }
+    requires clauses { clauses ≡ study_clauses study.size study.axioms (all_places study) }
+    ensures row { IfOk result (λ answer. (files : Files) → S.files shelf.old ≡ Some files →
+        Adopts files proof.now study (run_of answer) (text_of answer)) }
+    ensures status { IfOk result (λ answer. status_of answer ≤ 1) }
+    ensures has_text { IfOk result HasText }
+    ensures fault { IsErrOf result Stop.ReadFault →
+        Rose (S.faults shelf.old proof.now) (S.faults shelf.new proof.now) }
+    ensures others { OthersStay (S.left shelf.old) (S.left shelf.new) proof.now }
+{
+    match open_derivation(alloc, shelf, proof, variables(kind)) {
+        Ok(GivenProof::Lines(lines)) => judge_lines(alloc, kind, study, clauses, &lines),
+        Ok(GivenProof::Refused(answer)) => Ok(answer),
+        Err(stop) => Err(stop),
+    }
+}
+
+/// Reads the proof of a file, and judges it over the clauses of a study.
+fn judge_proof<S: Shelf>(
+    alloc: Global,
+    shelf: &mut S,
+    study: Study,
+    clauses: Ground,
+    proof: &str,
+) -> Result<Answer, Stop>
+    requires reportable { IsReportable study }
+    requires clauses { clauses ≡ study_clauses study.size study.axioms (all_places study) }
+    ensures row { IfOk result (λ answer. (files : Files) → S.files shelf.old ≡ Some files →
+        Adopts files proof.now study (run_of answer) (text_of answer)) }
+    ensures status { IfOk result (λ answer. status_of answer ≤ 1) }
+    ensures has_text { IfOk result HasText }
+    ensures fault { IsErrOf result Stop.ReadFault →
+        Rose (S.faults shelf.old proof.now) (S.faults shelf.new proof.now) }
+    ensures others { OthersStay (S.left shelf.old) (S.left shelf.new) proof.now }
+{
+    let space = Space::new(study.size());
+    match study.size().kind() {
+        Kind::Choice => judge_over(alloc, shelf, &ChoiceKind::new(space), study, clauses, proof),
+        Kind::Ranking => judge_over(
+            alloc,
+            shelf,
+            &RankingKind::new(space),
+            study,
+            clauses,
+            proof,
+        ),
+        Kind::Sets => unreachable!(),
+    }
+}
+
+/// Reads the study and makes its clauses, and then reads a refutation of them, whoever found it: this becomes the report of an
+/// impossibility, or is refused at its first faulty line. Where the study or its clauses are refused, what the shelf has left
+/// under the proof's name stays as it was. The clauses are made among 1 to 16 workers, which changes none; the gate is told of
+/// each piece of that work. Errors: `Stop::ReadFault` where the shelf fails, and `Stop::NoMemory`.
+pub fn adopt<R: Threads + Sync, S: Shelf, G: Gate>(
+    rt: &R,
+    alloc: Global,
+    gate: &G,
+    workers: u8,
+    shelf: &mut S,
+    study: &str,
+    proof: &str,
+) -> Result<Answer, Stop>
+    requires some { 1 ≤ workers }
+    requires few { workers ≤ 16 }
+    ensures { Answers (Some (Adopt study.now proof.now workers)) (S.files shelf.old)
+        (S.left shelf.old) (S.left shelf.new) (S.faults shelf.old) (S.faults shelf.new) result }
+{
+    let question = match open_study(alloc, shelf, study) {
+        Ok(Opened::Study(question)) => question,
+        Ok(Opened::Refused(answer)) => return Ok(answer),
+        Err(stop) => return Err(stop),
+    };
+    let crew = Crew { rt, gate, workers };
+    match ground_study(alloc, &crew, &question) {
+        Ok(clauses) => judge_proof(alloc, shelf, question, clauses, proof),
+        Err(GroundFault::NoMemory) => Err(Stop::NoMemory),
+        Err(fault) => Ok(Answer::NoClauses(question, fault)),
+    }
+}

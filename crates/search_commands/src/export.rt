@@ -1,0 +1,90 @@
+//! The command `export`: reads a study, and writes its clauses.
+
+ghost use Rattle.std.specs.Prelude.{◌≡◌, ◌≢◌, ◌≤◌, Some, Err, IfOk};
+ghost use Rattle.vocab.specs.declared.kinds.Kind.TheVariants.{Sets};
+ghost use Rattle.words.specs.Words.{Export};
+ghost use Rattle.answers.specs.Export.{IsWritten};
+ghost use Rattle.answers.specs.Grounding.{OverClauses};
+ghost use Rattle.command_parts.specs.Answers.{HasText, run_of, text_of};
+ghost use Rattle.command_parts.specs.Answered.{Answers};
+ghost use Rattle.vocab.specs.Size.{HasOutcomes};
+
+use clause_form::GroundFault;
+use command_parts::{Answer, Opened, Stop, ground_all, open_study};
+use core_reduce::variables;
+use crew::Crew;
+use edge::{Gate, Shelf};
+use outcomes::{ChoiceKind, OutcomeKind, RankingKind};
+use profiles::Space;
+use std::alloc::Global;
+use std::thread::Threads;
+use vocab::{Kind, Study};
+
+/// The clauses of a study of a kind, or why they are refused.
+fn export_over<R: Threads + Sync, K: OutcomeKind, G: Gate>(
+    alloc: Global,
+    crew: &Crew<R, G>,
+    kind: &K,
+    study: Study,
+) -> Result<Answer, Stop>
+    requires size { study.size ≡ K.size kind.now }
+    ensures row { IfOk result (λ answer. OverClauses study (run_of answer) (text_of answer)
+        (IsWritten study (run_of answer) (text_of answer))) }
+    ensures has_text { IfOk result HasText }
+    ensures read { result ≢ Err Stop.ReadFault }
+{
+    match ground_all(alloc, crew, kind, &study) {
+        Ok(clauses) => Ok(Answer::Clauses {
+            size: study.size(),
+            variables: variables(kind),
+            clauses,
+        }),
+        Err(GroundFault::NoMemory) => Err(Stop::NoMemory),
+        Err(fault) => Ok(Answer::NoClauses(study, fault)),
+    }
+}
+
+/// The clauses of a study, or why they are refused.
+fn export_study<R: Threads + Sync, G: Gate>(
+    alloc: Global,
+    crew: &Crew<R, G>,
+    study: Study,
+) -> Result<Answer, Stop>
+    requires known { HasOutcomes study.size.kind }
+    ensures row { IfOk result (λ answer. OverClauses study (run_of answer) (text_of answer)
+        (IsWritten study (run_of answer) (text_of answer))) }
+    ensures has_text { IfOk result HasText }
+    ensures read { result ≢ Err Stop.ReadFault }
+{
+    let space = Space::new(study.size());
+    match study.size().kind() {
+        Kind::Choice => export_over(alloc, crew, &ChoiceKind::new(space), study),
+        Kind::Ranking => export_over(alloc, crew, &RankingKind::new(space), study),
+        Kind::Sets => unreachable!(),
+    }
+}
+
+/// Reads the study, and makes the clauses of all its axioms. These are made among 1 to 16 workers, which changes none; the
+/// gate is told of each piece of that work. Errors: `Stop::ReadFault` where the shelf fails, and `Stop::NoMemory`.
+pub fn export<R: Threads + Sync, S: Shelf, G: Gate>(
+    rt: &R,
+    alloc: Global,
+    gate: &G,
+    workers: u8,
+    shelf: &mut S,
+    study: &str,
+) -> Result<Answer, Stop>
+    requires some { 1 ≤ workers }
+    requires few { workers ≤ 16 }
+    ensures { Answers (Some (Export study.now workers)) (S.files shelf.old)
+        (S.left shelf.old) (S.left shelf.new) (S.faults shelf.old) (S.faults shelf.new) result }
+{
+    match open_study(alloc, shelf, study) {
+        Ok(Opened::Study(question)) => {
+            let crew = Crew { rt, gate, workers };
+            export_study(alloc, &crew, question)
+        }
+        Ok(Opened::Refused(answer)) => Ok(answer),
+        Err(stop) => Err(stop),
+    }
+}

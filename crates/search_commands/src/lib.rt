@@ -1,0 +1,8 @@
+//! The commands over the clauses of a study: `decide`, `export`, `proof`, `sample` and `adopt`.
+#![tactic(auto)]
+
+pub mod adoption;
+pub mod decide;
+pub mod export;
+pub mod proof;
+pub mod sample;

@@ -1,0 +1,109 @@
+//! The command `proof`: reads a study, and searches for a refutation of its clauses.
+
+ghost use Rattle.std.specs.Prelude.{◌≡◌, ◌≢◌, ◌≤◌, Some, Err, IfOk};
+ghost use Rattle.vocab.specs.declared.kinds.Kind.TheVariants.{Sets};
+ghost use Rattle.core_reduce.specs.Proofs.{IsProved};
+ghost use Rattle.words.specs.Words.{Proof};
+ghost use Rattle.answers.specs.Proof.{Proves};
+ghost use Rattle.answers.specs.Grounding.{OverClauses};
+ghost use Rattle.command_parts.specs.Answers.{HasText, run_of, text_of};
+ghost use Rattle.command_parts.specs.Answered.{Answers};
+ghost use Rattle.vocab.specs.Size.{HasOutcomes};
+
+use clause_form::GroundFault;
+use command_parts::{Answer, Opened, Stop, ground_all, open_study};
+use core_reduce::{Proved, Shown};
+use crew::Crew;
+use edge::{Gate, Shelf};
+use outcomes::{ChoiceKind, OutcomeKind, RankingKind};
+use profiles::Space;
+use std::alloc::Global;
+use std::thread::Threads;
+use verdicts::Verdict;
+use vocab::{Kind, Study};
+
+/// What is shown of a search over the clauses of a study.
+fn answer_of(study: &Study, proved: Proved) -> Answer
+    requires { IsProved study.now proved }
+    ensures shown { Proves study.now (run_of result) (text_of result) }
+    ensures has_text { HasText result }
+{
+    let _ = study;
+    let Proved { shown, logs } = proved;
+    match shown {
+        Shown::Possible(table) => Answer::Claim(Verdict::Possible(table), logs),
+        Shown::Refuted(lines) => Answer::Refutation(lines),
+        Shown::Undecided => Answer::Claim(Verdict::Undecided, logs),
+    }
+}
+
+/// Searches over the clauses of a study of a kind, or says why these are refused.
+fn prove_over<R: Threads + Sync, K: OutcomeKind, G: Gate>(
+    alloc: Global,
+    crew: &Crew<R, G>,
+    kind: &K,
+    study: Study,
+) -> Result<Answer, Stop>
+    requires size { study.size ≡ K.size kind.now }
+    ensures row { IfOk result (λ answer. OverClauses study (run_of answer) (text_of answer)
+        (Proves study (run_of answer) (text_of answer))) }
+    ensures has_text { IfOk result HasText }
+    ensures read { result ≢ Err Stop.ReadFault }
+{
+    let clauses = match ground_all(alloc, crew, kind, &study) {
+        Ok(clauses) => clauses,
+        Err(GroundFault::NoMemory) => return Err(Stop::NoMemory),
+        Err(fault) => return Ok(Answer::NoClauses(study, fault)),
+    };
+    match core_reduce::prove(alloc, kind, &study, &clauses) {
+        Ok(proved) => Ok(answer_of(&study, proved)),
+        Err(_) => Err(Stop::NoMemory),
+    }
+}
+
+/// Searches over the clauses of a study, or says why these are refused.
+fn prove_study<R: Threads + Sync, G: Gate>(
+    alloc: Global,
+    crew: &Crew<R, G>,
+    study: Study,
+) -> Result<Answer, Stop>
+    requires known { HasOutcomes study.size.kind }
+    ensures row { IfOk result (λ answer. OverClauses study (run_of answer) (text_of answer)
+        (Proves study (run_of answer) (text_of answer))) }
+    ensures has_text { IfOk result HasText }
+    ensures read { result ≢ Err Stop.ReadFault }
+{
+    let space = Space::new(study.size());
+    match study.size().kind() {
+        Kind::Choice => prove_over(alloc, crew, &ChoiceKind::new(space), study),
+        Kind::Ranking => prove_over(alloc, crew, &RankingKind::new(space), study),
+        Kind::Sets => unreachable!(),
+    }
+}
+
+/// Reads the study, and searches over the clauses that `export` writes of it: a trimmed refutation of them, or that a rule
+/// satisfies all axioms, or neither where the search spent the study's limit. The clauses are made among 1 to 16 workers, which
+/// changes none; the gate is told of each piece of that work. Errors: `Stop::ReadFault` where the shelf fails, and
+/// `Stop::NoMemory`.
+pub fn proof<R: Threads + Sync, S: Shelf, G: Gate>(
+    rt: &R,
+    alloc: Global,
+    gate: &G,
+    workers: u8,
+    shelf: &mut S,
+    study: &str,
+) -> Result<Answer, Stop>
+    requires some { 1 ≤ workers }
+    requires few { workers ≤ 16 }
+    ensures { Answers (Some (Proof study.now workers)) (S.files shelf.old)
+        (S.left shelf.old) (S.left shelf.new) (S.faults shelf.old) (S.faults shelf.new) result }
+{
+    match open_study(alloc, shelf, study) {
+        Ok(Opened::Study(question)) => {
+            let crew = Crew { rt, gate, workers };
+            prove_study(alloc, &crew, question)
+        }
+        Ok(Opened::Refused(answer)) => Ok(answer),
+        Err(stop) => Err(stop),
+    }
+}

@@ -1,0 +1,121 @@
+//! The command `sample`: decides the study of a number, and says so in one line.
+
+ghost use Rattle.std.specs.Prelude.{◌≡◌, ◌≢◌, Err, IfOk, length};
+ghost use Rattle.vocab.specs.declared.kinds.Kind.TheVariants.{Sets};
+ghost use Rattle.core_reduce.specs.Answers.{IsAnswer};
+ghost use Rattle.answers.specs.Grounding.{OverClauses, all_clauses};
+ghost use Rattle.answers.specs.Sample.{IsSampled, IsSummed};
+ghost use Rattle.command_parts.specs.Answers.{HasText, run_of, text_of};
+ghost use Rattle.vocab.specs.Size.{HasOutcomes};
+
+use crate::decide::verdict_of;
+use clause_form::GroundFault;
+use command_parts::{Answer, Stop, ground_all};
+use core_reduce::Answer as Decision;
+use crew::Crew;
+use edge::Gate;
+use lists::NoMemory;
+use outcomes::{ChoiceKind, OutcomeKind, RankingKind};
+use profiles::Space;
+use std::alloc::Global;
+use std::thread::Threads;
+use vocab::{Kind, Study};
+
+/// The summary of what a decision came to.
+fn summary_of<K: OutcomeKind>(
+    alloc: Global,
+    kind: &K,
+    number: u32,
+    study: Study,
+    clauses: u32,
+    decision: Decision,
+) -> Result<Answer, NoMemory>
+    requires size { study.size ≡ K.size kind.now }
+    requires decision { IsAnswer study decision }
+    requires clauses { clauses ≡ length (all_clauses study) }
+    ensures summed { IfOk result (λ answer. IsSummed number study (run_of answer) (text_of answer)) }
+    ensures has_text { IfOk result HasText }
+{
+    let Decision { finding, logs } = decision;
+    let verdict = verdict_of(alloc, kind, &study, &logs, finding)?;
+    Ok(Answer::Summary {
+        number,
+        study,
+        clauses,
+        verdict,
+        logs,
+    })
+}
+
+/// Decides the study of a number, of a kind, or says why its clauses are refused.
+fn sample_over<R: Threads + Sync, K: OutcomeKind, G: Gate>(
+    alloc: Global,
+    crew: &Crew<R, G>,
+    kind: &K,
+    number: u32,
+    study: Study,
+) -> Result<Answer, Stop>
+    requires size { study.size ≡ K.size kind.now }
+    ensures row { IfOk result (λ answer. OverClauses study (run_of answer) (text_of answer)
+        (IsSummed number study (run_of answer) (text_of answer))) }
+    ensures has_text { IfOk result HasText }
+    ensures read { result ≢ Err Stop.ReadFault }
+{
+    let clauses = match ground_all(alloc, crew, kind, &study) {
+        Ok(clauses) => clauses,
+        Err(GroundFault::NoMemory) => return Err(Stop::NoMemory),
+        Err(fault) => return Ok(Answer::NoClauses(study, fault)),
+    };
+    let count = clauses.clauses().len();
+    let Ok(decision) = core_reduce::decide(alloc, kind, &study, clauses) else {
+        return Err(Stop::NoMemory);
+    };
+    match summary_of(alloc, kind, number, study, count, decision) {
+        Ok(answer) => Ok(answer),
+        Err(NoMemory) => Err(Stop::NoMemory),
+    }
+}
+
+/// Decides the study of a number, or says why its clauses are refused.
+fn sample_study<R: Threads + Sync, G: Gate>(
+    alloc: Global,
+    crew: &Crew<R, G>,
+    number: u32,
+    study: Study,
+) -> Result<Answer, Stop>
+    requires known { HasOutcomes study.size.kind }
+    ensures row { IfOk result (λ answer. OverClauses study (run_of answer) (text_of answer)
+        (IsSummed number study (run_of answer) (text_of answer))) }
+    ensures has_text { IfOk result HasText }
+    ensures read { result ≢ Err Stop.ReadFault }
+{
+    let space = Space::new(study.size());
+    match study.size().kind() {
+        Kind::Choice => sample_over(alloc, crew, &ChoiceKind::new(space), number, study),
+        Kind::Ranking => sample_over(alloc, crew, &RankingKind::new(space), number, study),
+        Kind::Sets => unreachable!(),
+    }
+}
+
+/// Decides the study of a number with one worker; the gate is told of each piece of its work. No file is read. Error:
+/// `Stop::NoMemory` alone.
+pub fn sample<R: Threads + Sync, G: Gate>(
+    rt: &R,
+    alloc: Global,
+    gate: &G,
+    number: u32,
+) -> Result<Answer, Stop>
+    ensures row { IfOk result (λ answer. IsSampled number (run_of answer) (text_of answer)) }
+    ensures has_text { IfOk result HasText }
+    ensures read { result ≢ Err Stop.ReadFault }
+{
+    let Ok(study) = samples::sample(alloc, number) else {
+        return Err(Stop::NoMemory);
+    };
+    let crew = Crew {
+        rt,
+        gate,
+        workers: 1,
+    };
+    sample_study(alloc, &crew, number, study)
+}
