@@ -1,12 +1,34 @@
 //! Rules of one alternative.
 
+ghost use Rattle.std.specs.Prelude.{◌≡◌, IfOk};
+ghost use Rattle.vocab.specs.Tree.{tree_of, Casts, Const, Leaf, WinsAt};
+
 use crate::{Board, excludes, partial, truth};
-use lists::Items;
+use lists::{Items, NoMemory};
 use meaning::Three;
 use outcomes::ChoiceKind;
 use profiles::Space;
+use std::alloc::Global;
 use std::test::Fail;
 use vocab::{Atom, Env, Formula, Kind, Literal, Size, Term};
+
+/// The only alternative wins at profile 0. In a box, as is the next, so that a test drops it by one call.
+fn wins(alloc: Global) -> Result<Box<Formula>, NoMemory>
+    ensures { IfOk result (λ f. tree_of f.value ≡ Leaf (WinsAt (Const 0) (Const 0))) }
+{
+    Ok(Box::new(
+        alloc,
+        Formula::Leaf(Atom::Wins(Term::Const(0), Term::Const(0))),
+    )?)
+}
+
+/// The voter casts the ballot a at profile 1.
+fn casts(alloc: Global, voter: u32) -> Result<Box<Formula>, NoMemory>
+    ensures { IfOk result (λ f. tree_of f.value ≡ Leaf (Casts (Const voter) (Const 0) (Const 1))) }
+{
+    let atom = Atom::Casts(Term::Const(voter), Term::Const(0), Term::Const(1));
+    Ok(Box::new(alloc, Formula::Leaf(atom))?)
+}
 
 #[test]
 fn the_only_alternative_wins(rt: HostRuntime) -> Result<(), Fail> {
@@ -14,7 +36,7 @@ fn the_only_alternative_wins(rt: HostRuntime) -> Result<(), Fail> {
     let kind = ChoiceKind::new(Space::new(size));
     let mut table = Items::new(rt.alloc());
     table.push(0)?;
-    let wins = Formula::Leaf(Atom::Wins(Term::Const(0), Term::Const(0)));
+    let wins = wins(rt.alloc())?;
     assert!(rt; truth(&kind, &table, &wins, &Env::none()));
     Ok(())
 }
@@ -24,10 +46,10 @@ fn what_is_on_the_board_is_known(rt: HostRuntime) -> Result<(), Fail> {
     let size = Size::check(Kind::Choice, 1, 1)?;
     let kind = ChoiceKind::new(Space::new(size));
     let mut board = Board::new(rt.alloc(), &kind)?;
-    let wins = Formula::Leaf(Atom::Wins(Term::Const(0), Term::Const(0)));
-    assert_eq!(rt; partial(&kind, &board, &wins, &Env::none()), Three::Unknown);
+    let wins = wins(rt.alloc())?;
+    assert!(rt; partial(&kind, &board, &wins, &Env::none()) == Three::Unknown);
     board.add(&Literal::Loses(0, 0));
-    assert_eq!(rt; partial(&kind, &board, &wins, &Env::none()), Three::False);
+    assert!(rt; partial(&kind, &board, &wins, &Env::none()) == Three::False);
     assert!(rt; excludes(&kind, &board, 0));
     board.remove(&Literal::Loses(0, 0));
     assert!(rt; !excludes(&kind, &board, 0));
@@ -41,9 +63,9 @@ fn an_absent_voter_casts_nothing(rt: HostRuntime) -> Result<(), Fail> {
     let kind = ChoiceKind::new(Space::new(size));
     let mut table = Items::new(rt.alloc());
     table.append(&[0, 0, 0])?;
-    let first = Formula::Leaf(Atom::Casts(Term::Const(0), Term::Const(0), Term::Const(1)));
+    let first = casts(rt.alloc(), 0)?;
     assert!(rt; truth(&kind, &table, &first, &Env::none()));
-    let second = Formula::Leaf(Atom::Casts(Term::Const(1), Term::Const(0), Term::Const(1)));
+    let second = casts(rt.alloc(), 1)?;
     assert!(rt; !truth(&kind, &table, &second, &Env::none()));
     Ok(())
 }
