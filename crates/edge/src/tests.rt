@@ -61,16 +61,16 @@ fn files_in_memory_are_read(rt: HostRuntime) -> Result<(), Fail> {
         match wanted {
             Ok(bytes) => {
                 let found = found.ok().ok_or("not read")?;
-                assert_eq!(rt; found.as_slice(), bytes, "at {name} {limit}");
+                assert!(rt; found.as_slice() == bytes);
             }
-            Err(fault) => assert_eq!(rt; found.err(), Some(fault), "at {name} {limit}"),
+            Err(fault) => assert!(rt; found.err() == Some(fault)),
         }
     }
     let mut shelf = two_files(alloc, &[2])?;
-    assert_eq!(rt; first_byte(&mut shelf, "report"), Ok(Some(b'b')));
-    assert_eq!(rt; first_byte(&mut shelf, "report"), Err(RewindFault::Failed));
-    assert_eq!(rt; first_byte(&mut shelf, "absent"), Err(RewindFault::Failed));
-    assert_eq!(rt; first_byte(&mut shelf, "study"), Ok(Some(b'k')));
+    assert!(rt; first_byte(&mut shelf, "report") == Ok(Some(b'b')));
+    assert!(rt; first_byte(&mut shelf, "report") == Err(RewindFault::Failed));
+    assert!(rt; first_byte(&mut shelf, "absent") == Err(RewindFault::Failed));
+    assert!(rt; first_byte(&mut shelf, "study") == Ok(Some(b'k')));
     Ok(())
 }
 
@@ -88,8 +88,8 @@ fn sink_in_memory_takes_what_fits(rt: HostRuntime) -> Result<(), Fail> {
     ];
     for (room, failing, wanted, taken) in cases {
         let mut out = MemorySink::new(rt.alloc(), room, failing)?;
-        assert_eq!(rt; put_and_flush(&mut out, REPORT), wanted, "room {room}");
-        assert_eq!(rt; out.bytes(), taken, "room {room}");
+        assert!(rt; put_and_flush(&mut out, REPORT) == wanted);
+        assert!(rt; out.bytes() == taken);
     }
     Ok(())
 }
@@ -138,16 +138,16 @@ fn short_devices_move_the_whole(rt: HostRuntime) -> Result<(), Fail> {
     ];
     for found in &whole {
         let found = found.as_ref().ok_or("not read")?;
-        assert_eq!(rt; found.as_slice(), REPORT);
+        assert!(rt; found.as_slice() == REPORT);
     }
     for call in 0..6 {
         let found = read_in_pieces(alloc, 7, &[call])?;
-        assert_eq!(rt; found.err(), Some(ReadFault::Failed), "call {call}");
+        assert!(rt; found.err() == Some(ReadFault::Failed));
     }
     // Of 7 at a time the calls 0 to 3 are writes, and 4 is the flush.
     for (call, wanted) in [(0, 0), (1, 7), (2, 14), (3, 21), (4, 27)] {
         let taken = written_in_pieces(alloc, 7, &[call])?;
-        assert_eq!(rt; taken.as_slice(), &REPORT[..wanted], "call {call}");
+        assert!(rt; taken.as_slice() == &REPORT[..wanted]);
     }
     Ok(())
 }
@@ -156,17 +156,17 @@ fn short_devices_move_the_whole(rt: HostRuntime) -> Result<(), Fail> {
 fn calm_devices_never_fail(rt: HostRuntime) -> Result<(), Fail> {
     let alloc = rt.alloc();
     let mut shelf = CalmShelf::new(alloc);
-    assert_eq!(rt; first_byte(&mut shelf, "study"), Ok(None));
+    assert!(rt; first_byte(&mut shelf, "study") == Ok(None));
     shelf.hold("study", b"kind = 1\n")?;
-    assert_eq!(rt; first_byte(&mut shelf, "study"), Ok(Some(b'k')));
+    assert!(rt; first_byte(&mut shelf, "study") == Ok(Some(b'k')));
     for (name, wanted) in [
         ("study", b"kind = 1\n".as_slice()),
         ("absent", b"".as_slice()),
     ] {
         let found = read_all(alloc, &mut shelf, name, 9).ok().ok_or("not read")?;
-        assert_eq!(rt; found.as_slice(), wanted, "at {name}");
+        assert!(rt; found.as_slice() == wanted);
     }
-    assert_eq!(rt; put_and_flush(&mut CalmSink::new(), REPORT), Ok(()));
+    assert!(rt; put_and_flush(&mut CalmSink::new(), REPORT) == Ok(()));
     pass(&Open);
     Ok(())
 }
@@ -177,11 +177,11 @@ fn files_of_the_system_are_read(rt: HostRuntime) -> Result<(), Fail> {
     fs::write(&rt, "held", "kind = 1\n")?;
     let mut shelf = FileShelf::new(&rt);
     let mut byte = [0];
-    assert_eq!(rt; shelf.read("held", &mut byte), Err(Failed));
+    assert!(rt; shelf.read("held", &mut byte) == Err(Failed));
     let bytes = read_all(alloc, &mut shelf, "held", 9)
         .ok()
         .ok_or("not read")?;
-    assert_eq!(rt; bytes.as_slice(), b"kind = 1\n".as_slice());
+    assert!(rt; bytes.as_slice() == b"kind = 1\n".as_slice());
     // Too long, an absent file, a folder, and after them the file again.
     let cases = [
         ("held", 8, ReadFault::TooLong),
@@ -189,20 +189,16 @@ fn files_of_the_system_are_read(rt: HostRuntime) -> Result<(), Fail> {
         (".", 9, ReadFault::Failed),
     ];
     for (name, limit, fault) in cases {
-        assert_eq!(rt;
-            read_all(alloc, &mut shelf, name, limit).err(),
-            Some(fault),
-            "at {name}"
-        );
+        assert!(rt; read_all(alloc, &mut shelf, name, limit).err() == Some(fault));
     }
-    assert_eq!(rt; shelf.rewind("absent"), Err(RewindFault::Failed));
-    assert_eq!(rt; shelf.read("held", &mut byte), Err(Failed));
-    assert_eq!(rt; first_byte(&mut shelf, "held"), Ok(Some(b'k')));
+    assert!(rt; shelf.rewind("absent") == Err(RewindFault::Failed));
+    assert!(rt; shelf.read("held", &mut byte) == Err(Failed));
+    assert!(rt; first_byte(&mut shelf, "held") == Ok(Some(b'k')));
     fs::remove_file(&rt, "held")?;
     Ok(())
 }
 
 #[test]
 fn standard_output_takes_bytes(rt: HostRuntime) {
-    assert_eq!(rt; put_and_flush(&mut StdSink::new(&rt), REPORT), Ok(()));
+    assert!(rt; put_and_flush(&mut StdSink::new(&rt), REPORT) == Ok(()));
 }
