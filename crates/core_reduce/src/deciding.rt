@@ -13,7 +13,7 @@ ghost use Rattle.core_reduce.specs.Reducing.{IsReducing, IsFrom};
 
 use crate::answers::{Answer, Finding, Reduced};
 use crate::leaving::places_kept;
-use crate::needs::{Focus, focus_on};
+use crate::needs::focus_on;
 use crate::reduction::{Reduction, search, step};
 use crate::tables::rule_of;
 use cdcl::Search;
@@ -41,19 +41,9 @@ fn start(
     ensures reducing { IfOk result (IsReducing study.now) }
     ensures taken { IfOk result (λ r. IsFrom study.now chosen.now proof.now r.core) }
 {
-    let Focus {
-        gone,
-        clauses: left,
-        proof: needed,
-    } = focus_on(alloc, clauses, proof, study.axioms().len())?;
-    let core = places_kept(alloc, chosen.as_slice(), gone.as_slice())?;
-    Ok(Reduction {
-        core,
-        clauses: left,
-        proof: needed,
-        witnesses: Vec::new(alloc),
-        logs: Items::new(alloc),
-    })
+    let focus = focus_on(alloc, clauses, proof, study.axioms().len())?;
+    let core = places_kept(alloc, chosen.as_slice(), focus.gone.as_slice())?;
+    Ok(focus.into_reduction(core, Vec::new(alloc), Items::new(alloc)))
 }
 
 /// Reduces a refutation of the clauses of the chosen axioms, whoever found it, to a core with a witness for each axiom: each axiom

@@ -17,7 +17,7 @@ ghost use Rattle.core_reduce.specs.Reducing.{others, next_open, IsReducing, IsNe
 
 use crate::answers::{Reduced, Refutation};
 use crate::leaving::{leave_out, marks_kept, places_kept};
-use crate::needs::{Focus, focus_on};
+use crate::needs::focus_on;
 use crate::rests::rest_of;
 use crate::tables::rule_of;
 use cdcl::{Search, solve};
@@ -146,6 +146,9 @@ impl Reduction {
         requires few { length lines.now < 2 ^ 32 - 1 }
         ensures { IfOk result (IsNext study.now self) }
     {
+        let mut focus = focus_on(alloc, clauses, lines, study.axioms().len())?;
+        leave_out(&mut focus.gone, k);
+        let core = places_kept(alloc, self.core.as_slice(), focus.gone.as_slice())?;
         let Reduction {
             core: before,
             clauses: _,
@@ -153,21 +156,8 @@ impl Reduction {
             witnesses,
             logs,
         } = self;
-        let Focus {
-            mut gone,
-            clauses: left,
-            proof,
-        } = focus_on(alloc, clauses, lines, study.axioms().len())?;
-        leave_out(&mut gone, k);
-        let core = places_kept(alloc, before.as_slice(), gone.as_slice())?;
-        let marks = marks_kept(alloc, before.as_slice(), witnesses, gone.as_slice())?;
-        Ok(Reduction {
-            core,
-            clauses: left,
-            proof,
-            witnesses: marks,
-            logs,
-        })
+        let marks = marks_kept(alloc, before.as_slice(), witnesses, focus.gone.as_slice())?;
+        Ok(focus.into_reduction(core, marks, logs))
     }
 
     /// The refutation of a reduction that has a witness for each axiom of its core.

@@ -10,6 +10,8 @@ use Rattle.clause_form.proofs.RestLaws.{rest_is_ground}
 use Rattle.search_logs.specs.Spent.{has_place, IsSpentLog}
 use Rattle.clause_form.specs.Cited.{is_axiom_cited}
 use Rattle.core_reduce.specs.Kept.{keeps}
+use Rattle.core_reduce.specs.Reducing.{IsFrom, IsReducing}
+use Rattle.core_reduce.specs.declared.reduction.Reduction.{Reduction}
 use Rattle.core_reduce.proofs.CoreLaws.{all-filter, core-filter, core_in_range, each_member, nothing_marked}
 use Rattle.core_reduce.proofs.FinishLaws.{filter_member, member_passes}
 use Rattle.core_reduce.proofs.deciding.start.Goals as goal
@@ -17,10 +19,10 @@ use Rattle.core_reduce.proofs.deciding.start.Goals as goal
 pub returns-clause-reducing : goal.returns-clause-reducing
 returns-clause-reducing c =
     let s = c.args.study.now in
-    let focus = c.in_ok-gone.ensures in
-    let keep : ℕ → Bool = keeps c.in_ok-gone.field-0.gone.items in
+    let focus = c.in_ok-focus.ensures in
+    let keep : ℕ → Bool = keeps c.in_ok-focus.focus.gone.items in
     let core : c.in_ok-core.core ≡ filter keep c.args.chosen.now = c.in_ok-core.ensures ∙ ap (λ (b : List Bool). filter (keeps b) c.as_slice.result.now) c.as_slice-2.ensures.value ∙ ap (filter keep) c.as_slice.ensures in
-    record {
+    subst (IsReducing s) (sym c.into_reduction.ensures) record {
       core = subst (λ (ps : List ℕ). is_core_from 0 (length s.axioms) ps ≡ true) (sym core) (core-filter keep 0 (length s.axioms) c.args.chosen.now c.requires.chosen);
       clauses =
           focus.clauses
@@ -37,12 +39,12 @@ returns-clause-reducing c =
 pub returns-clause-taken : goal.returns-clause-taken
 returns-clause-taken c =
     let s = c.args.study.now in
-    let focus = c.in_ok-gone.ensures in
+    let focus = c.in_ok-focus.ensures in
     let n = c.len.ensures ∙ ap length c.axioms.ensures.axioms in
-    let keep : ℕ → Bool = keeps c.in_ok-gone.field-0.gone.items in
+    let keep : ℕ → Bool = keeps c.in_ok-focus.focus.gone.items in
     let core : c.in_ok-core.core ≡ filter keep c.args.chosen.now = c.in_ok-core.ensures ∙ ap (λ (b : List Bool). filter (keeps b) c.as_slice.result.now) c.as_slice-2.ensures.value ∙ ap (filter keep) c.as_slice.ensures in
     let range = core_in_range 0 (length s.axioms) c.args.chosen.now c.requires.chosen in
-    record {
+    subst (λ (r : Reduction). IsFrom s c.args.chosen.now c.args.proof.now r.core) (sym c.into_reduction.ensures) record {
       from_chosen = subst (λ (ps : List ℕ). list_all (has_place c.args.chosen.now) ps ≡ true) (sym core) (all-filter (has_place c.args.chosen.now) keep c.args.chosen.now (each_member (has_place c.args.chosen.now) c.args.chosen.now (λ j e. e)));
       cited =
           subst (λ (ps : List ℕ). list_all (is_axiom_cited (study_clauses s.size s.axioms c.args.chosen.now) c.args.proof.now) ps ≡ true) (sym core)

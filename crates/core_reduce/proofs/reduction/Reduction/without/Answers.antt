@@ -9,7 +9,7 @@ use Rattle.meaning.specs.Variables.{variable_count}
 use Rattle.clause_form.specs.Sources.{is_left}
 use Rattle.clause_form.proofs.RestLaws.{rest_is_ground}
 use Rattle.core_reduce.specs.Kept.{keeps}
-use Rattle.core_reduce.specs.Reducing.{kept_marks, others, next_open, AreMarked}
+use Rattle.core_reduce.specs.Reducing.{kept_marks, others, next_open, AreMarked, IsNext}
 use Rattle.core_reduce.proofs.CoreLaws.{all-filter, core-filter, filter-others, marked_part, marks_fewer, place_in_range}
 use Rattle.core_reduce.proofs.reduction.Reduction.without.Goals as goal
 
@@ -17,7 +17,7 @@ pub leave_out-requires : goal.leave_out-requires
 leave_out-requires c =
     let in_k = place_in_range (length c.args.study.now.axioms) c.args.self.core (length c.args.self.witnesses.items) c.requires.reducing.core c.requires.open in
     let n = c.len.ensures ∙ ap length c.axioms.ensures.axioms in
-    omega (arith, in_k, c.requires.k, n, c.in_ok-gone.ensures.flags)
+    omega (arith, in_k, c.requires.k, n, c.in_ok-focus.ensures.flags)
 
 pub returns : goal.returns
 returns c =
@@ -25,8 +25,8 @@ returns c =
     let r = c.args.self in
     let h = c.requires.reducing in
     let ws : List Witness = r.witnesses.items in
-    let focus = c.in_ok-gone.ensures in
-    let cited : List Bool = c.in_ok-gone.field-0.gone.items in
+    let focus = c.in_ok-focus.ensures in
+    let cited : List Bool = c.in_ok-focus.focus.gone.items in
     let gone : List Bool = c.leave_out.new.gone.items in
     let keep : ℕ → Bool = keeps gone in
     let in_core = place_in_range (length s.axioms) r.core (length ws) h.core c.requires.open in
@@ -42,7 +42,7 @@ returns c =
     let fewer = marks_fewer keep r.core ws c.requires.open first in
     let long = ap length core in
     let long' = ap length marks in
-    record {
+    subst (IsNext s r) (sym c.into_reduction.ensures) record {
       reducing = record {
         core = subst (λ (ps : List ℕ). is_core_from 0 (length s.axioms) ps ≡ true) (sym core) (core-filter keep 0 (length s.axioms) r.core h.core);
         clauses =
