@@ -119,7 +119,7 @@ fn add_round<R: Threads + Sync, K: OutcomeKind, G: Gate>(
 ) -> Result<(), PushFault>
     requires instances { AreNarrowInstances
         (K.size round.now.kind.now) round.now.named.now round.now.from round.now.to }
-    requires base { base ≤ 2 ^ 40 }
+    requires base { base ≤ 2 ^ 60 }
     requires short { round.now.to ≤ round.now.from + 16384 }
     ensures kept { OnOk result (Keeps (codes_seen seen.old.keys) out.old (codes_seen seen.new.keys) out.new
         (sources_of (K.size round.now.kind.now) round.now.named.now.sentence base
@@ -131,7 +131,7 @@ fn add_round<R: Threads + Sync, K: OutcomeKind, G: Gate>(
     let (from, to) = (round.from, round.to);
     let make = |start: u64, end: u64| -> Result<Part, NoMemory>
         requires { AreNarrowInstances (K.size round.now.kind.now) round.now.named.now start end ×
-            (base ≤ 2 ^ 40) }
+            (base ≤ 2 ^ 60) }
         ensures { IfOk result
             (IsPart (K.size round.entry.now.kind.now) round.entry.now.named.now.sentence base start end) }
     { clauses_of_all(alloc, round.kind, round.named, base, start, end) };

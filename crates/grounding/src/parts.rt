@@ -70,7 +70,7 @@ pub(crate) fn clauses_of_all<K: OutcomeKind>(
     requires few { instance_count (K.size kind.now) named.now.sentence ≤ 40000000 }
     requires within { to ≤ instance_count (K.size kind.now) named.now.sentence }
     requires rising { from ≤ to }
-    requires base { base ≤ 2 ^ 40 }
+    requires base { base ≤ 2 ^ 60 }
     requires narrow { AreNarrow (K.size kind.now) named.now.sentence from to }
     ensures clauses { IfOk result
         (λ part. part.clauses ≡ rows_from (rows_at (K.size kind.now) named.now.sentence) from (to - from)) }
