@@ -95,61 +95,73 @@ fn over_calm<R: Threads + Sync>(
 }
 
 /// Whether a command over these files makes so many calls of the shelf, and answers each fault of a device, and what it does without
-/// one, as it should. Its undisturbed status is 0, and its text has so many bytes at least and at most three pages, so that the sink has
-/// at most four calls.
+/// one, as it should. Undisturbed it ends with this status, and its text has so many bytes at least and at most three pages, so that the
+/// sink has at most four calls.
 fn withstands<R: Threads + Sync>(
     rt: &R,
     alloc: Global,
     words: &[&str],
     first: &[u8],
     second: &[u8],
+    status: u8,
     calls: u32,
     least: usize,
 ) -> Result<bool, Fail> {
     let whole = answered(rt, alloc, &Open, words, first, second, ROOM)?;
     let length = whole.bytes.len();
-    let mut right = whole.status == 0 && least <= length && length <= 3 * PAGE;
+    let mut right = whole.status == status && least <= length && length <= 3 * PAGE;
     right = stops_at_failed_reads(rt, alloc, words, first, second, calls, &whole)? && right;
     for call in 0..5 {
         right = leaves_a_front(rt, alloc, words, first, second, call, &whole)? && right;
     }
     right = moves_single_bytes(rt, alloc, words, first, second, &whole)? && right;
-    Ok(over_calm(rt, alloc, words, first, second)? == 0 && right)
+    Ok(over_calm(rt, alloc, words, first, second)? == status && right)
 }
 
 #[test]
 fn commands_withstand_devices(rt: HostRuntime) -> Result<(), Fail> {
     // Each file that is read takes three calls of the shelf: a rewind, a read that gives its bytes, and one that finds the end.
-    let cases: [(&[&str], &str, &str, u32); 10] = [
-        (&["check", "first", "second"], SYMMETRIC, SYMMETRIC_STORY, 6),
-        (&["decide", "first"], SYMMETRIC, "", 3),
-        (&["decide", "first"], STUDY, "", 3),
-        (&["export", "first"], STUDY, "", 3),
-        (&["proof", "first"], SYMMETRIC, "", 3),
+    let cases: [(&[&str], &str, &str, u8, u32); 12] = [
+        (
+            &["check", "first", "second"],
+            SYMMETRIC,
+            SYMMETRIC_STORY,
+            0,
+            6,
+        ),
+        (&["decide", "first"], SYMMETRIC, "", 0, 3),
+        (&["decide", "first"], STUDY, "", 0, 3),
+        (&["export", "first"], STUDY, "", 0, 3),
+        (&["proof", "first"], SYMMETRIC, "", 0, 3),
         (
             &["lrat", "first", "second"],
             SQUARE,
             "5 2 0 1 2 0\n6 0 5 3 4 0\n",
+            0,
             6,
         ),
         (
             &["adopt", "first", "second"],
             SYMMETRIC,
             "21 -3 0 9 17 6 0\n22 0 21 3 11 19 6 0\n",
+            0,
             6,
         ),
-        (&["proof", "first"], ARROW, "", 3),
-        (&["sample", "0"], "", "", 0),
-        (&["axioms", "choice"], "", "", 0),
+        (&["proof", "first"], ARROW, "", 0, 3),
+        (&["sample", "0"], "", "", 0, 0),
+        (&["axioms", "choice"], "", "", 0, 0),
+        // No study: the second file is not opened.
+        (&["check", "first", "second"], "", SYMMETRIC_STORY, 3, 3),
+        (&["adopt", "first", "second"], "voters = 2", "", 3, 3),
     ];
-    for (words, first, second, calls) in cases {
+    for (words, first, second, status, calls) in cases {
         let (first, second) = (first.as_bytes(), second.as_bytes());
-        let right = withstands(&rt, rt.alloc(), words, first, second, calls, 1)?;
+        let right = withstands(&rt, rt.alloc(), words, first, second, status, calls, 1)?;
         assert!(rt; right, "at {words:?}");
     }
     // The clauses of Arrow's axioms have more than two pages.
     let (words, study): (&[&str], &[u8]) = (&["export", "first"], ARROW.as_bytes());
-    let right = withstands(&rt, rt.alloc(), words, study, b"", 3, 2 * PAGE + 1)?;
+    let right = withstands(&rt, rt.alloc(), words, study, b"", 0, 3, 2 * PAGE + 1)?;
     assert!(rt; right, "at the clauses of Arrow's axioms");
     Ok(())
 }
