@@ -16,7 +16,7 @@ use Rattle.report_lines.specs.Held.{held_line}
 use Rattle.report.specs.declared.faults.ReportFault.{ReportFault}
 use Rattle.report.specs.declared.faults.ReportFault.TheVariants.{Line as AtLine, NoMemory}
 use Rattle.report.specs.declared.progress.Progress.{Progress}
-use Rattle.report.specs.declared.readings.Reading.{Reading}
+use Rattle.report.specs.declared.judging.Reading.{Reading}
 use Rattle.report.specs.Stands.{supposed, Stands, StandsAs, StandsFor, IsReady}
 use Rattle.report.specs.Taken.{Took}
 

@@ -34,7 +34,7 @@ use Rattle.report_lines.specs.declared.places.Place.TheVariants as place
 use Rattle.report_lines.specs.Held.{held_place, held_number, held_reason}
 use Rattle.story.specs.Lines.{supposition_fault, step_fault}
 use Rattle.worlds.specs.Boards.{Known}
-use Rattle.report.specs.declared.readings.Reading.{Reading}
+use Rattle.report.specs.declared.judging.Reading.{Reading}
 use Rattle.report.specs.Stands.{Stands, IsRead, supposed}
 
 -- ---- numbers and lists

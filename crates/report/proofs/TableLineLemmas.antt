@@ -22,7 +22,7 @@ use Rattle.verdicts.specs.Faults.{unless_so, next_after, next_core, rest_of, tab
 use Rattle.verdicts.specs.Judge.{after_witness, after_row}
 use Rattle.report_lines.specs.declared.places.Place.TheVariants as place
 use Rattle.report_lines.specs.Held.{held_place}
-use Rattle.report.specs.declared.readings.Reading.{Reading}
+use Rattle.report.specs.declared.judging.Reading.{Reading}
 use Rattle.report.specs.Stands.{Stands}
 use Rattle.report.specs.Taken.{Takes, TakesTable}
 

@@ -29,7 +29,7 @@ use Rattle.report_lines.specs.declared.lines.Line.{Line as HeldLine}
 use Rattle.report_lines.specs.declared.lines.Line.TheVariants as held
 use Rattle.report_lines.specs.declared.places.Place.TheVariants as place
 use Rattle.report_lines.specs.Held.{held_number, held_reason, held_place, held_line}
-use Rattle.report.specs.declared.readings.Reading.{Reading}
+use Rattle.report.specs.declared.judging.Reading.{Reading}
 use Rattle.report.specs.Stands.{Stands, IsRead}
 use Rattle.report.specs.Taken.{Takes, IsInStory, IsLine}
 use Rattle.report.proofs.TableLineLemmas.{is_witness_row}

@@ -21,7 +21,7 @@ use Rattle.report_lines.specs.declared.places.Place.{Place as HeldPlace}
 use Rattle.report_lines.specs.declared.places.Place.TheVariants as place
 use Rattle.verdicts.specs.declared.verdicts.Confirmed.TheVariants as confirmed
 use Rattle.report_lines.specs.Held.{held_place, held_number}
-use Rattle.report.specs.declared.readings.Reading.{Reading}
+use Rattle.report.specs.declared.judging.Reading.{Reading}
 use Rattle.report.specs.Stands.{Stands, IsRead}
 
 next_there : (core : List ℕ) (witnesses : List Witness) → next_after core witnesses ≡ slice_get core (length witnesses)

@@ -11,7 +11,7 @@ use Rattle.report_lines.specs.Held.{held_number, held_place}
 use Rattle.report.specs.declared.faults.ReportFault.{ReportFault}
 use Rattle.report.specs.declared.faults.ReportFault.TheVariants.{Line as AtLine, NoMemory}
 use Rattle.report.specs.declared.progress.Progress.{Progress}
-use Rattle.report.specs.declared.readings.Reading.{Reading}
+use Rattle.report.specs.declared.judging.Reading.{Reading}
 
 -- what lemmas suppose
 abbrev pub supposed : List Lemma → List (List Literal)

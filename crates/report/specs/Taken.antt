@@ -11,7 +11,7 @@ use Rattle.verdicts.specs.Faults.{table_fault, asked_at, fault_of}
 use Rattle.verdicts.specs.Judge.{after_row, advance, read_line}
 use Rattle.report_lines.specs.declared.lines.Line.{Line as HeldLine}
 use Rattle.report_lines.specs.Held.{held_line}
-use Rattle.report.specs.declared.readings.Reading.{Reading}
+use Rattle.report.specs.declared.judging.Reading.{Reading}
 use Rattle.report.specs.Stands.{Stands}
 
 -- the fault of the line is answered, and where it has none its part is held with what was held

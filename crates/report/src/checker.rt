@@ -11,8 +11,8 @@ ghost use Rattle.report.specs.Answers.{told_of, Concludes, ConfirmsRight, Confir
 ghost use Rattle.report.specs.Stands.{StandsFor, IsReady};
 
 use crate::faults::ReportFault;
+use crate::judging::Reading;
 use crate::progress::Progress;
-use crate::readings::Reading;
 use crate::subject::Subject;
 use crew::Crew;
 use edge::Gate;

@@ -2,16 +2,10 @@
 #![tactic(auto)]
 
 mod checker;
-mod core_lines;
 mod faults;
-mod head_lines;
+mod judging;
 mod progress;
-mod readings;
-mod story_lines;
 mod subject;
-mod table_lines;
-mod taking;
-mod witness_lines;
 
 pub use checker::Checker;
 pub use faults::ReportFault;

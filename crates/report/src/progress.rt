@@ -1,7 +1,7 @@
 //! How far a checker is.
 
 use crate::faults::ReportFault;
-use crate::readings::Reading;
+use crate::judging::Reading;
 
 /// What a checker has of the lines that it was given: what they have given, how many they are, and their first fault.
 #[derive(Drop)]

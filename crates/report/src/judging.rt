@@ -1,0 +1,55 @@
+//! What the lines so far have given.
+
+ghost use Rattle.std.specs.Prelude.{◌≡◌, IfOk};
+ghost use Rattle.verdicts.specs.Places.{start};
+ghost use Rattle.report.specs.Stands.{Stands};
+
+mod core_lines;
+mod head_lines;
+mod story_lines;
+mod table_lines;
+mod taking;
+mod witness_lines;
+
+use crate::subject::Subject;
+use lists::{Items, NoMemory};
+use meaning::{Lemma, Literals};
+use outcomes::OutcomeKind;
+use report_lines::Place;
+use vocab::{Places, Table};
+use worlds::Board;
+
+/// What the lines so far have given: the place in the grammar; the version of the report; the outcomes of the table that is
+/// being read; the core; how many lemmas there will be; the suppositions of those that are read; what the present one
+/// supposes; on the board, all that it has supposed or forced; and how many witnesses are read.
+#[derive(Drop)]
+pub(crate) struct Reading {
+    pub(crate) place: Place,
+    pub(crate) version: u8,
+    pub(crate) rows: Table,
+    pub(crate) core: Places,
+    pub(crate) count: u64,
+    pub(crate) earlier: Items<Lemma>,
+    pub(crate) suppose: Literals,
+    pub(crate) board: Board,
+    pub(crate) witnesses: usize,
+}
+
+impl Reading {
+    /// Nothing is read.
+    pub(crate) fn new<K: OutcomeKind>(subject: &Subject<K>) -> Result<Reading, NoMemory>
+        ensures { IfOk result (λ reading. Stands subject.now.study.now reading start) }
+    {
+        Ok(Reading {
+            place: Place::AtTitle,
+            version: 1,
+            rows: Items::new(subject.alloc),
+            core: Items::new(subject.alloc),
+            count: 0,
+            earlier: Items::new(subject.alloc),
+            suppose: Items::new(subject.alloc),
+            board: Board::new(subject.alloc, subject.kind)?,
+            witnesses: 0,
+        })
+    }
+}

@@ -1,0 +1,103 @@
+//! Reads a line, and takes it.
+
+ghost use Rattle.std.specs.Prelude.{◌≡◌, ◌≢◌, ◌≤◌, Some, option_map};
+ghost use Rattle.verdicts.specs.Lines.{Line as WantedLine};
+ghost use Rattle.verdicts.specs.Places.{Standing};
+ghost use Rattle.verdicts.specs.Judge.{read_line, settle, Good};
+ghost use Rattle.report_lines.specs.Held.{held_line};
+ghost use Rattle.report.specs.Stands.{Stands, IsRead, StandsAs};
+ghost use Rattle.report.specs.declared.faults.ReportFault.TheVariants.{Line as AtLine};
+ghost use Rattle.report.specs.Taken.{Takes, IsLine};
+
+use crate::faults::ReportFault;
+use crate::judging::Reading;
+use crate::subject::Subject;
+use crew::Crew;
+use edge::Gate;
+use lists::NoMemory;
+use outcomes::OutcomeKind;
+use report_lines::{Line, read_line};
+use std::thread::Threads;
+use verdicts::Refusal;
+
+/// The fault of a line with its number.
+fn at_line(line: u32, fault: Option<Refusal>) -> Option<ReportFault>
+    ensures { result ≡ option_map (AtLine line) fault }
+{
+    match fault {
+        None => None,
+        Some(refusal) => Some(ReportFault::Line { line, refusal }),
+    }
+}
+
+impl Reading {
+    /// Reads the next line, which has this number, at the place, and takes it: None where it has no fault.
+    pub(crate) fn judge<R: Threads + Sync, G: Gate, K: OutcomeKind>(
+        &mut self,
+        crew: &Crew<R, G>,
+        subject: &Subject<K>,
+        line: u32,
+        text: &[u8],
+    ) -> Option<ReportFault>
+        requires read { IsRead subject.now.study.now self.old }
+        ensures { (s : Standing) → Stands subject.now.study.now self.old s →
+            result ≢ Some ReportFault.NoMemory →
+            StandsAs subject.now.study.now result self.new
+            (settle subject.now.study.now line s (read_line subject.now.study.now s text.now) Good) }
+    {
+        let number = self.earlier.len() as u64 + 1;
+        let Some(said) = read_line(subject.kind, subject.study, self.place, number, text) else {
+            return Some(ReportFault::Line {
+                line,
+                refusal: Refusal::Form,
+            });
+        };
+        match self.take(crew, subject, &said, text) {
+            Ok(fault) => at_line(line, fault),
+            Err(NoMemory) => Some(ReportFault::NoMemory),
+        }
+    }
+
+    /// Takes a line of this text, as it was read at the place: None where it has no fault, and then its part is held with
+    /// what was held.
+    pub(crate) fn take<R: Threads + Sync, G: Gate, K: OutcomeKind>(
+        &mut self,
+        crew: &Crew<R, G>,
+        subject: &Subject<K>,
+        line: &Line,
+        text: &[u8],
+    ) -> Result<Option<Refusal>, NoMemory>
+        requires read { IsRead subject.now.study.now self.old }
+        requires line { (s : Standing) → Stands subject.now.study.now self.old s →
+            IsLine subject.now.study.now s text.now line.now }
+        ensures { (s : Standing) (wanted : WantedLine) → Stands subject.now.study.now self.old s →
+            read_line subject.now.study.now s text.now ≡ Some wanted →
+            line.now ≡ held_line subject.now.study.now wanted →
+            Takes subject.now.study.now s wanted self.new result }
+    {
+        match line {
+            Line::Title(version) => Ok(self.take_title(subject.study, *version)),
+            Line::KindIs(kind) => Ok(self.take_kind(subject.study, *kind)),
+            Line::VotersAre(count) => Ok(self.take_voters(subject.study, *count)),
+            Line::AlternativesAre(count) => Ok(self.take_alternatives(subject.study, *count)),
+            Line::BallotsAre(same) => Ok(self.take_ballots(*same)),
+            Line::AbsentIs(absent) => Ok(self.take_absent(subject.study, *absent)),
+            Line::AxiomsAre(same) => Ok(self.take_axioms(*same)),
+            Line::SaysPossible => Ok(self.take_possible()),
+            Line::SaysImpossible => Ok(self.take_impossible()),
+            Line::SaysUndecided => Ok(self.take_undecided()),
+            Line::LimitIs(_) => Ok(self.take_limit()),
+            Line::RuleOf(count) => Ok(self.take_rule_of(subject, *count)),
+            Line::Row(profile, outcome) => self.take_row(crew, subject, *profile, *outcome),
+            Line::CoreIs(right) => self.take_core(subject, *right, text),
+            Line::LemmasAre(count) => Ok(self.take_lemmas(*count)),
+            Line::Heading(_) => Ok(self.take_heading()),
+            Line::Suppose(literal) => self.take_suppose(subject, literal),
+            Line::So(literal, reason) => self.take_so(subject, literal, reason),
+            Line::Clash(reason) => self.take_clash(subject, reason),
+            Line::WithRule(name, count) => Ok(self.take_with_rule(subject, name, *count)),
+            Line::WithOpen(name, limit) => Ok(self.take_with_open(subject, name, *limit)),
+            Line::End => Ok(self.take_end()),
+        }
+    }
+}
