@@ -59,10 +59,10 @@ module _ (study : Question) (lines : List (List ℕ)) where
 
   -- where no line is faulty
   pub ends : (p : Progress) (rest : List ℕ) (n : ℕ) (result : Result Confirmed ReportFault) → p.fault ≡ None → n ≡ p.lines + 1 → StandsFor study p lines →
-      ((q : Place) → p.reading.place ≡ held_place q → q ≢ AtNothing Undecided → Concludes (at_end n rest q) result) → Concludes (conclude (length lines + 1) rest (judge study lines)) result
+      ((q : Place) → p.judging.place ≡ held_place q → q ≢ AtNothing Undecided → Concludes (at_end n rest q) result) → Concludes (conclude (length lines + 1) rest (judge study lines)) result
   ends p rest n result none number h go = by_told (judge study lines) refl h.1
     where
-      by_told : (told : Told) → judge study lines ≡ told → StandsAs study p.fault p.reading told → Concludes (conclude (length lines + 1) rest told) result
+      by_told : (told : Told) → judge study lines ≡ told → StandsAs study p.fault p.judging told → Concludes (conclude (length lines + 1) rest told) result
       by_told (Good s) e k =
           let same : n ≡ length lines + 1 = number ∙ ap (λ m. m + 1) h.0 in
           subst (λ m. Concludes (at_end m rest s.place) result) same (go s.place k.1.place (claims_at s e))

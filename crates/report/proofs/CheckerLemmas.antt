@@ -16,7 +16,7 @@ use Rattle.report_lines.specs.Held.{held_line}
 use Rattle.report.specs.declared.faults.ReportFault.{ReportFault}
 use Rattle.report.specs.declared.faults.ReportFault.TheVariants.{Line as AtLine, NoMemory}
 use Rattle.report.specs.declared.progress.Progress.{Progress}
-use Rattle.report.specs.declared.judging.Reading.{Reading}
+use Rattle.report.specs.declared.judging.Judging.{Judging}
 use Rattle.report.specs.Stands.{supposed, Stands, StandsAs, StandsFor, IsReady}
 use Rattle.report.specs.Taken.{Took}
 
@@ -39,13 +39,13 @@ pub kept : {P : Type 0} (fault : Option ReportFault) (result : Result (Unit {0})
 kept fault (Ok x) other f = f other
 kept fault (Err e) wanting f = tt
 
--- so many lines, with this fault and reading
-abbrev pub at : ℕ → Option ReportFault → Reading → Progress
-at n fault r = record { reading = r; lines = n; fault = fault }
+-- so many lines, with this fault and judging
+abbrev pub at : ℕ → Option ReportFault → Judging → Progress
+at n fault r = record { judging = r; lines = n; fault = fault }
 
 module _ (study : Question) where
   -- the number of the lemma that comes next
-  pub next_number : (r : Reading) (s : Standing) (n k : ℕ) → Stands study r s → n ≡ k + 1 → k ≡ length r.earlier → n ≡ length s.earlier + 1
+  pub next_number : (r : Judging) (s : Standing) (n k : ℕ) → Stands study r s → n ≡ k + 1 → k ≡ length r.earlier → n ≡ length s.earlier + 1
   next_number r s n k h e f = let same = same_length r.earlier s.earlier h.earlier in omega (arith, e, f, same)
 
   -- what is held of a line is what the grammar wants
@@ -58,11 +58,11 @@ module _ (study : Question) where
   none_of (Some w) e = absurd (cc)
 
   -- a line that is not wanted
-  pub unread : (n : ℕ) (s : Standing) (text : List ℕ) (r : Reading) → None ≡ option_map (held_line study) (read_line study s text) → StandsAs study (Some (AtLine n Form)) r (settle study n s (read_line study s text) Good)
+  pub unread : (n : ℕ) (s : Standing) (text : List ℕ) (r : Judging) → None ≡ option_map (held_line study) (read_line study s text) → StandsAs study (Some (AtLine n Form)) r (settle study n s (read_line study s text) Good)
   unread n s text r e = subst (λ o. StandsAs study (Some (AtLine n Form)) r (settle study n s o Good)) (sym (none_of (read_line study s text) e)) refl
 
   -- a line that is taken
-  pub taken : (n : ℕ) (s : Standing) (text : List ℕ) (w : Line) (r : Reading) (fault : Option Refusal) → read_line study s text ≡ Some w → Took study s w r fault → StandsAs study (option_map (AtLine n) fault) r (settle study n s (read_line study s text) Good)
+  pub taken : (n : ℕ) (s : Standing) (text : List ℕ) (w : Line) (r : Judging) (fault : Option Refusal) → read_line study s text ≡ Some w → Took study s w r fault → StandsAs study (option_map (AtLine n) fault) r (settle study n s (read_line study s text) Good)
   taken n s text w r fault e h = subst (λ o. StandsAs study (option_map (AtLine n) fault) r (settle study n s o Good)) (sym e) (by_fault fault h.0 h.1)
     where
       by_fault : (fault : Option Refusal) → fault ≡ fault_of study s w → (fault ≡ None → Stands study r (advance study s w)) → StandsAs study (option_map (AtLine n) fault) r (settle_at study n s w (fault_of study s w) Good)
@@ -78,7 +78,7 @@ module _ (study : Question) where
   told_next lines text = judge_snoc study 1 start lines text
 
   -- after a faulty line nothing changes
-  pub still : (n : ℕ) (fault : ReportFault) (r : Reading) (lines : List (List ℕ)) (text : List ℕ) → StandsFor study (at n (Some fault) r) lines → StandsFor study (at (n + 1) (Some fault) r) (lines ++ text ∷ [])
+  pub still : (n : ℕ) (fault : ReportFault) (r : Judging) (lines : List (List ℕ)) (text : List ℕ) → StandsFor study (at n (Some fault) r) lines → StandsFor study (at (n + 1) (Some fault) r) (lines ++ text ∷ [])
   still n fault r lines text h =
       (longer n lines text h.0, subst (StandsAs study (Some fault) r) (sym (told_next lines text)) (by_told (judge study lines) h.1))
     where
@@ -87,7 +87,7 @@ module _ (study : Question) where
       by_told (Refused line word) k = k
 
   -- the next line after lines without a fault
-  pub step : (n : ℕ) (fault : Option ReportFault) (r after : Reading) (lines : List (List ℕ)) (text : List ℕ) → StandsFor study (at n None r) lines →
+  pub step : (n : ℕ) (fault : Option ReportFault) (r after : Judging) (lines : List (List ℕ)) (text : List ℕ) → StandsFor study (at n None r) lines →
       ((s : Standing) → Stands study r s → StandsAs study fault after (settle study (n + 1) s (read_line study s text) Good)) → StandsFor study (at (n + 1) fault after) (lines ++ text ∷ [])
   step n fault r after lines text h go =
       let number : n + 1 ≡ 1 + length lines = omega (arith, h.0) in
@@ -98,12 +98,12 @@ module _ (study : Question) where
       by_told (Refused line word) k = let wrong : None ≡ Some (AtLine line word) = k in absurd (cc)
 
   -- a checker with a fault stays ready
-  pub still_ready : (n : ℕ) (fault : ReportFault) (r : Reading) (text : List ℕ) → IsReady study (at n (Some fault) r) → IsReady study (at (n + 1) (Some fault) r)
+  pub still_ready : (n : ℕ) (fault : ReportFault) (r : Judging) (text : List ℕ) → IsReady study (at n (Some fault) r) → IsReady study (at (n + 1) (Some fault) r)
   still_ready n fault r text (inl e) = inl e
   still_ready n fault r text (inr (lines, h)) = inr (lines ++ text ∷ [], still n fault r lines text h)
 
   -- the next line leaves a checker ready
-  pub step_ready : (n : ℕ) (fault : Option ReportFault) (r after : Reading) (text : List ℕ) → IsReady study (at n None r) →
+  pub step_ready : (n : ℕ) (fault : Option ReportFault) (r after : Judging) (text : List ℕ) → IsReady study (at n None r) →
       ((s : Standing) → Stands study r s → fault ≢ Some NoMemory → StandsAs study fault after (settle study (n + 1) s (read_line study s text) Good)) → IsReady study (at (n + 1) fault after)
   step_ready n fault r after text (inl e) go = absurd (cc)
   step_ready n fault r after text (inr (lines, h)) go = elim (is_wanting fault) [
@@ -113,16 +113,16 @@ module _ (study : Question) where
 
   -- ---- at what a checker holds
 
-  pub still_ready_at : (n : ℕ) (o : Option ReportFault) (fault : ReportFault) (r : Reading) (text : List ℕ) → o ≡ Some fault → IsReady study (at n o r) → IsReady study (at (n + 1) o r)
+  pub still_ready_at : (n : ℕ) (o : Option ReportFault) (fault : ReportFault) (r : Judging) (text : List ℕ) → o ≡ Some fault → IsReady study (at n o r) → IsReady study (at (n + 1) o r)
   still_ready_at n o fault r text e h = subst (λ x. IsReady study (at (n + 1) x r)) (sym e) (still_ready n fault r text (subst (λ x. IsReady study (at n x r)) e h))
 
-  pub still_at : (n : ℕ) (o : Option ReportFault) (fault : ReportFault) (r : Reading) (lines : List (List ℕ)) (text : List ℕ) → o ≡ Some fault → StandsFor study (at n o r) lines → StandsFor study (at (n + 1) o r) (lines ++ text ∷ [])
+  pub still_at : (n : ℕ) (o : Option ReportFault) (fault : ReportFault) (r : Judging) (lines : List (List ℕ)) (text : List ℕ) → o ≡ Some fault → StandsFor study (at n o r) lines → StandsFor study (at (n + 1) o r) (lines ++ text ∷ [])
   still_at n o fault r lines text e h = subst (λ x. StandsFor study (at (n + 1) x r) (lines ++ text ∷ [])) (sym e) (still n fault r lines text (subst (λ x. StandsFor study (at n x r) lines) e h))
 
-  pub step_ready_at : (n : ℕ) (o fault : Option ReportFault) (r after : Reading) (text : List ℕ) → o ≡ None → IsReady study (at n o r) →
+  pub step_ready_at : (n : ℕ) (o fault : Option ReportFault) (r after : Judging) (text : List ℕ) → o ≡ None → IsReady study (at n o r) →
       ((s : Standing) → Stands study r s → fault ≢ Some NoMemory → StandsAs study fault after (settle study (n + 1) s (read_line study s text) Good)) → IsReady study (at (n + 1) fault after)
   step_ready_at n o fault r after text e h go = step_ready n fault r after text (subst (λ x. IsReady study (at n x r)) e h) go
 
-  pub step_at : (n : ℕ) (o fault : Option ReportFault) (r after : Reading) (lines : List (List ℕ)) (text : List ℕ) → o ≡ None → StandsFor study (at n o r) lines →
+  pub step_at : (n : ℕ) (o fault : Option ReportFault) (r after : Judging) (lines : List (List ℕ)) (text : List ℕ) → o ≡ None → StandsFor study (at n o r) lines →
       ((s : Standing) → Stands study r s → StandsAs study fault after (settle study (n + 1) s (read_line study s text) Good)) → StandsFor study (at (n + 1) fault after) (lines ++ text ∷ [])
   step_at n o fault r after lines text e h go = step n fault r after lines text (subst (λ x. StandsFor study (at n x r) lines) e h) go

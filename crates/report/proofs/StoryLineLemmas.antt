@@ -1,4 +1,4 @@
--- What a reading stands for in lemmas.
+-- What a judging stands for in lemmas.
 use Rattle.std.proofs.Common.{◌≡◌, refl, sym, ap, ap₂, ◌∙◌, subst, ℕ, ◌<◌, ◌≤◌, inl, inr, Bool, true, false, not, List, [], ◌∷◌, ◌++◌, map, length, Option, Some, None, option_map, arith, append_assoc, append-nil, length-append, cond, min, ltb-true}
 use Rattle.std.specs.Prelude.{slice_get, nat_lt, ◌==◌, ◌^◌, ◌-◌}
 use Rattle.std.specs.Option.{option_or}
@@ -34,7 +34,7 @@ use Rattle.report_lines.specs.declared.places.Place.TheVariants as place
 use Rattle.report_lines.specs.Held.{held_place, held_number, held_reason}
 use Rattle.story.specs.Lines.{supposition_fault, step_fault}
 use Rattle.worlds.specs.Boards.{Known}
-use Rattle.report.specs.declared.judging.Reading.{Reading}
+use Rattle.report.specs.declared.judging.Judging.{Judging}
 use Rattle.report.specs.Stands.{Stands, IsRead, supposed}
 
 -- ---- numbers and lists
@@ -108,7 +108,7 @@ at_suppose p e = absurd (cc)
 abbrev pub told : Standing → Reason → Standing
 told s w = record s { earlier = s.earlier ++ record { suppose = s.suppose; steps = s.steps; last = w } ∷ []; suppose = []; steps = [] }
 
-module _ (study : Question) (r : Reading) where
+module _ (study : Question) (r : Judging) where
   -- what the callees ask
   pub earlier_there : IsRead study r → (size : Extent) (es : List Lemma) → study.size ≡ size → es ≡ r.earlier → list_all (has_literals size) es ≡ true
   earlier_there i size es same slice =
@@ -205,5 +205,5 @@ module _ (study : Question) (r : Reading) where
 
     -- ---- after a lemma
 
-    pub all_told : (t : Reading) → length r.earlier ≡ r.count → Stands study t (after_witness s) → Stands study t (after_lemma s)
+    pub all_told : (t : Judging) → length r.earlier ≡ r.count → Stands study t (after_witness s) → Stands study t (after_lemma s)
     all_told t e g = subst (λ b. Stands study t (cond b (after_witness s) (record s { place = AtLemma }))) (sym (was_last (length r.earlier) (length s.earlier) r.count s.count few_lemmas h.few h.count e)) g

@@ -22,7 +22,7 @@ use Rattle.verdicts.specs.Faults.{unless_so, next_after, next_core, rest_of, tab
 use Rattle.verdicts.specs.Judge.{after_witness, after_row}
 use Rattle.report_lines.specs.declared.places.Place.TheVariants as place
 use Rattle.report_lines.specs.Held.{held_place}
-use Rattle.report.specs.declared.judging.Reading.{Reading}
+use Rattle.report.specs.declared.judging.Judging.{Judging}
 use Rattle.report.specs.Stands.{Stands}
 use Rattle.report.specs.Taken.{Takes, TakesTable}
 
@@ -87,7 +87,7 @@ module _ (study : Question) where
   waits AtWitnessRow s e = ap (λ b. cond b (after_witness (record s { rows = []; witnesses = s.witnesses ++ Rule s.rows ∷ [] })) s) e
   waits p s e = ap (λ b. cond b (record s { place = AtEnd (Possible s.rows) }) s) e
 
-  with_row : (r : Reading) (s : Standing) (o : ℕ) (rows : List ℕ) → Stands study r s → rows ≡ r.rows ++ o ∷ [] → Stands study (record r { rows = rows }) (record s { rows = s.rows ++ o ∷ [] })
+  with_row : (r : Judging) (s : Standing) (o : ℕ) (rows : List ℕ) → Stands study r s → rows ≡ r.rows ++ o ∷ [] → Stands study (record r { rows = rows }) (record s { rows = s.rows ++ o ∷ [] })
   with_row r s o rows h e = record {
     place = h.place;
     version = h.version;
@@ -108,11 +108,11 @@ module _ (study : Question) where
       ap (λ b. option_or (unless_so b Row) (cond (length s.rows + 1 == sort_count study.size Profile) (table_fault study (s.rows ++ o ∷ []) (asked_at study s.place s)) None)) (eq-eqb p (length s.rows) e)
       ∙ ap (λ b. cond b (table_fault study (s.rows ++ o ∷ []) (asked_at study s.place s)) None) f
 
-  longer : (r : Reading) (s : Standing) (o : ℕ) (rows : List ℕ) → Stands study r s → rows ≡ r.rows ++ o ∷ [] → length rows ≡ length s.rows + 1
+  longer : (r : Judging) (s : Standing) (o : ℕ) (rows : List ℕ) → Stands study r s → rows ≡ r.rows ++ o ∷ [] → length rows ≡ length s.rows + 1
   longer r s o rows h e = ap length e ∙ ap (λ rows. length (rows ++ o ∷ [])) h.rows ∙ length-append s.rows (o ∷ [])
 
   -- a row before the last one
-  pub part_taken : (r : Reading) (s : Standing) (p o : ℕ) (rows : List ℕ) → Stands study r s → p ≡ length r.rows → rows ≡ r.rows ++ o ∷ [] → (length rows ≡ sort_count study.size Profile → ⊥) →
+  pub part_taken : (r : Judging) (s : Standing) (p o : ℕ) (rows : List ℕ) → Stands study r s → p ≡ length r.rows → rows ≡ r.rows ++ o ∷ [] → (length rows ≡ sort_count study.size Profile → ⊥) →
       Takes study s (RowLine p o) (record r { rows = rows }) (Ok None)
   part_taken r s p o rows h same e more =
       let next : length (s.rows ++ o ∷ []) ≡ length s.rows + 1 = length-append s.rows (o ∷ []) in
@@ -123,7 +123,7 @@ module _ (study : Question) where
       )
 
   -- the last row, with the whole table
-  pub whole_taken : (r after : Reading) (s : Standing) (p o : ℕ) (rows : List ℕ) (result : Result (Option Refusal) NoMemory) → Stands study r s → p ≡ length r.rows → rows ≡ r.rows ++ o ∷ [] → length rows ≡ sort_count study.size Profile →
+  pub whole_taken : (r after : Judging) (s : Standing) (p o : ℕ) (rows : List ℕ) (result : Result (Option Refusal) NoMemory) → Stands study r s → p ≡ length r.rows → rows ≡ r.rows ++ o ∷ [] → length rows ≡ sort_count study.size Profile →
       ((t : Standing) → Stands study (record r { rows = rows }) t → TakesTable study t after result) → Takes study s (RowLine p o) after result
   whole_taken r after s p o rows (Err w) h same e whole table = tt
   whole_taken r after s p o rows (Ok fault) h same e whole table =
@@ -141,7 +141,7 @@ module _ (study : Question) where
   next_some (k ∷ core) (w ∷ witnesses) e = omega (arith, next_some core witnesses e)
 
   -- where not every axiom of the core has its witness, one comes next
-  pub has_next : (r : Reading) (s : Standing) → Stands study r s → r.witnesses < length r.core → None ≡ next_core s → ⊥
+  pub has_next : (r : Judging) (s : Standing) → Stands study r s → r.witnesses < length r.core → None ≡ next_core s → ⊥
   has_next r s h l e =
       let same : length r.core ≡ length s.core = ap length h.core in
       omega (arith, l, same, h.witnesses, next_some s.core s.witnesses (sym e))
@@ -150,14 +150,14 @@ module _ (study : Question) where
   whole_witness s e = ap (λ b. cond b (after_witness (record s { rows = []; witnesses = s.witnesses ++ Rule s.rows ∷ [] })) s) (eq-eqb _ _ e)
 
   -- the fault of the table of a witness
-  pub witness_fault : (r : Reading) (s : Standing) (k : ℕ) (places : List ℕ) (fault : Option Refusal) → Stands study r s → r.place ≡ place.AtWitnessRow → Some k ≡ next_core s →
+  pub witness_fault : (r : Judging) (s : Standing) (k : ℕ) (places : List ℕ) (fault : Option Refusal) → Stands study r s → r.place ≡ place.AtWitnessRow → Some k ≡ next_core s →
       places ≡ filter (λ c. not (c == k)) r.core → fault ≡ table_fault study r.rows places → fault ≡ table_fault study s.rows (asked_at study s.place s)
   witness_fault r s k places fault h at next rest e =
       let here : s.place ≡ AtWitnessRow = is_witness_row s.place (sym at ∙ h.place) in
       let asked : places ≡ asked_at study AtWitnessRow s = rest ∙ ap (λ core. rest_of core (Some k)) h.core ∙ ap (rest_of s.core) next in
       e ∙ ap (λ rows. table_fault study rows places) h.rows ∙ ap (table_fault study s.rows) asked ∙ ap (λ p. table_fault study s.rows (asked_at study p s)) (sym here)
 
-  with_witness : (r : Reading) (s : Standing) (rows : List ℕ) → Stands study r s → rows ≡ [] → Stands study (record r { rows = rows; witnesses = r.witnesses + 1 }) (record s { rows = []; witnesses = s.witnesses ++ Rule s.rows ∷ [] })
+  with_witness : (r : Judging) (s : Standing) (rows : List ℕ) → Stands study r s → rows ≡ [] → Stands study (record r { rows = rows; witnesses = r.witnesses + 1 }) (record s { rows = []; witnesses = s.witnesses ++ Rule s.rows ∷ [] })
   with_witness r s rows h e = record {
     place = h.place;
     version = h.version;
@@ -174,7 +174,7 @@ module _ (study : Question) where
   }
 
   -- what is held after the table of a witness
-  pub witness_stands : (r after : Reading) (s : Standing) (rows : List ℕ) → Stands study r s → r.place ≡ place.AtWitnessRow → is_rule study.size r.rows ≡ true → rows ≡ [] →
+  pub witness_stands : (r after : Judging) (s : Standing) (rows : List ℕ) → Stands study r s → r.place ≡ place.AtWitnessRow → is_rule study.size r.rows ≡ true → rows ≡ [] →
       ((t : Standing) → Stands study (record r { rows = rows; witnesses = r.witnesses + 1 }) t → Stands study after (after_witness t)) → Stands study after (after_row study s.place s)
   witness_stands r after s rows h at rule none go =
       let here : s.place ≡ AtWitnessRow = is_witness_row s.place (sym at ∙ h.place) in

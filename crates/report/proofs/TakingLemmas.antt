@@ -29,7 +29,7 @@ use Rattle.report_lines.specs.declared.lines.Line.{Line as HeldLine}
 use Rattle.report_lines.specs.declared.lines.Line.TheVariants as held
 use Rattle.report_lines.specs.declared.places.Place.TheVariants as place
 use Rattle.report_lines.specs.Held.{held_number, held_reason, held_place, held_line}
-use Rattle.report.specs.declared.judging.Reading.{Reading}
+use Rattle.report.specs.declared.judging.Judging.{Judging}
 use Rattle.report.specs.Stands.{Stands, IsRead}
 use Rattle.report.specs.Taken.{Takes, IsInStory, IsLine}
 use Rattle.report.proofs.TableLineLemmas.{is_witness_row}
@@ -89,7 +89,7 @@ module _ (study : Question) where
   said_of line h w e f = subst (λ x. Said x w) (sym f ∙ e) (said w)
 
   -- a line that is taken is that one
-  pub taken_as : (s : Standing) (w l : Line) (r : Reading) (result : Result (Option Refusal) NoMemory) → w ≡ l → Takes study s l r result → Takes study s w r result
+  pub taken_as : (s : Standing) (w l : Line) (r : Judging) (result : Result (Option Refusal) NoMemory) → w ≡ l → Takes study s l r result → Takes study s w r result
   taken_as s w l r result e h = subst (λ x. Takes study s x r result) (sym e) h
 
   -- ---- what the grammar has at the place
@@ -157,7 +157,7 @@ module _ (study : Question) where
   -- ---- what is held
 
   -- what a row finds
-  pub record HoldsRows (r : Reading) (o : ℕ) : Type 0 where
+  pub record HoldsRows (r : Judging) (o : ℕ) : Type 0 where
     pub rows : list_all (λ o. nat_lt o (outcome_count study.size.kind study.size.alternatives)) r.rows ≡ true
     pub more : length r.rows < sort_count study.size Profile
     pub outcome : o < outcome_count study.size.kind study.size.alternatives
@@ -169,7 +169,7 @@ module _ (study : Question) where
   next_less (c ∷ core) [] k e = omega arith
   next_less (c ∷ core) (w ∷ witnesses) k e = omega (arith, next_less core witnesses k e)
 
-  row_found : (r : Reading) (s : Standing) (p o n : ℕ) (q : Place) → Stands study r s → s.place ≡ q → Fits study q n (Row p o) → Holds study q s → list_all (λ k. nat_lt k (length study.axioms)) s.core ≡ true → HoldsRows r o
+  row_found : (r : Judging) (s : Standing) (p o n : ℕ) (q : Place) → Stands study r s → s.place ≡ q → Fits study q n (Row p o) → Holds study q s → list_all (λ k. nat_lt k (length study.axioms)) s.core ≡ true → HoldsRows r o
   row_found r s p o n AtRow h at fits holds core = record {
     rows = subst (λ rows. list_all (λ o. nat_lt o (outcome_count study.size.kind study.size.alternatives)) rows ≡ true) (sym h.rows) holds.0;
     more = subst (λ rows. length rows < sort_count study.size Profile) (sym h.rows) (holds.1 (let some : 0 < sort_count study.size Profile = omega (arith, fits.0) in some));
@@ -186,7 +186,7 @@ module _ (study : Question) where
   }
   row_found r s p o n q h at fits holds core = absurd fits
 
-  pub holds_rows : (r : Reading) (text : List ℕ) (line : HeldLine) (p o : ℕ) → line ≡ held.Row p o → IsRead study r → ((s : Standing) → Stands study r s → IsLine study s text line) → HoldsRows r o
+  pub holds_rows : (r : Judging) (text : List ℕ) (line : HeldLine) (p o : ℕ) → line ≡ held.Row p o → IsRead study r → ((s : Standing) → Stands study r s → IsLine study s text line) → HoldsRows r o
   holds_rows r text line p o e read lines =
       let s = read.standing in
       let l = lines s read.stands in
@@ -194,12 +194,12 @@ module _ (study : Question) where
       row_found r s p o (length s.earlier + 1) s.place read.stands refl (line_fits s text (Row p o) (l.1 ∙ ap Some same)) (good_holds study s read.lines read.good) (good_in_range study s read.lines read.good).core
 
   -- a literal that a line names is one of the size
-  pub suppose_in : (r : Reading) (text : List ℕ) (line : HeldLine) (l : Literal) → line ≡ held.Suppose l → IsRead study r → ((s : Standing) → Stands study r s → IsLine study s text line) → is_literal study.size l ≡ true
+  pub suppose_in : (r : Judging) (text : List ℕ) (line : HeldLine) (l : Literal) → line ≡ held.Suppose l → IsRead study r → ((s : Standing) → Stands study r s → IsLine study s text line) → is_literal study.size l ≡ true
   suppose_in r text line l e read lines =
       let w = lines read.standing read.stands in
       (at_suppose read.standing text w.0 l w.1 (said_of line (held.Suppose l) w.0 e w.2)).1
 
-  pub so_in : (r : Reading) (text : List ℕ) (line : HeldLine) (l : Literal) (why : Reason) → line ≡ held.So l why → IsRead study r → ((s : Standing) → Stands study r s → IsLine study s text line) → is_literal study.size l ≡ true
+  pub so_in : (r : Judging) (text : List ℕ) (line : HeldLine) (l : Literal) (why : Reason) → line ≡ held.So l why → IsRead study r → ((s : Standing) → Stands study r s → IsLine study s text line) → is_literal study.size l ≡ true
   so_in r text line l why e read lines =
       let w = lines read.standing read.stands in
       let t = said_of line (held.So l why) w.0 e w.2 in

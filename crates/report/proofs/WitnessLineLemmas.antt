@@ -1,4 +1,4 @@
--- What a reading stands for at witnesses.
+-- What a judging stands for at witnesses.
 use Rattle.std.proofs.Common.{◌≡◌, refl, sym, ap, ap₂, ◌∙◌, subst, ℕ, zero, suc, ◌+◌, ◌<◌, ◌≤◌, Bool, true, List, [], ◌∷◌, ◌++◌, length, length-append, Option, Some, None, arith}
 use Rattle.std.specs.Prelude.{slice_get, nat_lt, ◌==◌}
 use Rattle.std.specs.Option.{option_or}
@@ -21,7 +21,7 @@ use Rattle.report_lines.specs.declared.places.Place.{Place as HeldPlace}
 use Rattle.report_lines.specs.declared.places.Place.TheVariants as place
 use Rattle.verdicts.specs.declared.verdicts.Confirmed.TheVariants as confirmed
 use Rattle.report_lines.specs.Held.{held_place, held_number}
-use Rattle.report.specs.declared.judging.Reading.{Reading}
+use Rattle.report.specs.declared.judging.Judging.{Judging}
 use Rattle.report.specs.Stands.{Stands, IsRead}
 
 next_there : (core : List ℕ) (witnesses : List Witness) → next_after core witnesses ≡ slice_get core (length witnesses)
@@ -50,7 +50,7 @@ name_same study k a name xs ys b e f g h =
     ∙ ap₂ (λ (us vs : List ℕ). unless_so (bytes_eq us vs) Core) (sym f) (sym g)
     ∙ ap (λ t. unless_so t Core) (sym h)
 
-module _ (study : Question) (r : Reading) where
+module _ (study : Question) (r : Judging) where
   -- the core has places of the study's axioms, no more than there are
   pub in_range : IsRead study r → list_all (λ k. nat_lt k (length study.axioms)) r.core ≡ true
   in_range i = subst (λ core. list_all (λ k. nat_lt k (length study.axioms)) core ≡ true) (sym i.stands.core) (good_in_range study i.standing i.lines i.good).core

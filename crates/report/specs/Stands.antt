@@ -11,14 +11,14 @@ use Rattle.report_lines.specs.Held.{held_number, held_place}
 use Rattle.report.specs.declared.faults.ReportFault.{ReportFault}
 use Rattle.report.specs.declared.faults.ReportFault.TheVariants.{Line as AtLine, NoMemory}
 use Rattle.report.specs.declared.progress.Progress.{Progress}
-use Rattle.report.specs.declared.judging.Reading.{Reading}
+use Rattle.report.specs.declared.judging.Judging.{Judging}
 
 -- what lemmas suppose
 abbrev pub supposed : List Lemma → List (List Literal)
 supposed lemmas = map (λ lemma. lemma.suppose) lemmas
 
 -- what is held is what the lines so far have given; of the lemmas that are read it is what they suppose alone, and a reason has a number for each of them
-pub record Stands (study : Question) (r : Reading) (s : Standing) : Type 0 where
+pub record Stands (study : Question) (r : Judging) (s : Standing) : Type 0 where
   pub place : r.place ≡ held_place s.place
   pub version : r.version ≡ s.version
   pub rows : r.rows ≡ s.rows
@@ -33,7 +33,7 @@ pub record Stands (study : Question) (r : Reading) (s : Standing) : Type 0 where
   pub witnesses : r.witnesses ≡ length s.witnesses
 
 -- the lines of some report that is right so far have given what is held, and one more line has a number
-pub record IsRead (study : Question) (r : Reading) : Type 0 where
+pub record IsRead (study : Question) (r : Judging) : Type 0 where
   pub lines : List (List ℕ)
   pub few : length lines < 4294967295
   pub standing : Standing
@@ -41,13 +41,13 @@ pub record IsRead (study : Question) (r : Reading) : Type 0 where
   pub stands : Stands study r standing
 
 -- what is held after lines of which none is faulty, and after the first faulty one
-abbrev pub StandsAs : Question → Option ReportFault → Reading → Told → Type 0
+abbrev pub StandsAs : Question → Option ReportFault → Judging → Told → Type 0
 StandsAs study fault r (Good s) = (fault ≡ None) × Stands study r s
 StandsAs study fault r (Refused line word) = fault ≡ Some (AtLine line word)
 
 -- a checker that is so far stands for these lines
 abbrev pub StandsFor : Question → Progress → List (List ℕ) → Type 0
-StandsFor study p lines = (p.lines ≡ length lines) × StandsAs study p.fault p.reading (judge study lines)
+StandsFor study p lines = (p.lines ≡ length lines) × StandsAs study p.fault p.judging (judge study lines)
 
 -- it stands for some lines, unless memory was wanting
 abbrev pub IsReady : Question → Progress → Type 0

@@ -11,16 +11,16 @@ use Rattle.verdicts.specs.Faults.{table_fault, asked_at, fault_of}
 use Rattle.verdicts.specs.Judge.{after_row, advance, read_line}
 use Rattle.report_lines.specs.declared.lines.Line.{Line as HeldLine}
 use Rattle.report_lines.specs.Held.{held_line}
-use Rattle.report.specs.declared.judging.Reading.{Reading}
+use Rattle.report.specs.declared.judging.Judging.{Judging}
 use Rattle.report.specs.Stands.{Stands}
 
 -- the fault of the line is answered, and where it has none its part is held with what was held
-abbrev pub Took : Question → Standing → Line → Reading → Option Refusal → Type 0
+abbrev pub Took : Question → Standing → Line → Judging → Option Refusal → Type 0
 Took study s line r fault = (fault ≡ fault_of study s line) ×
     (fault ≡ None → Stands study r (advance study s line))
 
 -- the same, unless memory is wanting
-abbrev pub Takes : Question → Standing → Line → Reading → Result (Option Refusal) NoMemory → Type 0
+abbrev pub Takes : Question → Standing → Line → Judging → Result (Option Refusal) NoMemory → Type 0
 Takes study s line r result = IfOk result (Took study s line r)
 
 -- these are places of axioms
@@ -38,7 +38,7 @@ IsInStory AtStep = Unit {0}
 IsInStory _ = ⊥
 
 -- the same of a table whose last row is read
-abbrev pub TakesTable : Question → Standing → Reading → Result (Option Refusal) NoMemory → Type 0
+abbrev pub TakesTable : Question → Standing → Judging → Result (Option Refusal) NoMemory → Type 0
 TakesTable study s r result =
     IfOk result (λ fault. (fault ≡ table_fault study s.rows (asked_at study s.place s)) ×
     (fault ≡ None → Stands study r (after_row study s.place s)))

@@ -11,7 +11,7 @@ ghost use Rattle.report.specs.Answers.{told_of, Concludes, ConfirmsRight, Confir
 ghost use Rattle.report.specs.Stands.{StandsFor, IsReady};
 
 use crate::faults::ReportFault;
-use crate::judging::Reading;
+use crate::judging::Judging;
 use crate::progress::Progress;
 use crate::subject::Subject;
 use crew::Crew;
@@ -72,9 +72,9 @@ impl<'a, K: OutcomeKind> Checker<'a, K> {
             study,
             workers,
         };
-        let reading = Reading::new(&subject)?;
+        let judging = Judging::new(&subject)?;
         let progress = Progress {
-            reading,
+            judging,
             lines: 0,
             fault: None,
         };
@@ -114,7 +114,7 @@ impl<'a, K: OutcomeKind> Checker<'a, K> {
                 };
                 self.progress.fault = self
                     .progress
-                    .reading
+                    .judging
                     .judge(&crew, &self.subject, self.progress.lines, text);
                 self.sufficed()
             }
@@ -179,7 +179,7 @@ impl<'a, K: OutcomeKind> Checker<'a, K> {
     {
         match self.progress.fault {
             Some(fault) => Err(fault),
-            None => end_of(self.progress.reading.place, rest, self.progress.lines + 1),
+            None => end_of(self.progress.judging.place, rest, self.progress.lines + 1),
         }
     }
 

@@ -1,4 +1,4 @@
-//! What the lines so far have given.
+//! What a checker keeps of the lines that it took.
 
 ghost use Rattle.std.specs.Prelude.{◌≡◌, IfOk};
 ghost use Rattle.verdicts.specs.Places.{start};
@@ -19,11 +19,11 @@ use report_lines::Place;
 use vocab::{Places, Table};
 use worlds::Board;
 
-/// What the lines so far have given: the place in the grammar; the version of the report; the outcomes of the table that is
-/// being read; the core; how many lemmas there will be; the suppositions of those that are read; what the present one
-/// supposes; on the board, all that it has supposed or forced; and how many witnesses are read.
+/// What a checker keeps of the lines that it took: the place in the grammar; the version of the report; the outcomes of the
+/// table that is being read; the core; how many lemmas there will be; the suppositions of those that are read; what the
+/// present one supposes; on the board, all that it has supposed or forced; and how many witnesses are read.
 #[derive(Drop)]
-pub(crate) struct Reading {
+pub(crate) struct Judging {
     pub(crate) place: Place,
     pub(crate) version: u8,
     pub(crate) rows: Table,
@@ -35,12 +35,12 @@ pub(crate) struct Reading {
     pub(crate) witnesses: usize,
 }
 
-impl Reading {
+impl Judging {
     /// Nothing is read.
-    pub(crate) fn new<K: OutcomeKind>(subject: &Subject<K>) -> Result<Reading, NoMemory>
-        ensures { IfOk result (λ reading. Stands subject.now.study.now reading start) }
+    pub(crate) fn new<K: OutcomeKind>(subject: &Subject<K>) -> Result<Judging, NoMemory>
+        ensures { IfOk result (λ judging. Stands subject.now.study.now judging start) }
     {
-        Ok(Reading {
+        Ok(Judging {
             place: Place::AtTitle,
             version: 1,
             rows: Items::new(subject.alloc),

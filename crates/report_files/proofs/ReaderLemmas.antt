@@ -50,7 +50,7 @@ same_length (l ∷ lines) x y = ap suc (same_length lines x y)
 module _ (study : Question) (p : Progress) where
   -- a checker that was given the front of a line stands for the line
   pub head_stands : (lines : List (List ℕ)) (line : List ℕ) → StandsFor study p (lines ++ head_of line ∷ []) → StandsFor study p (lines ++ line ∷ [])
-  head_stands lines line h = (h.0 ∙ same_length lines (head_of line) line, subst (λ t. StandsAs study p.fault p.reading t) (head_judge study lines line) h.1)
+  head_stands lines line h = (h.0 ∙ same_length lines (head_of line) line, subst (λ t. StandsAs study p.fault p.judging t) (head_judge study lines line) h.1)
 
   -- a line ended
   pub ended_stands : (text w : List ℕ) → has_no_end w ≡ true → StandsFor study p (front (pieces text) ++ (final (pieces text) ++ w) ∷ []) → StandsForText study p [] (text ++ (w ++ 10 ∷ []))

@@ -142,7 +142,7 @@ module _ (study : Question) (p : Progress) (now : List ℕ) where
       → ((a : Judgement) → Concludes a (Err fault) → IsWorth a w) → IsWorth (answer_within most_report_bytes study held) w
   faulty_worth e known left bytes held fault w f ended k stands worth_of = by_told (judge study (front (pieces bytes))) refl stands.0.1
     where
-      by_told : (told : Told) → judge study (front (pieces bytes)) ≡ told → StandsAs study p.fault p.reading told → IsWorth (answer_within most_report_bytes study held) w
+      by_told : (told : Told) → judge study (front (pieces bytes)) ≡ told → StandsAs study p.fault p.judging told → IsWorth (answer_within most_report_bytes study held) w
       by_told (Good s) told h = let wrong : Some fault ≡ None = sym f ∙ h.0 in absurd (cc)
       by_told (Refused m word) told h =
           let same : Some fault ≡ Some (AtLine m word) = sym f ∙ h in
@@ -151,7 +151,7 @@ module _ (study : Question) (p : Progress) (now : List ℕ) where
           subst (λ a. IsWorth a w) (sym (ap (answer_within most_report_bytes study) parts.1 ∙ faulty_answer study bytes parts.0 m word parts.2 told)) (worth_of (Faulty m word) (ap Err fault_is))
 
   -- the file goes on beyond the limit, and no line is faulty
-  faultless_is : (told : Told) → p.fault ≡ None → StandsAs study p.fault p.reading told → beyond told ≡ TooLong
+  faultless_is : (told : Told) → p.fault ≡ None → StandsAs study p.fault p.judging told → beyond told ≡ TooLong
   faultless_is (Good s) e h = refl
   faultless_is (Refused m word) e h = absurd (cc)
 

@@ -10,14 +10,14 @@ ghost use Rattle.report_lines.specs.Held.{held_number};
 ghost use Rattle.report.specs.Stands.{Stands};
 ghost use Rattle.report.specs.Taken.{Took, Takes};
 
-use crate::judging::Reading;
+use crate::judging::Judging;
 use crate::subject::Subject;
 use lists::NoMemory;
 use outcomes::OutcomeKind;
 use report_lines::{Place, read_core};
 use verdicts::Refusal;
 
-impl Reading {
+impl Judging {
     /// Takes the line of this text, whose names are those of axioms of the study in order or not.
     pub(crate) fn take_core<K: OutcomeKind>(
         &mut self,

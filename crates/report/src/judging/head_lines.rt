@@ -13,7 +13,7 @@ ghost use Rattle.report_lines.specs.Held.{held_number, held_place};
 ghost use Rattle.report.specs.Stands.{Stands};
 ghost use Rattle.report.specs.Taken.{Took};
 
-use crate::judging::Reading;
+use crate::judging::Judging;
 use crate::subject::Subject;
 use outcomes::OutcomeKind;
 use report_lines::Place;
@@ -55,11 +55,11 @@ fn after_end(place: Place) -> Place
     }
 }
 
-impl Reading {
+impl Judging {
     /// Goes to the next place, and refuses the line unless a test passes.
     fn pass(&mut self, passes: bool, refusal: Refusal, next: Place) -> Option<Refusal>
         ensures fault { result ≡ unless_so passes refusal }
-        ensures reading { self.new ≡ record self.old { place = next } }
+        ensures judging { self.new ≡ record self.old { place = next } }
     {
         self.place = next;
         if passes { None } else { Some(refusal) }

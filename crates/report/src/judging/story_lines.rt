@@ -12,7 +12,7 @@ ghost use Rattle.report_lines.specs.Held.{held_reason};
 ghost use Rattle.report.specs.Stands.{Stands, IsRead};
 ghost use Rattle.report.specs.Taken.{Takes, IsInStory};
 
-use crate::judging::Reading;
+use crate::judging::Judging;
 use crate::subject::Subject;
 use lists::{Items, NoMemory};
 use meaning::{Lemma, Reason, StoryFault, StoryStep};
@@ -37,7 +37,7 @@ fn refusal_of(fault: StoryFault) -> Refusal
     }
 }
 
-impl Reading {
+impl Judging {
     /// Takes a line that supposes a literal.
     pub(crate) fn take_suppose<K: OutcomeKind>(
         &mut self,

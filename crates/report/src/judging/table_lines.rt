@@ -12,7 +12,7 @@ ghost use Rattle.report_lines.specs.Held.{held_place};
 ghost use Rattle.report.specs.Stands.{Stands};
 ghost use Rattle.report.specs.Taken.{Takes, TakesTable, ArePlaces, AreOutcomes};
 
-use crate::judging::Reading;
+use crate::judging::Judging;
 use crate::subject::Subject;
 use crew::Crew;
 use edge::Gate;
@@ -65,7 +65,7 @@ fn check<R: Threads + Sync, G: Gate, K: OutcomeKind>(
     check_rule(subject.alloc, crew, kind, study, table, places)
 }
 
-impl Reading {
+impl Judging {
     /// Takes a row, and the whole table where it is the last one.
     pub(crate) fn take_row<R: Threads + Sync, G: Gate, K: OutcomeKind>(
         &mut self,

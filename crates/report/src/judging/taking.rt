@@ -10,7 +10,7 @@ ghost use Rattle.report.specs.declared.faults.ReportFault.TheVariants.{Line as A
 ghost use Rattle.report.specs.Taken.{Takes, IsLine};
 
 use crate::faults::ReportFault;
-use crate::judging::Reading;
+use crate::judging::Judging;
 use crate::subject::Subject;
 use crew::Crew;
 use edge::Gate;
@@ -30,7 +30,7 @@ fn at_line(line: u32, fault: Option<Refusal>) -> Option<ReportFault>
     }
 }
 
-impl Reading {
+impl Judging {
     /// Reads the next line, which has this number, at the place, and takes it: None where it has no fault.
     pub(crate) fn judge<R: Threads + Sync, G: Gate, K: OutcomeKind>(
         &mut self,

@@ -11,14 +11,14 @@ ghost use Rattle.report_lines.specs.Held.{held_number};
 ghost use Rattle.report.specs.Stands.{Stands, IsRead};
 ghost use Rattle.report.specs.Taken.{Took};
 
-use crate::judging::Reading;
+use crate::judging::Judging;
 use crate::subject::Subject;
 use outcomes::OutcomeKind;
 use report_lines::Place;
 use verdicts::{Confirmed, Refusal};
 use vocab::Name;
 
-impl Reading {
+impl Judging {
     /// The axiom of the core whose witness comes next.
     pub(crate) fn next_core(&self) -> Option<u32>
         ensures { (s : Standing) (study : Question) → Stands study self.now s → result ≡ next_core s }

@@ -1,6 +1,6 @@
 use Rattle.std.proofs.Common.{sym, ◌∙◌}
 use Rattle.report.proofs.WitnessLineLemmas.{to_witness, to_end}
-use Rattle.report.proofs.judging.Reading.after_witness.Goals as goal
+use Rattle.report.proofs.judging.Judging.after_witness.Goals as goal
 
 pub returns-in-Some : goal.returns-in-Some
 returns-in-Some c = λ s study h. to_witness study c.args.self.now s h c.in-Some.field-0 (sym (c.next_core.ensures s study h) ∙ c.in-Some.is)

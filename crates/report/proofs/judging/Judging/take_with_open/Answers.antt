@@ -4,7 +4,7 @@ use Rattle.meaning.specs.declared.cores.Witness.TheVariants.{Open}
 use Rattle.verdicts.specs.declared.refusals.Refusal.TheVariants.{Core, OpenMark}
 use Rattle.verdicts.specs.Faults.{next_core, name_fault, unless_so}
 use Rattle.report.proofs.WitnessLineLemmas.{number_same, no_fault, with_witness}
-use Rattle.report.proofs.judging.Reading.take_with_open.Goals as goal
+use Rattle.report.proofs.judging.Judging.take_with_open.Goals as goal
 
 pub overflow_add-self : goal.overflow_add-self
 overflow_add-self g c = omega (arith, c.is_next.ensures.few c.if-not-is_next.false)

@@ -6,7 +6,7 @@ use Rattle.verdicts.specs.Lines.{So}
 use Rattle.story.specs.Lines.{step_fault}
 use Rattle.report.proofs.StoryLineLemmas.{refused, accepted, earlier_there, step_fault_is, with_step}
 use Rattle.report.proofs.WitnessLineLemmas.{in_range}
-use Rattle.report.proofs.judging.Reading.take_so.Goals as goal
+use Rattle.report.proofs.judging.Judging.take_so.Goals as goal
 
 pub take_step-requires-clause-core : goal.take_step-requires-clause-core
 take_step-requires-clause-core g c κs within = in_range c.args.subject.now.study.now c.args.self.now c.requires.read

@@ -1,7 +1,7 @@
 use Rattle.std.proofs.Common.{sym, ◌∙◌, arith}
 use Rattle.std.proofs.lemmas.Option.{slice_get_past}
 use Rattle.report.proofs.WitnessLineLemmas.{next_is}
-use Rattle.report.proofs.judging.Reading.next_core.Goals as goal
+use Rattle.report.proofs.judging.Judging.next_core.Goals as goal
 
 pub returns-then-self-len : goal.returns-then-self-len
 returns-then-self-len c = λ s study h. sym c.get.ensures ∙ sym (next_is study c.args.self.now s h)

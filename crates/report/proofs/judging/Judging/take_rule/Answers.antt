@@ -1,6 +1,6 @@
 use Rattle.std.proofs.Common.{ap, ◌∙◌, length}
 use Rattle.report.proofs.TableLineLemmas.{in_below}
-use Rattle.report.proofs.judging.Reading.take_rule.Goals as goal
+use Rattle.report.proofs.judging.Judging.take_rule.Goals as goal
 
 pub check-requires-clause-places : goal.check-requires-clause-places
 check-requires-clause-places g c κs within =

@@ -1,6 +1,6 @@
 use Rattle.std.proofs.Common.{sym, ◌∙◌, Some, None}
 use Rattle.report.proofs.TableLineLemmas.{in_rest, rest_is, has_next, refused, witness_fault, witness_stands}
-use Rattle.report.proofs.judging.Reading.take_witness.Goals as goal
+use Rattle.report.proofs.judging.Judging.take_witness.Goals as goal
 
 pub returns-in_default : goal.returns-in_default
 returns-in_default g c = λ s h. absurd (has_next c.args.subject.now.study.now c.args.self.now s h c.requires.next (sym c.in_default.is ∙ c.next_core.ensures s c.args.subject.now.study.now h))

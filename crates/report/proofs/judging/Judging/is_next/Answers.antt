@@ -4,7 +4,7 @@ use Rattle.std.proofs.lemmas.Option.{slice_get_within}
 use Rattle.vocab.specs.Titled.{Titled}
 use Rattle.verdicts.specs.Faults.{name_fault}
 use Rattle.report.proofs.WitnessLineLemmas.{next_there_now, place_in_range, few_places, name_same}
-use Rattle.report.proofs.judging.Reading.is_next.Goals as goal
+use Rattle.report.proofs.judging.Judging.is_next.Goals as goal
 
 pub get-axiom-requires : goal.get-axiom-requires
 get-axiom-requires g c =

@@ -2,7 +2,7 @@ use Rattle.std.proofs.Common.{refl, sym, ◌∙◌, subst, ◌+◌}
 use Rattle.verdicts.specs.Judge.{read_line, settle, Good}
 use Rattle.report.specs.Stands.{StandsAs}
 use Rattle.report.proofs.CheckerLemmas.{next_number, line_of, unread, taken}
-use Rattle.report.proofs.judging.Reading.judge.Goals as goal
+use Rattle.report.proofs.judging.Judging.judge.Goals as goal
 
 pub returns-in_default : goal.returns-in_default
 returns-in_default g c = λ s h _.

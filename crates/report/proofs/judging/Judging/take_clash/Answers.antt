@@ -6,7 +6,7 @@ use Rattle.verdicts.specs.Faults.{fault_of}
 use Rattle.verdicts.specs.Lines.{Clash}
 use Rattle.report.proofs.StoryLineLemmas.{refused, accepted, earlier_there, few_earlier, clash_fault_is, told}
 use Rattle.report.proofs.WitnessLineLemmas.{in_range}
-use Rattle.report.proofs.judging.Reading.take_clash.Goals as goal
+use Rattle.report.proofs.judging.Judging.take_clash.Goals as goal
 
 pub refutes-requires-clause-core : goal.refutes-requires-clause-core
 refutes-requires-clause-core g c κs within = in_range c.args.subject.now.study.now c.args.self.now c.requires.read

@@ -2,7 +2,7 @@ use Rattle.std.proofs.Common.{Ok}
 use Rattle.verdicts.specs.Lines.{Title, VotersAre, AlternativesAre, BallotsAre, AbsentIs, AxiomsAre, SaysPossible, SaysImpossible, SaysUndecided, LimitIs, RuleOf, CoreIs, LemmasAre, Heading, Suppose, So, Clash, WithRule, WithOpen, End}
 use Rattle.report_lines.specs.declared.lines.Line.TheVariants as held
 use Rattle.report.proofs.TakingLemmas.{said_of, taken_as, at_suppose, at_so, at_clash, at_rule, at_open, core_names, holds_rows, suppose_in, so_in}
-use Rattle.report.proofs.judging.Reading.take.Goals as goal
+use Rattle.report.proofs.judging.Judging.take.Goals as goal
 
 pub take_row-requires-clause-rows : goal.take_row-requires-clause-rows
 take_row-requires-clause-rows g c κs within = (holds_rows c.args.subject.now.study.now c.args.self.now c.args.text.now c.args.line.now c.in-Row.profile c.in-Row.outcome c.in-Row.is c.requires.read c.requires.line).rows

@@ -2,7 +2,7 @@ use Rattle.std.proofs.Common.{sym, ap, ◌∙◌}
 use Rattle.vocab.specs.declared.kinds.Sort.TheVariants.{Profile}
 use Rattle.vocab.specs.Size.{sort_count}
 use Rattle.report.proofs.TableLineLemmas.{part_taken, whole_taken}
-use Rattle.report.proofs.judging.Reading.take_row.Goals as goal
+use Rattle.report.proofs.judging.Judging.take_row.Goals as goal
 
 pub returns-then-len-count : goal.returns-then-len-count
 returns-then-len-count g c = λ s h.

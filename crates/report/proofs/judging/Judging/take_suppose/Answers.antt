@@ -4,7 +4,7 @@ use Rattle.verdicts.specs.Faults.{fault_of}
 use Rattle.verdicts.specs.Lines.{Suppose}
 use Rattle.story.specs.Lines.{supposition_fault}
 use Rattle.report.proofs.StoryLineLemmas.{refused, accepted, suppose_fault_is, no_step_yet, with_supposed}
-use Rattle.report.proofs.judging.Reading.take_suppose.Goals as goal
+use Rattle.report.proofs.judging.Judging.take_suppose.Goals as goal
 
 pub returns-in-Err : goal.returns-in-Err
 returns-in-Err g c = λ s h at.
