@@ -1,7 +1,8 @@
 -- What a line that is read says, and what it finds held.
-use Rattle.std.proofs.Common.{◌≡◌, refl, sym, ap, ◌∙◌, subst, ℕ, ◌+◌, ◌<◌, true, List, [], ◌∷◌, map, length, drop, Option, Some, Result, arith, option_map}
+use Rattle.std.proofs.Common.{◌≡◌, refl, sym, ap, ◌∙◌, subst, ℕ, ◌+◌, ◌<◌, Bool, true, false, cond, List, [], ◌∷◌, map, length, drop, Option, Some, None, Result, arith, option_map}
 use Rattle.std.specs.Prelude.{nat_lt, nat_eq, codes}
 use Rattle.std.specs.List.{list_all}
+use Rattle.std.specs.Option.{unwrap_or}
 use Rattle.std.specs.Str.{bytes_eq}
 use Rattle.std.specs.Cmp.Lexicographic.{pointwise}
 use Rattle.lists.specs.declared.memory.NoMemory.{NoMemory}
@@ -13,13 +14,15 @@ use Rattle.vocab.specs.Study.{Question}
 use Rattle.meaning.specs.declared.cores.Witness.{Witness}
 use Rattle.meaning.specs.declared.stories.Reason.{Reason}
 use Rattle.meaning.specs.Literals.{is_literal}
+use Rattle.meaning.specs.Cores.{is_core_from}
 use Rattle.verdicts.specs.declared.refusals.Refusal.{Refusal}
+use Rattle.verdicts.specs.declared.refusals.Refusal.TheVariants.{Core}
 use Rattle.verdicts.specs.Texts.{words_of}
 use Rattle.verdicts.specs.Reading.{names}
 use Rattle.verdicts.specs.Lines.{Line, Title, KindIs, VotersAre, AlternativesAre, BallotsAre, AbsentIs, AxiomsAre, SaysPossible, SaysImpossible, SaysUndecided, LimitIs, RuleOf, Row, CoreIs, LemmasAre, Heading, Suppose, So, Clash, WithRule, WithOpen, End}
 use Rattle.verdicts.specs.Places.{Place, AtRow, AtCore, AtSuppose, AtStep, AtWitness, AtWitnessRow, Standing, wanted}
-use Rattle.verdicts.specs.Faults.{places_of, is_core, next_after}
-use Rattle.verdicts.specs.Judge.{read_line}
+use Rattle.verdicts.specs.Faults.{unless_so, places_of, is_core, next_after}
+use Rattle.verdicts.specs.Judge.{read_line, advance}
 use Rattle.verdicts.proofs.LineLaws.{map_is, keyed_is, test_is}
 use Rattle.verdicts.proofs.FitLaws.{Fits, wanted_fits}
 use Rattle.verdicts.proofs.SoundLaws.{Holds}
@@ -28,7 +31,7 @@ use Rattle.verdicts.proofs.RangeLaws.{good_in_range}
 use Rattle.report_lines.specs.declared.lines.Line.{Line as HeldLine}
 use Rattle.report_lines.specs.declared.lines.Line.TheVariants as held
 use Rattle.report_lines.specs.declared.places.Place.TheVariants as place
-use Rattle.report_lines.specs.Held.{held_number, held_reason, held_place, held_line}
+use Rattle.report_lines.specs.Held.{held_number, held_reason, held_place, held_line, if_core}
 use Rattle.report.specs.declared.judging.Judging.{Judging}
 use Rattle.report.specs.Stands.{Stands, IsRead}
 use Rattle.report.specs.Taken.{Takes, IsInStory, IsLine}
@@ -50,7 +53,7 @@ module _ (study : Question) where
   Said (held.LimitIs c) w = (n : ℕ) × (w ≡ LimitIs n)
   Said (held.RuleOf c) w = (n : ℕ) × (w ≡ RuleOf n) × (c ≡ held_number n)
   Said (held.Row p o) w = w ≡ Row p o
-  Said (held.CoreIs b) w = (ns : List (List ℕ)) × (w ≡ CoreIs ns) × (b ≡ is_core (length study.axioms) (places_of study.axioms ns))
+  Said held.CoreIs w = (ns : List (List ℕ)) × (w ≡ CoreIs ns)
   Said (held.LemmasAre c) w = (n : ℕ) × (w ≡ LemmasAre n) × (c ≡ held_number n)
   Said (held.Heading c) w = (n : ℕ) × (w ≡ Heading n)
   Said (held.Suppose l) w = w ≡ Suppose l
@@ -74,7 +77,7 @@ module _ (study : Question) where
   said (LimitIs n) = (n, refl)
   said (RuleOf n) = (n, refl, refl)
   said (Row p o) = refl
-  said (CoreIs ns) = (ns, refl, refl)
+  said (CoreIs ns) = (ns, refl)
   said (LemmasAre n) = (n, refl, refl)
   said (Heading n) = (n, refl)
   said (Suppose l) = refl
@@ -153,6 +156,43 @@ module _ (study : Question) where
   core_names s text w ns e same =
       let read = not_long (nat_lt 4096 (length text)) (wanted study s.place (length s.earlier + 1) (words_of text)) (CoreIs ns) (e ∙ ap Some same) in
       core_words s.place (length s.earlier + 1) (words_of text) ns read (wanted_fits study s.place (length s.earlier + 1) (words_of text) (CoreIs ns) read)
+
+  -- names that are those of no core
+  pub no_core : (o : Option (List ℕ)) → None ≡ if_core study o → Some Core ≡ unless_so (is_core (length study.axioms) o) Core
+  no_core None e = refl
+  no_core (Some core) e = by_test (is_core_from 0 (length study.axioms) core) e
+    where
+      by_test : (b : Bool) → None ≡ cond b (Some core) None → Some Core ≡ unless_so b Core
+      by_test true e = absurd (cc)
+      by_test false e = refl
+
+  -- and those of one
+  pub some_core : (o : Option (List ℕ)) (core : List ℕ) → Some core ≡ if_core study o
+      → (None ≡ unless_so (is_core (length study.axioms) o) Core) × (core ≡ unwrap_or o [])
+  some_core None core e = absurd (cc)
+  some_core (Some places) core e = by_test (is_core_from 0 (length study.axioms) places) e
+    where
+      by_test : (b : Bool) → Some core ≡ cond b (Some places) None → (None ≡ unless_so b Core) × (core ≡ places)
+      by_test true e = (refl, cc)
+      by_test false e = absurd (cc)
+
+  pub with_core : (r : Judging) (s : Standing) (core : List ℕ) (names : List (List ℕ)) → Stands study r s
+      → core ≡ unwrap_or (places_of study.axioms names) []
+      → Stands study (record r { place = place.AtLemmas; core = core }) (advance study s (CoreIs names))
+  with_core r s core names h e = record {
+    place = refl;
+    version = h.version;
+    rows = h.rows;
+    core = e;
+    count = h.count;
+    earlier = h.earlier;
+    alone = h.alone;
+    few = h.few;
+    suppose = h.suppose;
+    size = h.size;
+    known = h.known;
+    witnesses = h.witnesses;
+  }
 
   -- ---- what is held
 

@@ -1,5 +1,5 @@
 -- The first axiom of a name, and the texts of all items of a list.
-use Rattle.std.proofs.Common.{◌≡◌, refl, sym, ap, ap₂, ◌∙◌, ℕ, zero, suc, ◌+◌, ◌<◌, ◌≤◌, Bool, true, false, cond, ◌&&◌, inl, inr, Option, Some, None, List, [], ◌∷◌, map, length, drop, arith}
+use Rattle.std.proofs.Common.{◌≡◌, refl, sym, ap, ap₂, ◌∙◌, ℕ, zero, suc, ◌+◌, ◌<◌, ◌≤◌, Bool, true, false, cond, ◌&&◌, inl, inr, Option, Some, None, List, [], ◌∷◌, ◌++◌, map, length, drop, arith}
 use Rattle.std.specs.Prelude.{slice_get}
 use Rattle.std.specs.Cmp.Lexicographic.{pointwise}
 use Rattle.std.specs.Str.{bytes_eq}
@@ -72,7 +72,9 @@ item_is axioms told k a e h = ap (λ items. slice_get items k) (sym e) ∙ h
 pub name_is : (axioms told : List Titled) (k : ℕ) (a : Titled) (name bytes : List ℕ) → told ≡ axioms → slice_get told k ≡ Some a → name ≡ a.name → bytes ≡ name → name_at axioms k ≡ bytes
 name_is axioms told k a name bytes e h n b = ap title_of (item_is axioms told k a e h) ∙ sym n ∙ sym b
 
--- places of names, above a place
-abbrev pub rises : ℕ → ℕ → Option (List ℕ) → Bool
-rises from end None = false
-rises from end (Some core) = is_core_from from end core
+-- ---- places of names
+
+-- those that are there and those that follow, where these rise from a place up to another
+abbrev pub and_those : ℕ → ℕ → List ℕ → Option (List ℕ) → Option (List ℕ)
+and_those from end core None = None
+and_those from end core (Some others) = cond (is_core_from from end others) (Some (core ++ others)) None

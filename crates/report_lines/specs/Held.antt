@@ -1,7 +1,6 @@
 -- What a program holds of a place and of a line.
-use Rattle.std.specs.Prelude.{ℕ, ◌-◌, ◌^◌, min, nat_eq, List, [], map, length, drop}
+use Rattle.std.specs.Prelude.{ℕ, ◌-◌, ◌^◌, min, nat_eq, List, map, length, drop, Option, None, if◌then◌else◌}
 use Rattle.std.specs.Cmp.Lexicographic.{pointwise}
-use Rattle.std.specs.Option.{unwrap_or}
 use Rattle.std.specs.Str.{bytes_eq}
 use Rattle.vocab.specs.Size.{ballot_places}
 use Rattle.vocab.specs.Study.{Question}
@@ -66,7 +65,7 @@ module _ (study : Question) where
   held_line (LimitIs n) = held.LimitIs (held_number n)
   held_line (RuleOf n) = held.RuleOf (held_number n)
   held_line (Row p o) = held.Row p o
-  held_line (CoreIs names) = held.CoreIs (is_core (length study.axioms) (places_of study.axioms names))
+  held_line (CoreIs names) = held.CoreIs
   held_line (LemmasAre n) = held.LemmasAre (held_number n)
   held_line (Heading n) = held.Heading (held_number n)
   held_line (Suppose l) = held.Suppose l
@@ -76,6 +75,10 @@ module _ (study : Question) where
   held_line (WithOpen name n) = held.WithOpen name (held_number n)
   held_line End = held.End
 
-  -- the places of the axioms that a line names after its first word, where each name is that of one
-  abbrev pub core_of : List ℕ → List ℕ
-  core_of text = unwrap_or (places_of study.axioms (drop 1 (words_of text))) []
+  -- places, where they are those of distinct axioms of the study in order
+  abbrev pub if_core : Option (List ℕ) → Option (List ℕ)
+  if_core places = if is_core (length study.axioms) places then places else None
+
+  -- the places of the axioms that a line names after its first word, where the names are those of distinct ones in order
+  abbrev pub core_of : List ℕ → Option (List ℕ)
+  core_of text = if_core (places_of study.axioms (drop 1 (words_of text)))

@@ -9,20 +9,25 @@ use lists::NoMemory;
 use std::alloc::Global;
 use vocab::{Places, Study};
 
-/// The places of the axioms that a line names after its first word, where each name is that of an axiom of the study, and
-/// else no place.
-pub fn read_core(alloc: Global, study: &Study, text: &[u8]) -> Result<Places, NoMemory>
+/// The places of the axioms that a line names after its first word, where the names are those of distinct axioms of the
+/// study in order.
+pub fn read_core(alloc: Global, study: &Study, text: &[u8]) -> Result<Option<Places>, NoMemory>
     ensures { IfOk result (λ core. core ≡ core_of study.now text.now) }
 {
     let (_, rest) = cut_word(text);
     let mut core = Places::new(alloc);
+    let mut from: u32 = 0;
     let mut left = rest;
     while let Some((word, more)) = next_word(left) {
         let Some(place) = read_axiom(study, word) else {
-            return Ok(Places::new(alloc));
+            return Ok(None);
         };
+        if place < from {
+            return Ok(None);
+        }
         core.push(place)?;
+        from = place + 1;
         left = more;
     }
-    Ok(core)
+    Ok(Some(core))
 }

@@ -10,7 +10,7 @@ ghost use Rattle.report_lines.specs.Wanted.{held_wanted};
 
 use crate::ballots::{are_all_ballots, are_rankings};
 use crate::lines::Line;
-use crate::names::{are_all_axioms, are_core};
+use crate::names::are_all_axioms;
 use crate::numbers::read_number;
 use crate::places::Place;
 use crate::words::{after_first, are_names, first_keyed, is_same};
@@ -146,14 +146,15 @@ pub(crate) fn read_limit(text: &[u8]) -> Option<Line>
 }
 
 /// The line of the core.
-pub(crate) fn read_core_line(study: &Study, text: &[u8]) -> Option<Line>
-    ensures { (number : ℕ) → result ≡ held_wanted study.now Place.AtCore number (words_of text.now) }
+pub(crate) fn read_core_line(text: &[u8]) -> Option<Line>
+    ensures { (study : Question) (number : ℕ) →
+        result ≡ held_wanted study Place.AtCore number (words_of text.now) }
 {
     let Some(rest) = after_first(text, b"core") else {
         return None;
     };
     if are_names(rest) {
-        Some(Line::CoreIs(are_core(study, rest)))
+        Some(Line::CoreIs)
     } else {
         None
     }

@@ -4,7 +4,6 @@ ghost use Rattle.std.specs.Prelude.{◌≡◌, ◌<◌, map, length, IfSome};
 ghost use Rattle.std.specs.Cmp.Lexicographic.{pointwise};
 ghost use Rattle.std.specs.Str.{bytes_eq};
 ghost use Rattle.verdicts.specs.Reading.{read_axiom};
-ghost use Rattle.verdicts.specs.Faults.{places_of, is_core};
 ghost use Rattle.report_lines.specs.Rest.{words_after};
 
 use crate::words::{is_same, next_word};
@@ -43,23 +42,4 @@ pub(crate) fn are_all_axioms(study: &Study, rest: &[u8]) -> bool
         left = more;
     }
     next_word(left).is_none()
-}
-
-/// Whether the words that are left are names of distinct axioms of the study, in its order.
-pub(crate) fn are_core(study: &Study, rest: &[u8]) -> bool
-    ensures { result ≡ is_core (length study.now.axioms) (places_of study.now.axioms (words_after rest.now)) }
-{
-    let mut from: u32 = 0;
-    let mut left = rest;
-    while let Some((word, more)) = next_word(left) {
-        let Some(place) = read_axiom(study, word) else {
-            return false;
-        };
-        if place < from {
-            return false;
-        }
-        from = place + 1;
-        left = more;
-    }
-    true
 }

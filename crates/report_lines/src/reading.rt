@@ -40,7 +40,7 @@ fn read_at<K: OutcomeKind>(
         Place::AtLimit => head::read_limit(text),
         Place::AtRule => rules::read_rule(text),
         Place::AtRow => rules::read_row(kind, text),
-        Place::AtCore => head::read_core_line(study, text),
+        Place::AtCore => head::read_core_line(text),
         Place::AtLemmas => story::read_lemmas(text),
         Place::AtLemma => story::read_heading(text, number),
         Place::AtSuppose => story::read_suppose_or_step(study, space, text),

@@ -97,14 +97,7 @@ fn heads_are_read(rt: HostRuntime) -> Result<(), Fail> {
             Some(Line::SaysUndecided)
         )?
     );
-    assert!(rt;
-        says(
-            alloc,
-            Place::AtCore,
-            "core same same",
-            Some(Line::CoreIs(false))
-        )?
-    );
+    assert!(rt; says(alloc, Place::AtCore, "core same same", Some(Line::CoreIs))?);
     Ok(())
 }
 
@@ -246,9 +239,9 @@ fn other_lines_are_not_read(rt: HostRuntime) -> Result<(), Fail> {
 fn cores_are_read(rt: HostRuntime) -> Result<(), Fail> {
     let alloc = rt.alloc();
     let study = study(alloc)?;
-    let core = read_core(alloc, &study, b"core same")?;
+    let core = read_core(alloc, &study, b"core same")?.ok_or("core")?;
     assert_eq!(rt; core.as_slice(), [0].as_slice());
-    let none = read_core(alloc, &study, b"core same other")?;
-    assert!(rt; none.is_empty());
+    assert!(rt; read_core(alloc, &study, b"core same other")?.is_none());
+    assert!(rt; read_core(alloc, &study, b"core same same")?.is_none());
     Ok(())
 }

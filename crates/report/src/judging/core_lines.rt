@@ -1,11 +1,10 @@
 //! Takes the lines that say of which axioms no rule satisfies all, and in how many lemmas that is shown.
 
-ghost use Rattle.std.specs.Prelude.{◌≡◌, ℕ, List, length, drop};
+ghost use Rattle.std.specs.Prelude.{◌≡◌, ℕ, List, drop};
 ghost use Rattle.vocab.specs.Study.{Question};
 ghost use Rattle.verdicts.specs.Texts.{words_of};
 ghost use Rattle.verdicts.specs.Lines.{CoreIs, LemmasAre, Heading};
 ghost use Rattle.verdicts.specs.Places.{Standing};
-ghost use Rattle.verdicts.specs.Faults.{places_of, is_core};
 ghost use Rattle.report_lines.specs.Held.{held_number};
 ghost use Rattle.report.specs.Stands.{Stands};
 ghost use Rattle.report.specs.Taken.{Took, Takes};
@@ -18,23 +17,21 @@ use report_lines::{Place, read_core};
 use verdicts::Refusal;
 
 impl Judging {
-    /// Takes the line of this text, whose names are those of axioms of the study in order or not.
+    /// Takes the line of this text, whose names are those of distinct axioms of the study in order or not.
     pub(crate) fn take_core<K: OutcomeKind>(
         &mut self,
         subject: &Subject<K>,
-        right: bool,
         text: &[u8],
     ) -> Result<Option<Refusal>, NoMemory>
         ensures { (s : Standing) (names : List (List ℕ)) → Stands subject.now.study.now self.old s →
             names ≡ drop 1 (words_of text.now) →
-            right ≡
-            is_core (length subject.now.study.now.axioms) (places_of subject.now.study.now.axioms names) →
             Takes subject.now.study.now s (CoreIs names) self.new result }
     {
-        if !right {
+        let read = read_core(subject.alloc, subject.study, text)?;
+        let Some(core) = read else {
             return Ok(Some(Refusal::Core));
-        }
-        self.core = read_core(subject.alloc, subject.study, text)?;
+        };
+        self.core = core;
         self.place = Place::AtLemmas;
         Ok(None)
     }

@@ -89,7 +89,7 @@ impl Judging {
             Line::LimitIs(_) => Ok(self.take_limit()),
             Line::RuleOf(count) => Ok(self.take_rule_of(subject, *count)),
             Line::Row(profile, outcome) => self.take_row(crew, subject, *profile, *outcome),
-            Line::CoreIs(right) => self.take_core(subject, *right, text),
+            Line::CoreIs => self.take_core(subject, text),
             Line::LemmasAre(count) => Ok(self.take_lemmas(*count)),
             Line::Heading(_) => Ok(self.take_heading()),
             Line::Suppose(literal) => self.take_suppose(subject, literal),

@@ -38,7 +38,7 @@ pub returns-in-AtRow : goal.returns-in-AtRow
 returns-in-AtRow g c = at_place c.args.study.now c.args.place held.AtRow c.args.number (words_of c.args.text.now) c.read_row.result c.in-AtRow.is (c.read_row.ensures c.args.study.now c.args.number c.requires)
 
 pub returns-in-AtCore : goal.returns-in-AtCore
-returns-in-AtCore g c = at_place c.args.study.now c.args.place held.AtCore c.args.number (words_of c.args.text.now) c.read_core_line.result c.in-AtCore.is (c.read_core_line.ensures c.args.number)
+returns-in-AtCore g c = at_place c.args.study.now c.args.place held.AtCore c.args.number (words_of c.args.text.now) c.read_core_line.result c.in-AtCore.is (c.read_core_line.ensures c.args.study.now c.args.number)
 
 pub returns-in-AtLemmas : goal.returns-in-AtLemmas
 returns-in-AtLemmas g c = at_place c.args.study.now c.args.place held.AtLemmas c.args.number (words_of c.args.text.now) c.read_lemmas.result c.in-AtLemmas.is (c.read_lemmas.ensures c.args.study.now c.args.number)

@@ -94,8 +94,8 @@ returns-in-RuleOf g c = λ s w h e f.
 pub returns-in-CoreIs : goal.returns-in-CoreIs
 returns-in-CoreIs g c = λ s w h e f.
     let study = c.args.subject.now.study.now in
-    let t = said_of study c.args.line.now (held.CoreIs c.in-CoreIs.right) w c.in-CoreIs.is f in
-    taken_as study s w (CoreIs t.0) c.take_core.new.self c.take_core.result t.1 (c.take_core.ensures s t.0 h (core_names study s c.args.text.now w t.0 e t.1) t.2)
+    let t = said_of study c.args.line.now held.CoreIs w c.in-CoreIs.is f in
+    taken_as study s w (CoreIs t.0) c.take_core.new.self c.take_core.result t.1 (c.take_core.ensures s t.0 h (core_names study s c.args.text.now w t.0 e t.1))
 
 pub returns-in-LemmasAre : goal.returns-in-LemmasAre
 returns-in-LemmasAre g c = λ s w h e f.
