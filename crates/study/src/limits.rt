@@ -99,7 +99,7 @@ fn within(limit: Limit, size: Size, axioms: &[Axiom]) -> Result<(), StudyFault>
 }
 
 /// Refuses the first axiom that exchanges alternatives in a profile, where not every ranking may be cast.
-pub(crate) fn opened(size: Size, axioms: &[Axiom]) -> Result<(), StudyFault>
+fn opened(size: Size, axioms: &[Axiom]) -> Result<(), StudyFault>
     ensures { result ≡ opened size axioms.now }
 {
     for named in axioms {
