@@ -40,6 +40,21 @@ fn pass<G: Gate>(gate: &G) {
     gate.enter(0);
 }
 
+// Whether this is what `read_all` gives of a file, from a shelf of two whose calls of these numbers fail.
+fn is_read(
+    alloc: Global,
+    name: &str,
+    limit: u32,
+    failing: &[u32],
+    wanted: Result<&[u8], ReadFault>,
+) -> Result<bool, Fail> {
+    let mut shelf = two_files(alloc, failing)?;
+    match read_all(alloc, &mut shelf, name, limit) {
+        Ok(found) => Ok(wanted == Ok(found.as_slice())),
+        Err(fault) => Ok(wanted == Err(fault)),
+    }
+}
+
 #[test]
 fn files_in_memory_are_read(rt: HostRuntime) -> Result<(), Fail> {
     let alloc = rt.alloc();
@@ -56,21 +71,17 @@ fn files_in_memory_are_read(rt: HostRuntime) -> Result<(), Fail> {
         ("absent", 9, &[], Err(ReadFault::Failed)),
     ];
     for (name, limit, failing, wanted) in cases {
-        let mut shelf = two_files(alloc, failing)?;
-        let found = read_all(alloc, &mut shelf, name, limit);
-        match wanted {
-            Ok(bytes) => {
-                let found = found.ok().ok_or("not read")?;
-                assert!(rt; found.as_slice() == bytes);
-            }
-            Err(fault) => assert!(rt; found.err() == Some(fault)),
-        }
+        assert!(rt; is_read(alloc, name, limit, failing, wanted)?);
     }
     let mut shelf = two_files(alloc, &[2])?;
-    assert!(rt; first_byte(&mut shelf, "report") == Ok(Some(b'b')));
-    assert!(rt; first_byte(&mut shelf, "report") == Err(RewindFault::Failed));
-    assert!(rt; first_byte(&mut shelf, "absent") == Err(RewindFault::Failed));
-    assert!(rt; first_byte(&mut shelf, "study") == Ok(Some(b'k')));
+    let found = [
+        first_byte(&mut shelf, "report"),
+        first_byte(&mut shelf, "report"),
+        first_byte(&mut shelf, "absent"),
+        first_byte(&mut shelf, "study"),
+    ];
+    let failed = Err(RewindFault::Failed);
+    assert!(rt; found == [Ok(Some(b'b')), failed, failed, Ok(Some(b'k'))]);
     Ok(())
 }
 
@@ -121,33 +132,56 @@ fn written_in_pieces(alloc: Global, most: u32, failing: &[u32]) -> Result<Bytes,
     Ok(bytes)
 }
 
+// Whether `read_in_pieces` gives the whole report, or the fault where one is wanted.
+fn is_read_in_pieces(
+    alloc: Global,
+    most: u32,
+    failing: &[u32],
+    wanted: Option<ReadFault>,
+) -> Result<bool, Fail>
+    requires most { 1 ≤ most }
+{
+    match read_in_pieces(alloc, most, failing)? {
+        Ok(found) => Ok(wanted.is_none() && found.as_slice() == REPORT),
+        Err(fault) => Ok(wanted == Some(fault)),
+    }
+}
+
+// Whether `written_in_pieces` gives so many bytes of the report.
+fn is_written_in_pieces(
+    alloc: Global,
+    most: u32,
+    failing: &[u32],
+    wanted: usize,
+) -> Result<bool, Fail>
+    requires most { 1 ≤ most }
+{
+    let taken = written_in_pieces(alloc, most, failing)?;
+    Ok(taken.as_slice().len() == wanted && REPORT.starts_with(taken.as_slice()))
+}
+
 #[test]
 fn short_devices_move_the_whole(rt: HostRuntime) -> Result<(), Fail> {
     let alloc = rt.alloc();
     let whole = [
-        read_in_pieces(alloc, 1, &[])?.ok(),
-        read_in_pieces(alloc, 7, &[])?.ok(),
-        read_in_pieces(alloc, 27, &[])?.ok(),
-        read_in_pieces(alloc, 4_294_967_295, &[])?.ok(),
+        is_read_in_pieces(alloc, 1, &[], None)?,
+        is_read_in_pieces(alloc, 7, &[], None)?,
+        is_read_in_pieces(alloc, 27, &[], None)?,
+        is_read_in_pieces(alloc, 4_294_967_295, &[], None)?,
         // Of 7 at a time call 0 is the rewind, 1 to 4 give bytes and 5 finds the end.
-        read_in_pieces(alloc, 7, &[6])?.ok(),
-        Some(written_in_pieces(alloc, 1, &[])?),
-        Some(written_in_pieces(alloc, 7, &[])?),
-        Some(written_in_pieces(alloc, 27, &[])?),
-        Some(written_in_pieces(alloc, 4_294_967_295, &[])?),
+        is_read_in_pieces(alloc, 7, &[6], None)?,
+        is_written_in_pieces(alloc, 1, &[], 27)?,
+        is_written_in_pieces(alloc, 7, &[], 27)?,
+        is_written_in_pieces(alloc, 27, &[], 27)?,
+        is_written_in_pieces(alloc, 4_294_967_295, &[], 27)?,
     ];
-    for found in &whole {
-        let found = found.as_ref().ok_or("not read")?;
-        assert!(rt; found.as_slice() == REPORT);
-    }
+    assert!(rt; whole == [true; 9]);
     for call in 0..6 {
-        let found = read_in_pieces(alloc, 7, &[call])?;
-        assert!(rt; found.err() == Some(ReadFault::Failed));
+        assert!(rt; is_read_in_pieces(alloc, 7, &[call], Some(ReadFault::Failed))?);
     }
     // Of 7 at a time the calls 0 to 3 are writes, and 4 is the flush.
     for (call, wanted) in [(0, 0), (1, 7), (2, 14), (3, 21), (4, 27)] {
-        let taken = written_in_pieces(alloc, 7, &[call])?;
-        assert!(rt; taken.as_slice() == &REPORT[..wanted]);
+        assert!(rt; is_written_in_pieces(alloc, 7, &[call], wanted)?);
     }
     Ok(())
 }
