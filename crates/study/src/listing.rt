@@ -48,8 +48,8 @@ fn few_of(axioms: &Texts) -> Result<(), StudyFault>
     Ok(())
 }
 
-/// The first of the study's own sentences under a name.
-fn own_entry<'a>(own: &'a [Entry], name: &[u8]) -> Option<&'a Entry>
+/// The first of some entries under a name.
+fn entry_under<'a>(own: &'a [Entry], name: &[u8]) -> Option<&'a Entry>
     ensures text { option_map (λ e. e.now.text) result ≡ text_among own.now name.now }
     ensures name { IfSome result (λ e. e.now.name ≡ name.now) }
 {
@@ -80,7 +80,7 @@ fn entry_of(alloc: Global, kind: Kind, own: &Entries, name: &Text) -> Result<Ent
         let known = Name::new(bytes).unwrap();
         return Ok(Entry::new(known, copied(alloc, text)?));
     }
-    match own_entry(own.as_slice(), bytes) {
+    match entry_under(own.as_slice(), bytes) {
         Some(entry) => Ok(Entry::new(entry.name(), copied(alloc, entry.text().as_slice())?)),
         None => Err(unknown(alloc, bytes)),
     }
@@ -104,15 +104,14 @@ fn is_in_both(kind: Kind, own: &Entries, name: &Name) -> bool
     ensures { result ≡ is_in_both kind own.now name.now }
 {
     let name = name.bytes();
-    text_under(kind, name).is_some() && own_entry(own.as_slice(), name).is_some()
+    text_under(kind, name).is_some() && entry_under(own.as_slice(), name).is_some()
 }
 
 /// Whether one of the entries has a name.
 fn stands_among(entries: &[Entry], name: &Name) -> bool
     ensures { result ≡ list_any (λ other. bytes_eq other.name name.now) entries.now }
 {
-    let name = name.bytes();
-    entries.iter().any(|other| other.name().bytes() == name)
+    entry_under(entries, name.bytes()).is_some()
 }
 
 /// Refuses a name that stands earlier, or has two texts.
