@@ -2,6 +2,69 @@ use crate::{NotAProfile, Space, is_above, place_of, ranking_count, ranking_text}
 use std::process::Abort;
 use vocab::{Kind, Size};
 
+/// Voters, alternatives, and the number and the text of a profile.
+static PROFILES: [(i64, i64, u32, &[u8]); 16] = [
+    (2, 2, 0, b"ab|ab"),
+    (2, 2, 1, b"ab|ba"),
+    (2, 2, 2, b"ba|ab"),
+    (2, 2, 3, b"ba|ba"),
+    (1, 3, 0, b"abc"),
+    (1, 3, 1, b"acb"),
+    (1, 3, 2, b"bac"),
+    (1, 3, 3, b"bca"),
+    (1, 3, 4, b"cab"),
+    (1, 3, 5, b"cba"),
+    (2, 3, 27, b"cab|bca"),
+    (8, 2, 255, b"ba|ba|ba|ba|ba|ba|ba|ba"),
+    (3, 1, 0, b"a|a|a"),
+    (3, 4, 13823, b"dcba|dcba|dcba"),
+    (2, 5, 120, b"abced|abcde"),
+    (2, 5, 14399, b"edcba|edcba"),
+];
+
+/// Alternatives, and the number and the text of a ballot.
+static BALLOTS: [(i64, u32, &[u8]); 8] = [
+    (1, 0, b"a"),
+    (2, 1, b"ba"),
+    (3, 3, b"bca"),
+    (3, 4, b"cab"),
+    (4, 23, b"dcba"),
+    (4, 6, b"bacd"),
+    (5, 24, b"bacde"),
+    (5, 118, b"edcab"),
+];
+
+/// The ballots (1: ab, 3: ab and ba), whether voters may be absent, and the text of no profile of two voters.
+static NO_PROFILES: [(u128, bool, &[u8]); 14] = [
+    (3, true, b"-|-"),
+    (1, true, b"-|-"),
+    (3, true, b"--"),
+    (3, true, b"-"),
+    (3, true, b"ab|"),
+    (3, true, b"-|"),
+    (3, true, b"|-"),
+    (3, true, b"-|ab|-"),
+    (3, true, b"-ab|ab"),
+    (3, true, b"ab|-ab"),
+    (1, true, b"ba|-"),
+    (1, false, b"ab|ba"),
+    (3, false, b"ab|-"),
+    (1, false, b"-|ab"),
+];
+
+// Each table is handed out as a slice, so that the proof of a test need not read it.
+fn profiles() -> &'static [(i64, i64, u32, &'static [u8])] {
+    &PROFILES
+}
+
+fn ballots_of() -> &'static [(i64, u32, &'static [u8])] {
+    &BALLOTS
+}
+
+fn no_profiles() -> &'static [(u128, bool, &'static [u8])] {
+    &NO_PROFILES
+}
+
 fn space(rt: &impl Abort, voters: i64, alternatives: i64) -> Space {
     Space::new(Size::check(Kind::Choice, voters, alternatives).expect(rt, "a size"))
 }
@@ -12,49 +75,21 @@ fn share<T: Send + Sync>(_shared: &T) {}
 #[test]
 fn texts_and_numbers(rt: HostRuntime) {
     share(&space(&rt, 2, 2));
-    let rows: [(i64, i64, u32, &[u8]); 16] = [
-        (2, 2, 0, b"ab|ab"),
-        (2, 2, 1, b"ab|ba"),
-        (2, 2, 2, b"ba|ab"),
-        (2, 2, 3, b"ba|ba"),
-        (1, 3, 0, b"abc"),
-        (1, 3, 1, b"acb"),
-        (1, 3, 2, b"bac"),
-        (1, 3, 3, b"bca"),
-        (1, 3, 4, b"cab"),
-        (1, 3, 5, b"cba"),
-        (2, 3, 27, b"cab|bca"),
-        (8, 2, 255, b"ba|ba|ba|ba|ba|ba|ba|ba"),
-        (3, 1, 0, b"a|a|a"),
-        (3, 4, 13823, b"dcba|dcba|dcba"),
-        (2, 5, 120, b"abced|abcde"),
-        (2, 5, 14399, b"edcba|edcba"),
-    ];
-    for (voters, alternatives, p, text) in rows {
-        let space = space(&rt, voters, alternatives);
-        assert!(rt; p < space.count());
-        assert!(rt; space.profile_text(p).bytes() == text);
-        assert!(rt; space.read_profile(text) == Ok(p));
+    for (voters, alternatives, p, text) in profiles() {
+        let space = space(&rt, *voters, *alternatives);
+        assert!(rt; *p < space.count());
+        assert!(rt; space.profile_text(*p).bytes() == *text);
+        assert!(rt; space.read_profile(text) == Ok(*p));
     }
 }
 
 #[test]
 fn ballots(rt: HostRuntime) {
-    let rows: [(i64, u32, &[u8]); 8] = [
-        (1, 0, b"a"),
-        (2, 1, b"ba"),
-        (3, 3, b"bca"),
-        (3, 4, b"cab"),
-        (4, 23, b"dcba"),
-        (4, 6, b"bacd"),
-        (5, 24, b"bacde"),
-        (5, 118, b"edcab"),
-    ];
-    for (alternatives, b, text) in rows {
-        let space = space(&rt, 2, alternatives);
-        assert!(rt; b < space.size().sort_len(vocab::Sort::Ballot));
-        assert!(rt; space.ballot_text(b).bytes() == text);
-        assert!(rt; space.read_ballot(text) == Some(b));
+    for (alternatives, b, text) in ballots_of() {
+        let space = space(&rt, 2, *alternatives);
+        assert!(rt; *b < space.size().sort_len(vocab::Sort::Ballot));
+        assert!(rt; space.ballot_text(*b).bytes() == *text);
+        assert!(rt; space.read_ballot(text) == Some(*b));
     }
 }
 
@@ -128,10 +163,13 @@ fn votes(rt: HostRuntime) {
     for (x, y, first, second, most) in rows {
         assert!(rt; x < 3);
         assert!(rt; y < 3);
-        assert!(rt; space.prefers(0, x, y, 27) == first);
-        assert!(rt; space.prefers(1, x, y, 27) == second);
-        assert!(rt; space.better(4, x, y) == first);
-        assert!(rt; space.majority(x, y, 27) == most);
+        let found = [
+            space.prefers(0, x, y, 27),
+            space.prefers(1, x, y, 27),
+            space.better(4, x, y),
+            space.majority(x, y, 27),
+        ];
+        assert!(rt; found == [first, second, first, most]);
     }
     assert!(rt; space.casts(0, 4, 27));
     assert!(rt; !space.casts(1, 4, 27));
@@ -145,11 +183,15 @@ fn changes(rt: HostRuntime) {
     assert!(rt; space.size().voters() == 2);
     assert!(rt; space.size().alternatives() == 3);
     assert!(rt; space.size().has_all_ballots());
-    assert!(rt; space.with(27, 1, 0) == 24); // cab|abc
-    assert!(rt; space.swap_voters(27, 0, 1) == 22); // bca|cab
-    assert!(rt; space.swap_voters(27, 1, 1) == 27); // cab|bca
-    assert!(rt; space.swap_alts(27, 0, 1) == 31); // cba|acb
-    assert!(rt; space.swap_alts(27, 2, 2) == 27); // cab|bca
+    let found = [
+        space.with(27, 1, 0),
+        space.swap_voters(27, 0, 1),
+        space.swap_voters(27, 1, 1),
+        space.swap_alts(27, 0, 1),
+        space.swap_alts(27, 2, 2),
+    ];
+    // cab|abc, bca|cab, cab|bca, cba|acb and cab|bca
+    assert!(rt; found == [24, 22, 27, 31, 27]);
     for (z, other) in [(0, 1), (1, 0), (2, 2)] {
         assert!(rt; z < 3);
         assert!(rt; space.swap(0, 1, z) == other);
@@ -244,10 +286,14 @@ fn changes_with_an_absent_voter(rt: HostRuntime) {
     assert!(rt; space.size().alternatives() == 2);
     assert!(rt; space.size().has_all_ballots());
     assert!(rt; space.ballots() == 2);
-    assert!(rt; space.ballot_of(2, 1) == 2);
-    assert!(rt; space.swap_voters(2, 0, 1) == 6); // -|ab
-    assert!(rt; space.with(2, 1, 1) == 1); // ab|ba
-    assert!(rt; space.swap_alts(2, 0, 1) == 5); // ba|-
+    let found = [
+        space.ballot_of(2, 1),
+        space.swap_voters(2, 0, 1),
+        space.with(2, 1, 1),
+        space.swap_alts(2, 0, 1),
+    ];
+    // absent, -|ab, ab|ba and ba|-
+    assert!(rt; found == [2, 6, 1, 5]);
 }
 
 // At ab|- the voter who is there decides.
@@ -276,9 +322,12 @@ fn one_ballot(rt: HostRuntime) {
     assert!(rt; space.read_ballot(b"ab") == None);
     assert!(rt; space.profile_text(0).bytes() == b"ba|ba".as_slice());
     assert!(rt; space.read_profile(b"ba|ba") == Ok(0));
-    assert!(rt; space.better(0, 1, 0));
-    assert!(rt; !space.better(0, 0, 1));
-    assert!(rt; space.majority(1, 0, 0));
+    let above = [
+        space.better(0, 1, 0),
+        space.better(0, 0, 1),
+        space.majority(1, 0, 0),
+    ];
+    assert!(rt; above == [true, false, true]);
 }
 
 // Two voters, one ballot and absence: ab|ab, ab|- and -|ab.
@@ -313,25 +362,8 @@ fn each_text_has_its_number(rt: &impl Abort, space: &Space, texts: &[&[u8]]) {
 
 #[test]
 fn refusals_of_a_domain(rt: HostRuntime) {
-    // The ballots (1: ab, 3: ab and ba), whether voters may be absent, and the text of no profile of two voters.
-    let rows: [(u128, bool, &[u8]); 14] = [
-        (3, true, b"-|-"),
-        (1, true, b"-|-"),
-        (3, true, b"--"),
-        (3, true, b"-"),
-        (3, true, b"ab|"),
-        (3, true, b"-|"),
-        (3, true, b"|-"),
-        (3, true, b"-|ab|-"),
-        (3, true, b"-ab|ab"),
-        (3, true, b"ab|-ab"),
-        (1, true, b"ba|-"),
-        (1, false, b"ab|ba"),
-        (3, false, b"ab|-"),
-        (1, false, b"-|ab"),
-    ];
-    for (ballots, absent, text) in rows {
-        let space = domain(&rt, 2, 2, ballots, absent);
+    for (ballots, absent, text) in no_profiles() {
+        let space = domain(&rt, 2, 2, *ballots, *absent);
         assert!(rt; space.read_profile(text) == Err(NotAProfile));
     }
 }
@@ -383,10 +415,13 @@ fn votes_around_an_absent_voter(rt: HostRuntime) {
     for (x, y, first, third, most) in rows {
         assert!(rt; x < 3);
         assert!(rt; y < 3);
-        assert!(rt; space.prefers(0, x, y, 73) == first);
-        assert!(rt; !space.prefers(1, x, y, 73));
-        assert!(rt; space.prefers(2, x, y, 73) == third);
-        assert!(rt; space.majority(x, y, 73) == most);
+        let found = [
+            space.prefers(0, x, y, 73),
+            space.prefers(1, x, y, 73),
+            space.prefers(2, x, y, 73),
+            space.majority(x, y, 73),
+        ];
+        assert!(rt; found == [first, false, third, most]);
     }
 }
 
@@ -401,11 +436,15 @@ fn casts_around_an_absent_voter(rt: HostRuntime) {
     for b in 0..4 {
         assert!(rt; !space.casts(1, b, 73));
     }
-    assert!(rt; space.ballot_of(73, 1) == 4); // absent
-    assert!(rt; space.with(73, 1, 0) == 53); // bca|abc|cba
-    assert!(rt; space.with(73, 2, 1) == 71); // bca|-|bac
-    assert!(rt; space.swap_voters(73, 0, 1) == 113); // -|bca|cba
-    assert!(rt; space.swap_voters(73, 2, 0) == 97); // cba|-|bca
+    let found = [
+        space.ballot_of(73, 1),
+        space.with(73, 1, 0),
+        space.with(73, 2, 1),
+        space.swap_voters(73, 0, 1),
+        space.swap_voters(73, 2, 0),
+    ];
+    // absent, bca|abc|cba, bca|-|bac, -|bca|cba and cba|-|bca
+    assert!(rt; found == [4, 53, 71, 113, 97]);
 }
 
 // At abc|-|- the one voter who is there is a majority, and two absent voters exchange nothing.
@@ -429,13 +468,19 @@ fn rankings_by_place(rt: HostRuntime) {
         assert!(rt; alternatives <= 5);
         assert!(rt; ranking_count(alternatives) == count);
     }
-    assert!(rt; place_of(3, b"acb") == Some(1));
-    assert!(rt; place_of(3, b"cab") == Some(4));
-    assert!(rt; place_of(3, b"caa") == None);
-    assert!(rt; place_of(4, b"cab") == None);
+    let places = [
+        place_of(3, b"acb"),
+        place_of(3, b"cab"),
+        place_of(3, b"caa"),
+        place_of(4, b"cab"),
+    ];
+    assert!(rt; places == [Some(1), Some(4), None, None]);
     assert!(rt; ranking_text(3, 4).bytes() == b"cab".as_slice());
     assert!(rt; ranking_text(4, 6).bytes() == b"bacd".as_slice());
-    assert!(rt; is_above(3, 4, 2, 0));
-    assert!(rt; !is_above(3, 4, 1, 0));
-    assert!(rt; !is_above(3, 4, 0, 0));
+    let above = [
+        is_above(3, 4, 2, 0),
+        is_above(3, 4, 1, 0),
+        is_above(3, 4, 0, 0),
+    ];
+    assert!(rt; above == [true, false, false]);
 }
