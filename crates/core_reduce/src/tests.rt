@@ -2,7 +2,12 @@
 //! variable 1 says that `a` wins there. Where one voter has two, variables 1 and 2 say that `a` stands above
 //! `b` at the profiles ab and ba.
 
-ghost use Rattle.std.specs.Prelude.{◌≡◌, ◌≤◌, true, false, [], ◌∷◌, codes, IfOk};
+ghost use Rattle.std.specs.Prelude.{◌≡◌, ◌<◌, ◌≤◌, ◌-◌, ◌^◌, true, false, [], ◌∷◌, codes, length, IfOk, IsTrue};
+ghost use Rattle.cnf.specs.Derived.{IsAccepted};
+ghost use Rattle.cnf.specs.Fresh.{AreOver};
+ghost use Rattle.meaning.specs.Cores.{is_core_from};
+ghost use Rattle.meaning.specs.Laws.{clauses_for};
+ghost use Rattle.meaning.specs.Variables.{variable_count};
 ghost use Rattle.vocab.specs.Size.{full_size};
 ghost use Rattle.vocab.specs.Tree.{tree_of, All, Const, Leaf, Not, Ranks, Var, WinsAt};
 ghost use Rattle.meaning.specs.StudyClauses.{study_clauses};
@@ -20,7 +25,7 @@ use profiles::Space;
 use search_logs::all_places;
 use std::alloc::Global;
 use std::test::Fail;
-use vocab::{Atom, Axiom, Axioms, Formula, Kind, Name, Size, Sort, Study, Term};
+use vocab::{Atom, Axiom, Axioms, Formula, Kind, Name, Places, Size, Sort, Study, Term};
 
 /// Choices of one voter and one alternative.
 fn one_and_one() -> Result<Size, Fail>
@@ -289,23 +294,36 @@ fn axioms_are_refuted_within_their_limit(rt: HostRuntime) -> Result<(), Fail> {
     Ok(())
 }
 
-/// What the refutation by the first axiom and the third is reduced to.
-fn reduced(alloc: Global) -> Result<Box<Answer>, Fail> {
+/// What a refutation of the chosen axioms of a study is reduced to.
+fn reduced_to(
+    alloc: Global,
+    study: &Study,
+    chosen: &Places,
+    clauses: Clauses,
+    lines: &Derivation,
+) -> Result<Box<Answer>, Fail>
+    requires size { study.now.size ≡ full_size Kind.Ranking 1 2 }
+    requires chosen { IsTrue (is_core_from 0 (length study.now.axioms) chosen.now) }
+    requires clauses { sourced clauses.clauses clauses.origins ≡
+        study_clauses study.now.size study.now.axioms chosen.now }
+    requires accepted { IsAccepted (clauses_for study.now.size study.now.axioms chosen.now) lines.now }
+    requires over { AreOver (variable_count study.now.size) lines.now }
+    requires few { length lines.now < 2 ^ 32 - 1 }
+{
     let kind = RankingKind::new(Space::new(one_and_two()?));
-    let study = twice_disputed(alloc)?;
-    let chosen = all_places(alloc, &study)?;
-    let lines = proof_by_first_and_third(alloc)?;
-    let reduced = reduce(
-        alloc,
-        &kind,
-        &study,
-        &chosen,
-        Ground::new(clauses_of_three(alloc)?),
-        &lines,
-    )?;
+    let reduced = reduce(alloc, &kind, study, chosen, Ground::new(clauses), lines)?;
     let Reduced { refutation, logs } = reduced;
     let finding = Finding::Impossible(refutation);
     Ok(Box::new(alloc, Answer { finding, logs })?)
+}
+
+/// What the refutation by the first axiom and the third is reduced to.
+fn reduced(alloc: Global) -> Result<Box<Answer>, Fail> {
+    let study = twice_disputed(alloc)?;
+    let chosen = all_places(alloc, &study)?;
+    let lines = proof_by_first_and_third(alloc)?;
+    let clauses = clauses_of_three(alloc)?;
+    reduced_to(alloc, &study, &chosen, clauses, &lines)
 }
 
 #[test]

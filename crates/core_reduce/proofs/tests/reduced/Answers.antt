@@ -8,8 +8,8 @@ use Rattle.core_reduce.specs.Examples.{doubled, by_first_and_third}
 use Rattle.core_reduce.proofs.ExampleLaws.{first_and_third_refute}
 use Rattle.core_reduce.proofs.tests.reduced.Goals as goal
 
-pub reduce-requires-clause-accepted : goal.reduce-requires-clause-accepted
-reduce-requires-clause-accepted c κs =
+pub reduced_to-requires-clause-accepted : goal.reduced_to-requires-clause-accepted
+reduced_to-requires-clause-accepted c =
     let s : Question = c.in_ok-study.study in
     let study : s ≡ doubled = c.in_ok-study.ensures in
     let chosen : c.in_ok-chosen.chosen ≡ all_places s = c.in_ok-chosen.ensures in
