@@ -3,8 +3,8 @@
 # confirms it, and over studies/anonymity_neutrality.toml each report in studies/refused/ is refused with the line that
 # docs/FORMATS.md shows. Over each study without a rule `adopt` takes what `proof` writes, and `check` confirms its report. Where all is
 # so, nothing is written; else a line for each fault, and the status is 1.
-# `export` of Arrow's axioms for four alternatives is the same with 1, 2 and 16 workers, a sample is the same line at each run, no words
-# end with status 2, and an absent study with status 5.
+# `export` of Arrow's axioms for four alternatives is the same with 1, 2 and 16 workers, and takes an axiom of 21,233,664 instances but
+# none of 84,934,656; a sample is the same line at each run, no words end with status 2, and an absent study with status 5.
 # The program is the one that the launcher runs, which is proved and built first where a source is newer; with --built, as after `rt ci`,
 # the one that stands there. No proof rests on this.
 set -u
@@ -75,5 +75,18 @@ for number in 0 1 32 383; do
     answer sample "$number"
     [ "$status" -eq 0 ] && cmp -s "$work/one" "$work/written" || fault "sample $number is not the same at each run"
 done
+
+# Writes a study of one axiom of 21,233,664 instances, or of more where further universals are given.
+large() {
+    printf '%s\n' 'kind = "choice"' 'voters = 2' 'alternatives = 4' 'axioms = ["big"]' '[sentences]' \
+        "big = \"all p: profile. all q: profile. all x: alt. all y: alt. all z: alt. $1x = x\"" >"$work/big.toml"
+}
+
+large ''
+answer export "$work/big.toml" --workers 4
+[ "$status" -eq 0 ] && grep -qx 'p cnf 2304 4032' "$work/written" || fault "export of an axiom of 21,233,664 instances is another text"
+large 'all w: alt. '
+answer export "$work/big.toml"
+is_line 3 'study: big: instances 84934656' || fault "export of an axiom of 84,934,656 instances is not refused"
 
 [ "$faults" -eq 0 ]
