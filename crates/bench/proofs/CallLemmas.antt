@@ -48,6 +48,13 @@ module _ (request : Option Request) (told : Option Files) (left : Files) (faults
       subst (λ (r : Option Request). Answers r told left left faults faults (Ok Usage)) (sym asked)
       (bare_answer None told left faults Usage (omega arith) tt refl (λ files. (record { ends = refl; no_verdict = refl; no_logs = refl }, refl)))
 
+-- what a command promises of its answer is promised of the words that are that command
+pub asked_answer : (request asked : Option Request) (told : Option Files) (left_before left_now : Files) (faults_before faults_now : List ℕ → ℕ) (result : Result Answer Stop)
+    → asked ≡ request → Answers asked told left_before left_now faults_before faults_now result
+    → Answers request told left_before left_now faults_before faults_now result
+asked_answer request asked told left_before left_now faults_before faults_now result e a =
+    subst (λ (r : Option Request). Answers r told left_before left_now faults_before faults_now result) e a
+
 -- ---- calls
 
 not_in_front : (test : List ℕ → Bool) (s : ℕ) (names : List (List ℕ)) → list_any test names ≡ false → list_any test (touched_at s names) ≡ false
