@@ -1,6 +1,7 @@
 //! The worked examples of `adopt`, over devices in memory.
 
 use crate::calls::answered;
+use crate::domain_tests::FEW_RANKINGS;
 use edge::Open;
 use std::alloc::Global;
 use std::test::Fail;
@@ -71,6 +72,10 @@ fn refutations_of_the_bench_are_adopted(rt: HostRuntime) -> Result<(), Fail> {
         (
             "kind = \"choice\"\nvoters = 2\nalternatives = 3\nconflicts = 20000\naxioms = [\"onto\", \"strategyproof\", \"non_dictatorship\"]\n",
             "bench report 1\nkind choice\nvoters 2\nalternatives 3\naxioms onto strategyproof non_dictatorship\nverdict impossible\ncore onto strategyproof non_dictatorship\n",
+        ),
+        (
+            FEW_RANKINGS,
+            "bench report 2\nkind ranking\nvoters 2\nalternatives 3\nballots abc cba\nabsent yes\naxioms pareto independence\nverdict impossible\ncore pareto independence\n",
         ),
     ];
     for (study, head) in cases {

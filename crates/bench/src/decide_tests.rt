@@ -36,26 +36,9 @@ fn outline(alloc: Global, report: &[u8]) -> Result<Vec<u8>, Fail> {
     Ok(text)
 }
 
-/// Whether `decide` with this word for the workers writes a report that `check` confirms and that is this text or tells its verdict, its
-/// core and its marks by these lines, and its spent searches learned so many clauses.
-fn decides_among<R: Threads + Sync>(
-    rt: &R,
-    alloc: Global,
-    workers: &str,
-    study: &str,
-    learned: usize,
-    wanted: &str,
-) -> Result<bool, Fail> {
-    let words = ["decide", "first", workers];
-    let found = answered(rt, alloc, &Open, &words, study.as_bytes(), b"", 1_000_000)?;
-    let report = found.bytes.as_slice();
-    let lines = outline(alloc, report)?;
-    let is_right = report == wanted.as_bytes() || lines.as_slice() == wanted.as_bytes();
-    let is_found = found.status == 0 && found.learned == learned;
-    Ok(is_confirmed(rt, alloc, workers, study, report)? && is_right && is_found)
-}
-
-/// The same with 1, 2 and 16 workers.
+/// Whether `decide` writes a report that is this text or tells its verdict, its core and its marks by these lines, and its spent
+/// searches learned so many clauses; and whether it writes the same bytes with 2 and 16 workers as with one, and `check` confirms them
+/// with each number.
 pub fn decides<R: Threads + Sync>(
     rt: &R,
     alloc: Global,
@@ -63,9 +46,18 @@ pub fn decides<R: Threads + Sync>(
     learned: usize,
     wanted: &str,
 ) -> Result<bool, Fail> {
-    let mut right = true;
-    for workers in ["--workers=1", "--workers=2", "--workers=16"] {
-        right = decides_among(rt, alloc, workers, study, learned, wanted)? && right;
+    let words = ["decide", "first", "--workers=1"];
+    let one = answered(rt, alloc, &Open, &words, study.as_bytes(), b"", 1_000_000)?;
+    let report = one.bytes.as_slice();
+    let lines = outline(alloc, report)?;
+    let is_told = report == wanted.as_bytes() || lines.as_slice() == wanted.as_bytes();
+    let mut right = is_told && one.status == 0 && one.learned == learned;
+    right = is_confirmed(rt, alloc, "--workers=1", study, report)? && right;
+    for workers in ["--workers=2", "--workers=16"] {
+        let words = ["decide", "first", workers];
+        let many = answered(rt, alloc, &Open, &words, study.as_bytes(), b"", 1_000_000)?;
+        right = many.is(0, report) && many.learned == learned && right;
+        right = is_confirmed(rt, alloc, workers, study, report)? && right;
     }
     Ok(right)
 }

@@ -18,6 +18,10 @@ const ONE_ROW: &str =
 const NO_SHOW: &str =
     "kind = \"choice\"\nvoters = 2\nalternatives = 2\nabsent = true\naxioms = [\"condorcet\", \"participation\"]\n";
 
+/// Two voters who may stay away or cast one of two opposite rankings.
+pub const FEW_RANKINGS: &str =
+    "kind = \"ranking\"\nvoters = 2\nalternatives = 3\nballots = [\"abc\", \"cba\"]\nabsent = true\naxioms = [\"pareto\", \"independence\"]\n";
+
 /// Rules that choose and rules that rank, over a domain, with absence, and over a domain with absence.
 #[test]
 fn domains_are_decided(rt: HostRuntime) -> Result<(), Fail> {
@@ -41,7 +45,7 @@ fn domains_are_decided(rt: HostRuntime) -> Result<(), Fail> {
             "verdict impossible\ncore pareto against\nwithout pareto rule 2\nwithout against rule 2\n",
         ),
         (
-            "kind = \"ranking\"\nvoters = 2\nalternatives = 3\nballots = [\"abc\", \"cba\"]\nabsent = true\naxioms = [\"pareto\", \"independence\"]\n",
+            FEW_RANKINGS,
             "verdict impossible\ncore pareto independence\nwithout pareto rule 8\nwithout independence rule 8\n",
         ),
     ];
@@ -100,6 +104,7 @@ fn domains_are_refuted(rt: HostRuntime) -> Result<(), Fail> {
     let studies = [
         "kind = \"choice\"\nvoters = 2\nalternatives = 2\nabsent = true\naxioms = [\"anonymity\", \"neutrality\"]\n",
         "kind = \"ranking\"\nvoters = 1\nalternatives = 3\nballots = [\"cba\", \"bca\"]\naxioms = [\"pareto\", \"against\"]\n[sentences]\nagainst = \"some p: profile. ranks(@a, @c, p)\"\n",
+        FEW_RANKINGS,
     ];
     for study in studies {
         for workers in ["--workers=1", "--workers=2", "--workers=16"] {

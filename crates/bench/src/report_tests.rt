@@ -171,6 +171,9 @@ fn texts_are_checked_by_one_call(rt: HostRuntime) -> Result<(), Fail> {
     let Kind::Choice = study.size().kind() else {
         return Err(Fail::from(NoMemory));
     };
+    if study.axioms().len() > 40 {
+        return Err(Fail::from(NoMemory));
+    }
     let kind = ChoiceKind::new(Space::new(study.size()));
     let story = SYMMETRIC_STORY.as_bytes();
     let confirmed = check_report(&rt, alloc, &Open, 1, &kind, &study, story);
@@ -219,6 +222,9 @@ fn lines_are_checked_one_by_one(rt: HostRuntime) -> Result<(), Fail> {
     let Kind::Choice = study.size().kind() else {
         return Err(Fail::from(NoMemory));
     };
+    if study.axioms().len() > 40 {
+        return Err(Fail::from(NoMemory));
+    }
     let kind = ChoiceKind::new(Space::new(study.size()));
     let mut checker = Checker::new(alloc, &kind, &study, 1)?;
     let front = SYMMETRIC_STORY.strip_suffix("end\n").ok_or("end")?;

@@ -287,7 +287,7 @@ const BALLOTS: &[(&str, &str, &str)] = &[
 
 /// Quantifiers of a sentence over five voters and two alternatives, what follows them, and what is then said.
 const SIZES: &[(&str, &str, &str)] = &[
-    ("VVVVVVVPAAA", "x = x", "5 2 100000 a"),
+    ("VVVVVVVPAAAA", "x = x", "5 2 100000 a"),
     ("VVVVVVVVAAAAAA", "x = x", "variables a"),
     ("VVVVVVVVAAAA", "x = x", "5 2 100000 a"),
     ("VVVVVVVVAAAP", "x = x", "instances a 100000000"),
