@@ -1,7 +1,7 @@
 #!/usr/bin/env bash
 # Holds the program against the reports beside the studies: over each study `decide` writes its report byte for byte and `check`
-# confirms it, and over studies/anonymity_neutrality.toml each report in studies/refused/ is refused with the line that
-# docs/FORMATS.md shows. Over each study without a rule `adopt` takes what `proof` writes, and `check` confirms its report. Where all is
+# confirms it, as it does another rule over studies/median_voter.toml, and over studies/anonymity_neutrality.toml each report in
+# studies/refused/ is refused with the line that docs/FORMATS.md shows. Over each study without a rule `adopt` takes what `proof` writes, and `check` confirms its report. Where all is
 # so, nothing is written; else a line for each fault, and the status is 1.
 # `export` of Arrow's axioms for four alternatives is the same with 1, 2 and 16 workers, and takes an axiom of 21,233,664 instances but
 # none of 84,934,656; a sample is the same line at each run, no words end with status 2, and an absent study with status 5.
@@ -48,6 +48,10 @@ for study in "$root"/studies/*.toml; do
     answer check "$study" "$work/report"
     is_line 0 "confirmed impossible" || fault "check does not confirm what adopt writes of $name"
 done
+
+# The median of the three favourites, which is not the rule that `decide` writes.
+answer check "$root/studies/median_voter.toml" "$root/studies/median_of_three.report"
+is_line 0 'confirmed possible' || fault "check does not confirm median_of_three.report"
 
 answer
 [ "$status" -eq 2 ] || fault "no words end with status $status"
