@@ -1,5 +1,5 @@
 -- `lrat`, from what is read to what is said.
-use Rattle.std.proofs.Common.{◌≡◌, ◌≢◌, refl, ℕ, ◌<◌, ◌≤◌, List, [], ◌∷◌, length, codes, Option, None, Some, IfSome, IsSomeAnd, Result, Ok, Err, IfOk}
+use Rattle.std.proofs.Common.{◌≡◌, ◌≢◌, refl, ℕ, ◌≤◌, List, [], length, Option, None, Some, IfSome, Result, Ok, Err, IfOk}
 use Rattle.edge.specs.Shelf.{Files}
 use Rattle.clause_text.specs.declared.faults.CnfFault.{CnfFault}
 use Rattle.clause_text.specs.declared.faults.CnfFault.TheVariants as cnf
@@ -7,7 +7,7 @@ use Rattle.clause_text.specs.CnfReadings.{IsRefused}
 use Rattle.clause_text.specs.ReadDimacs.{Formula, read_dimacs}
 use Rattle.words.specs.Words.{Lrat}
 use Rattle.answers.specs.FileLimits.{most_cnf_bytes}
-use Rattle.answers.specs.Lrat.{GivesFormula, RefusesFormula, too_long, no_formula, cnf_line, IsConfirmedBy, formula_refused, proof_judged}
+use Rattle.answers.specs.Lrat.{GivesFormula, RefusesFormula, no_formula, cnf_line, IsConfirmedBy, formula_refused, proof_judged}
 use Rattle.answers.specs.Call.{AreFiles, are_told, none_read}
 use Rattle.command_parts.specs.declared.answer.Answer.{Answer}
 use Rattle.command_parts.specs.declared.answer.Stop.{Stop}
@@ -15,20 +15,12 @@ use Rattle.command_parts.specs.Answers.{run_of, text_of}
 use Rattle.command_parts.specs.GivenProof.{IsProofSaid}
 use Rattle.check_commands.specs.Given.{IsCnf, RefusesCnf}
 use Rattle.command_parts.proofs.OpenLemmas.{if_some}
-use Rattle.command_parts.proofs.AnswerLemmas.{some_and}
 use Rattle.command_parts.proofs.PairLemmas.{IsPairCommand}
 
 pub lrat_command : (name proof : List ℕ) → IsPairCommand (Some (Lrat name proof)) name proof
 lrat_command name proof = record { two = refl; statuses = refl }
 
 -- ---- the clauses
-
--- too many bytes
-pub refuses_long_cnf : (told : Option Files) (name text : List ℕ) → IfSome told (λ files. IsSomeAnd (files name) (λ bytes. most_cnf_bytes < length bytes))
-    → text ≡ codes "cnf: too long\n" → (files : Files) → told ≡ Some files → RefusesFormula files name text
-refuses_long_cnf told name text h t files e =
-    let (bytes, held, long) = some_and (files name) _ (if_some told (λ files. IsSomeAnd (files name) (λ bytes. most_cnf_bytes < length bytes)) files h e) in
-    too_long (record { bytes = bytes; held = held; long = long }) t
 
 -- a refusal other than want of memory is the one of the text
 pub cnf_refused : (fault : CnfFault) (wanted : Result Formula CnfFault) → fault ≢ cnf.NoMemory → IsRefused fault wanted → wanted ≡ Err fault

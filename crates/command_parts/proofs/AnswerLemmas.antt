@@ -1,5 +1,5 @@
 -- What each command promises of its answer, at its simplest.
-use Rattle.std.proofs.Common.{◌≡◌, refl, ℕ, ◌≤◌, List, Option, None, Some, Ok, Err, IsSomeAnd}
+use Rattle.std.proofs.Common.{◌≡◌, refl, ℕ, ◌≤◌, List, Option, None, Some, Ok, Err}
 use Rattle.std.specs.Prelude.{◌==◌, IsTrue}
 use Rattle.std.specs.List.{list_any}
 use Rattle.edge.specs.Shelf.{Files}
@@ -10,10 +10,6 @@ use Rattle.command_parts.specs.declared.answer.Answer.{Answer}
 use Rattle.command_parts.specs.declared.answer.Stop.TheVariants as stop
 use Rattle.command_parts.specs.Answers.{HasText, run_of, status_of, text_of}
 use Rattle.command_parts.specs.Answered.{Answers}
-
-pub some_and : {A : Type 0} (r : Option A) (P : A → Type 0) → IsSomeAnd r P → (x : A) × (r ≡ Some x) × P x
-some_and None P h = absurd h
-some_and (Some x) P h = (x, refl, h)
 
 -- ---- commands
 

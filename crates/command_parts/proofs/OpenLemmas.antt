@@ -1,5 +1,5 @@
 -- A study that was read, or refused.
-use Rattle.std.proofs.Common.{◌≡◌, subst, ℕ, ◌<◌, ◌≤◌, List, length, codes, Option, Some, IfSome, IsSomeAnd, Err}
+use Rattle.std.proofs.Common.{◌≡◌, subst, ℕ, ◌≤◌, List, length, Option, Some, IfSome, Err}
 use Rattle.edge.specs.Shelf.{Files}
 use Rattle.study.specs.declared.faults.StudyFault.{StudyFault}
 use Rattle.vocab.specs.Study.{Question, HasFewAxioms}
@@ -9,19 +9,11 @@ use Rattle.study.proofs.WholeStudies.{studies_whole}
 use Rattle.verdicts.specs.Laws.{IsReportable}
 use Rattle.answers.specs.FileLimits.{most_study_bytes}
 use Rattle.answers.specs.StudyLines.{study_line}
-use Rattle.answers.specs.Studies.{GivesStudy, RefusesStudy, too_long, no_study}
+use Rattle.answers.specs.Studies.{GivesStudy, RefusesStudy, no_study}
 use Rattle.command_parts.specs.Opened.{IsRead}
-use Rattle.command_parts.proofs.AnswerLemmas.{some_and}
 
 pub if_some : {A : Type 0} (o : Option A) (P : A → Type 0) (x : A) → IfSome o P → o ≡ Some x → P x
 if_some o P x h e = subst (λ (p : Option _). IfSome p P) e h
-
--- too many bytes
-pub refuses_long : (told : Option Files) (name text : List ℕ) → IfSome told (λ files. IsSomeAnd (files name) (λ bytes. most_study_bytes < length bytes)) → text ≡ codes "study: too long\n"
-    → (files : Files) → told ≡ Some files → RefusesStudy files name text
-refuses_long told name text h t files e =
-    let (bytes, held, long) = some_and (files name) _ (if_some told (λ files. IsSomeAnd (files name) (λ bytes. most_study_bytes < length bytes)) files h e) in
-    too_long (record { bytes = bytes; held = held; long = long }) t
 
 -- bytes that give no study
 pub refuses_bytes : (told : Option Files) (name bytes text : List ℕ) (fault : StudyFault) → IfSome told (λ files. files name ≡ Some bytes) → length bytes ≤ most_study_bytes

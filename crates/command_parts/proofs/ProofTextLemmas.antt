@@ -1,5 +1,5 @@
 -- What is said of the bytes of a proof, by their number.
-use Rattle.std.proofs.Common.{◌≡◌, ap, ℕ, ◌<◌, ◌≤◌, true, false, List, length, codes, Result, arith, lt-ltb, ltb-true, refl}
+use Rattle.std.proofs.Common.{◌≡◌, ap, ℕ, ◌≤◌, true, false, List, length, Result, arith, ltb-true}
 use Rattle.std.specs.Prelude.{nat_lt}
 use Rattle.std.proofs.lemmas.Bool.{false_from_ne_true}
 use Rattle.cnf.specs.declared.derivations.Line.{Line}
@@ -7,7 +7,7 @@ use Rattle.clause_text.specs.declared.faults.LratFault.{LratFault}
 use Rattle.clause_text.specs.ReadDimacs.{Formula}
 use Rattle.clause_text.specs.ReadLrat.{read_lrat}
 use Rattle.answers.specs.FileLimits.{most_proof_bytes}
-use Rattle.answers.specs.Lrat.{of_reading, said_of, refused}
+use Rattle.answers.specs.Lrat.{of_reading, said_of}
 
 -- what is said of bytes within the limit is what is said of their reading
 pub said_within : (formula : Formula) (bytes : List ℕ) (r : Result (List Line) LratFault) → length bytes ≤ most_proof_bytes → read_lrat formula.variables bytes ≡ r
@@ -18,6 +18,3 @@ said_within formula bytes r fits e =
   where
     not_long : nat_lt most_proof_bytes (length bytes) ≡ true → ⊥
     not_long long = let lt = ltb-true most_proof_bytes (length bytes) long in omega (arith, lt, fits)
-
-pub said_beyond : (formula : Formula) (bytes : List ℕ) → most_proof_bytes < length bytes → said_of formula bytes ≡ refused (codes "proof: too long\n")
-said_beyond formula bytes long = rw (lt-ltb most_proof_bytes (length bytes) long) refl

@@ -39,7 +39,7 @@ pub fn ground_all<R: Threads + Sync, K: OutcomeKind, G: Gate>(
     ground(alloc, crew, kind, study, &all)
 }
 
-/// The same of a study, over its own kind.
+/// The same of a study of a kind that has outcomes, over that kind.
 pub fn ground_study<R: Threads + Sync, G: Gate>(
     alloc: Global,
     crew: &Crew<R, G>,

@@ -11,7 +11,7 @@ use Rattle.meaning.specs.Laws.{clauses_for}
 use Rattle.meaning.specs.StudyClauses.{study_clauses}
 use Rattle.meaning.specs.Truth.{satisfies}
 use Rattle.meaning.specs.Variables.{variable_count}
-use Rattle.core_reduce.specs.declared.answers.Answer.{Answer}
+use Rattle.core_reduce.specs.declared.answers.Decision.{Decision}
 use Rattle.core_reduce.specs.declared.answers.Finding.{Finding}
 use Rattle.core_reduce.specs.declared.answers.Finding.TheVariants.{Possible, Impossible, Undecided}
 use Rattle.core_reduce.specs.declared.answers.Reduced.{Reduced}
@@ -39,7 +39,7 @@ module _ (study : Question) where
   IsFinding logs Undecided = Any (IsOfAll study) logs
 
   -- an answer is right: its finding is, and each of its logs is of a search that spent its limit
-  pub record IsAnswer (answer : Answer) : Type 0 where
+  pub record IsDecision (answer : Decision) : Type 0 where
     pub finding : IsFinding answer.logs answer.finding
     pub logs : AreSpentLogs study answer.logs
 

@@ -8,10 +8,10 @@ ghost use Rattle.meaning.specs.Laws.{clauses_for};
 ghost use Rattle.meaning.specs.StudyClauses.{study_clauses};
 ghost use Rattle.meaning.specs.Variables.{variable_count};
 ghost use Rattle.search_logs.specs.Spent.{all_places};
-ghost use Rattle.core_reduce.specs.Answers.{IsAnswer, IsReduced};
+ghost use Rattle.core_reduce.specs.Answers.{IsDecision, IsReduced};
 ghost use Rattle.core_reduce.specs.Reducing.{IsReducing, IsFrom};
 
-use crate::answers::{Answer, Finding, Reduced};
+use crate::answers::{Decision, Finding, Reduced};
 use crate::leaving::places_kept;
 use crate::needs::focus_on;
 use crate::reduction::{Reduction, search, step};
@@ -84,23 +84,23 @@ pub fn decide<K: OutcomeKind>(
     kind: &K,
     study: &Study,
     clauses: Ground,
-) -> Result<Answer, NoMemory>
+) -> Result<Decision, NoMemory>
     requires size { study.now.size ≡ K.size kind.now }
     requires clauses { clauses ≡ study_clauses study.now.size study.now.axioms (all_places study.now) }
-    ensures { IfOk result (IsAnswer study.now) }
+    ensures { IfOk result (IsDecision study.now) }
 {
     let all = all_places(alloc, study)?;
     match search(alloc, kind, study, &all, &clauses)? {
         Search::Found(bits) => {
             let table = rule_of(alloc, kind, study, &all, &bits)?;
-            Ok(Answer {
+            Ok(Decision {
                 finding: Finding::Possible(table),
                 logs: Items::new(alloc),
             })
         }
         Search::Refuted(lines) => {
             let Reduced { refutation, logs } = reduce(alloc, kind, study, &all, clauses, &lines)?;
-            Ok(Answer {
+            Ok(Decision {
                 finding: Finding::Impossible(refutation),
                 logs,
             })
@@ -108,7 +108,7 @@ pub fn decide<K: OutcomeKind>(
         Search::Spent(lines) => {
             let mut logs = Items::new(alloc);
             logs.push(SearchLog { chosen: all, lines })?;
-            Ok(Answer {
+            Ok(Decision {
                 finding: Finding::Undecided,
                 logs,
             })

@@ -40,7 +40,13 @@ impl Focus {
     /// A reduction to these clauses and this proof.
     pub fn into_reduction(self, core: Places, witnesses: Vec<Witness>, logs: Logs) -> Reduction
         ensures { result ≡
-            record { core = core; clauses = self.clauses; proof = self.proof; witnesses = witnesses; logs = logs } }
+            record {
+              core = core;
+              clauses = self.clauses;
+              proof = self.proof;
+              witnesses = witnesses;
+              logs = logs;
+            } }
     {
         let Focus {
             gone: _,

@@ -15,7 +15,7 @@ ghost use Rattle.clause_form.specs.Sources.{sourced};
 ghost use Rattle.search_logs.specs.Spent.{all_places};
 ghost use Rattle.core_reduce.specs.Examples.{agree, both, doubled, four, six, added, dropped, by_first_and_third};
 
-use crate::{Answer, Finding, Reduced, decide, reduce};
+use crate::{Decision, Finding, Reduced, decide, reduce};
 use clause_form::Ground;
 use cnf::{Clauses, Derivation, Ids, Line, Lit, Lits, Step};
 use lists::NoMemory;
@@ -92,7 +92,7 @@ fn contradiction(alloc: Global) -> Result<Clauses, Fail>
 }
 
 /// What is decided of the study over its clauses.
-fn answer(alloc: Global, study: &Study, clauses: Clauses) -> Result<Box<Answer>, Fail>
+fn answer(alloc: Global, study: &Study, clauses: Clauses) -> Result<Box<Decision>, Fail>
     requires size { study.now.size ≡ full_size Kind.Choice 1 1 }
     requires clauses { sourced clauses.clauses clauses.origins ≡
         study_clauses study.now.size study.now.axioms (all_places study.now) }
@@ -218,7 +218,7 @@ fn proof_by_first_and_third(alloc: Global) -> Result<Derivation, NoMemory>
 }
 
 /// What is decided of both axioms.
-fn answer_within(alloc: Global, conflicts: u32) -> Result<Box<Answer>, Fail>
+fn answer_within(alloc: Global, conflicts: u32) -> Result<Box<Decision>, Fail>
     requires some { 1 ≤ conflicts }
     requires few { conflicts ≤ 1000000 }
 {
@@ -229,7 +229,7 @@ fn answer_within(alloc: Global, conflicts: u32) -> Result<Box<Answer>, Fail>
 }
 
 /// A rule was found, with these outcomes.
-fn is_rule(answer: &Answer, codes: &[u8]) -> bool {
+fn is_rule(answer: &Decision, codes: &[u8]) -> bool {
     let Finding::Possible(table) = &answer.finding else {
         return false;
     };
@@ -247,7 +247,7 @@ fn are_rules(witnesses: &[Witness]) -> bool {
 }
 
 /// These axioms are refuted in so many lines, each has a rule for the others, and no search spent its limit.
-fn is_refuted(answer: &Answer, core: &[u32], lines: usize) -> bool {
+fn is_refuted(answer: &Decision, core: &[u32], lines: usize) -> bool {
     let Finding::Impossible(refutation) = &answer.finding else {
         return false;
     };
@@ -260,7 +260,7 @@ fn is_refuted(answer: &Answer, core: &[u32], lines: usize) -> bool {
 }
 
 /// Nothing was found, and one search over these axioms learned so many clauses.
-fn is_spent(answer: &Answer, chosen: &[u32], lines: usize) -> bool {
+fn is_spent(answer: &Decision, chosen: &[u32], lines: usize) -> bool {
     let [log] = answer.logs.as_slice() else {
         return false;
     };
@@ -301,7 +301,7 @@ fn reduced_to(
     chosen: &Places,
     clauses: Clauses,
     lines: &Derivation,
-) -> Result<Box<Answer>, Fail>
+) -> Result<Box<Decision>, Fail>
     requires size { study.now.size ≡ full_size Kind.Ranking 1 2 }
     requires chosen { IsTrue (is_core_from 0 (length study.now.axioms) chosen.now) }
     requires clauses { sourced clauses.clauses clauses.origins ≡
@@ -314,11 +314,11 @@ fn reduced_to(
     let reduced = reduce(alloc, &kind, study, chosen, Ground::new(clauses), lines)?;
     let Reduced { refutation, logs } = reduced;
     let finding = Finding::Impossible(refutation);
-    Ok(Box::new(alloc, Answer { finding, logs })?)
+    Ok(Box::new(alloc, Decision { finding, logs })?)
 }
 
 /// What the refutation by the first axiom and the third is reduced to.
-fn reduced(alloc: Global) -> Result<Box<Answer>, Fail> {
+fn reduced(alloc: Global) -> Result<Box<Decision>, Fail> {
     let study = twice_disputed(alloc)?;
     let chosen = all_places(alloc, &study)?;
     let lines = proof_by_first_and_third(alloc)?;

@@ -36,10 +36,14 @@ pub fn trim(
     requires few { length derivation.now < 2 ^ 32 - 1 }
     ensures form { IfOk result (λ made. IsTrue (is_trimmed clauses.now.clauses made)) }
     ensures accepted { IfOk result (λ made. IsAccepted clauses.now.clauses made) }
-    ensures no_new { IfOk result (λ made. (test : Clause → Bool) → IsTrue (list_all (λ l. test (added_by l.step)) derivation.now) → IsTrue (list_all (λ l. test (added_by l.step)) made)) }
-    ensures no_new_hint { IfOk result (λ made. (id : ℕ) → id ≤ length clauses.now.clauses → IsTrue (is_cited_in made id) → IsTrue (is_cited_in derivation.now id)) }
+    ensures no_new { IfOk result (λ made. (test : Clause → Bool) →
+        IsTrue (list_all (λ l. test (added_by l.step)) derivation.now) →
+        IsTrue (list_all (λ l. test (added_by l.step)) made)) }
+    ensures no_new_hint { IfOk result (λ made. (id : ℕ) → id ≤ length clauses.now.clauses →
+        IsTrue (is_cited_in made id) → IsTrue (is_cited_in derivation.now id)) }
     ensures no_more { IfOk result (λ made. length made ≤ length derivation.now) }
-    ensures numbered { IfOk result (λ made. (k : ℕ) (line : Line) → k < length made → (slice_index_or made k line).at ≡ k + 1) }
+    ensures numbered { IfOk result (λ made. (k : ℕ) (line : Line) → k < length made →
+        (slice_index_or made k line).at ≡ k + 1) }
     ensures next { IfOk result (λ made. IsTrue (list_all has_next made)) }
     ensures value { IfOk result (λ made. made ≡ trimmed clauses.now.clauses derivation.now) }
 {

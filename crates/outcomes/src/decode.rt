@@ -18,7 +18,8 @@ use cnf::{Bits, Lit};
 fn has_bits<K: OutcomeKind>(kind: &K, outcome: u32, assignment: &Bits, p: u32) -> bool
     requires outcome { outcome < outcome_count (K.size kind.now).kind (K.size kind.now).alternatives }
     requires profile { p < sort_count (K.size kind.now) Profile }
-    requires variables { (p + 1) * bits (K.size kind.now).kind (K.size kind.now).alternatives ≤ length assignment.now }
+    requires variables { (p + 1) * bits (K.size kind.now).kind
+        (K.size kind.now).alternatives ≤ length assignment.now }
     ensures same { OnTrue result (AreBitsAt (K.size kind.now) p outcome (value_of assignment.now)) }
     ensures other { OnFalse result (¬ AreBitsAt (K.size kind.now) p outcome (value_of assignment.now)) }
 {
@@ -35,7 +36,8 @@ fn has_bits<K: OutcomeKind>(kind: &K, outcome: u32, assignment: &Bits, p: u32) -
 /// The outcome whose truth values the variables of profile p have.
 pub(crate) fn decode<K: OutcomeKind>(kind: &K, assignment: &Bits, p: u32) -> u32
     requires profile { p < sort_count (K.size kind.now) Profile }
-    requires variables { (p + 1) * bits (K.size kind.now).kind (K.size kind.now).alternatives ≤ length assignment.now }
+    requires variables { (p + 1) * bits (K.size kind.now).kind
+        (K.size kind.now).alternatives ≤ length assignment.now }
     requires frame { IsTrue (is_satisfied (value_of assignment.now) (frame_clauses (K.size kind.now) p)) }
     ensures in_range { result < outcome_count (K.size kind.now).kind (K.size kind.now).alternatives }
     ensures same { AreBitsAt (K.size kind.now) p result (value_of assignment.now) }

@@ -52,8 +52,10 @@ fn push_one_loses(alternatives: u8, p: u32, place: u32, out: &mut Clauses) -> Re
     requires few { alternatives ≤ 5 }
     requires profile { p ≤ 20000 }
     requires place { place < length (pairs alternatives) }
-    ensures ok { OnOk result (out.new ≡ with_clauses out.old (one_loses alternatives p (pair_at alternatives place) ∷ []) p) }
-    ensures full { result ≡ Err PushFault.Full → IsFullForAll out.old (one_loses alternatives p (pair_at alternatives place) ∷ []) }
+    ensures ok { OnOk result (out.new ≡ with_clauses out.old
+        (one_loses alternatives p (pair_at alternatives place) ∷ []) p) }
+    ensures full { result ≡ Err PushFault.Full →
+        IsFullForAll out.old (one_loses alternatives p (pair_at alternatives place) ∷ []) }
 {
     let (x, y) = places::pair_at(alternatives, place);
     let loses = [
@@ -84,8 +86,10 @@ fn push_no_round(alternatives: u8, p: u32, place: u32, out: &mut Clauses) -> Res
     requires few { alternatives ≤ 5 }
     requires profile { p ≤ 20000 }
     requires place { place < length (triples alternatives) }
-    ensures ok { OnOk result (out.new ≡ with_clauses out.old (no_round alternatives p (triple_at alternatives place)) p) }
-    ensures full { result ≡ Err PushFault.Full → IsFullForAll out.old (no_round alternatives p (triple_at alternatives place)) }
+    ensures ok { OnOk result (out.new ≡ with_clauses out.old
+        (no_round alternatives p (triple_at alternatives place)) p) }
+    ensures full { result ≡ Err PushFault.Full →
+        IsFullForAll out.old (no_round alternatives p (triple_at alternatives place)) }
 {
     let (x, y, z) = places::triple_at(alternatives, place);
     let not_up = [

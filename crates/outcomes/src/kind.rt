@@ -70,8 +70,11 @@ pub trait OutcomeKind: Sync {
 
     /// The outcome of this text, or None where it is the text of no outcome.
     fn read(&self, text: &[u8]) -> Option<u32>
-        ensures found { IfSome result (λ o. (o < outcome_count (size self.now).kind (size self.now).alternatives) × (text.now ≡ outcome_text (size self.now) o)) }
-        ensures none { IfNone result ((o : ℕ) → o < outcome_count (size self.now).kind (size self.now).alternatives → text.now ≢ outcome_text (size self.now) o) };
+        ensures found { IfSome result (λ o. (o < outcome_count (size self.now).kind
+            (size self.now).alternatives) × (text.now ≡ outcome_text (size self.now) o)) }
+        ensures none { IfNone result ((o : ℕ) →
+            o < outcome_count (size self.now).kind (size self.now).alternatives →
+            text.now ≢ outcome_text (size self.now) o) };
 
     /// The kind has literals.
     ghost has_outcomes: { (k : Self) → HasOutcomes (size k).kind };
@@ -94,7 +97,8 @@ pub trait OutcomeKind: Sync {
     /// in turn.
     final fn decode(&self, assignment: &Bits, p: u32) -> u32
         requires profile { p < sort_count (size self.now) Profile }
-        requires variables { (p + 1) * bits (size self.now).kind (size self.now).alternatives ≤ length assignment.now }
+        requires variables { (p + 1) * bits (size self.now).kind
+            (size self.now).alternatives ≤ length assignment.now }
         requires frame { IsTrue (is_satisfied (value_of assignment.now) (frame_clauses (size self.now) p)) }
         ensures in_range { result < outcome_count (size self.now).kind (size self.now).alternatives }
         ensures same { AreBitsAt (size self.now) p result (value_of assignment.now) }

@@ -479,7 +479,8 @@ pub(crate) fn exchanged_ballots(alternatives: u8, x: u32, y: u32) -> &'static [u
     requires x { x < alternatives }
     requires y { y < alternatives }
     ensures { (b : ℕ) → b < factorial alternatives → (slice_index result.now b < factorial alternatives)
-        × (slice_index result.now b ≡ ranking_number alternatives (map (exchanged x y) (ranking alternatives b))) }
+        × (slice_index result.now b ≡ ranking_number alternatives
+        (map (exchanged x y) (ranking alternatives b))) }
 {
     let left_out = 5 - alternatives as usize;
     let pair = PAIRS[left_out + x as usize][left_out + y as usize];

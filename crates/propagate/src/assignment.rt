@@ -101,7 +101,8 @@ impl Assignment {
         requires { level ≤ self.old.level }
         ensures form { IsTrail self.new }
         ensures state { self.new ≡ cut_to self.old level }
-        ensures front { up_to level self.old.entries ≡ take (length (up_to level self.old.entries)) self.old.entries }
+        ensures front { up_to level self.old.entries ≡ take
+            (length (up_to level self.old.entries)) self.old.entries }
     {
         marks::cut_back(&mut self.marks, &mut self.entries, level);
         self.level = level;

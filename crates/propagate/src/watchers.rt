@@ -115,7 +115,8 @@ impl Watchers {
     pub fn relink(&mut self, list: u32)
         requires list { list < self.old.lists }
         requires some { 1 ≤ length self.old.loose }
-        ensures owners { (n : ℕ) (rest : List ℕ) → self.old.loose ≡ n ∷ rest → self.new.owners ≡ slice_set self.old.owners n list }
+        ensures owners { (n : ℕ) (rest : List ℕ) → self.old.loose ≡ n ∷ rest →
+            self.new.owners ≡ slice_set self.old.owners n list }
         ensures loose { (n : ℕ) (rest : List ℕ) → self.old.loose ≡ n ∷ rest → self.new.loose ≡ rest }
         ensures lists { self.new.lists ≡ self.old.lists }
     {

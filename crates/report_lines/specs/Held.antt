@@ -50,7 +50,7 @@ held_reason (ByOutcome p) = ByOutcome p
 held_reason (ByLemma j) = ByLemma (min j (2 ^ 32 - 1))
 
 module _ (study : Question) where
-  -- what a line says; of ballots and of names it is held whether they are the ones that are wanted
+  -- what a line says; of ballots and of the names of all axioms it is held whether they are the wanted ones
   abbrev pub held_line : Line → HeldLine
   held_line (Title version) = held.Title version
   held_line (KindIs k) = held.KindIs k

@@ -2,7 +2,7 @@
 
 ghost use Rattle.std.specs.Prelude.{◌≡◌, ◌≢◌, ◌≤◌, Some, Err, IfOk};
 ghost use Rattle.verdicts.specs.Laws.{IsReportable};
-ghost use Rattle.core_reduce.specs.Answers.{IsAnswer, IsFinding, IsRefutation};
+ghost use Rattle.core_reduce.specs.Answers.{IsDecision, IsFinding, IsRefutation};
 ghost use Rattle.words.specs.Words.{Decide};
 ghost use Rattle.answers.specs.Decide.{IsReported};
 ghost use Rattle.answers.specs.Grounding.{OverClauses};
@@ -12,7 +12,7 @@ ghost use Rattle.search_commands.specs.Found.{IsVerdict};
 
 use clause_form::GroundFault;
 use command_parts::{Answer, Opened, Stop, ground_all, open_study};
-use core_reduce::{Answer as Decision, Finding, Refutation};
+use core_reduce::{Decision, Finding, Refutation};
 use crew::Crew;
 use edge::{Gate, Shelf};
 use lists::NoMemory;
@@ -79,7 +79,7 @@ fn report_of<K: OutcomeKind>(
     decision: Decision,
 ) -> Result<Answer, NoMemory>
     requires size { study.size ≡ K.size kind.now }
-    requires decision { IsAnswer study decision }
+    requires decision { IsDecision study decision }
     requires reportable { IsReportable study }
     ensures reported { IfOk result (λ answer. IsReported study (run_of answer) (text_of answer)) }
     ensures has_text { IfOk result HasText }

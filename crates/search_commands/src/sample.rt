@@ -2,7 +2,7 @@
 
 ghost use Rattle.std.specs.Prelude.{◌≡◌, ◌≢◌, Err, IfOk, length};
 ghost use Rattle.vocab.specs.declared.kinds.Kind.TheVariants.{Sets};
-ghost use Rattle.core_reduce.specs.Answers.{IsAnswer};
+ghost use Rattle.core_reduce.specs.Answers.{IsDecision};
 ghost use Rattle.answers.specs.Grounding.{OverClauses, all_clauses};
 ghost use Rattle.answers.specs.Sample.{IsSampled, IsSummed};
 ghost use Rattle.command_parts.specs.Answers.{HasText, run_of, text_of};
@@ -11,7 +11,7 @@ ghost use Rattle.vocab.specs.Size.{HasOutcomes};
 use crate::decide::verdict_of;
 use clause_form::GroundFault;
 use command_parts::{Answer, Stop, ground_all};
-use core_reduce::Answer as Decision;
+use core_reduce::Decision;
 use crew::Crew;
 use edge::Gate;
 use lists::NoMemory;
@@ -31,7 +31,7 @@ fn summary_of<K: OutcomeKind>(
     decision: Decision,
 ) -> Result<Answer, NoMemory>
     requires size { study.size ≡ K.size kind.now }
-    requires decision { IsAnswer study decision }
+    requires decision { IsDecision study decision }
     requires clauses { clauses ≡ length (all_clauses study) }
     ensures summed { IfOk result (λ answer. IsSummed number study (run_of answer) (text_of answer)) }
     ensures has_text { IfOk result HasText }

@@ -28,9 +28,12 @@ pub fn predicate(
     arguments: &Terms,
 ) -> Result<Atom, SortFault>
     requires { length (scope_of scope.now) ≤ 12 }
-    ensures { IsVisit (predicate_faults space.now.kind name.now (predicate_of name.now) (count_of (named_terms_tree arguments.now))
-        (λ sorts. argument_faults space.now (scope_of scope.now) name.now 1 sorts (named_terms_tree arguments.now)))
-        (λ a. atom_tree a ≡ predicate_tree (predicate_of name.now) (resolved_terms space.now (scope_of scope.now) (named_terms_tree arguments.now))) result }
+    ensures { IsVisit (predicate_faults space.now.kind name.now (predicate_of name.now)
+        (count_of (named_terms_tree arguments.now))
+        (λ sorts. argument_faults space.now (scope_of scope.now) name.now 1 sorts
+        (named_terms_tree arguments.now)))
+        (λ a. atom_tree a ≡ predicate_tree (predicate_of name.now)
+        (resolved_terms space.now (scope_of scope.now) (named_terms_tree arguments.now))) result }
 {
     let Some(predicate) = predicate_named(name) else {
         return Err(SortFault::Symbol(*name));
@@ -57,8 +60,10 @@ fn said(
 ) -> Result<Atom, SortFault>
     requires few { length (scope_of scope.now) ≤ 12 }
     requires count { length (terms_of arguments.now) ≡ length (predicate_sorts predicate) }
-    ensures { IsVisit (argument_faults space.now (scope_of scope.now) symbol 1 (predicate_sorts predicate) (named_terms_tree arguments.now))
-        (λ a. atom_tree a ≡ predicate_tree (Some predicate) (resolved_terms space.now (scope_of scope.now) (named_terms_tree arguments.now))) result }
+    ensures { IsVisit (argument_faults space.now (scope_of scope.now) symbol 1 (predicate_sorts predicate)
+        (named_terms_tree arguments.now))
+        (λ a. atom_tree a ≡ predicate_tree (Some predicate)
+        (resolved_terms space.now (scope_of scope.now) (named_terms_tree arguments.now))) result }
 {
     match predicate {
         Predicate::Prefers => preference(alloc, space, scope, symbol, arguments),
@@ -79,8 +84,10 @@ fn preference(
 ) -> Result<Atom, SortFault>
     requires few { length (scope_of scope.now) ≤ 12 }
     requires count { length (terms_of arguments.now) ≡ 4 }
-    ensures { IsVisit (argument_faults space.now (scope_of scope.now) symbol 1 (predicate_sorts Predicate.Prefers) (named_terms_tree arguments.now))
-        (λ a. atom_tree a ≡ predicate_tree (Some Predicate.Prefers) (resolved_terms space.now (scope_of scope.now) (named_terms_tree arguments.now))) result }
+    ensures { IsVisit (argument_faults space.now (scope_of scope.now) symbol 1
+        (predicate_sorts Predicate.Prefers) (named_terms_tree arguments.now))
+        (λ a. atom_tree a ≡ predicate_tree (Some Predicate.Prefers)
+        (resolved_terms space.now (scope_of scope.now) (named_terms_tree arguments.now))) result }
 {
     let voter = argument(
         alloc,
@@ -115,8 +122,10 @@ fn victory(
 ) -> Result<Atom, SortFault>
     requires few { length (scope_of scope.now) ≤ 12 }
     requires count { length (terms_of arguments.now) ≡ 2 }
-    ensures { IsVisit (argument_faults space.now (scope_of scope.now) symbol 1 (predicate_sorts Predicate.Wins) (named_terms_tree arguments.now))
-        (λ a. atom_tree a ≡ predicate_tree (Some Predicate.Wins) (resolved_terms space.now (scope_of scope.now) (named_terms_tree arguments.now))) result }
+    ensures { IsVisit (argument_faults space.now (scope_of scope.now) symbol 1
+        (predicate_sorts Predicate.Wins) (named_terms_tree arguments.now))
+        (λ a. atom_tree a ≡ predicate_tree (Some Predicate.Wins)
+        (resolved_terms space.now (scope_of scope.now) (named_terms_tree arguments.now))) result }
 {
     let winner = argument(alloc, space, scope, symbol, 1, Sort::Alt, arguments.get(0))?;
     let profile = argument(
@@ -143,8 +152,10 @@ fn said_of_three(
     requires few { length (scope_of scope.now) ≤ 12 }
     requires three { length (predicate_sorts predicate) ≡ 3 }
     requires count { length (terms_of arguments.now) ≡ 3 }
-    ensures { IsVisit (argument_faults space.now (scope_of scope.now) symbol 1 (predicate_sorts predicate) (named_terms_tree arguments.now))
-        (λ a. atom_tree a ≡ predicate_tree (Some predicate) (resolved_terms space.now (scope_of scope.now) (named_terms_tree arguments.now))) result }
+    ensures { IsVisit (argument_faults space.now (scope_of scope.now) symbol 1 (predicate_sorts predicate)
+        (named_terms_tree arguments.now))
+        (λ a. atom_tree a ≡ predicate_tree (Some predicate)
+        (resolved_terms space.now (scope_of scope.now) (named_terms_tree arguments.now))) result }
 {
     let sorts = three_sorts(predicate);
     let terms = three_arguments(alloc, space, scope, symbol, sorts, arguments)?;
@@ -167,7 +178,8 @@ fn three_sorts(predicate: Predicate) -> (Sort, Sort, Sort)
 /// A predicate that has three arguments, at three terms.
 fn relate(predicate: Predicate, terms: Three) -> Atom
     requires { length (predicate_sorts predicate) ≡ 3 }
-    ensures { atom_tree result ≡ said_of_three predicate (term_tree terms.first) (term_tree terms.second) (term_tree terms.third) }
+    ensures { atom_tree result ≡ said_of_three predicate (term_tree terms.first) (term_tree terms.second)
+        (term_tree terms.third) }
 {
     match predicate {
         Predicate::Better => Atom::Better(terms.first, terms.second, terms.third),
@@ -197,9 +209,12 @@ pub fn equality(
     right: &NamedTerm,
 ) -> Result<Atom, SortFault>
     requires { length (scope_of scope.now) ≤ 12 }
-    ensures { IsVisit (term_faults space.now (scope_of scope.now) (named_term_tree left.now) ++ term_faults space.now (scope_of scope.now) (named_term_tree right.now)
-        ++ unless (are_same (sort_of (scope_of scope.now) (named_term_tree left.now)) (sort_of (scope_of scope.now) (named_term_tree right.now))) (SortFault.Sort (codes "=") 2))
-        (λ a. atom_tree a ≡ Equal (resolved_term space.now (scope_of scope.now) (named_term_tree left.now)) (resolved_term space.now (scope_of scope.now) (named_term_tree right.now))) result }
+    ensures { IsVisit (term_faults space.now (scope_of scope.now) (named_term_tree left.now)
+        ++ term_faults space.now (scope_of scope.now) (named_term_tree right.now)
+        ++ unless (are_same (sort_of (scope_of scope.now) (named_term_tree left.now))
+        (sort_of (scope_of scope.now) (named_term_tree right.now))) (SortFault.Sort (codes "=") 2))
+        (λ a. atom_tree a ≡ Equal (resolved_term space.now (scope_of scope.now) (named_term_tree left.now))
+        (resolved_term space.now (scope_of scope.now) (named_term_tree right.now))) result }
 {
     let first = term(alloc, space, scope, left)?;
     let second = term(alloc, space, scope, right)?;

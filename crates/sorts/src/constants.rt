@@ -28,7 +28,8 @@ pub fn voter(space: &Space, number: u16) -> Result<Term, SortFault>
 
 /// The alternative of a number from 0.
 pub fn alternative(space: &Space, number: u8) -> Result<Term, SortFault>
-    ensures { IsVisit (where_none (alternative_value space.now number) (SortFault.Constant (alternative_text number)))
+    ensures { IsVisit (where_none (alternative_value space.now number)
+        (SortFault.Constant (alternative_text number)))
         (λ t. term_tree t ≡ Const (unwrap_or (alternative_value space.now number) 0)) result }
 {
     let size = space.size();
@@ -49,7 +50,8 @@ fn ballot_number(space: &Space, letters: &Name) -> Option<u32>
 
 /// The ballot of these letters.
 pub fn ballot(space: &Space, letters: &Name) -> Result<Term, SortFault>
-    ensures { IsVisit (where_none (ballot_value space.now letters.now) (SortFault.Constant (ballot_constant_text letters.now)))
+    ensures { IsVisit (where_none (ballot_value space.now letters.now)
+        (SortFault.Constant (ballot_constant_text letters.now)))
         (λ t. term_tree t ≡ Const (unwrap_or (ballot_value space.now letters.now) 0)) result }
 {
     match ballot_number(space, letters) {

@@ -103,7 +103,8 @@ fn two_formulas(
 ) -> Result<Two, SortFault>
     requires left { length (scope_of scope.now) + quantifiers (named_tree left.now) ≤ 12 }
     requires right { length (scope_of scope.now) + quantifiers (named_tree right.now) ≤ 12 }
-    ensures { IsVisit (faults space.now (scope_of scope.now) (named_tree left.now) ++ faults space.now (scope_of scope.now) (named_tree right.now))
+    ensures { IsVisit (faults space.now (scope_of scope.now) (named_tree left.now) ++ faults space.now
+        (scope_of scope.now) (named_tree right.now))
         (λ x. (tree_of x.left.value ≡ resolved space.now (scope_of scope.now) (named_tree left.now))
         × (tree_of x.right.value ≡ resolved space.now (scope_of scope.now) (named_tree right.now))) result }
 {

@@ -68,7 +68,8 @@ fn variable(scope: &Scope, name: &Name) -> Result<Term, SortFault>
 }
 
 fn apply(alloc: Global, function: Function, terms: Three) -> Result<Term, NoMemory>
-    ensures { IfOk result (λ t. term_tree t ≡ applied function (term_tree terms.first) (term_tree terms.second) (term_tree terms.third)) }
+    ensures { IfOk result (λ t. term_tree t ≡ applied function (term_tree terms.first)
+        (term_tree terms.second) (term_tree terms.third)) }
 {
     let first = Box::new(alloc, terms.first)?;
     let second = Box::new(alloc, terms.second)?;
@@ -112,9 +113,12 @@ fn call(
     arguments: &Terms,
 ) -> Result<Term, SortFault>
     requires { length (scope_of scope.now) ≤ 12 }
-    ensures { IsVisit (function_faults name.now (function_of name.now) (count_of (named_terms_tree arguments.now))
-        (λ sorts. argument_faults space.now (scope_of scope.now) name.now 1 sorts (named_terms_tree arguments.now)))
-        (λ t. term_tree t ≡ function_tree (function_of name.now) (resolved_terms space.now (scope_of scope.now) (named_terms_tree arguments.now))) result }
+    ensures { IsVisit (function_faults name.now (function_of name.now)
+        (count_of (named_terms_tree arguments.now))
+        (λ sorts. argument_faults space.now (scope_of scope.now) name.now 1 sorts
+        (named_terms_tree arguments.now)))
+        (λ t. term_tree t ≡ function_tree (function_of name.now)
+        (resolved_terms space.now (scope_of scope.now) (named_terms_tree arguments.now))) result }
 {
     let Some(function) = function_named(name) else {
         return Err(SortFault::Symbol(*name));
@@ -139,7 +143,8 @@ pub fn three_arguments(
 ) -> Result<Three, SortFault>
     requires few { length (scope_of scope.now) ≤ 12 }
     requires count { length (terms_of arguments.now) ≡ 3 }
-    ensures { IsVisit (argument_faults space.now (scope_of scope.now) symbol 1 (sorts.0 ∷ sorts.1 ∷ sorts.2 ∷ []) (named_terms_tree arguments.now))
+    ensures { IsVisit (argument_faults space.now (scope_of scope.now) symbol 1
+        (sorts.0 ∷ sorts.1 ∷ sorts.2 ∷ []) (named_terms_tree arguments.now))
         (λ x. resolved_terms space.now (scope_of scope.now) (named_terms_tree arguments.now)
         ≡ term_tree x.first ∷ term_tree x.second ∷ term_tree x.third ∷ []) result }
 {
@@ -166,7 +171,8 @@ pub fn argument(
 ) -> Result<Term, SortFault>
     requires { length (scope_of scope.now) ≤ 12 }
     ensures { IsVisit (term_faults space.now (scope_of scope.now) (named_term_tree given.now)
-        ++ unless (is_option_sort sort (sort_of (scope_of scope.now) (named_term_tree given.now))) (SortFault.Sort symbol place))
+        ++ unless (is_option_sort sort (sort_of (scope_of scope.now) (named_term_tree given.now)))
+        (SortFault.Sort symbol place))
         (λ t. term_tree t ≡ resolved_term space.now (scope_of scope.now) (named_term_tree given.now)) result }
 {
     let tree = term(alloc, space, scope, given)?;

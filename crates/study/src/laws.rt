@@ -12,13 +12,13 @@ pub fn studies_have_kinds()
     ensures { HaveKinds }
 {}
 
-/// Each study that bytes give is one that the bench takes, at a size, and its axioms have names and are at most 40.
+/// Each study that bytes give is one that the bench takes, at a size; its axioms have names, at most 40.
 pub fn studies_are_whole()
     ensures { AreWhole }
 {}
 
-/// Each study that bytes give has the ballots of their document: the rankings that it lists, or all, and absent
-/// voters where it says so.
+/// Each study that bytes give has the ballots of their document: the rankings that it lists, or all, and
+/// absent voters where it says so.
 pub fn studies_have_ballots()
     ensures { HaveBallots }
 {}

@@ -331,8 +331,10 @@ fn quantified(
     rest: &[Lexeme],
 ) -> Result<(Box<Named>, &[Lexeme]), Stop>
     ensures found { IfOk result
-        (λ x. FormulaAt (Lexeme.Word (word_of_quantifier quantifier) ∷ rest.now) (named_tree x.0.value) x.1.now) }
-    ensures none { IsErrOf result Stop.NoReading → NoFormula (Lexeme.Word (word_of_quantifier quantifier) ∷ rest.now) }
+        (λ x. FormulaAt (Lexeme.Word (word_of_quantifier quantifier) ∷ rest.now)
+        (named_tree x.0.value) x.1.now) }
+    ensures none { IsErrOf result Stop.NoReading →
+        NoFormula (Lexeme.Word (word_of_quantifier quantifier) ∷ rest.now) }
     ensures shorter { IfOk result (λ x. length x.1.now < length rest.now) }
 {
     let Some((variable, body)) = binder(rest) else {

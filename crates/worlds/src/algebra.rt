@@ -59,19 +59,22 @@ pub trait Algebra {
 
     /// The value of a conjunction.
     fn and(&mut self, a: Self::V, b: Self::V) -> Result<Self::V, Self::Stop>
-        ensures ok { IfOk result (λ v. (x y : Written) → stands self.old a x → stands self.old b y → stands self.old v (And x y)) }
+        ensures ok { IfOk result (λ v. (x y : Written) → stands self.old a x → stands self.old b y →
+            stands self.old v (And x y)) }
         ensures err { IfErr result may_stop }
         ensures same { SameMeaning (stands self.old) (stands self.new) (takes self.old) (takes self.new) };
 
     /// The value of a disjunction.
     fn or(&mut self, a: Self::V, b: Self::V) -> Result<Self::V, Self::Stop>
-        ensures ok { IfOk result (λ v. (x y : Written) → stands self.old a x → stands self.old b y → stands self.old v (Or x y)) }
+        ensures ok { IfOk result (λ v. (x y : Written) → stands self.old a x → stands self.old b y →
+            stands self.old v (Or x y)) }
         ensures err { IfErr result may_stop }
         ensures same { SameMeaning (stands self.old) (stands self.new) (takes self.old) (takes self.new) };
 
     /// The value of an equivalence.
     fn same(&mut self, a: Self::V, b: Self::V) -> Result<Self::V, Self::Stop>
-        ensures ok { IfOk result (λ v. (x y : Written) → stands self.old a x → stands self.old b y → stands self.old v (Iff x y)) }
+        ensures ok { IfOk result (λ v. (x y : Written) → stands self.old a x → stands self.old b y →
+            stands self.old v (Iff x y)) }
         ensures err { IfErr result may_stop }
         ensures same { SameMeaning (stands self.old) (stands self.new) (takes self.old) (takes self.new) };
 }

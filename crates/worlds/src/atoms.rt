@@ -26,9 +26,11 @@ pub(crate) fn eval_atom<A: Algebra>(
     requires kind { HasOutcomes space.now.kind }
     requires fits { IsAtomAt space.now (atom_tree atom.now) env.now }
     requires takes { (l : Literal) → IsTrue (is_literal space.now l) → A.takes algebra.old l }
-    ensures ok { IfOk result (λ v. A.stands algebra.old v (write_atom space.now env.now (atom_tree atom.now))) }
+    ensures ok { IfOk result (λ v. A.stands algebra.old v
+        (write_atom space.now env.now (atom_tree atom.now))) }
     ensures err { IfErr result A.may_stop }
-    ensures same { SameMeaning (A.stands algebra.old) (A.stands algebra.new) (A.takes algebra.old) (A.takes algebra.new) }
+    ensures same { SameMeaning (A.stands algebra.old) (A.stands algebra.new) (A.takes algebra.old)
+        (A.takes algebra.new) }
 {
     match atom {
         Atom::Equal(s, t) => algebra.known(are_equal(space, s, t, env)),
@@ -44,15 +46,18 @@ pub(crate) fn eval_atom<A: Algebra>(
 /// Whether two terms have one value.
 fn are_equal(space: &Space, s: &Term, t: &Term, env: &Env) -> bool
     requires { IsAtomAt space.now (Equal (term_tree s.now) (term_tree t.now)) env.now }
-    ensures { result ≡ (value space.now env.now (term_tree s.now) == value space.now env.now (term_tree t.now)) }
+    ensures { result ≡ (value space.now env.now (term_tree s.now) == value space.now env.now
+        (term_tree t.now)) }
 {
     value(space, s, env) == value(space, t, env)
 }
 
 /// Whether a voter's ballot has one alternative above another.
 fn prefers(space: &Space, i: &Term, x: &Term, y: &Term, p: &Term, env: &Env) -> bool
-    requires { IsAtomAt space.now (Prefers (term_tree i.now) (term_tree x.now) (term_tree y.now) (term_tree p.now)) env.now }
-    ensures { result ≡ prefers space.now (value space.now env.now (term_tree i.now)) (value space.now env.now (term_tree x.now))
+    requires { IsAtomAt space.now (Prefers (term_tree i.now) (term_tree x.now) (term_tree y.now)
+        (term_tree p.now)) env.now }
+    ensures { result ≡ prefers space.now (value space.now env.now (term_tree i.now))
+        (value space.now env.now (term_tree x.now))
         (value space.now env.now (term_tree y.now)) (value space.now env.now (term_tree p.now)) }
 {
     let voter = value(space, i, env);
@@ -64,7 +69,8 @@ fn prefers(space: &Space, i: &Term, x: &Term, y: &Term, p: &Term, env: &Env) -> 
 /// Whether a ballot has one alternative above another.
 fn is_better(space: &Space, b: &Term, x: &Term, y: &Term, env: &Env) -> bool
     requires { IsAtomAt space.now (Better (term_tree b.now) (term_tree x.now) (term_tree y.now)) env.now }
-    ensures { result ≡ better space.now (value space.now env.now (term_tree b.now)) (value space.now env.now (term_tree x.now))
+    ensures { result ≡ better space.now (value space.now env.now (term_tree b.now))
+        (value space.now env.now (term_tree x.now))
         (value space.now env.now (term_tree y.now)) }
 {
     let ballot = value(space, b, env);
@@ -75,7 +81,8 @@ fn is_better(space: &Space, b: &Term, x: &Term, y: &Term, env: &Env) -> bool
 /// Whether a voter's ballot is this one.
 fn casts(space: &Space, i: &Term, b: &Term, p: &Term, env: &Env) -> bool
     requires { IsAtomAt space.now (Casts (term_tree i.now) (term_tree b.now) (term_tree p.now)) env.now }
-    ensures { result ≡ casts space.now (value space.now env.now (term_tree i.now)) (value space.now env.now (term_tree b.now))
+    ensures { result ≡ casts space.now (value space.now env.now (term_tree i.now))
+        (value space.now env.now (term_tree b.now))
         (value space.now env.now (term_tree p.now)) }
 {
     let voter = value(space, i, env);
@@ -86,7 +93,8 @@ fn casts(space: &Space, i: &Term, b: &Term, p: &Term, env: &Env) -> bool
 /// Whether more voters have one alternative above another than the other way round.
 fn has_majority(space: &Space, x: &Term, y: &Term, p: &Term, env: &Env) -> bool
     requires { IsAtomAt space.now (Majority (term_tree x.now) (term_tree y.now) (term_tree p.now)) env.now }
-    ensures { result ≡ majority space.now (value space.now env.now (term_tree x.now)) (value space.now env.now (term_tree y.now))
+    ensures { result ≡ majority space.now (value space.now env.now (term_tree x.now))
+        (value space.now env.now (term_tree y.now))
         (value space.now env.now (term_tree p.now)) }
 {
     let above = value(space, x, env);
@@ -98,7 +106,8 @@ fn has_majority(space: &Space, x: &Term, y: &Term, p: &Term, env: &Env) -> bool
 fn wins(space: &Space, x: &Term, p: &Term, env: &Env) -> Literal
     requires kind { HasOutcomes space.now.kind }
     requires fits { IsAtomAt space.now (WinsAt (term_tree x.now) (term_tree p.now)) env.now }
-    ensures value { result ≡ Literal.Wins (value space.now env.now (term_tree x.now)) (value space.now env.now (term_tree p.now)) }
+    ensures value { result ≡ Literal.Wins (value space.now env.now (term_tree x.now))
+        (value space.now env.now (term_tree p.now)) }
     ensures literal { IsTrue (is_literal space.now result) }
 {
     let alternative = value(space, x, env);
@@ -123,7 +132,8 @@ fn eval_ranks<A: Algebra>(
     ensures ok { IfOk result (λ v. A.stands algebra.old v
         (write_atom space.now env.now (Ranks (term_tree x.now) (term_tree y.now) (term_tree p.now)))) }
     ensures err { IfErr result A.may_stop }
-    ensures same { SameMeaning (A.stands algebra.old) (A.stands algebra.new) (A.takes algebra.old) (A.takes algebra.new) }
+    ensures same { SameMeaning (A.stands algebra.old) (A.stands algebra.new) (A.takes algebra.old)
+        (A.takes algebra.new) }
 {
     let above = value(space, x, env);
     let below = value(space, y, env);

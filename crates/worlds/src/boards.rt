@@ -82,7 +82,8 @@ impl Board {
         requires { IsTrue (is_literal self.old.size literal.now) }
         ensures size { self.new.size ≡ self.old.size }
         ensures literals { self.new.literals ≡ without literal.now self.old.literals }
-        ensures undoes { (known : List Literal) → self.old.literals ≡ known ++ literal.now ∷ [] → self.new.literals ≡ known }
+        ensures undoes { (known : List Literal) → self.old.literals ≡ known ++ literal.now ∷ [] →
+            self.new.literals ≡ known }
     {
         if self.has(literal) {
             let place = place_of(self.literals.as_slice(), literal);

@@ -27,9 +27,11 @@ pub fn eval<A: Algebra>(
     requires kind { HasOutcomes space.now.kind }
     requires fits { IsFormulaAt space.now (tree_of formula.now) env.now }
     requires takes { (l : Literal) → IsTrue (is_literal space.now l) → A.takes algebra.old l }
-    ensures ok { IfOk result (λ v. A.stands algebra.old v (write_out space.now (tree_of formula.now) env.now)) }
+    ensures ok { IfOk result (λ v. A.stands algebra.old v
+        (write_out space.now (tree_of formula.now) env.now)) }
     ensures err { IfErr result A.may_stop }
-    ensures same { SameMeaning (A.stands algebra.old) (A.stands algebra.new) (A.takes algebra.old) (A.takes algebra.new) }
+    ensures same { SameMeaning (A.stands algebra.old) (A.stands algebra.new) (A.takes algebra.old)
+        (A.takes algebra.new) }
 {
     eval_formula(space, formula, env, algebra)
 }
@@ -45,9 +47,11 @@ pub(crate) fn eval_formula<A: Algebra>(
     requires kind { HasOutcomes space.now.kind }
     requires fits { IsEvaluable space.now (tree_of formula.now) env.now }
     requires takes { (l : Literal) → IsTrue (is_literal space.now l) → A.takes algebra.old l }
-    ensures ok { IfOk result (λ v. A.stands algebra.old v (write_out space.now (tree_of formula.now) env.now)) }
+    ensures ok { IfOk result (λ v. A.stands algebra.old v
+        (write_out space.now (tree_of formula.now) env.now)) }
     ensures err { IfErr result A.may_stop }
-    ensures same { SameMeaning (A.stands algebra.old) (A.stands algebra.new) (A.takes algebra.old) (A.takes algebra.new) }
+    ensures same { SameMeaning (A.stands algebra.old) (A.stands algebra.new) (A.takes algebra.old)
+        (A.takes algebra.new) }
 {
     match formula {
         Formula::Leaf(atom) => eval_atom(space, atom, env, algebra),
@@ -73,9 +77,11 @@ fn eval_not<A: Algebra>(
     requires kind { HasOutcomes space.now.kind }
     requires fits { IsEvaluable space.now (tree_of formula.now) env.now }
     requires takes { (l : Literal) → IsTrue (is_literal space.now l) → A.takes algebra.old l }
-    ensures ok { IfOk result (λ v. A.stands algebra.old v (write_out space.now (tree_of formula.now) env.now)) }
+    ensures ok { IfOk result (λ v. A.stands algebra.old v
+        (write_out space.now (tree_of formula.now) env.now)) }
     ensures err { IfErr result A.may_stop }
-    ensures same { SameMeaning (A.stands algebra.old) (A.stands algebra.new) (A.takes algebra.old) (A.takes algebra.new) }
+    ensures same { SameMeaning (A.stands algebra.old) (A.stands algebra.new) (A.takes algebra.old)
+        (A.takes algebra.new) }
 {
     match formula {
         Formula::Not(f) => {
@@ -98,9 +104,11 @@ fn eval_both<A: Algebra>(
     requires kind { HasOutcomes space.now.kind }
     requires fits { IsEvaluable space.now (tree_of formula.now) env.now }
     requires takes { (l : Literal) → IsTrue (is_literal space.now l) → A.takes algebra.old l }
-    ensures ok { IfOk result (λ v. A.stands algebra.old v (write_out space.now (tree_of formula.now) env.now)) }
+    ensures ok { IfOk result (λ v. A.stands algebra.old v
+        (write_out space.now (tree_of formula.now) env.now)) }
     ensures err { IfErr result A.may_stop }
-    ensures same { SameMeaning (A.stands algebra.old) (A.stands algebra.new) (A.takes algebra.old) (A.takes algebra.new) }
+    ensures same { SameMeaning (A.stands algebra.old) (A.stands algebra.new) (A.takes algebra.old)
+        (A.takes algebra.new) }
 {
     match formula {
         Formula::Both(f, g) => {
@@ -127,9 +135,11 @@ fn eval_either<A: Algebra>(
     requires kind { HasOutcomes space.now.kind }
     requires fits { IsEvaluable space.now (tree_of formula.now) env.now }
     requires takes { (l : Literal) → IsTrue (is_literal space.now l) → A.takes algebra.old l }
-    ensures ok { IfOk result (λ v. A.stands algebra.old v (write_out space.now (tree_of formula.now) env.now)) }
+    ensures ok { IfOk result (λ v. A.stands algebra.old v
+        (write_out space.now (tree_of formula.now) env.now)) }
     ensures err { IfErr result A.may_stop }
-    ensures same { SameMeaning (A.stands algebra.old) (A.stands algebra.new) (A.takes algebra.old) (A.takes algebra.new) }
+    ensures same { SameMeaning (A.stands algebra.old) (A.stands algebra.new) (A.takes algebra.old)
+        (A.takes algebra.new) }
 {
     match formula {
         Formula::Either(f, g) => {
@@ -156,9 +166,11 @@ fn eval_implies<A: Algebra>(
     requires kind { HasOutcomes space.now.kind }
     requires fits { IsEvaluable space.now (tree_of formula.now) env.now }
     requires takes { (l : Literal) → IsTrue (is_literal space.now l) → A.takes algebra.old l }
-    ensures ok { IfOk result (λ v. A.stands algebra.old v (write_out space.now (tree_of formula.now) env.now)) }
+    ensures ok { IfOk result (λ v. A.stands algebra.old v
+        (write_out space.now (tree_of formula.now) env.now)) }
     ensures err { IfErr result A.may_stop }
-    ensures same { SameMeaning (A.stands algebra.old) (A.stands algebra.new) (A.takes algebra.old) (A.takes algebra.new) }
+    ensures same { SameMeaning (A.stands algebra.old) (A.stands algebra.new) (A.takes algebra.old)
+        (A.takes algebra.new) }
 {
     match formula {
         Formula::Implies(f, g) => {
@@ -186,9 +198,11 @@ fn eval_same<A: Algebra>(
     requires kind { HasOutcomes space.now.kind }
     requires fits { IsEvaluable space.now (tree_of formula.now) env.now }
     requires takes { (l : Literal) → IsTrue (is_literal space.now l) → A.takes algebra.old l }
-    ensures ok { IfOk result (λ v. A.stands algebra.old v (write_out space.now (tree_of formula.now) env.now)) }
+    ensures ok { IfOk result (λ v. A.stands algebra.old v
+        (write_out space.now (tree_of formula.now) env.now)) }
     ensures err { IfErr result A.may_stop }
-    ensures same { SameMeaning (A.stands algebra.old) (A.stands algebra.new) (A.takes algebra.old) (A.takes algebra.new) }
+    ensures same { SameMeaning (A.stands algebra.old) (A.stands algebra.new) (A.takes algebra.old)
+        (A.takes algebra.new) }
 {
     match formula {
         Formula::Same(f, g) => {
@@ -212,9 +226,11 @@ fn eval_all<A: Algebra>(
     requires kind { HasOutcomes space.now.kind }
     requires fits { IsEvaluable space.now (tree_of formula.now) env.now }
     requires takes { (l : Literal) → IsTrue (is_literal space.now l) → A.takes algebra.old l }
-    ensures ok { IfOk result (λ v. A.stands algebra.old v (write_out space.now (tree_of formula.now) env.now)) }
+    ensures ok { IfOk result (λ v. A.stands algebra.old v
+        (write_out space.now (tree_of formula.now) env.now)) }
     ensures err { IfErr result A.may_stop }
-    ensures same { SameMeaning (A.stands algebra.old) (A.stands algebra.new) (A.takes algebra.old) (A.takes algebra.new) }
+    ensures same { SameMeaning (A.stands algebra.old) (A.stands algebra.new) (A.takes algebra.old)
+        (A.takes algebra.new) }
 {
     match formula {
         Formula::All(sort, f) => {
@@ -245,9 +261,11 @@ fn eval_exists<A: Algebra>(
     requires kind { HasOutcomes space.now.kind }
     requires fits { IsEvaluable space.now (tree_of formula.now) env.now }
     requires takes { (l : Literal) → IsTrue (is_literal space.now l) → A.takes algebra.old l }
-    ensures ok { IfOk result (λ v. A.stands algebra.old v (write_out space.now (tree_of formula.now) env.now)) }
+    ensures ok { IfOk result (λ v. A.stands algebra.old v
+        (write_out space.now (tree_of formula.now) env.now)) }
     ensures err { IfErr result A.may_stop }
-    ensures same { SameMeaning (A.stands algebra.old) (A.stands algebra.new) (A.takes algebra.old) (A.takes algebra.new) }
+    ensures same { SameMeaning (A.stands algebra.old) (A.stands algebra.new) (A.takes algebra.old)
+        (A.takes algebra.new) }
 {
     match formula {
         Formula::Exists(sort, f) => {

@@ -38,7 +38,8 @@ fn allows<K: OutcomeKind>(kind: &K, board: &Board, p: u32, outcome: u32) -> bool
     requires size { board.now.size ≡ K.size kind.now }
     requires profile { p < sort_count (K.size kind.now) Profile }
     requires outcome { outcome < outcome_count (K.size kind.now).kind (K.size kind.now).alternatives }
-    ensures { result ≡ list_all (holds_of (K.size kind.now) outcome) (filter (λ l. profile_of l == p) board.now.literals) }
+    ensures { result ≡ list_all (holds_of (K.size kind.now) outcome)
+        (filter (λ l. profile_of l == p) board.now.literals) }
 {
     kinds_have_sizes(kind);
     let _known = board.as_slice();
@@ -71,7 +72,8 @@ fn is_broken<K: OutcomeKind>(kind: &K, board: &Board, outcome: u32, lit: Lit) ->
     requires outcome { outcome < outcome_count (K.size kind.now).kind (K.size kind.now).alternatives }
     requires low { 1 ≤ lit.variable }
     requires high { lit.variable ≤ variable_count (K.size kind.now) }
-    ensures { result ≡ (has board.now.literals (literal_of (K.size kind.now) lit) && not (holds_of (K.size kind.now) outcome (literal_of (K.size kind.now) lit))) }
+    ensures { result ≡ (has board.now.literals (literal_of (K.size kind.now) lit) && not
+        (holds_of (K.size kind.now) outcome (literal_of (K.size kind.now) lit))) }
 {
     kinds_have_sizes(kind);
     let literal = kind.literal(lit);

@@ -79,10 +79,13 @@ impl Algebra for PartialAlgebra<'_> {
 pub fn partial<K: OutcomeKind>(kind: &K, board: &Board, formula: &Formula, env: &Env) -> Three
     requires size { board.now.size ≡ K.size kind.now }
     requires fits { IsFormulaAt (K.size kind.now) (tree_of formula.now) env.now }
-    ensures value { result ≡ partial_truth board.now.literals (write_out (K.size kind.now) (tree_of formula.now) env.now) }
-    ensures refutes { result ≡ Three.False → (table : List ℕ) → Hold (holds (K.size kind.now) table) board.now.literals →
+    ensures value { result ≡ partial_truth board.now.literals
+        (write_out (K.size kind.now) (tree_of formula.now) env.now) }
+    ensures refutes { result ≡ Three.False → (table : List ℕ) →
+        Hold (holds (K.size kind.now) table) board.now.literals →
         IsFalse (is_true_at (K.size kind.now) table (tree_of formula.now) env.now) }
-    ensures proves { result ≡ Three.True → (table : List ℕ) → Hold (holds (K.size kind.now) table) board.now.literals →
+    ensures proves { result ≡ Three.True → (table : List ℕ) →
+        Hold (holds (K.size kind.now) table) board.now.literals →
         IsTrue (is_true_at (K.size kind.now) table (tree_of formula.now) env.now) }
 {
     let mut algebra = PartialAlgebra { board };

@@ -14,7 +14,8 @@ use vocab::{Env, Term};
 pub fn value(space: &Space, term: &Term, env: &Env) -> u32
     requires { HasSort space.now (term_tree term.now) env.now }
     ensures value { result ≡ value space.now env.now (term_tree term.now) }
-    ensures in_range { (sort : Sort) → IsTermAt space.now sort (term_tree term.now) env.now → result < sort_count space.now sort }
+    ensures in_range { (sort : Sort) → IsTermAt space.now sort (term_tree term.now) env.now →
+        result < sort_count space.now sort }
 {
     match term {
         Term::Var(level) => env.get(*level),
