@@ -8,10 +8,12 @@ mod kind;
 pub mod laws;
 mod places;
 mod ranking;
+mod setting;
 
 pub use choice::ChoiceKind;
 pub use kind::OutcomeKind;
 pub use ranking::RankingKind;
+pub use setting::Setting;
 
 #[cfg(test)]
 mod tests;
