@@ -13,6 +13,7 @@ ghost use Rattle.vocab.specs.Size.{HasOutcomes};
 ghost use Rattle.vocab.specs.Study.{HasFewAxioms};
 
 use command_parts::{Answer, Opened, Stop, open_study};
+use crew::Crew;
 use edge::{Gate, Shelf};
 use outcomes::{ChoiceKind, RankingKind};
 use profiles::Space;
@@ -23,16 +24,12 @@ use vocab::{Kind, Study};
 
 /// What a report is worth over a study, by the study's kind.
 fn check_by_kind<R: Threads + Sync, S: Shelf, G: Gate>(
-    rt: &R,
     alloc: Global,
-    gate: &G,
-    workers: u8,
+    crew: &Crew<R, G>,
     shelf: &mut S,
     study: &Study,
     report: &str,
 ) -> Result<Worth, FileFault>
-    requires some { 1 ≤ workers }
-    requires few { workers ≤ 16 }
     requires known { HasOutcomes study.now.size.kind }
     requires listed { HasFewAxioms study.now }
     ensures worth { IfSome (S.files shelf.old) (λ files. IfOk result (IsWorthOf study.now files report.now)) }
@@ -44,11 +41,29 @@ fn check_by_kind<R: Threads + Sync, S: Shelf, G: Gate>(
     match study.size().kind() {
         Kind::Choice => {
             let kind = ChoiceKind::new(space);
-            check_file(rt, alloc, gate, workers, &kind, study, shelf, report)
+            check_file(
+                crew.rt,
+                alloc,
+                crew.gate,
+                crew.workers,
+                &kind,
+                study,
+                shelf,
+                report,
+            )
         }
         Kind::Ranking => {
             let kind = RankingKind::new(space);
-            check_file(rt, alloc, gate, workers, &kind, study, shelf, report)
+            check_file(
+                crew.rt,
+                alloc,
+                crew.gate,
+                crew.workers,
+                &kind,
+                study,
+                shelf,
+                report,
+            )
         }
         Kind::Sets => unreachable!(),
     }
@@ -56,16 +71,12 @@ fn check_by_kind<R: Threads + Sync, S: Shelf, G: Gate>(
 
 /// Reads the report and judges it.
 fn judge_report<R: Threads + Sync, S: Shelf, G: Gate>(
-    rt: &R,
     alloc: Global,
-    gate: &G,
-    workers: u8,
+    crew: &Crew<R, G>,
     shelf: &mut S,
     study: &Study,
     report: &str,
 ) -> Result<Answer, Stop>
-    requires some { 1 ≤ workers }
-    requires few { workers ≤ 16 }
     requires known { HasOutcomes study.now.size.kind }
     requires listed { HasFewAxioms study.now }
     ensures judged { IfOk result (λ answer. (files : Files) → S.files shelf.old ≡ Some files →
@@ -76,11 +87,8 @@ fn judge_report<R: Threads + Sync, S: Shelf, G: Gate>(
         Rose (S.faults shelf.old report.now) (S.faults shelf.new report.now) }
     ensures others { OthersStay (S.left shelf.old) (S.left shelf.new) report.now }
 {
-    match check_by_kind(rt, alloc, gate, workers, shelf, study, report) {
-        Ok(worth) => Ok(Answer::Judged(worth)),
-        Err(FileFault::Failed) => Err(Stop::ReadFault),
-        Err(FileFault::NoMemory) => Err(Stop::NoMemory),
-    }
+    let worth = check_by_kind(alloc, crew, shelf, study, report)?;
+    Ok(Answer::Judged(worth))
 }
 
 /// Reads the study, and then the report over it. Where the study is refused, what the shelf has left under the report's name
@@ -101,9 +109,10 @@ pub fn check<R: Threads + Sync, S: Shelf, G: Gate>(
         (S.left shelf.old) (S.left shelf.new) (S.faults shelf.old) (S.faults shelf.new) result }
 {
     match open_study(alloc, shelf, study) {
-        Ok(Opened::Study(question)) => judge_report(
-            rt, alloc, gate, workers, shelf, &question, report,
-        ),
+        Ok(Opened::Study(question)) => {
+            let crew = Crew { rt, gate, workers };
+            judge_report(alloc, &crew, shelf, &question, report)
+        }
         Ok(Opened::Refused(answer)) => Ok(answer),
         Err(stop) => Err(stop),
     }

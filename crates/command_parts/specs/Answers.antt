@@ -1,5 +1,7 @@
 -- What is said with an answer: its status, what its search found, and its text.
 use Rattle.std.specs.Prelude.{ℕ, List, [], codes, Option, Some, None, IsTrue}
+use Rattle.report_files.specs.declared.files.FileFault.{FileFault}
+use Rattle.report_files.specs.declared.files.FileFault.TheVariants as file
 use Rattle.report_files.specs.declared.files.Worth.{Worth}
 use Rattle.report_files.specs.declared.files.Worth.TheVariants as worth
 use Rattle.search_logs.specs.declared.logs.SearchLog.{SearchLog}
@@ -20,7 +22,14 @@ use Rattle.answers.specs.Axioms.{library_text}
 use Rattle.answers.specs.Sample.{summary_text}
 use Rattle.command_parts.specs.declared.answer.Answer.{Answer}
 use Rattle.command_parts.specs.declared.answer.Answer.TheVariants as answer
+use Rattle.command_parts.specs.declared.answer.Stop.{Stop}
+use Rattle.command_parts.specs.declared.answer.Stop.TheVariants as stop
 use Rattle.vocab.specs.Size.{HasOutcomes}
+
+-- why there is no answer, where a report was not checked
+abbrev pub stop_of : FileFault → Stop
+stop_of file.Failed = stop.ReadFault
+stop_of file.NoMemory = stop.NoMemory
 
 -- what a report is worth: 0 where it is confirmed, and 1 where it is refused
 abbrev pub worth_status : Worth → ℕ

@@ -16,9 +16,10 @@ use clause_form::{Ground, GroundFault};
 use clause_text::{CnfFault, DimacsText, LratFault, LratText, SizeText};
 use cnf::{Derivation, LineFault};
 use edge::{Failed, Sink};
+use lists::NoMemory;
 use outcomes::{ChoiceKind, RankingKind};
 use profiles::Space;
-use report_files::Worth;
+use report_files::{FileFault, Worth};
 use report_text::pour_verdict;
 use search_logs::Logs;
 use std::alloc::Global;
@@ -239,4 +240,29 @@ pub enum Stop {
     ReadFault,
     /// No memory was found.
     NoMemory,
+}
+
+impl From<NoMemory> for Stop {
+    ghost use Rattle.std.specs.Prelude.{◌≡◌};
+    ghost use Rattle.command_parts.specs.declared.answer.Stop.TheVariants.{NoMemory as OutOfMemory};
+
+    ghost from_gives = { λ _ stop. stop ≡ OutOfMemory };
+
+    fn from(_: NoMemory) -> Self {
+        Stop::NoMemory
+    }
+}
+
+impl From<FileFault> for Stop {
+    ghost use Rattle.std.specs.Prelude.{◌≡◌};
+    ghost use Rattle.command_parts.specs.Answers.{stop_of};
+
+    ghost from_gives = { λ fault stop. stop ≡ stop_of fault };
+
+    fn from(fault: FileFault) -> Self {
+        match fault {
+            FileFault::Failed => Stop::ReadFault,
+            FileFault::NoMemory => Stop::NoMemory,
+        }
+    }
 }

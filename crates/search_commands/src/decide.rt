@@ -16,7 +16,7 @@ use core_reduce::{Decision, Finding, Refutation};
 use crew::Crew;
 use edge::{Gate, Shelf};
 use lists::NoMemory;
-use outcomes::{ChoiceKind, OutcomeKind, RankingKind};
+use outcomes::{ChoiceKind, OutcomeKind, RankingKind, Setting};
 use profiles::Space;
 use retell::retell;
 use search_logs::Logs;
@@ -28,14 +28,12 @@ use vocab::{Kind, Study};
 /// The verdict of a refutation, with the story that its proof tells.
 fn impossible<K: OutcomeKind>(
     alloc: Global,
-    kind: &K,
-    study: &Study,
+    setting: &Setting<K>,
     logs: &Logs,
     refutation: Refutation,
 ) -> Result<Verdict, NoMemory>
-    requires size { study.now.size ≡ K.size kind.now }
-    requires refutation { IsRefutation study.now logs.now refutation }
-    ensures { IfOk result (IsVerdict study.now logs.now) }
+    requires { IsRefutation setting.now.study.now logs.now refutation }
+    ensures { IfOk result (IsVerdict setting.now.study.now logs.now) }
 {
     let _ = logs;
     let Refutation {
@@ -44,7 +42,7 @@ fn impossible<K: OutcomeKind>(
         proof,
         witnesses,
     } = refutation;
-    let story = retell(alloc, kind, study, &core, &clauses, &proof)?;
+    let story = retell(alloc, setting.kind, setting.study, &core, &clauses, &proof)?;
     Ok(Verdict::Impossible {
         core,
         story,
@@ -55,18 +53,16 @@ fn impossible<K: OutcomeKind>(
 /// The verdict of a finding.
 pub(crate) fn verdict_of<K: OutcomeKind>(
     alloc: Global,
-    kind: &K,
-    study: &Study,
+    setting: &Setting<K>,
     logs: &Logs,
     finding: Finding,
 ) -> Result<Verdict, NoMemory>
-    requires size { study.now.size ≡ K.size kind.now }
-    requires finding { IsFinding study.now logs.now finding }
-    ensures { IfOk result (IsVerdict study.now logs.now) }
+    requires { IsFinding setting.now.study.now logs.now finding }
+    ensures { IfOk result (IsVerdict setting.now.study.now logs.now) }
 {
     match finding {
         Finding::Possible(table) => Ok(Verdict::Possible(table)),
-        Finding::Impossible(refutation) => impossible(alloc, kind, study, logs, refutation),
+        Finding::Impossible(refutation) => impossible(alloc, setting, logs, refutation),
         Finding::Undecided => Ok(Verdict::Undecided),
     }
 }
@@ -85,7 +81,11 @@ fn report_of<K: OutcomeKind>(
     ensures has_text { IfOk result HasText }
 {
     let Decision { finding, logs } = decision;
-    let verdict = verdict_of(alloc, kind, &study, &logs, finding)?;
+    let setting = Setting {
+        kind,
+        study: &study,
+    };
+    let verdict = verdict_of(alloc, &setting, &logs, finding)?;
     Ok(Answer::Report(study, verdict, logs))
 }
 
@@ -108,13 +108,8 @@ fn decide_over<R: Threads + Sync, K: OutcomeKind, G: Gate>(
         Err(GroundFault::NoMemory) => return Err(Stop::NoMemory),
         Err(fault) => return Ok(Answer::NoClauses(study, fault)),
     };
-    let Ok(decision) = core_reduce::decide(alloc, kind, &study, clauses) else {
-        return Err(Stop::NoMemory);
-    };
-    match report_of(alloc, kind, study, decision) {
-        Ok(answer) => Ok(answer),
-        Err(NoMemory) => Err(Stop::NoMemory),
-    }
+    let decision = core_reduce::decide(alloc, kind, &study, clauses)?;
+    Ok(report_of(alloc, kind, study, decision)?)
 }
 
 /// Decides a study, or says why its clauses are refused.

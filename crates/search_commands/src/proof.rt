@@ -55,10 +55,8 @@ fn prove_over<R: Threads + Sync, K: OutcomeKind, G: Gate>(
         Err(GroundFault::NoMemory) => return Err(Stop::NoMemory),
         Err(fault) => return Ok(Answer::NoClauses(study, fault)),
     };
-    match core_reduce::prove(alloc, kind, &study, &clauses) {
-        Ok(proved) => Ok(answer_of(&study, proved)),
-        Err(_) => Err(Stop::NoMemory),
-    }
+    let proved = core_reduce::prove(alloc, kind, &study, &clauses)?;
+    Ok(answer_of(&study, proved))
 }
 
 /// Searches over the clauses of a study, or says why these are refused.

@@ -15,7 +15,7 @@ use core_reduce::Decision;
 use crew::Crew;
 use edge::Gate;
 use lists::NoMemory;
-use outcomes::{ChoiceKind, OutcomeKind, RankingKind};
+use outcomes::{ChoiceKind, OutcomeKind, RankingKind, Setting};
 use profiles::Space;
 use std::alloc::Global;
 use std::thread::Threads;
@@ -37,7 +37,11 @@ fn summary_of<K: OutcomeKind>(
     ensures has_text { IfOk result HasText }
 {
     let Decision { finding, logs } = decision;
-    let verdict = verdict_of(alloc, kind, &study, &logs, finding)?;
+    let setting = Setting {
+        kind,
+        study: &study,
+    };
+    let verdict = verdict_of(alloc, &setting, &logs, finding)?;
     Ok(Answer::Summary {
         number,
         study,
@@ -67,13 +71,8 @@ fn sample_over<R: Threads + Sync, K: OutcomeKind, G: Gate>(
         Err(fault) => return Ok(Answer::NoClauses(study, fault)),
     };
     let count = clauses.clauses().len();
-    let Ok(decision) = core_reduce::decide(alloc, kind, &study, clauses) else {
-        return Err(Stop::NoMemory);
-    };
-    match summary_of(alloc, kind, number, study, count, decision) {
-        Ok(answer) => Ok(answer),
-        Err(NoMemory) => Err(Stop::NoMemory),
-    }
+    let decision = core_reduce::decide(alloc, kind, &study, clauses)?;
+    Ok(summary_of(alloc, kind, number, study, count, decision)?)
 }
 
 /// Decides the study of a number, or says why its clauses are refused.
@@ -109,9 +108,7 @@ pub fn sample<R: Threads + Sync, G: Gate>(
     ensures has_text { IfOk result HasText }
     ensures read { result ≢ Err Stop.ReadFault }
 {
-    let Ok(study) = samples::sample(alloc, number) else {
-        return Err(Stop::NoMemory);
-    };
+    let study = samples::sample(alloc, number)?;
     let crew = Crew {
         rt,
         gate,
