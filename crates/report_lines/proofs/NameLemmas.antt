@@ -1,50 +1,77 @@
 -- The first axiom of a name, and the texts of all items of a list.
-use Rattle.std.proofs.Common.{◌≡◌, refl, sym, ap, ap₂, ◌∙◌, ℕ, zero, suc, ◌+◌, ◌<◌, ◌≤◌, Bool, true, false, cond, ◌&&◌, inl, inr, Option, Some, None, List, [], ◌∷◌, ◌++◌, map, length, drop, arith}
+use Rattle.std.proofs.Common.{◌≡◌, refl, sym, ap, ap₂, ◌∙◌, ℕ, zero, suc, ◌+◌, ◌<◌, ◌≤◌, Bool, true, false, cond, ◌&&◌, Option, Some, None, List, [], ◌∷◌, ◌++◌, map, length, drop, arith, subst, get_or, ◌-◌}
 use Rattle.std.specs.Prelude.{slice_get}
+use Rattle.std.specs.List.{position_from}
 use Rattle.std.specs.Cmp.Lexicographic.{pointwise}
 use Rattle.std.specs.Str.{bytes_eq}
-use Rattle.std.proofs.lemmas.Bool.{cases_lt}
+use Rattle.std.proofs.lemmas.List.{drop_more, drop_all}
+use Rattle.names.specs.Names.{FindsFirst}
+use Rattle.names.specs.declared.index.NameIndex.{NameIndex}
 use Rattle.vocab.specs.Titled.{Titled}
 use Rattle.meaning.specs.Cores.{is_core_from}
 use Rattle.meaning.specs.Space.{up_from}
 use Rattle.verdicts.specs.Texts.{named_by}
-use Rattle.verdicts.specs.Lines.{title_of, name_at}
+use Rattle.verdicts.specs.Lines.{name_at}
 use Rattle.verdicts.specs.Reading.{read_axiom}
 
--- no number below k has the text
-abbrev pub IsPassed : (ℕ → List ℕ) → List ℕ → ℕ → ℕ → Type 0
-IsPassed text_of word a k = (j : ℕ) → a ≤ j → j < k → bytes_eq (text_of j) word ≡ false
+abbrev pub names_of : List Titled → List (List ℕ)
+names_of axioms = map (λ a. a.name) axioms
 
-module _ (text_of : ℕ → List ℕ) (word : List ℕ) where
-  from_here : (b : Bool) (a : ℕ) (o : Option ℕ) → b ≡ true → cond b (Some a) o ≡ Some a
-  from_here b a o h = ap (λ t. cond t (Some a) o) h
+-- a number that is found is one of those that were gone over
+within_from : (text_of : ℕ → List ℕ) (word : List ℕ) (n a k : ℕ) → named_by text_of (up_from a n) word ≡ Some k → k < a + n
+within_from text_of word zero a k h = absurd cc
+within_from text_of word (suc n) a k h = by (bytes_eq (text_of a) word) h (within_from text_of word n (suc a) k)
+  where
+    by : (b : Bool) → cond b (Some a) (named_by text_of (up_from (suc a) n) word) ≡ Some k → (named_by text_of (up_from (suc a) n) word ≡ Some k → k < suc a + n) → k < a + suc n
+    by true e later = let here : a ≡ k = cc in omega (arith, here)
+    by false e later = omega (arith, later e)
 
-  past : (b : Bool) (a : ℕ) (o : Option ℕ) → b ≡ false → cond b (Some a) o ≡ o
-  past b a o h = ap (λ t. cond t (Some a) o) h
+-- the first of some axioms by their names is the first by their places
+found_from : (axioms rest : List Titled) (word : List ℕ) (a : ℕ) → ((j : ℕ) → name_at axioms (a + j) ≡ name_at rest j)
+    → position_from (λ n. bytes_eq n word) a (names_of rest) ≡ named_by (name_at axioms) (up_from a (length rest)) word
+found_from axioms [] word a same = refl
+found_from axioms (x ∷ rest) word a same =
+    ap₂ (λ (b : Bool) (o : Option ℕ). cond b (Some a) o) here
+    (ap (λ i. position_from (λ n. bytes_eq n word) i (names_of rest)) (more a) ∙ found_from axioms rest word (suc a) (λ j. ap (name_at axioms) (later a j) ∙ same (suc j)))
+  where
+    more : (a : ℕ) → a + 1 ≡ suc a
+    more a = omega arith
 
-  first_from : (n a k : ℕ) → a ≤ k → k < a + n → IsPassed text_of word a k → bytes_eq (text_of k) word ≡ true → named_by text_of (up_from a n) word ≡ Some k
-  first_from zero a k l h passed here = absurd (omega (arith, l, h))
-  first_from (suc n) a k l h passed here = elim (cases_lt a k) [
-    | inl less ↦ past (bytes_eq (text_of a) word) a (named_by text_of (up_from (suc a) n) word) (passed a (omega arith) less)
-        ∙ first_from n (suc a) k less (omega (arith, h)) (λ j m i. passed j (omega (arith, m)) i) here
-    | inr more ↦
-        let same : k ≡ a = omega (arith, l, more) in
-        from_here (bytes_eq (text_of a) word) a (named_by text_of (up_from (suc a) n) word) (ap (λ i. bytes_eq (text_of i) word) (sym same) ∙ here) ∙ ap Some (sym same)
-  ]
+    later : (a j : ℕ) → suc a + j ≡ a + suc j
+    later a j = omega arith
 
-  none_from : (n a k : ℕ) → a + n ≡ k → IsPassed text_of word a k → named_by text_of (up_from a n) word ≡ None
-  none_from zero a k e passed = refl
-  none_from (suc n) a k e passed =
-      past (bytes_eq (text_of a) word) a (named_by text_of (up_from (suc a) n) word) (passed a (omega arith) (omega (arith, e)))
-      ∙ none_from n (suc a) k (omega (arith, e)) (λ j m i. passed j (omega (arith, m)) i)
+    none : (a : ℕ) → a ≡ a + 0
+    none a = omega arith
+
+    here : bytes_eq x.name word ≡ bytes_eq (name_at axioms a) word
+    here = ap (λ n. bytes_eq n word) (sym (same 0) ∙ ap (name_at axioms) (sym (none a)))
 
 module _ (axioms : List Titled) (word : List ℕ) where
-  -- the first axiom of a name, or that none has it
-  pub first_axiom : (k : ℕ) → k < length axioms → ((j : ℕ) → j < k → bytes_eq (name_at axioms j) word ≡ false) → bytes_eq (name_at axioms k) word ≡ true → Some k ≡ read_axiom axioms word
-  first_axiom k l passed here = sym (first_from (name_at axioms) word (length axioms) 0 k (omega arith) (omega (arith, l)) (λ j m i. passed j i) here)
+  -- the place that an index of the names finds
+  pub place_found : position_from (λ n. bytes_eq n word) 0 (names_of axioms) ≡ read_axiom axioms word
+  place_found = found_from axioms axioms word 0 (λ j. ap (name_at axioms) (from_0 j))
+    where
+      from_0 : (j : ℕ) → 0 + j ≡ j
+      from_0 j = omega arith
 
-  pub no_axiom : ((j : ℕ) → j < length axioms → bytes_eq (name_at axioms j) word ≡ false) → None ≡ read_axiom axioms word
-  no_axiom passed = sym (none_from (name_at axioms) word (length axioms) 0 (length axioms) (omega arith) (λ j m i. passed j i))
+  -- is one of the axioms
+  pub place_within : (k : ℕ) → read_axiom axioms word ≡ Some k → k < length axioms
+  place_within k h = let within = within_from (name_at axioms) word (length axioms) 0 k h in omega (arith, within)
+
+-- an index of the names from a place on, with one more name before them
+pub one_more_name : (before after : NameIndex) (axioms : List Titled) (place : ℕ) (a : Titled) (name : List ℕ) → 0 < place → place ≤ length axioms → a ≡ get_or axioms (place - 1) a → name ≡ a.name
+    → ((names : List (List ℕ)) → FindsFirst before (place - 1 + 1) names → FindsFirst after (place - 1) (name ∷ names))
+    → FindsFirst before place (names_of (drop place axioms)) → FindsFirst after (place - 1) (names_of (drop (place - 1) axioms))
+one_more_name before after axioms place a name some within is same put finds =
+    let up : place ≡ place - 1 + 1 = omega (arith, some) in
+    let least : place - 1 < length axioms = omega (arith, some, within) in
+    let rest : List (List ℕ) = names_of (drop (place - 1 + 1) axioms) in
+    let names : names_of (drop (place - 1) axioms) ≡ name ∷ rest = ap names_of (drop_more axioms (place - 1) a least) ∙ ap (λ (x : Titled). x.name ∷ rest) (sym is) ∙ ap (λ (n : List ℕ). n ∷ rest) (sym same) in
+    subst (FindsFirst after (place - 1)) (sym names) (put _ (subst (λ n. FindsFirst before n (names_of (drop n axioms))) up finds))
+
+-- an index without names
+pub no_name : (index : NameIndex) (axioms : List Titled) → ((first : ℕ) → FindsFirst index first []) → FindsFirst index (length axioms) (names_of (drop (length axioms) axioms))
+no_name index axioms none = subst (λ xs. FindsFirst index (length axioms) (names_of xs)) (sym (drop_all (length axioms) axioms (omega arith))) (none (length axioms))
 
 module _ {X : Type 0} (f : X → List ℕ) where
   -- the texts of items from a place on
@@ -62,15 +89,9 @@ module _ {X : Type 0} (f : X → List ℕ) where
   texts_more xs k x words more word b h e t =
       ap₂ (λ ws ns. pointwise bytes_eq ws ns) e (texts_from xs k x h) ∙ ap (λ c. c && pointwise bytes_eq more (drop (k + 1) (map f xs))) (sym t)
 
-abbrev pub names_of : List Titled → List (List ℕ)
-names_of axioms = map (λ a. a.name) axioms
-
 -- what a call tells of the axiom at a place
 pub item_is : (axioms told : List Titled) (k : ℕ) (a : Titled) → told ≡ axioms → slice_get told k ≡ Some a → slice_get axioms k ≡ Some a
 item_is axioms told k a e h = ap (λ items. slice_get items k) (sym e) ∙ h
-
-pub name_is : (axioms told : List Titled) (k : ℕ) (a : Titled) (name bytes : List ℕ) → told ≡ axioms → slice_get told k ≡ Some a → name ≡ a.name → bytes ≡ name → name_at axioms k ≡ bytes
-name_is axioms told k a name bytes e h n b = ap title_of (item_is axioms told k a e h) ∙ sym n ∙ sym b
 
 -- ---- places of names
 

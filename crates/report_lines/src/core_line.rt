@@ -3,15 +3,19 @@
 ghost use Rattle.std.specs.Prelude.{◌≡◌, IfOk};
 ghost use Rattle.report_lines.specs.Held.{core_of};
 
-use crate::names::read_axiom;
+use crate::indexed::IndexedStudy;
 use crate::words::{cut_word, next_word};
 use lists::NoMemory;
 use std::alloc::Global;
-use vocab::{Places, Study};
+use vocab::Places;
 
 /// The places of the axioms that a line names after its first word, where the names are those of distinct axioms of the
 /// study in order.
-pub fn read_core(alloc: Global, study: &Study, text: &[u8]) -> Result<Option<Places>, NoMemory>
+pub fn read_core(
+    alloc: Global,
+    study: &IndexedStudy,
+    text: &[u8],
+) -> Result<Option<Places>, NoMemory>
     ensures { IfOk result (λ core. core ≡ core_of study.now text.now) }
 {
     let (_, rest) = cut_word(text);
@@ -19,7 +23,7 @@ pub fn read_core(alloc: Global, study: &Study, text: &[u8]) -> Result<Option<Pla
     let mut from: u32 = 0;
     let mut left = rest;
     while let Some((word, more)) = next_word(left) {
-        let Some(place) = read_axiom(study, word) else {
+        let Some(place) = study.place_of(word) else {
             return Ok(None);
         };
         if place < from {

@@ -8,15 +8,16 @@ ghost use Rattle.verdicts.specs.Reading.{keyed, one_word};
 ghost use Rattle.report_lines.specs.Held.{held_number};
 ghost use Rattle.report_lines.specs.Wanted.{held_wanted};
 
+use crate::all_axioms::are_all_axioms;
 use crate::ballots::{are_all_ballots, are_rankings};
+use crate::indexed::IndexedStudy;
 use crate::lines::Line;
-use crate::names::are_all_axioms;
 use crate::numbers::read_number;
 use crate::places::Place;
 use crate::words::{after_first, are_names, first_keyed, is_same};
 use profiles::Space;
 use verdicts::Confirmed;
-use vocab::{Kind, Study};
+use vocab::Kind;
 
 /// The first line, with the version of the report.
 pub(crate) fn read_title(text: &[u8]) -> Option<Line>
@@ -105,7 +106,7 @@ pub(crate) fn read_absent(text: &[u8]) -> Option<Line>
 }
 
 /// The line of the axioms' names.
-pub(crate) fn read_axioms(study: &Study, text: &[u8]) -> Option<Line>
+pub(crate) fn read_axioms(study: &IndexedStudy, text: &[u8]) -> Option<Line>
     ensures { (number : ℕ) → result ≡ held_wanted study.now Place.AtAxioms number (words_of text.now) }
 {
     let Some(rest) = after_first(text, b"axioms") else {

@@ -1,12 +1,13 @@
 //! Reads a line of a report: what it says at its place in the grammar.
 #![tactic(auto)]
 
+mod all_axioms;
 mod ballots;
 mod core_line;
 mod head;
+mod indexed;
 mod lines;
 mod literals;
-mod names;
 mod numbers;
 mod places;
 mod reading;
@@ -17,6 +18,7 @@ mod values;
 mod words;
 
 pub use core_line::read_core;
+pub use indexed::IndexedStudy;
 pub use lines::Line;
 pub use places::Place;
 pub use reading::read_line;

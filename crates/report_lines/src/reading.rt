@@ -7,11 +7,11 @@ ghost use Rattle.verdicts.specs.Texts.{words_of};
 ghost use Rattle.report_lines.specs.Held.{held_place, held_line};
 ghost use Rattle.report_lines.specs.Wanted.{held_wanted};
 
+use crate::indexed::IndexedStudy;
 use crate::lines::Line;
 use crate::places::Place;
 use crate::{head, rules, story};
 use outcomes::OutcomeKind;
-use vocab::Study;
 
 /// The most bytes of a line.
 const LONGEST: usize = 4096;
@@ -19,7 +19,7 @@ const LONGEST: usize = 4096;
 /// The line that is wanted at the place.
 fn read_at<K: OutcomeKind>(
     kind: &K,
-    study: &Study,
+    study: &IndexedStudy,
     place: Place,
     number: u64,
     text: &[u8],
@@ -56,7 +56,7 @@ fn read_at<K: OutcomeKind>(
 /// `number` is the number of the lemma that is being read, or comes next, from 1. No memory is taken.
 pub fn read_line<K: OutcomeKind>(
     kind: &K,
-    study: &Study,
+    study: &IndexedStudy,
     place: Place,
     number: u64,
     text: &[u8],

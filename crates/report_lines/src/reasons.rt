@@ -10,13 +10,13 @@ ghost use Rattle.verdicts.specs.Reading.{keyed, one_word, read_positive, read_va
 ghost use Rattle.report_lines.specs.Held.{held_reason};
 ghost use Rattle.report_lines.specs.Rest.{words_after};
 
-use crate::names::read_axiom;
+use crate::indexed::IndexedStudy;
 use crate::numbers::read_positive;
 use crate::values::{read_profile, read_value};
 use crate::words::{after_key, next_keyed, next_word};
 use meaning::Reason;
 use profiles::Space;
-use vocab::{Env, Formula, Sort, Study};
+use vocab::{Env, Formula, Sort};
 
 /// The sort of the first leading universal of a sentence, and what follows it.
 fn leading(sentence: &Formula) -> Option<(Sort, &Formula)>
@@ -55,7 +55,7 @@ fn read_values(space: &Space, sentence: &Formula, rest: &[u8]) -> Option<Env>
 }
 
 /// An axiom of the study with its values.
-fn read_cited(study: &Study, space: &Space, rest: &[u8]) -> Option<Reason>
+fn read_cited(study: &IndexedStudy, space: &Space, rest: &[u8]) -> Option<Reason>
     requires { space.now ≡ study.now.size }
     ensures { result ≡ read_cited study.now (words_after rest.now) }
 {
@@ -63,7 +63,7 @@ fn read_cited(study: &Study, space: &Space, rest: &[u8]) -> Option<Reason>
     let Some((word, more)) = next_word(rest) else {
         return None;
     };
-    let Some(place) = read_axiom(study, word) else {
+    let Some(place) = study.place_of(word) else {
         return None;
     };
     match read_values(space, axioms.get(place as usize).sentence(), more) {
@@ -72,7 +72,7 @@ fn read_cited(study: &Study, space: &Space, rest: &[u8]) -> Option<Reason>
     }
 }
 
-fn read_by_axiom(study: &Study, space: &Space, rest: &[u8]) -> Option<Reason>
+fn read_by_axiom(study: &IndexedStudy, space: &Space, rest: &[u8]) -> Option<Reason>
     requires { space.now ≡ study.now.size }
     ensures { result ≡ keyed (codes "axiom") (read_cited study.now) (words_after rest.now) }
 {
@@ -118,7 +118,7 @@ fn read_by_lemma(rest: &[u8]) -> Option<Reason>
 }
 
 /// An axiom of the study with its values, a profile, or the number of a lemma.
-pub(crate) fn read_reason(study: &Study, space: &Space, rest: &[u8]) -> Option<Reason>
+pub(crate) fn read_reason(study: &IndexedStudy, space: &Space, rest: &[u8]) -> Option<Reason>
     requires { space.now ≡ study.now.size }
     ensures { result ≡ option_map held_reason (read_reason study.now (words_after rest.now)) }
 {

@@ -8,6 +8,7 @@ ghost use Rattle.verdicts.specs.Reading.{keyed, read_so, read_suppose, read_step
 ghost use Rattle.report_lines.specs.Held.{held_line};
 ghost use Rattle.report_lines.specs.Wanted.{held_wanted};
 
+use crate::indexed::IndexedStudy;
 use crate::lines::Line;
 use crate::literals::read_literal;
 use crate::numbers::read_positive;
@@ -15,7 +16,6 @@ use crate::places::Place;
 use crate::reasons::read_reason;
 use crate::words::{after_first, after_key, first_keyed, is_same, next_word};
 use profiles::Space;
-use vocab::Study;
 
 /// The line of how many lemmas there are.
 pub(crate) fn read_lemmas(text: &[u8]) -> Option<Line>
@@ -46,7 +46,7 @@ pub(crate) fn read_heading(text: &[u8], number: u64) -> Option<Line>
     }
 }
 
-fn read_so(study: &Study, space: &Space, text: &[u8]) -> Option<Line>
+fn read_so(study: &IndexedStudy, space: &Space, text: &[u8]) -> Option<Line>
     requires { space.now ≡ study.now.size }
     ensures { result ≡
         option_map (held_line study.now) (keyed (codes "so") (read_so study.now) (words_of text.now)) }
@@ -69,7 +69,7 @@ fn read_so(study: &Study, space: &Space, text: &[u8]) -> Option<Line>
     }
 }
 
-fn read_clash(study: &Study, space: &Space, text: &[u8]) -> Option<Line>
+fn read_clash(study: &IndexedStudy, space: &Space, text: &[u8]) -> Option<Line>
     requires { space.now ≡ study.now.size }
     ensures { result ≡
         option_map (held_line study.now) (keyed (codes "clash") (keyed (codes "by") (λ ws. option_map Clash
@@ -88,7 +88,7 @@ fn read_clash(study: &Study, space: &Space, text: &[u8]) -> Option<Line>
 }
 
 /// A step of a lemma, or its last reason.
-pub(crate) fn read_step(study: &Study, space: &Space, text: &[u8]) -> Option<Line>
+pub(crate) fn read_step(study: &IndexedStudy, space: &Space, text: &[u8]) -> Option<Line>
     requires { space.now ≡ study.now.size }
     ensures { (number : ℕ) → result ≡ held_wanted study.now Place.AtStep number (words_of text.now) }
 {
@@ -98,7 +98,7 @@ pub(crate) fn read_step(study: &Study, space: &Space, text: &[u8]) -> Option<Lin
     read_clash(study, space, text)
 }
 
-fn read_suppose(study: &Study, space: &Space, text: &[u8]) -> Option<Line>
+fn read_suppose(study: &IndexedStudy, space: &Space, text: &[u8]) -> Option<Line>
     requires { space.now ≡ study.now.size }
     ensures { result ≡ option_map (held_line study.now) (read_suppose study.now (words_of text.now)) }
 {
@@ -112,7 +112,7 @@ fn read_suppose(study: &Study, space: &Space, text: &[u8]) -> Option<Line>
 }
 
 /// A supposition of a lemma, or what follows all of them.
-pub(crate) fn read_suppose_or_step(study: &Study, space: &Space, text: &[u8]) -> Option<Line>
+pub(crate) fn read_suppose_or_step(study: &IndexedStudy, space: &Space, text: &[u8]) -> Option<Line>
     requires { space.now ≡ study.now.size }
     ensures { (number : ℕ) → result ≡ held_wanted study.now Place.AtSuppose number (words_of text.now) }
 {

@@ -51,15 +51,17 @@ fn one_ballot(alloc: Global) -> Result<Study, Fail>
 }
 
 /// Whether this is read at a place of a report of the study, before or in the third lemma.
-fn reads(study: &Study, place: Place, text: &str, line: Option<Line>) -> bool
+fn reads(study: &IndexedStudy, place: Place, text: &str, line: Option<Line>) -> bool
     requires { study.now.size.kind ≡ Kind.Choice }
 {
-    let kind = ChoiceKind::new(Space::new(study.size()));
+    let kind = ChoiceKind::new(Space::new(study.study().size()));
     read_line(&kind, study, place, 3, text.as_bytes()) == line
 }
 
 fn says(alloc: Global, place: Place, text: &str, line: Option<Line>) -> Result<bool, Fail> {
-    Ok(reads(&study(alloc)?, place, text, line))
+    let study = study(alloc)?;
+    let study = IndexedStudy::new(alloc, &study)?;
+    Ok(reads(&study, place, text, line))
 }
 
 #[test]
@@ -101,7 +103,7 @@ fn heads_are_read(rt: HostRuntime) -> Result<(), Fail> {
     Ok(())
 }
 
-fn tells_version(study: &Study, text: &str, version: Option<u8>) -> bool
+fn tells_version(study: &IndexedStudy, text: &str, version: Option<u8>) -> bool
     requires { study.now.size.kind ≡ Kind.Choice }
 {
     reads(study, Place::AtTitle, text, version.map(Line::Title))
@@ -110,6 +112,7 @@ fn tells_version(study: &Study, text: &str, version: Option<u8>) -> bool
 #[test]
 fn versions_are_read(rt: HostRuntime) -> Result<(), Fail> {
     let study = study(rt.alloc())?;
+    let study = IndexedStudy::new(rt.alloc(), &study)?;
     assert!(rt; tells_version(&study, "bench report 1", Some(1)));
     assert!(rt; tells_version(&study, "bench report 2", Some(2)));
     assert!(rt; tells_version(&study, "bench report 3", None));
@@ -117,7 +120,7 @@ fn versions_are_read(rt: HostRuntime) -> Result<(), Fail> {
     Ok(())
 }
 
-fn tells_ballots(study: &Study, text: &str, all: Option<bool>) -> bool
+fn tells_ballots(study: &IndexedStudy, text: &str, all: Option<bool>) -> bool
     requires { study.now.size.kind ≡ Kind.Choice }
 {
     reads(study, Place::AtBallots, text, all.map(Line::BallotsAre))
@@ -126,6 +129,7 @@ fn tells_ballots(study: &Study, text: &str, all: Option<bool>) -> bool
 #[test]
 fn ballots_are_read(rt: HostRuntime) -> Result<(), Fail> {
     let study = study(rt.alloc())?;
+    let study = IndexedStudy::new(rt.alloc(), &study)?;
     assert!(rt; tells_ballots(&study, "ballots ab ba", Some(true)));
     assert!(rt; tells_ballots(&study, "ballots ba ab", Some(false)));
     assert!(rt; tells_ballots(&study, "ballots ab", Some(false)));
@@ -133,12 +137,13 @@ fn ballots_are_read(rt: HostRuntime) -> Result<(), Fail> {
     assert!(rt; tells_ballots(&study, "ballots ac", None));
     assert!(rt; tells_ballots(&study, "ballots", None));
     let few = one_ballot(rt.alloc())?;
+    let few = IndexedStudy::new(rt.alloc(), &few)?;
     assert!(rt; tells_ballots(&few, "ballots ba", Some(true)));
     assert!(rt; tells_ballots(&few, "ballots ab ba", Some(false)));
     Ok(())
 }
 
-fn tells_absence(study: &Study, text: &str, absent: Option<bool>) -> bool
+fn tells_absence(study: &IndexedStudy, text: &str, absent: Option<bool>) -> bool
     requires { study.now.size.kind ≡ Kind.Choice }
 {
     reads(study, Place::AtAbsent, text, absent.map(Line::AbsentIs))
@@ -147,6 +152,7 @@ fn tells_absence(study: &Study, text: &str, absent: Option<bool>) -> bool
 #[test]
 fn absence_is_read(rt: HostRuntime) -> Result<(), Fail> {
     let study = study(rt.alloc())?;
+    let study = IndexedStudy::new(rt.alloc(), &study)?;
     assert!(rt; tells_absence(&study, "absent yes", Some(true)));
     assert!(rt; tells_absence(&study, "absent no", Some(false)));
     assert!(rt; tells_absence(&study, "absent maybe", None));
@@ -239,6 +245,7 @@ fn other_lines_are_not_read(rt: HostRuntime) -> Result<(), Fail> {
 fn cores_are_read(rt: HostRuntime) -> Result<(), Fail> {
     let alloc = rt.alloc();
     let study = study(alloc)?;
+    let study = IndexedStudy::new(alloc, &study)?;
     let core = read_core(alloc, &study, b"core same")?.ok_or("core")?;
     assert_eq!(rt; core.as_slice(), [0].as_slice());
     assert!(rt; read_core(alloc, &study, b"core same other")?.is_none());

@@ -4,7 +4,7 @@ use Rattle.std.specs.Str.{bytes_eq}
 use Rattle.vocab.specs.Titled.{Titled}
 use Rattle.report_lines.specs.Rest.{words_after}
 use Rattle.report_lines.proofs.NameLemmas.{names_of, item_is, texts_more}
-use Rattle.report_lines.proofs.names.are_all_axioms.Goals as goal
+use Rattle.report_lines.proofs.all_axioms.are_all_axioms.Goals as goal
 
 pub returns-then-not-is_same : goal.returns-then-not-is_same
 returns-then-not-is_same c =
