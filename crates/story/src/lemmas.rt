@@ -9,10 +9,9 @@ ghost use Rattle.story.specs.Answers.{Answers};
 ghost use Rattle.story.specs.Conditions.{has_places, is_short};
 
 use crate::grounds::Grounds;
-use crate::lines::{suppose, take_step};
-use crate::reasons::refutes;
+use crate::lines::suppose;
 use meaning::{Lemma, PlacedFault};
-use outcomes::OutcomeKind;
+use outcomes::{OutcomeKind, Setting};
 use vocab::{Literal, Places, Study};
 use worlds::Board;
 
@@ -40,34 +39,81 @@ pub fn check_lemma<K: OutcomeKind>(
     ensures size { board.new.size ≡ board.old.size }
     ensures cleared { board.new.literals ≡ [] }
 {
+    let setting = Setting { kind, study };
     let grounds = Grounds {
-        kind,
-        study,
+        setting: &setting,
         core,
         lemmas: earlier,
     };
-    let answer = check_lines(&grounds, final_one, board, lemma);
-    board.clear();
-    answer
+    grounds.check_lemma(final_one, board, lemma)
 }
 
-/// The lines of a lemma, whose literals come on the board.
-fn check_lines<K: OutcomeKind>(
-    grounds: &Grounds<K>,
-    final_one: bool,
-    board: &mut Board,
-    lemma: &Lemma,
-) -> Result<(), PlacedFault>
-    requires board { board.old.size ≡ K.size grounds.now.kind.now }
-    requires cleared { board.old.literals ≡ [] }
-    requires literals { IsTrue (has_literals (K.size grounds.now.kind.now) lemma.now) }
-    requires short { IsTrue (is_short lemma.now) }
-    ensures fault { Answers result (lemma_fault (K.size grounds.now.kind.now) grounds.now.study.now.axioms
-        grounds.now.core.now grounds.now.lemmas.now final_one lemma.now) }
-    ensures size { board.new.size ≡ board.old.size }
-{
-    suppose_all(final_one, board, lemma.suppose.as_slice())?;
-    take_steps(grounds, board, lemma)
+impl<K: OutcomeKind> Grounds<'_, K> {
+    /// Whether the lemma follows from the lemmas, and else its first faulty line.
+    pub(crate) fn check_lemma(
+        &self,
+        final_one: bool,
+        board: &mut Board,
+        lemma: &Lemma,
+    ) -> Result<(), PlacedFault>
+        requires board { board.old.size ≡ K.size self.now.setting.now.kind.now }
+        requires cleared { board.old.literals ≡ [] }
+        requires literals { IsTrue (has_literals (K.size self.now.setting.now.kind.now) lemma.now) }
+        requires short { IsTrue (is_short lemma.now) }
+        ensures fault { Answers result (lemma_fault (K.size self.now.setting.now.kind.now)
+            self.now.setting.now.study.now.axioms self.now.core.now self.now.lemmas.now final_one lemma.now) }
+        ensures size { board.new.size ≡ board.old.size }
+        ensures cleared { board.new.literals ≡ [] }
+    {
+        let answer = self.check_lines(final_one, board, lemma);
+        board.clear();
+        answer
+    }
+
+    /// The lines of a lemma, whose literals come on the board.
+    fn check_lines(
+        &self,
+        final_one: bool,
+        board: &mut Board,
+        lemma: &Lemma,
+    ) -> Result<(), PlacedFault>
+        requires board { board.old.size ≡ K.size self.now.setting.now.kind.now }
+        requires cleared { board.old.literals ≡ [] }
+        requires literals { IsTrue (has_literals (K.size self.now.setting.now.kind.now) lemma.now) }
+        requires short { IsTrue (is_short lemma.now) }
+        ensures fault { Answers result (lemma_fault (K.size self.now.setting.now.kind.now)
+            self.now.setting.now.study.now.axioms self.now.core.now self.now.lemmas.now final_one lemma.now) }
+        ensures size { board.new.size ≡ board.old.size }
+    {
+        suppose_all(final_one, board, lemma.suppose.as_slice())?;
+        self.take_steps(board, lemma)
+    }
+
+    /// The steps and the last reason, after the suppositions.
+    fn take_steps(&self, board: &mut Board, lemma: &Lemma) -> Result<(), PlacedFault>
+        requires board { board.old.size ≡ K.size self.now.setting.now.kind.now }
+        requires supposed { board.old.literals ≡ lemma.now.suppose }
+        requires literals { IsTrue (has_literals (K.size self.now.setting.now.kind.now) lemma.now) }
+        requires short { IsTrue (is_short lemma.now) }
+        ensures fault { Answers result (steps_fault (K.size self.now.setting.now.kind.now)
+            self.now.setting.now.study.now.axioms self.now.core.now self.now.lemmas.now lemma.now.last
+            (length lemma.now.suppose + 1) lemma.now.suppose lemma.now.steps) }
+        ensures size { board.new.size ≡ board.old.size }
+    {
+        let mut place = lemma.suppose.len() as u32 + 1;
+        let steps = lemma.steps.as_slice();
+        for step in steps {
+            match self.take_step(board, step) {
+                Ok(()) => {}
+                Err(fault) => return Err(PlacedFault { place, fault }),
+            }
+            place += 1;
+        }
+        match self.refutes(board, &lemma.last) {
+            Ok(()) => Ok(()),
+            Err(fault) => Err(PlacedFault { place, fault }),
+        }
+    }
 }
 
 /// The suppositions, which come on the empty board.
@@ -88,48 +134,4 @@ fn suppose_all(final_one: bool, board: &mut Board, literals: &[Literal]) -> Resu
         place += 1;
     }
     Ok(())
-}
-
-/// The steps and the last reason, after the suppositions.
-fn take_steps<K: OutcomeKind>(
-    grounds: &Grounds<K>,
-    board: &mut Board,
-    lemma: &Lemma,
-) -> Result<(), PlacedFault>
-    requires board { board.old.size ≡ K.size grounds.now.kind.now }
-    requires supposed { board.old.literals ≡ lemma.now.suppose }
-    requires literals { IsTrue (has_literals (K.size grounds.now.kind.now) lemma.now) }
-    requires short { IsTrue (is_short lemma.now) }
-    ensures fault { Answers result (steps_fault (K.size grounds.now.kind.now) grounds.now.study.now.axioms
-        grounds.now.core.now grounds.now.lemmas.now lemma.now.last (length lemma.now.suppose + 1)
-        lemma.now.suppose lemma.now.steps) }
-    ensures size { board.new.size ≡ board.old.size }
-{
-    let mut place = lemma.suppose.len() as u32 + 1;
-    let steps = lemma.steps.as_slice();
-    for step in steps {
-        match take_step(
-            grounds.kind,
-            grounds.study,
-            grounds.core,
-            grounds.lemmas,
-            board,
-            step,
-        ) {
-            Ok(()) => {}
-            Err(fault) => return Err(PlacedFault { place, fault }),
-        }
-        place += 1;
-    }
-    match refutes(
-        grounds.kind,
-        grounds.study,
-        grounds.core,
-        grounds.lemmas,
-        board,
-        &lemma.last,
-    ) {
-        Ok(()) => Ok(()),
-        Err(fault) => Err(PlacedFault { place, fault }),
-    }
 }

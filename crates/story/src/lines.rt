@@ -11,9 +11,8 @@ ghost use Rattle.story.specs.Conditions.{has_places};
 ghost use Rattle.story.specs.Lines.{supposition_fault, step_fault};
 
 use crate::grounds::Grounds;
-use crate::reasons::refutes;
 use meaning::{Lemma, StoryFault, StoryStep};
-use outcomes::OutcomeKind;
+use outcomes::{OutcomeKind, Setting};
 use vocab::{Literal, Places, Study};
 use worlds::Board;
 
@@ -58,47 +57,52 @@ pub fn take_step<K: OutcomeKind>(
     ensures ok { OnOk result (board.new.literals ≡ board.old.literals ++ step.now.literal ∷ []) }
     ensures err { OnErr result (board.new.literals ≡ board.old.literals) }
 {
-    if is_decided(board, &step.literal) {
-        return Err(StoryFault::Known);
-    }
+    let setting = Setting { kind, study };
     let grounds = Grounds {
-        kind,
-        study,
+        setting: &setting,
         core,
         lemmas: earlier,
     };
-    force(&grounds, board, step)?;
-    board.add(&step.literal);
-    Ok(())
+    grounds.take_step(board, step)
 }
 
-/// Whether the reason of a step refutes the board with the opposite of the step's literal.
-fn force<K: OutcomeKind>(
-    grounds: &Grounds<K>,
-    board: &mut Board,
-    step: &StoryStep,
-) -> Result<(), StoryFault>
-    requires board { board.old.size ≡ K.size grounds.now.kind.now }
-    requires literal { IsTrue (is_literal (K.size grounds.now.kind.now) step.now.literal) }
-    requires fresh { IsFalse (is_decided board.old.literals step.now.literal) }
-    ensures fault { Answers result (reason_fault (K.size grounds.now.kind.now) grounds.now.study.now.axioms
-        grounds.now.core.now grounds.now.lemmas.now
-        (board.old.literals ++ opposite_of step.now.literal ∷ []) step.now.reason) }
-    ensures size { board.new.size ≡ board.old.size }
-    ensures literals { board.new.literals ≡ board.old.literals }
-{
-    let opposite = step.literal.opposite();
-    board.add(&opposite);
-    let answer = refutes(
-        grounds.kind,
-        grounds.study,
-        grounds.core,
-        grounds.lemmas,
-        board,
-        &step.reason,
-    );
-    board.remove(&opposite);
-    answer
+impl<K: OutcomeKind> Grounds<'_, K> {
+    /// Takes a step: its literal comes on the board.
+    pub(crate) fn take_step(&self, board: &mut Board, step: &StoryStep) -> Result<(), StoryFault>
+        requires board { board.old.size ≡ K.size self.now.setting.now.kind.now }
+        requires literal { IsTrue (is_literal (K.size self.now.setting.now.kind.now) step.now.literal) }
+        ensures fault { Answers result (step_fault (K.size self.now.setting.now.kind.now)
+            self.now.setting.now.study.now.axioms self.now.core.now self.now.lemmas.now
+            board.old.literals step.now) }
+        ensures size { board.new.size ≡ board.old.size }
+        ensures ok { OnOk result (board.new.literals ≡ board.old.literals ++ step.now.literal ∷ []) }
+        ensures err { OnErr result (board.new.literals ≡ board.old.literals) }
+    {
+        if is_decided(board, &step.literal) {
+            return Err(StoryFault::Known);
+        }
+        self.force(board, step)?;
+        board.add(&step.literal);
+        Ok(())
+    }
+
+    /// Whether the reason of a step refutes the board with the opposite of the step's literal.
+    fn force(&self, board: &mut Board, step: &StoryStep) -> Result<(), StoryFault>
+        requires board { board.old.size ≡ K.size self.now.setting.now.kind.now }
+        requires literal { IsTrue (is_literal (K.size self.now.setting.now.kind.now) step.now.literal) }
+        requires fresh { IsFalse (is_decided board.old.literals step.now.literal) }
+        ensures fault { Answers result (reason_fault (K.size self.now.setting.now.kind.now)
+            self.now.setting.now.study.now.axioms self.now.core.now self.now.lemmas.now
+            (board.old.literals ++ opposite_of step.now.literal ∷ []) step.now.reason) }
+        ensures size { board.new.size ≡ board.old.size }
+        ensures literals { board.new.literals ≡ board.old.literals }
+    {
+        let opposite = step.literal.opposite();
+        board.add(&opposite);
+        let answer = self.refutes(board, &step.reason);
+        board.remove(&opposite);
+        answer
+    }
 }
 
 /// Whether a literal or its opposite is on the board.

@@ -19,7 +19,7 @@ ghost use Rattle.story.specs.Conditions.{has_places};
 
 use crate::grounds::Grounds;
 use meaning::{Lemma, Reason, StoryFault, Three};
-use outcomes::OutcomeKind;
+use outcomes::{OutcomeKind, Setting};
 use vocab::{Axiom, Env, Formula, Literal, Places, Size, Study};
 use worlds::laws::bodies_have_values;
 use worlds::{Board, excludes, partial};
@@ -42,16 +42,48 @@ pub fn refutes<K: OutcomeKind>(
     ensures { Answers result (reason_fault (K.size kind.now) study.now.axioms core.now earlier.now
         board.now.literals reason.now) }
 {
+    let setting = Setting { kind, study };
     let grounds = Grounds {
-        kind,
-        study,
+        setting: &setting,
         core,
         lemmas: earlier,
     };
-    match reason {
-        Reason::Axiom(place, values) => by_axiom(&grounds, board, *place, values),
-        Reason::Outcome(p) => unless(excludes(kind, board, *p), StoryFault::NotForced),
-        Reason::Lemma(place) => by_lemma(earlier, board, *place),
+    grounds.refutes(board, reason)
+}
+
+impl<K: OutcomeKind> Grounds<'_, K> {
+    /// Whether the reason refutes the literals of the board.
+    pub(crate) fn refutes(&self, board: &Board, reason: &Reason) -> Result<(), StoryFault>
+        requires { board.now.size ≡ K.size self.now.setting.now.kind.now }
+        ensures { Answers result (reason_fault (K.size self.now.setting.now.kind.now)
+            self.now.setting.now.study.now.axioms self.now.core.now self.now.lemmas.now
+            board.now.literals reason.now) }
+    {
+        match reason {
+            Reason::Axiom(place, values) => self.by_axiom(board, *place, values),
+            Reason::Outcome(p) => {
+                let excluded = excludes(self.setting.kind, board, *p);
+                unless(excluded, StoryFault::NotForced)
+            }
+            Reason::Lemma(place) => by_lemma(self.lemmas, board, *place),
+        }
+    }
+
+    /// Whether an instance of an axiom of the core is false.
+    fn by_axiom(&self, board: &Board, place: u32, values: &Env) -> Result<(), StoryFault>
+        requires { board.now.size ≡ K.size self.now.setting.now.kind.now }
+        ensures { Answers result (reason_fault (K.size self.now.setting.now.kind.now)
+            self.now.setting.now.study.now.axioms self.now.core.now self.now.lemmas.now
+            board.now.literals (Reason.Axiom place values.now)) }
+    {
+        if !is_in(self.core, place) {
+            return Err(StoryFault::NotInCore);
+        }
+        let cited = self.setting.study.axioms().get(place as usize);
+        unless(
+            is_instance_false(self.setting.kind, board, cited, values),
+            StoryFault::NotForced,
+        )
     }
 }
 
@@ -60,27 +92,6 @@ fn unless(passes: bool, fault: StoryFault) -> Result<(), StoryFault>
     ensures { Answers result (unless passes fault) }
 {
     if passes { Ok(()) } else { Err(fault) }
-}
-
-/// Whether an instance of an axiom of the core is false.
-fn by_axiom<K: OutcomeKind>(
-    grounds: &Grounds<K>,
-    board: &Board,
-    place: u32,
-    values: &Env,
-) -> Result<(), StoryFault>
-    requires { board.now.size ≡ K.size grounds.now.kind.now }
-    ensures { Answers result (reason_fault (K.size grounds.now.kind.now) grounds.now.study.now.axioms
-        grounds.now.core.now grounds.now.lemmas.now board.now.literals (Reason.Axiom place values.now)) }
-{
-    if !is_in(grounds.core, place) {
-        return Err(StoryFault::NotInCore);
-    }
-    let cited = grounds.study.axioms().get(place as usize);
-    unless(
-        is_instance_false(grounds.kind, board, cited, values),
-        StoryFault::NotForced,
-    )
 }
 
 /// Whether a place is in the core.

@@ -10,11 +10,10 @@ ghost use Rattle.story.specs.Answers.{Answers};
 ghost use Rattle.story.specs.Conditions.{has_places, is_short};
 
 use crate::grounds::Grounds;
-use crate::lemmas::check_lemma;
 use lists::Items;
 use meaning::laws::{accepted_story_has_no_rule, faultless_is_accepted};
 use meaning::{Lemma, StoryRefusal};
-use outcomes::OutcomeKind;
+use outcomes::{OutcomeKind, Setting};
 use std::alloc::Global;
 use vocab::{Places, Study};
 use worlds::Board;
@@ -44,74 +43,72 @@ pub fn check_story<K: OutcomeKind>(
 {
     faultless_is_accepted();
     accepted_story_has_no_rule();
+    let setting = Setting { kind, study };
     let grounds = Grounds {
-        kind,
-        study,
+        setting: &setting,
         core,
         lemmas: story.as_slice(),
     };
     match Board::new(alloc, kind) {
-        Ok(mut board) => check_lemmas(&grounds, &mut board),
+        Ok(mut board) => grounds.check_lemmas(&mut board),
         Err(_) => Err(StoryRefusal::NoMemory),
     }
 }
 
-/// Whether there is a lemma, each follows from those before it, and the last supposes nothing.
-fn check_lemmas<K: OutcomeKind>(grounds: &Grounds<K>, board: &mut Board) -> Result<(), StoryRefusal>
-    requires board { board.old.size ≡ K.size grounds.now.kind.now }
-    requires cleared { board.old.literals ≡ [] }
-    requires short { IsTrue (list_all is_short grounds.now.lemmas.now) }
-    requires few { length grounds.now.lemmas.now ≤ 4294967295 }
-    ensures { Answers result (story_refusal (K.size grounds.now.kind.now) grounds.now.study.now.axioms
-        grounds.now.core.now grounds.now.lemmas.now) }
-{
-    let story = grounds.lemmas;
-    if story.is_empty() {
-        return Err(StoryRefusal::Empty);
-    }
-    let last = story.len() - 1;
-    for place in 0..last {
-        match check_next(grounds, board, place, false) {
-            Ok(()) => {}
-            Err(refusal) => return Err(refusal),
+impl<K: OutcomeKind> Grounds<'_, K> {
+    /// Whether there is a lemma, each follows from those before it, and the last supposes nothing.
+    fn check_lemmas(&self, board: &mut Board) -> Result<(), StoryRefusal>
+        requires board { board.old.size ≡ K.size self.now.setting.now.kind.now }
+        requires cleared { board.old.literals ≡ [] }
+        requires short { IsTrue (list_all is_short self.now.lemmas.now) }
+        requires few { length self.now.lemmas.now ≤ 4294967295 }
+        ensures { Answers result (story_refusal (K.size self.now.setting.now.kind.now)
+            self.now.setting.now.study.now.axioms self.now.core.now self.now.lemmas.now) }
+    {
+        if self.lemmas.is_empty() {
+            return Err(StoryRefusal::Empty);
         }
+        let last = self.lemmas.len() - 1;
+        for place in 0..last {
+            match self.check_next(board, place, false) {
+                Ok(()) => {}
+                Err(refusal) => return Err(refusal),
+            }
+        }
+        self.check_next(board, last, true)
     }
-    check_next(grounds, board, last, true)
-}
 
-/// Whether the lemma at a place follows from those before it.
-fn check_next<K: OutcomeKind>(
-    grounds: &Grounds<K>,
-    board: &mut Board,
-    place: usize,
-    final_one: bool,
-) -> Result<(), StoryRefusal>
-    requires board { board.old.size ≡ K.size grounds.now.kind.now }
-    requires cleared { board.old.literals ≡ [] }
-    requires short { IsTrue (list_all is_short grounds.now.lemmas.now) }
-    requires few { length grounds.now.lemmas.now ≤ 4294967295 }
-    requires place { place < length grounds.now.lemmas.now }
-    ensures fault { (lemma : Lemma) → slice_get grounds.now.lemmas.now place ≡ Some lemma →
-        Answers result (next_refusal (K.size grounds.now.kind.now) grounds.now.study.now.axioms
-        grounds.now.core.now (take place grounds.now.lemmas.now) final_one lemma) }
-    ensures size { board.new.size ≡ board.old.size }
-    ensures cleared { board.new.literals ≡ [] }
-{
-    let story = grounds.lemmas;
-    let earlier = &story[..place];
-    match check_lemma(
-        grounds.kind,
-        grounds.study,
-        grounds.core,
-        earlier,
-        final_one,
-        board,
-        &story[place],
-    ) {
-        Ok(()) => Ok(()),
-        Err(fault) => Err(StoryRefusal::Lemma {
-            lemma: place as u32,
-            fault,
-        }),
+    /// Whether the lemma at a place follows from those before it.
+    fn check_next(
+        &self,
+        board: &mut Board,
+        place: usize,
+        final_one: bool,
+    ) -> Result<(), StoryRefusal>
+        requires board { board.old.size ≡ K.size self.now.setting.now.kind.now }
+        requires cleared { board.old.literals ≡ [] }
+        requires short { IsTrue (list_all is_short self.now.lemmas.now) }
+        requires few { length self.now.lemmas.now ≤ 4294967295 }
+        requires place { place < length self.now.lemmas.now }
+        ensures fault { (lemma : Lemma) → slice_get self.now.lemmas.now place ≡ Some lemma →
+            Answers result (next_refusal (K.size self.now.setting.now.kind.now)
+            self.now.setting.now.study.now.axioms self.now.core.now (take place self.now.lemmas.now)
+            final_one lemma) }
+        ensures size { board.new.size ≡ board.old.size }
+        ensures cleared { board.new.literals ≡ [] }
+    {
+        let story = self.lemmas;
+        let earlier = Grounds {
+            setting: self.setting,
+            core: self.core,
+            lemmas: &story[..place],
+        };
+        match earlier.check_lemma(final_one, board, &story[place]) {
+            Ok(()) => Ok(()),
+            Err(fault) => Err(StoryRefusal::Lemma {
+                lemma: place as u32,
+                fault,
+            }),
+        }
     }
 }
