@@ -1,6 +1,6 @@
 //! Rules row by row, and the witnesses of a core.
 
-ghost use Rattle.std.specs.Prelude.{◌≡◌, ◌++◌, ◌∷◌, ◌<◌, [], nat_lt, length, IsTrue};
+ghost use Rattle.std.specs.Prelude.{◌++◌, ◌∷◌, ◌<◌, [], nat_lt, length, IsTrue};
 ghost use Rattle.std.specs.List.{list_all};
 ghost use Rattle.std.specs.Cmp.Lexicographic.{pointwise};
 ghost use Rattle.meaning.specs.Texts.{outcome_text, profile_text};
@@ -13,9 +13,9 @@ ghost use Rattle.texts.specs.Page.{Pours};
 use crate::counts::Count;
 use edge::{Failed, Sink};
 use meaning::Witness;
-use outcomes::OutcomeKind;
+use outcomes::{OutcomeKind, Setting};
 use texts::{Page, Raw, Text, Two};
-use vocab::{Study, Table};
+use vocab::Table;
 
 /// The rows of a rule.
 #[derive(Drop)]
@@ -44,21 +44,20 @@ impl<K: OutcomeKind> Text for Rows<'_, K> {
 
 /// The witness of the axiom at a place: a rule with its rows, or an open mark.
 fn pour_witness<K: OutcomeKind, O: Sink>(
-    kind: &K,
-    study: &Study,
+    setting: &Setting<K>,
     place: u32,
     witness: &Witness,
     page: &mut Page,
     out: &mut O,
 ) -> Result<(), Failed>
-    requires size { study.now.size ≡ K.size kind.now }
-    requires place { place < length study.now.axioms }
-    requires can { IsTrue (is_witness_text study.now place witness.now) }
+    requires place { place < length setting.now.study.now.axioms }
+    requires can { IsTrue (is_witness_text setting.now.study.now place witness.now) }
     ensures { Pours (O.taken out.old) (O.taken out.new) page.old page.new
         (O.faults out.old) (O.faults out.new) result
-        (lines_text study.now (witness_lines study.now place witness.now)) }
+        (lines_text setting.now.study.now (witness_lines setting.now.study.now place witness.now)) }
 {
-    let name = study.axioms().get(place as usize).name();
+    let kind = setting.kind;
+    let name = setting.study.axioms().get(place as usize).name();
     match witness {
         Witness::Rule(table) => {
             let count = Count {
@@ -80,22 +79,21 @@ fn pour_witness<K: OutcomeKind, O: Sink>(
 
 /// A witness for each axiom of a core.
 pub(crate) fn pour_witnesses<K: OutcomeKind, O: Sink>(
-    kind: &K,
-    study: &Study,
+    setting: &Setting<K>,
     core: &[u32],
     witnesses: &[Witness],
     page: &mut Page,
     out: &mut O,
 ) -> Result<(), Failed>
-    requires size { study.now.size ≡ K.size kind.now }
-    requires core { IsTrue (list_all (λ k. nat_lt k (length study.now.axioms)) core.now) }
-    requires can { IsTrue (pointwise (is_witness_text study.now) core.now witnesses.now) }
+    requires core { IsTrue (list_all (λ k. nat_lt k (length setting.now.study.now.axioms)) core.now) }
+    requires can { IsTrue (pointwise (is_witness_text setting.now.study.now) core.now witnesses.now) }
     ensures { Pours (O.taken out.old) (O.taken out.new) page.old page.new
         (O.faults out.old) (O.faults out.new) result
-        (lines_text study.now (all_witness_lines study.now core.now witnesses.now)) }
+        (lines_text setting.now.study.now
+        (all_witness_lines setting.now.study.now core.now witnesses.now)) }
 {
     for place in 0..witnesses.len() {
-        pour_witness(kind, study, core[place], &witnesses[place], page, out)?;
+        pour_witness(setting, core[place], &witnesses[place], page, out)?;
     }
     Ok(())
 }

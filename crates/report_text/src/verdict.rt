@@ -16,30 +16,29 @@ use crate::words::Subject;
 use edge::{Failed, Sink};
 use lists::Items;
 use meaning::{Lemma, Witnesses};
-use outcomes::OutcomeKind;
+use outcomes::{OutcomeKind, Setting};
 use texts::{Page, Raw, Text, Two};
 use verdicts::Verdict;
 use vocab::{Places, Study};
 
 /// Adds the text of an impossibility.
 fn pour_impossible<'a, K: OutcomeKind, O: Sink>(
-    kind: &'a K,
-    study: &'a Study,
+    setting: &'a Setting<'a, K>,
     core: &'a Places,
     story: &'a Items<Lemma>,
     witnesses: &Witnesses,
     page: &mut Page,
     out: &mut O,
 ) -> Result<(), Failed>
-    requires size { study.now.size ≡ K.size kind.now }
-    requires has_text { IsTrue (has_text study.now (Impossible core.now story.now witnesses.now)) }
+    requires { IsTrue (has_text setting.now.study.now (Impossible core.now story.now witnesses.now)) }
     ensures { Pours (O.taken out.old) (O.taken out.new) page.old page.new
         (O.faults out.old) (O.faults out.new) result
-        (report_text study.now (Impossible core.now story.now witnesses.now)) }
+        (report_text setting.now.study.now (Impossible core.now story.now witnesses.now)) }
 {
+    let study = setting.study;
     let of = Subject {
         study,
-        space: kind.space(),
+        space: setting.kind.space(),
     };
     let names = CoreNames {
         study,
@@ -55,14 +54,7 @@ fn pour_impossible<'a, K: OutcomeKind, O: Sink>(
     };
     let claim = Two(Raw(b"verdict impossible\ncore"), names);
     Two(Head { of }, Two(claim, Two(lemmas, lines))).pour(page, out)?;
-    pour_witnesses(
-        kind,
-        study,
-        core.as_slice(),
-        witnesses.as_slice(),
-        page,
-        out,
-    )?;
+    pour_witnesses(setting, core.as_slice(), witnesses.as_slice(), page, out)?;
     Raw(b"end\n").pour(page, out)
 }
 
@@ -79,6 +71,7 @@ pub fn pour_verdict<K: OutcomeKind, O: Sink>(
     ensures { Pours (O.taken out.old) (O.taken out.new) page.old page.new
         (O.faults out.old) (O.faults out.new) result (report_text study.now verdict.now) }
 {
+    let setting = Setting { kind, study };
     let of = Subject {
         study,
         space: kind.space(),
@@ -96,7 +89,7 @@ pub fn pour_verdict<K: OutcomeKind, O: Sink>(
             core,
             story,
             witnesses,
-        } => pour_impossible(kind, study, core, story, witnesses, page, out),
+        } => pour_impossible(&setting, core, story, witnesses, page, out),
         Verdict::Undecided => {
             let limit = Count {
                 key: b"verdict undecided\nconflicts ",

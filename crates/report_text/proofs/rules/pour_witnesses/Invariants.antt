@@ -9,4 +9,4 @@ use Rattle.report_text.proofs.rules.pour_witnesses.Given as goal
 
 -- the texts so far were added
 abbrev pub invariant-loop-place : goal.invariant-loop-place
-invariant-loop-place g l = Added (g.O.Sink.taken l.initial.out) (g.O.Sink.taken l.out) l.initial.page l.page (g.O.Sink.faults l.initial.out) (g.O.Sink.faults l.out) (spelled (λ (i : ℕ) (w : Witness). lines_text l.study (witness_lines l.study (slice_index l.core i) w)) 0 (take l.place l.witnesses))
+invariant-loop-place g l = Added (g.O.Sink.taken l.initial.out) (g.O.Sink.taken l.out) l.initial.page l.page (g.O.Sink.faults l.initial.out) (g.O.Sink.faults l.out) (spelled (λ (i : ℕ) (w : Witness). lines_text l.setting.study.now (witness_lines l.setting.study.now (slice_index l.core i) w)) 0 (take l.place l.witnesses))
