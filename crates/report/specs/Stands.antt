@@ -45,9 +45,13 @@ abbrev pub StandsAs : Question → Option ReportFault → Judging → Told → T
 StandsAs study fault r (Good s) = (fault ≡ None) × Stands study r s
 StandsAs study fault r (Refused line word) = fault ≡ Some (AtLine line word)
 
+-- a checker that is so far has what is told of the lines
+abbrev pub StandsAt : Question → Progress → Told → Type 0
+StandsAt study p told = StandsAs study p.fault p.judging told
+
 -- a checker that is so far stands for these lines
 abbrev pub StandsFor : Question → Progress → List (List ℕ) → Type 0
-StandsFor study p lines = (p.lines ≡ length lines) × StandsAs study p.fault p.judging (judge study lines)
+StandsFor study p lines = (p.lines ≡ length lines) × StandsAt study p (judge study lines)
 
 -- it stands for some lines, unless memory was wanting
 abbrev pub IsReady : Question → Progress → Type 0

@@ -17,8 +17,8 @@ use crate::subject::Subject;
 use crew::Crew;
 use edge::Gate;
 use lists::NoMemory;
-use outcomes::OutcomeKind;
 use outcomes::laws::kinds_have_sizes;
+use outcomes::{OutcomeKind, Setting};
 use report_lines::Place;
 use std::alloc::Global;
 use std::thread::Threads;
@@ -61,15 +61,14 @@ impl<'a, K: OutcomeKind> Checker<'a, K> {
         requires few { workers ≤ 16 }
         requires size { study.now.size ≡ K.size kind.now }
         requires listed { HasFewAxioms study.now }
-        ensures study { IfOk result (λ checker. checker.subject.study.now ≡ study.now) }
-        ensures kind { IfOk result (λ checker. checker.subject.kind.now ≡ kind.now) }
+        ensures study { IfOk result (λ checker. checker.subject.setting.study.now ≡ study.now) }
+        ensures kind { IfOk result (λ checker. checker.subject.setting.kind.now ≡ kind.now) }
         ensures workers { IfOk result (λ checker. checker.subject.workers ≡ workers) }
         ensures stands { IfOk result (λ checker. StandsFor study.now checker.progress []) }
     {
         let subject = Subject {
             alloc,
-            kind,
-            study,
+            setting: Setting { kind, study },
             workers,
         };
         let judging = Judging::new(&subject)?;
@@ -90,18 +89,18 @@ impl<'a, K: OutcomeKind> Checker<'a, K> {
         text: &[u8],
     ) -> Result<(), NoMemory>
         requires room { self.old.progress.lines < 4294967294 }
-        requires ready { IsReady self.old.subject.study.now self.old.progress }
+        requires ready { IsReady self.old.subject.setting.study.now self.old.progress }
         ensures subject { self.new.subject ≡ self.old.subject }
         ensures lines { self.new.progress.lines ≡ self.old.progress.lines + 1 }
-        ensures ready { IsReady self.old.subject.study.now self.new.progress }
+        ensures ready { IsReady self.old.subject.setting.study.now self.new.progress }
         ensures lasts { (fault : ReportFault) →
             self.old.progress.fault ≡ Some fault → self.new.progress.fault ≡ Some fault }
         ensures wanting { MatchResult result
             (λ _. self.new.progress.fault ≢ Some ReportFault.NoMemory)
             (λ _. self.new.progress.fault ≡ Some ReportFault.NoMemory) }
         ensures taken { OnOk result ((lines : List (List ℕ)) →
-            StandsFor self.old.subject.study.now self.old.progress lines →
-            StandsFor self.old.subject.study.now self.new.progress (lines ++ text.now ∷ [])) }
+            StandsFor self.old.subject.setting.study.now self.old.progress lines →
+            StandsFor self.old.subject.setting.study.now self.new.progress (lines ++ text.now ∷ [])) }
     {
         self.progress.lines += 1;
         match self.progress.fault {
@@ -142,17 +141,17 @@ impl<'a, K: OutcomeKind> Checker<'a, K> {
         text: &[u8],
     ) -> Result<(), ReportFault>
         requires room { self.old.progress.lines < 4294967294 }
-        requires ready { IsReady self.old.subject.study.now self.old.progress }
+        requires ready { IsReady self.old.subject.setting.study.now self.old.progress }
         ensures subject { self.new.subject ≡ self.old.subject }
         ensures lines { self.new.progress.lines ≡ self.old.progress.lines + 1 }
-        ensures ready { IsReady self.old.subject.study.now self.new.progress }
+        ensures ready { IsReady self.old.subject.setting.study.now self.new.progress }
         ensures told { result ≡ told_of self.new.progress.fault }
         ensures lasts { (fault : ReportFault) →
             self.old.progress.fault ≡ Some fault → self.new.progress.fault ≡ Some fault }
         ensures taken { (lines : List (List ℕ)) →
-            StandsFor self.old.subject.study.now self.old.progress lines →
+            StandsFor self.old.subject.setting.study.now self.old.progress lines →
             self.new.progress.fault ≢ Some ReportFault.NoMemory →
-            StandsFor self.old.subject.study.now self.new.progress (lines ++ text.now ∷ []) }
+            StandsFor self.old.subject.setting.study.now self.new.progress (lines ++ text.now ∷ []) }
     {
         self.take(rt, gate, text)?;
         self.told()
@@ -172,8 +171,9 @@ impl<'a, K: OutcomeKind> Checker<'a, K> {
     pub fn conclude(&self, rest: &[u8]) -> Result<Confirmed, ReportFault>
         requires room { self.now.progress.lines ≤ 4294967294 }
         ensures value { (lines : List (List ℕ)) →
-            StandsFor self.now.subject.study.now self.now.progress lines →
-            Concludes (conclude (length lines + 1) rest.now (judge self.now.subject.study.now lines)) result }
+            StandsFor self.now.subject.setting.study.now self.now.progress lines →
+            Concludes (conclude (length lines + 1) rest.now
+            (judge self.now.subject.setting.study.now lines)) result }
         ensures wanting { self.now.progress.fault ≡ Some ReportFault.NoMemory →
             result ≡ Err ReportFault.NoMemory }
     {
@@ -188,22 +188,24 @@ impl<'a, K: OutcomeKind> Checker<'a, K> {
     pub fn finish(&self) -> Result<Confirmed, ReportFault>
         requires room { self.now.progress.lines ≤ 4294967294 }
         ensures value { (lines : List (List ℕ)) →
-            StandsFor self.now.subject.study.now self.now.progress lines →
-            Concludes (conclude (length lines + 1) [] (judge self.now.subject.study.now lines)) result }
+            StandsFor self.now.subject.setting.study.now self.now.progress lines →
+            Concludes (conclude (length lines + 1) []
+            (judge self.now.subject.setting.study.now lines)) result }
         ensures right { (lines : List (List ℕ)) →
-            StandsFor self.now.subject.study.now self.now.progress lines →
-            ConfirmsRight self.now.subject.study.now (ended lines) result }
+            StandsFor self.now.subject.setting.study.now self.now.progress lines →
+            ConfirmsRight self.now.subject.setting.study.now (ended lines) result }
         ensures all { (lines : List (List ℕ)) →
-            StandsFor self.now.subject.study.now self.now.progress lines →
-            IsTrue (list_all has_no_end lines) → ConfirmsAll self.now.subject.study.now (ended lines) result }
+            StandsFor self.now.subject.setting.study.now self.now.progress lines →
+            IsTrue (list_all has_no_end lines) →
+            ConfirmsAll self.now.subject.setting.study.now (ended lines) result }
         ensures holds { (lines : List (List ℕ)) →
-            StandsFor self.now.subject.study.now self.now.progress lines →
-            ConfirmsTrue self.now.subject.study.now result }
+            StandsFor self.now.subject.setting.study.now self.now.progress lines →
+            ConfirmsTrue self.now.subject.setting.study.now result }
         ensures wanting { self.now.progress.fault ≡ Some ReportFault.NoMemory →
             result ≡ Err ReportFault.NoMemory }
     {
         // Its contract says that the size of the study is one that the bench takes.
-        kinds_have_sizes(self.subject.kind);
+        kinds_have_sizes(self.subject.setting.kind);
         self.conclude(b"")
     }
 }

@@ -38,7 +38,7 @@ pub(crate) struct Judging {
 impl Judging {
     /// Nothing is read.
     pub(crate) fn new<K: OutcomeKind>(subject: &Subject<K>) -> Result<Judging, NoMemory>
-        ensures { IfOk result (λ judging. Stands subject.now.study.now judging start) }
+        ensures { IfOk result (λ judging. Stands subject.now.setting.study.now judging start) }
     {
         Ok(Judging {
             place: Place::AtTitle,
@@ -48,7 +48,7 @@ impl Judging {
             count: 0,
             earlier: Items::new(subject.alloc),
             suppose: Items::new(subject.alloc),
-            board: Board::new(subject.alloc, subject.kind)?,
+            board: Board::new(subject.alloc, subject.setting.kind)?,
             witnesses: 0,
         })
     }

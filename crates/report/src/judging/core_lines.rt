@@ -23,11 +23,11 @@ impl Judging {
         subject: &Subject<K>,
         text: &[u8],
     ) -> Result<Option<Refusal>, NoMemory>
-        ensures { (s : Standing) (names : List (List ℕ)) → Stands subject.now.study.now self.old s →
+        ensures { (s : Standing) (names : List (List ℕ)) → Stands subject.now.setting.study.now self.old s →
             names ≡ drop 1 (words_of text.now) →
-            Takes subject.now.study.now s (CoreIs names) self.new result }
+            Takes subject.now.setting.study.now s (CoreIs names) self.new result }
     {
-        let read = read_core(subject.alloc, subject.study, text)?;
+        let read = read_core(subject.alloc, subject.setting.study, text)?;
         let Some(core) = read else {
             return Ok(Some(Refusal::Core));
         };

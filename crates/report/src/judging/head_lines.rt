@@ -171,10 +171,10 @@ impl Judging {
         subject: &Subject<K>,
         count: u64,
     ) -> Option<Refusal>
-        ensures { (s : Standing) (n : ℕ) → Stands subject.now.study.now self.old s → count ≡ held_number n →
-            Took subject.now.study.now s (RuleOf n) self.new result }
+        ensures { (s : Standing) (n : ℕ) → Stands subject.now.setting.study.now self.old s →
+            count ≡ held_number n → Took subject.now.setting.study.now s (RuleOf n) self.new result }
     {
-        let same = count == subject.kind.space().count() as u64;
+        let same = count == subject.setting.kind.space().count() as u64;
         self.pass(same, Refusal::Row, Place::AtRow)
     }
 

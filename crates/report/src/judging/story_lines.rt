@@ -44,10 +44,10 @@ impl Judging {
         subject: &Subject<K>,
         literal: &Literal,
     ) -> Result<Option<Refusal>, NoMemory>
-        requires read { IsRead subject.now.study.now self.old }
-        requires literal { IsTrue (is_literal subject.now.study.now.size literal.now) }
-        ensures { (s : Standing) → Stands subject.now.study.now self.old s → s.place ≡ AtSuppose →
-            Takes subject.now.study.now s (Suppose literal.now) self.new result }
+        requires read { IsRead subject.now.setting.study.now self.old }
+        requires literal { IsTrue (is_literal subject.now.setting.study.now.size literal.now) }
+        ensures { (s : Standing) → Stands subject.now.setting.study.now self.old s → s.place ≡ AtSuppose →
+            Takes subject.now.setting.study.now s (Suppose literal.now) self.new result }
     {
         let final_one = self.is_last_lemma();
         match suppose(final_one, &mut self.board, literal) {
@@ -65,20 +65,20 @@ impl Judging {
         literal: &Literal,
         reason: &Reason,
     ) -> Result<Option<Refusal>, NoMemory>
-        requires read { IsRead subject.now.study.now self.old }
-        requires literal { IsTrue (is_literal subject.now.study.now.size literal.now) }
-        ensures { (s : Standing) (wanted : StoryReason) → Stands subject.now.study.now self.old s →
+        requires read { IsRead subject.now.setting.study.now self.old }
+        requires literal { IsTrue (is_literal subject.now.setting.study.now.size literal.now) }
+        ensures { (s : Standing) (wanted : StoryReason) → Stands subject.now.setting.study.now self.old s →
             IsInStory s.place →
             reason.now ≡ held_reason wanted →
-            Takes subject.now.study.now s (So literal.now wanted) self.new result }
+            Takes subject.now.setting.study.now s (So literal.now wanted) self.new result }
     {
         let step = StoryStep {
             literal: *literal,
             reason: *reason,
         };
         match take_step(
-            subject.kind,
-            subject.study,
+            subject.setting.kind,
+            subject.setting.study,
             &self.core,
             self.earlier.as_slice(),
             &mut self.board,
@@ -97,14 +97,15 @@ impl Judging {
         subject: &Subject<K>,
         reason: &Reason,
     ) -> Result<Option<Refusal>, NoMemory>
-        requires read { IsRead subject.now.study.now self.old }
-        ensures { (s : Standing) (wanted : StoryReason) → Stands subject.now.study.now self.old s →
+        requires read { IsRead subject.now.setting.study.now self.old }
+        ensures { (s : Standing) (wanted : StoryReason) → Stands subject.now.setting.study.now self.old s →
             IsInStory s.place →
-            reason.now ≡ held_reason wanted → Takes subject.now.study.now s (Clash wanted) self.new result }
+            reason.now ≡ held_reason wanted →
+            Takes subject.now.setting.study.now s (Clash wanted) self.new result }
     {
         match refutes(
-            subject.kind,
-            subject.study,
+            subject.setting.kind,
+            subject.setting.study,
             &self.core,
             self.earlier.as_slice(),
             &self.board,

@@ -57,11 +57,11 @@ fn check<R: Threads + Sync, G: Gate, K: OutcomeKind>(
     table: &Table,
     places: &[u32],
 ) -> Result<Option<Refusal>, NoMemory>
-    requires rule { IsTrue (is_rule subject.now.study.now.size table.now) }
-    requires places { ArePlaces subject.now.study.now places.now }
-    ensures { IfOk result (λ fault. fault ≡ table_fault subject.now.study.now table.now places.now) }
+    requires rule { IsTrue (is_rule subject.now.setting.study.now.size table.now) }
+    requires places { ArePlaces subject.now.setting.study.now places.now }
+    ensures { IfOk result (λ fault. fault ≡ table_fault subject.now.setting.study.now table.now places.now) }
 {
-    let (kind, study) = (subject.kind, subject.study);
+    let (kind, study) = (subject.setting.kind, subject.setting.study);
     check_rule(subject.alloc, crew, kind, study, table, places)
 }
 
@@ -74,20 +74,20 @@ impl Judging {
         profile: u32,
         outcome: u8,
     ) -> Result<Option<Refusal>, NoMemory>
-        requires rows { AreOutcomes subject.now.study.now.size self.old.rows }
-        requires more { length self.old.rows < sort_count subject.now.study.now.size Profile }
-        requires outcome { outcome < outcome_count subject.now.study.now.size.kind
-            subject.now.study.now.size.alternatives }
-        requires core { ArePlaces subject.now.study.now self.old.core }
+        requires rows { AreOutcomes subject.now.setting.study.now.size self.old.rows }
+        requires more { length self.old.rows < sort_count subject.now.setting.study.now.size Profile }
+        requires outcome { outcome < outcome_count subject.now.setting.study.now.size.kind
+            subject.now.setting.study.now.size.alternatives }
+        requires core { ArePlaces subject.now.setting.study.now self.old.core }
         requires next { self.old.place ≡ held_place AtWitnessRow → self.old.witnesses < length self.old.core }
-        ensures { (s : Standing) → Stands subject.now.study.now self.old s →
-            Takes subject.now.study.now s (Row profile outcome) self.new result }
+        ensures { (s : Standing) → Stands subject.now.setting.study.now self.old s →
+            Takes subject.now.setting.study.now s (Row profile outcome) self.new result }
     {
         if profile as usize != self.rows.len() {
             return Ok(Some(Refusal::Row));
         }
         self.rows.push(outcome)?;
-        if self.rows.len() == subject.kind.space().count() as usize {
+        if self.rows.len() == subject.setting.kind.space().count() as usize {
             self.take_table(crew, subject)
         } else {
             Ok(None)
@@ -100,11 +100,11 @@ impl Judging {
         crew: &Crew<R, G>,
         subject: &Subject<K>,
     ) -> Result<Option<Refusal>, NoMemory>
-        requires rule { IsTrue (is_rule subject.now.study.now.size self.old.rows) }
-        requires core { ArePlaces subject.now.study.now self.old.core }
+        requires rule { IsTrue (is_rule subject.now.setting.study.now.size self.old.rows) }
+        requires core { ArePlaces subject.now.setting.study.now self.old.core }
         requires next { self.old.place ≡ held_place AtWitnessRow → self.old.witnesses < length self.old.core }
-        ensures { (s : Standing) → Stands subject.now.study.now self.old s →
-            TakesTable subject.now.study.now s self.new result }
+        ensures { (s : Standing) → Stands subject.now.setting.study.now self.old s →
+            TakesTable subject.now.setting.study.now s self.new result }
     {
         match self.place {
             Place::AtWitnessRow => self.take_witness(crew, subject),
@@ -118,12 +118,12 @@ impl Judging {
         crew: &Crew<R, G>,
         subject: &Subject<K>,
     ) -> Result<Option<Refusal>, NoMemory>
-        requires rule { IsTrue (is_rule subject.now.study.now.size self.old.rows) }
+        requires rule { IsTrue (is_rule subject.now.setting.study.now.size self.old.rows) }
         requires place { self.old.place ≡ held_place AtWitnessRow → ⊥ }
-        ensures { (s : Standing) → Stands subject.now.study.now self.old s →
-            TakesTable subject.now.study.now s self.new result }
+        ensures { (s : Standing) → Stands subject.now.setting.study.now self.old s →
+            TakesTable subject.now.setting.study.now s self.new result }
     {
-        let places = all_places(subject.alloc, subject.study.axioms().len())?;
+        let places = all_places(subject.alloc, subject.setting.study.axioms().len())?;
         let fault = check(crew, subject, &self.rows, places.as_slice())?;
         if fault.is_none() {
             self.place = Place::AtEnd(Some(Confirmed::Possible));
@@ -137,12 +137,12 @@ impl Judging {
         crew: &Crew<R, G>,
         subject: &Subject<K>,
     ) -> Result<Option<Refusal>, NoMemory>
-        requires rule { IsTrue (is_rule subject.now.study.now.size self.old.rows) }
-        requires core { ArePlaces subject.now.study.now self.old.core }
+        requires rule { IsTrue (is_rule subject.now.setting.study.now.size self.old.rows) }
+        requires core { ArePlaces subject.now.setting.study.now self.old.core }
         requires place { self.old.place ≡ held_place AtWitnessRow }
         requires next { self.old.witnesses < length self.old.core }
-        ensures { (s : Standing) → Stands subject.now.study.now self.old s →
-            TakesTable subject.now.study.now s self.new result }
+        ensures { (s : Standing) → Stands subject.now.setting.study.now self.old s →
+            TakesTable subject.now.setting.study.now s self.new result }
     {
         let Some(next) = self.next_core() else {
             return Ok(Some(Refusal::Core));

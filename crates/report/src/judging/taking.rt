@@ -39,14 +39,21 @@ impl Judging {
         line: u32,
         text: &[u8],
     ) -> Option<ReportFault>
-        requires read { IsRead subject.now.study.now self.old }
-        ensures { (s : Standing) → Stands subject.now.study.now self.old s →
+        requires read { IsRead subject.now.setting.study.now self.old }
+        ensures { (s : Standing) → Stands subject.now.setting.study.now self.old s →
             result ≢ Some ReportFault.NoMemory →
-            StandsAs subject.now.study.now result self.new
-            (settle subject.now.study.now line s (read_line subject.now.study.now s text.now) Good) }
+            StandsAs subject.now.setting.study.now result self.new
+            (settle subject.now.setting.study.now line s
+            (read_line subject.now.setting.study.now s text.now) Good) }
     {
         let number = self.earlier.len() as u64 + 1;
-        let Some(said) = read_line(subject.kind, subject.study, self.place, number, text) else {
+        let Some(said) = read_line(
+            subject.setting.kind,
+            subject.setting.study,
+            self.place,
+            number,
+            text,
+        ) else {
             return Some(ReportFault::Line {
                 line,
                 refusal: Refusal::Form,
@@ -67,21 +74,24 @@ impl Judging {
         line: &Line,
         text: &[u8],
     ) -> Result<Option<Refusal>, NoMemory>
-        requires read { IsRead subject.now.study.now self.old }
-        requires line { (s : Standing) → Stands subject.now.study.now self.old s →
-            IsLine subject.now.study.now s text.now line.now }
-        ensures { (s : Standing) (wanted : WantedLine) → Stands subject.now.study.now self.old s →
-            read_line subject.now.study.now s text.now ≡ Some wanted →
-            line.now ≡ held_line subject.now.study.now wanted →
-            Takes subject.now.study.now s wanted self.new result }
+        requires read { IsRead subject.now.setting.study.now self.old }
+        requires line { (s : Standing) → Stands subject.now.setting.study.now self.old s →
+            IsLine subject.now.setting.study.now s text.now line.now }
+        ensures { (s : Standing) (wanted : WantedLine) → Stands subject.now.setting.study.now self.old s →
+            read_line subject.now.setting.study.now s text.now ≡ Some wanted →
+            line.now ≡ held_line subject.now.setting.study.now wanted →
+            Takes subject.now.setting.study.now s wanted self.new result }
     {
         match line {
-            Line::Title(version) => Ok(self.take_title(subject.study, *version)),
-            Line::KindIs(kind) => Ok(self.take_kind(subject.study, *kind)),
-            Line::VotersAre(count) => Ok(self.take_voters(subject.study, *count)),
-            Line::AlternativesAre(count) => Ok(self.take_alternatives(subject.study, *count)),
+            Line::Title(version) => Ok(self.take_title(subject.setting.study, *version)),
+            Line::KindIs(kind) => Ok(self.take_kind(subject.setting.study, *kind)),
+            Line::VotersAre(count) => Ok(self.take_voters(subject.setting.study, *count)),
+            Line::AlternativesAre(count) => Ok(self.take_alternatives(
+                subject.setting.study,
+                *count,
+            )),
             Line::BallotsAre(same) => Ok(self.take_ballots(*same)),
-            Line::AbsentIs(absent) => Ok(self.take_absent(subject.study, *absent)),
+            Line::AbsentIs(absent) => Ok(self.take_absent(subject.setting.study, *absent)),
             Line::AxiomsAre(same) => Ok(self.take_axioms(*same)),
             Line::SaysPossible => Ok(self.take_possible()),
             Line::SaysImpossible => Ok(self.take_impossible()),

@@ -48,15 +48,15 @@ impl Judging {
         name: &Name,
         count: u64,
     ) -> Option<Refusal>
-        requires read { IsRead subject.now.study.now self.old }
-        ensures { (s : Standing) (n : ℕ) → Stands subject.now.study.now self.old s → s.place ≡ AtWitness →
-            count ≡ held_number n →
-            Took subject.now.study.now s (WithRule name.now n) self.new result }
+        requires read { IsRead subject.now.setting.study.now self.old }
+        ensures { (s : Standing) (n : ℕ) → Stands subject.now.setting.study.now self.old s →
+            s.place ≡ AtWitness → count ≡ held_number n →
+            Took subject.now.setting.study.now s (WithRule name.now n) self.new result }
     {
         if !self.is_next(subject, name) {
             return Some(Refusal::Core);
         }
-        if count != subject.kind.space().count() as u64 {
+        if count != subject.setting.kind.space().count() as u64 {
             return Some(Refusal::Row);
         }
         self.place = Place::AtWitnessRow;
@@ -70,15 +70,15 @@ impl Judging {
         name: &Name,
         limit: u64,
     ) -> Option<Refusal>
-        requires read { IsRead subject.now.study.now self.old }
-        ensures { (s : Standing) (n : ℕ) → Stands subject.now.study.now self.old s → s.place ≡ AtWitness →
-            limit ≡ held_number n →
-            Took subject.now.study.now s (WithOpen name.now n) self.new result }
+        requires read { IsRead subject.now.setting.study.now self.old }
+        ensures { (s : Standing) (n : ℕ) → Stands subject.now.setting.study.now self.old s →
+            s.place ≡ AtWitness → limit ≡ held_number n →
+            Took subject.now.setting.study.now s (WithOpen name.now n) self.new result }
     {
         if !self.is_next(subject, name) {
             return Some(Refusal::Core);
         }
-        if limit != subject.study.conflicts() as u64 {
+        if limit != subject.setting.study.conflicts() as u64 {
             return Some(Refusal::OpenMark);
         }
         self.witnesses += 1;
@@ -88,15 +88,15 @@ impl Judging {
 
     /// Whether the axiom whose witness comes next has the name.
     fn is_next<K: OutcomeKind>(&self, subject: &Subject<K>, name: &Name) -> bool
-        requires { IsRead subject.now.study.now self.now }
-        ensures fault { (s : Standing) → Stands subject.now.study.now self.now s →
-            name_fault subject.now.study.now (next_core s) name.now ≡ unless_so result Fault.Core }
+        requires { IsRead subject.now.setting.study.now self.now }
+        ensures fault { (s : Standing) → Stands subject.now.setting.study.now self.now s →
+            name_fault subject.now.setting.study.now (next_core s) name.now ≡ unless_so result Fault.Core }
         ensures few { IsTrue result → self.now.witnesses < 4000000 }
     {
         match self.next_core() {
             None => false,
             Some(place) => {
-                let axiom = subject.study.axioms().get(place as usize);
+                let axiom = subject.setting.study.axioms().get(place as usize);
                 axiom.name().bytes() == name.bytes()
             }
         }

@@ -9,33 +9,33 @@ use Rattle.report.proofs.WitnessLineLemmas.{in_range}
 use Rattle.report.proofs.judging.Judging.take_clash.Goals as goal
 
 pub refutes-requires-clause-core : goal.refutes-requires-clause-core
-refutes-requires-clause-core g c κs within = in_range c.args.subject.now.study.now c.args.self.now c.requires.read
+refutes-requires-clause-core g c κs within = in_range c.args.subject.now.setting.study.now c.args.self.now c.requires.read
 
 pub refutes-requires-clause-earlier : goal.refutes-requires-clause-earlier
 refutes-requires-clause-earlier g c κs within =
-    earlier_there c.args.subject.now.study.now c.args.self.now c.requires.read (g.K.OutcomeKind.size c.args.subject.now.kind.now) c.as_slice.result.now c.args.subject.now.size c.as_slice.ensures
+    earlier_there c.args.subject.now.setting.study.now c.args.self.now c.requires.read (g.K.OutcomeKind.size c.args.subject.now.setting.kind.now) c.as_slice.result.now c.args.subject.now.setting.same c.as_slice.ensures
 
 pub end_lemma-requires : goal.end_lemma-requires
-end_lemma-requires g c = record { room = few_earlier c.args.subject.now.study.now c.args.self.now c.requires.read }
+end_lemma-requires g c = record { room = few_earlier c.args.subject.now.setting.study.now c.args.self.now c.requires.read }
 
 pub returns-in-Err : goal.returns-in-Err
 returns-in-Err g c = λ s wanted h at held.
-    let size : Extent = g.K.OutcomeKind.size c.args.subject.now.kind.now in
-    let study = c.args.subject.now.study.now in
+    let size : Extent = g.K.OutcomeKind.size c.args.subject.now.setting.kind.now in
+    let study = c.args.subject.now.setting.study.now in
     let r = c.args.self.now in
     let es = c.as_slice.result.now in
-    let same = clash_fault_is study r s h c.args.reason.now wanted size es held c.args.subject.now.size c.as_slice.ensures in (
+    let same = clash_fault_is study r s h c.args.reason.now wanted size es held c.args.subject.now.setting.same c.as_slice.ensures in (
       refused (reason_fault size study.axioms r.core es r.board.literals c.args.reason.now) (fault_of study s (Clash wanted)) same c.in-Err.fault c.refusal_of.result c.in-Err.ensures c.refusal_of.ensures,
       λ none. absurd (none-some _ (sym none)),
     )
 
 pub returns : goal.returns
 returns g c = λ s wanted h at held.
-    let size : Extent = g.K.OutcomeKind.size c.args.subject.now.kind.now in
-    let study = c.args.subject.now.study.now in
+    let size : Extent = g.K.OutcomeKind.size c.args.subject.now.setting.kind.now in
+    let study = c.args.subject.now.setting.study.now in
     let r = c.args.self.now in
     let es = c.as_slice.result.now in
-    let same = clash_fault_is study r s h c.args.reason.now wanted size es held c.args.subject.now.size c.as_slice.ensures in (
+    let same = clash_fault_is study r s h c.args.reason.now wanted size es held c.args.subject.now.setting.same c.as_slice.ensures in (
       accepted (reason_fault size study.axioms r.core es r.board.literals c.args.reason.now) (fault_of study s (Clash wanted)) same c.in-Ok.ensures,
       λ _. c.after_lemma.ensures (told s wanted) study (c.in_ok-end_lemma.ensures s study wanted h),
     )

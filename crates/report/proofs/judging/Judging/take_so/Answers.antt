@@ -9,32 +9,32 @@ use Rattle.report.proofs.WitnessLineLemmas.{in_range}
 use Rattle.report.proofs.judging.Judging.take_so.Goals as goal
 
 pub take_step-requires-clause-core : goal.take_step-requires-clause-core
-take_step-requires-clause-core g c κs within = in_range c.args.subject.now.study.now c.args.self.now c.requires.read
+take_step-requires-clause-core g c κs within = in_range c.args.subject.now.setting.study.now c.args.self.now c.requires.read
 
 pub take_step-requires-clause-earlier : goal.take_step-requires-clause-earlier
 take_step-requires-clause-earlier g c κs within =
-    earlier_there c.args.subject.now.study.now c.args.self.now c.requires.read (g.K.OutcomeKind.size c.args.subject.now.kind.now) c.as_slice.result.now c.args.subject.now.size c.as_slice.ensures
+    earlier_there c.args.subject.now.setting.study.now c.args.self.now c.requires.read (g.K.OutcomeKind.size c.args.subject.now.setting.kind.now) c.as_slice.result.now c.args.subject.now.setting.same c.as_slice.ensures
 
 pub returns-in-Err : goal.returns-in-Err
 returns-in-Err g c = λ s wanted h at held.
-    let size : Extent = g.K.OutcomeKind.size c.args.subject.now.kind.now in
-    let study = c.args.subject.now.study.now in
+    let size : Extent = g.K.OutcomeKind.size c.args.subject.now.setting.kind.now in
+    let study = c.args.subject.now.setting.study.now in
     let r = c.args.self.now in
     let l = c.args.literal.now in
     let es = c.as_slice.result.now in
-    let same = step_fault_is study r s h l c.args.reason.now wanted size es held c.args.subject.now.size c.as_slice.ensures in (
+    let same = step_fault_is study r s h l c.args.reason.now wanted size es held c.args.subject.now.setting.same c.as_slice.ensures in (
       refused (step_fault size study.axioms r.core es r.board.literals (record { literal = l; reason = c.args.reason.now })) (fault_of study s (So l wanted)) same c.in-Err.fault c.refusal_of.result c.in-Err.ensures.fault c.refusal_of.ensures,
       λ none. absurd (none-some _ (sym none)),
     )
 
 pub returns : goal.returns
 returns g c = λ s wanted h at held.
-    let size : Extent = g.K.OutcomeKind.size c.args.subject.now.kind.now in
-    let study = c.args.subject.now.study.now in
+    let size : Extent = g.K.OutcomeKind.size c.args.subject.now.setting.kind.now in
+    let study = c.args.subject.now.setting.study.now in
     let r = c.args.self.now in
     let l = c.args.literal.now in
     let es = c.as_slice.result.now in
-    let same = step_fault_is study r s h l c.args.reason.now wanted size es held c.args.subject.now.size c.as_slice.ensures in (
+    let same = step_fault_is study r s h l c.args.reason.now wanted size es held c.args.subject.now.setting.same c.as_slice.ensures in (
       accepted (step_fault size study.axioms r.core es r.board.literals (record { literal = l; reason = c.args.reason.now })) (fault_of study s (So l wanted)) same c.in-Ok.ensures.fault,
       λ _. with_step study r s h l wanted c.take_step.new.board c.in-Ok.ensures.size c.in-Ok.ensures.ok,
     )

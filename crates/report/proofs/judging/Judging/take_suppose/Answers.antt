@@ -8,7 +8,7 @@ use Rattle.report.proofs.judging.Judging.take_suppose.Goals as goal
 
 pub returns-in-Err : goal.returns-in-Err
 returns-in-Err g c = λ s h at.
-    let study = c.args.subject.now.study.now in
+    let study = c.args.subject.now.setting.study.now in
     let final = c.is_last_lemma-final_one.result in
     let r = c.args.self.now in
     let l = c.args.literal.now in
@@ -19,7 +19,7 @@ returns-in-Err g c = λ s h at.
 
 pub returns : goal.returns
 returns g c = λ s h at.
-    let study = c.args.subject.now.study.now in
+    let study = c.args.subject.now.setting.study.now in
     let final = c.is_last_lemma-final_one.result in
     let r = c.args.self.now in
     let l = c.args.literal.now in

@@ -11,7 +11,7 @@ overflow_add-self g c = omega (arith, c.is_next.ensures.few c.if-not-is_next.fal
 
 pub returns : goal.returns
 returns g c = λ s n h at held.
-    let study = c.args.subject.now.study.now in
+    let study = c.args.subject.now.setting.study.now in
     let named = c.is_next.ensures.fault s h ∙ ap (λ b. unless_so b Core) c.if-not-is_next.false in
     let same = number_same n study.conflicts (omega (arith, c.conflicts.ensures, c.conflicts.type_inv)) (sym held ∙ c.if-limit-conflicts.false ∙ c.conflicts.ensures) in (
       no_fault (name_fault study (next_core s) c.args.name.now) (n == study.conflicts) Core OpenMark named same,
