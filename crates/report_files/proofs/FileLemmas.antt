@@ -3,10 +3,8 @@ use Rattle.std.proofs.Common.{◌≡◌, refl, sym, ap, ◌∙◌, subst, ℕ, z
 use Rattle.std.specs.Io.KnownBytes.{Consumes}
 use Rattle.edge.specs.Shelf.{Files, OthersStay, NoneFell}
 use Rattle.edge.proofs.Known.{Consumes-more}
-use Rattle.vocab.specs.Study.{Question}
-use Rattle.report.specs.declared.progress.Progress.{Progress}
-use Rattle.report_files.specs.Files.{HasTaken, most_report_bytes}
-use Rattle.report_files.specs.Pieces.{StandsForText}
+use Rattle.report_files.specs.Files.{most_report_bytes}
+use Rattle.report_files.specs.Pieces.{ReaderState, StandsForText, HasTaken}
 
 -- as much was read as there is no room for any more
 pub record HasReadSoFar (name : List ℕ) (left_before left_now : Files) (files_before files_now : Option Files) (faults_before faults_now : List ℕ → ℕ) (room : ℕ) (bytes : List ℕ) : Type 0 where
@@ -20,12 +18,11 @@ pub consumes_none : (known : Option (List ℕ)) → Consumes known known []
 consumes_none None = tt
 consumes_none (Some xs) = refl
 
-pub taken_none : (study : Question) (p : Progress) (held : List ℕ) → HasTaken study p p held held []
-taken_none study p held = λ text stands. subst (λ (t : List ℕ). StandsForText study p held t) (sym (append-nil text)) stands
+pub taken_none : (r : ReaderState) → HasTaken r r []
+taken_none r = λ text stands. subst (λ (t : List ℕ). StandsForText r t) (sym (append-nil text)) stands
 
-pub taken_more : (study : Question) (p q r : Progress) (held now next xs ys : List ℕ)
-    → HasTaken study p q held now xs → HasTaken study q r now next ys → HasTaken study p r held next (xs ++ ys)
-taken_more study p q r held now next xs ys one two = λ text stands. subst (λ (t : List ℕ). StandsForText study r next t) (append_assoc text xs ys) (two (text ++ xs) (one text stands))
+pub taken_more : (first old new : ReaderState) (xs ys : List ℕ) → HasTaken first old xs → HasTaken old new ys → HasTaken first new (xs ++ ys)
+taken_more first old new xs ys one two = λ text stands. subst (λ (t : List ℕ). StandsForText new t) (append_assoc text xs ys) (two (text ++ xs) (one text stands))
 
 -- nothing came of a read
 pub consumes_end : (before now next : Option (List ℕ)) (bytes chunk : List ℕ) (count : ℕ) → count ≡ 0 → Consumes before now bytes → Consumes now next (take count chunk) → Consumes before next bytes

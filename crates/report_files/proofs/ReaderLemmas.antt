@@ -9,8 +9,8 @@ use Rattle.verdicts.specs.Judge.{Told, Good, Refused, read_line, settle, judge, 
 use Rattle.verdicts.proofs.StepLaws.{told_more, judge_snoc}
 use Rattle.report.specs.declared.progress.Progress.{Progress}
 use Rattle.verdicts.specs.Judge.{has_no_end}
-use Rattle.report.specs.Stands.{StandsAs, StandsFor}
-use Rattle.report_files.specs.Pieces.{head_of, StandsForText}
+use Rattle.report.specs.Stands.{StandsAt, StandsFor}
+use Rattle.report_files.specs.Pieces.{head_of, ReaderState, StandsForText}
 use Rattle.report_files.proofs.PieceLemmas.{take_more, front_ended, final_ended, front_going, final_going, pieces_count}
 
 length_take : {A : Type 0} (n : ℕ) (xs : List A) → n ≤ length xs → length (take n xs) ≡ n
@@ -50,18 +50,7 @@ same_length (l ∷ lines) x y = ap suc (same_length lines x y)
 module _ (study : Question) (p : Progress) where
   -- a checker that was given the front of a line stands for the line
   pub head_stands : (lines : List (List ℕ)) (line : List ℕ) → StandsFor study p (lines ++ head_of line ∷ []) → StandsFor study p (lines ++ line ∷ [])
-  head_stands lines line h = (h.0 ∙ same_length lines (head_of line) line, subst (λ t. StandsAs study p.fault p.judging t) (head_judge study lines line) h.1)
-
-  -- a line ended
-  pub ended_stands : (text w : List ℕ) → has_no_end w ≡ true → StandsFor study p (front (pieces text) ++ (final (pieces text) ++ w) ∷ []) → StandsForText study p [] (text ++ (w ++ 10 ∷ []))
-  ended_stands text w h k = (subst (λ ls. StandsFor study p ls) (sym (front_ended text w h)) k, ap head_of (sym (final_ended text w h)))
-
-  -- a line went on
-  pub going_stands : (held text w : List ℕ) → has_no_end w ≡ true → StandsForText study p held text → StandsForText study p (head_of (held ++ w)) (text ++ w)
-  going_stands held text w h k = (
-    subst (λ ls. StandsFor study p ls) (sym (front_going text w h)) k.0,
-    ap (λ t. head_of (t ++ w)) k.1 ∙ take_more 4097 (final (pieces text)) w ∙ ap head_of (sym (final_going text w h)),
-  )
+  head_stands lines line h = (h.0 ∙ same_length lines (head_of line) line, subst (StandsAt study p) (head_judge study lines line) h.1)
 
 -- the front of a line that is held, and what follows
 pub head_more : (held rest w : List ℕ) → held ≡ head_of rest → head_of (held ++ w) ≡ head_of (rest ++ w)
@@ -94,23 +83,29 @@ pub end_stands : (study : Question) (p q : Progress) (lines : List (List ℕ)) (
 end_stands study p q lines rest w held line taken e h stands =
     head_stands study q lines (rest ++ w) (subst (λ t. StandsFor study q (lines ++ t ∷ [])) (e ∙ head_more held rest w h) (taken lines stands))
 
--- a line of a piece has ended
-pub piece_line : (study : Question) (p q : Progress) (text read line held none : List ℕ)
-    → has_no_end line ≡ true
-    → ((lines : List (List ℕ)) (rest : List ℕ) → StandsFor study p lines → held ≡ head_of rest → StandsFor study q (lines ++ (rest ++ line) ∷ []))
-    → none ≡ [] → StandsForText study p held (text ++ read) → StandsForText study q none (text ++ (read ++ (line ++ 10 ∷ [])))
-piece_line study p q text read line held none h taken e stands =
-    subst (λ t. StandsForText study q none t) (append_assoc text read (line ++ 10 ∷ []))
-    (subst (λ t. StandsForText study q t ((text ++ read) ++ (line ++ 10 ∷ []))) (sym e)
-    (ended_stands study q (text ++ read) line h (taken (front (pieces (text ++ read))) (final (pieces (text ++ read))) stands.0 stands.1)))
+module _ (old new : ReaderState) (same : new.study ≡ old.study) where
+  -- a line of a piece has ended
+  pub piece_line : (text read line : List ℕ)
+      → has_no_end line ≡ true
+      → ((lines : List (List ℕ)) (rest : List ℕ) → StandsFor old.study old.progress lines → old.held ≡ head_of rest → StandsFor old.study new.progress (lines ++ (rest ++ line) ∷ []))
+      → new.held ≡ [] → StandsForText old (text ++ read) → StandsForText new (text ++ (read ++ (line ++ 10 ∷ [])))
+  piece_line text read line h taken e stands =
+      let now : List ℕ = (text ++ read) ++ (line ++ 10 ∷ []) in
+      let lines : StandsFor old.study new.progress (front (pieces now)) =
+      subst (λ ls. StandsFor old.study new.progress ls) (sym (front_ended (text ++ read) line h)) (taken (front (pieces (text ++ read))) (final (pieces (text ++ read))) stands.0 stands.1) in
+      subst (StandsForText new) (append_assoc text read (line ++ 10 ∷ []))
+      (subst (λ q. StandsFor q new.progress (front (pieces now))) (sym same) lines, e ∙ ap head_of (sym (final_ended (text ++ read) line h)))
 
--- what is left of a piece is held
-pub piece_rest : (study : Question) (p : Progress) (text bytes read rest held now : List ℕ)
-    → has_no_end rest ≡ true → bytes ≡ read ++ rest → now ≡ head_of (held ++ rest)
-    → StandsForText study p held (text ++ read) → StandsForText study p now (text ++ bytes)
-piece_rest study p text bytes read rest held now h cut e stands =
-    subst (λ t. StandsForText study p now t) (append_assoc text read rest ∙ ap (λ t. text ++ t) (sym cut))
-    (subst (λ t. StandsForText study p t ((text ++ read) ++ rest)) (sym e) (going_stands study p held (text ++ read) rest h stands))
+  -- what is left of a piece is held
+  pub piece_rest : (text bytes read rest : List ℕ)
+      → has_no_end rest ≡ true → bytes ≡ read ++ rest → new.progress ≡ old.progress → new.held ≡ head_of (old.held ++ rest)
+      → StandsForText old (text ++ read) → StandsForText new (text ++ bytes)
+  piece_rest text bytes read rest h cut is e stands =
+      let now : List ℕ = (text ++ read) ++ rest in
+      let lines : StandsFor old.study old.progress (front (pieces now)) = subst (λ ls. StandsFor old.study old.progress ls) (sym (front_going (text ++ read) rest h)) stands.0 in
+      let held : new.held ≡ head_of (final (pieces now)) = e ∙ ap (λ t. head_of (t ++ rest)) stands.1 ∙ take_more 4097 (final (pieces (text ++ read))) rest ∙ ap head_of (sym (final_going (text ++ read) rest h)) in
+      subst (StandsForText new) (append_assoc text read rest ∙ ap (λ t. text ++ t) (sym cut))
+      (subst (λ q. StandsFor q new.progress (front (pieces now))) (sym same) (subst (λ p. StandsFor old.study p (front (pieces now))) (sym is) lines), held)
 
 -- of a piece with a line end in it, what is cut off and what is left
 pub cut_more : (bytes read rest line after : List ℕ) → bytes ≡ read ++ rest → rest ≡ line ++ 10 ∷ after → bytes ≡ (read ++ (line ++ 10 ∷ [])) ++ after

@@ -10,7 +10,7 @@ use Rattle.verdicts.specs.declared.refusals.Refusal.{Refusal}
 use Rattle.verdicts.specs.declared.verdicts.Verdict.{Verdict}
 use Rattle.verdicts.specs.Claims.{claim_of}
 use Rattle.verdicts.specs.Report.{lemma_count}
-use Rattle.verdicts.proofs.ClaimLaws.{right_claims, within_limit}
+use Rattle.verdicts.proofs.ClaimLaws.{within_limit}
 use Rattle.verdicts.proofs.JudgeLaws.{judge_sound}
 use Rattle.verdicts.proofs.LineEndLaws.{lemmas_fit}
 use Rattle.verdicts.proofs.ReportLaws.{right_is_confirmed}
@@ -26,12 +26,11 @@ use Rattle.report_files.specs.declared.files.Ending.TheVariants as ending
 use Rattle.report_files.specs.declared.files.FileFault.{FileFault}
 use Rattle.report_files.specs.declared.files.Worth.{Worth}
 use Rattle.report_files.specs.declared.files.Worth.TheVariants as worth
-use Rattle.report.specs.declared.progress.Progress.{Progress}
 use Rattle.report.specs.Answers.{Concludes, ConfirmsTrue}
 use Rattle.report.proofs.AnswerLemmas.{true_if_right}
 use Rattle.report_files.specs.Files.{IsEndedAt, IsWorth, IsWorthOf, IsClaimedIn, FileIsRight, FileIsConfirmed, WorthHolds, most_report_bytes}
-use Rattle.report.specs.Stands.{StandsAs}
-use Rattle.report_files.specs.Pieces.{StandsForText}
+use Rattle.report.specs.Stands.{StandsAt}
+use Rattle.report_files.specs.Pieces.{ReaderState, StandsForText}
 use Rattle.report_files.proofs.PieceLemmas.{front_more}
 use Rattle.report_files.proofs.TextLemmas.{text_right}
 
@@ -119,18 +118,18 @@ concludes_line (IsConfirmed verdict) m word h = absurd (none_claimed (claim_of v
 concludes_line (Faulty n w) m word h = let one : m ≡ n = cc in let two : word ≡ w = cc in ap (λ k. worth.Faulty k word) one ∙ ap (worth.Faulty n) two
 concludes_line TooLong m word h = absurd h
 
-module _ (study : Question) (p : Progress) (now : List ℕ) where
+module _ (r : ReaderState) where
   -- all was read
   pub whole_worth : (e : Ending) (known left : Option (List ℕ)) (bytes held : List ℕ) (result : Result Confirmed ReportFault) (w : Worth)
-      → e ≡ ending.Whole → IsEndedAt e known left p.fault bytes → known ≡ Some held
-      → (Concludes (answer study bytes) result) → ((a : Judgement) → Concludes a result → IsWorth a w) → IsWorth (answer_within most_report_bytes study held) w
+      → e ≡ ending.Whole → IsEndedAt e known left r.progress.fault bytes → known ≡ Some held
+      → (Concludes (answer r.study bytes) result) → ((a : Judgement) → Concludes a result → IsWorth a w) → IsWorth (answer_within most_report_bytes r.study held) w
   whole_worth e known left bytes held result w same ended k concluded worth_of =
-      let parts = whole_is known left p.fault bytes held (subst (λ x. IsEndedAt x known left p.fault bytes) same ended) k in
+      let parts = whole_is known left r.progress.fault bytes held (subst (λ x. IsEndedAt x known left r.progress.fault bytes) same ended) k in
       let short : length held ≤ most_report_bytes = subst (λ t. length t ≤ most_report_bytes) (sym parts.0) parts.1 in
-      subst (λ a. IsWorth a w) (sym (short_answer study held short ∙ ap (answer study) parts.0)) (worth_of (answer study bytes) concluded)
+      subst (λ a. IsWorth a w) (sym (short_answer r.study held short ∙ ap (answer r.study) parts.0)) (worth_of (answer r.study bytes) concluded)
 
   -- a line is faulty
-  prefix_of : (e : Ending) (known left : Option (List ℕ)) (bytes held : List ℕ) → IsEndedAt e known left p.fault bytes → known ≡ Some held → (rest : List ℕ) × (held ≡ bytes ++ rest) × (length bytes ≤ most_report_bytes)
+  prefix_of : (e : Ending) (known left : Option (List ℕ)) (bytes held : List ℕ) → IsEndedAt e known left r.progress.fault bytes → known ≡ Some held → (rest : List ℕ) × (held ≡ bytes ++ rest) × (length bytes ≤ most_report_bytes)
   prefix_of ending.Whole known left bytes held h k = let f = consumed_front left bytes held (subst (λ x. Consumes x left bytes) k h.0) in (f.0, f.1, h.2)
   prefix_of ending.Faulty known left bytes held h k = let f = consumed_front left bytes held (subst (λ x. Consumes x left bytes) k h.0) in (f.0, f.1, h.1)
   prefix_of ending.TooLong known left bytes held h k =
@@ -138,20 +137,20 @@ module _ (study : Question) (p : Progress) (now : List ℕ) where
       (h.0 ++ f.0, f.1 ∙ append_assoc bytes h.0 f.0, omega (arith, h.3))
 
   pub faulty_worth : (e : Ending) (known left : Option (List ℕ)) (bytes held : List ℕ) (fault : ReportFault) (w : Worth)
-      → p.fault ≡ Some fault → IsEndedAt e known left p.fault bytes → known ≡ Some held → StandsForText study p now bytes
-      → ((a : Judgement) → Concludes a (Err fault) → IsWorth a w) → IsWorth (answer_within most_report_bytes study held) w
-  faulty_worth e known left bytes held fault w f ended k stands worth_of = by_told (judge study (front (pieces bytes))) refl stands.0.1
+      → r.progress.fault ≡ Some fault → IsEndedAt e known left r.progress.fault bytes → known ≡ Some held → StandsForText r bytes
+      → ((a : Judgement) → Concludes a (Err fault) → IsWorth a w) → IsWorth (answer_within most_report_bytes r.study held) w
+  faulty_worth e known left bytes held fault w f ended k stands worth_of = by_told (judge r.study (front (pieces bytes))) refl stands.0.1
     where
-      by_told : (told : Told) → judge study (front (pieces bytes)) ≡ told → StandsAs study p.fault p.judging told → IsWorth (answer_within most_report_bytes study held) w
+      by_told : (told : Told) → judge r.study (front (pieces bytes)) ≡ told → StandsAt r.study r.progress told → IsWorth (answer_within most_report_bytes r.study held) w
       by_told (Good s) told h = let wrong : Some fault ≡ None = sym f ∙ h.0 in absurd (cc)
       by_told (Refused m word) told h =
           let same : Some fault ≡ Some (AtLine m word) = sym f ∙ h in
           let fault_is : fault ≡ AtLine m word = cc in
           let parts = prefix_of e known left bytes held ended k in
-          subst (λ a. IsWorth a w) (sym (ap (answer_within most_report_bytes study) parts.1 ∙ faulty_answer study bytes parts.0 m word parts.2 told)) (worth_of (Faulty m word) (ap Err fault_is))
+          subst (λ a. IsWorth a w) (sym (ap (answer_within most_report_bytes r.study) parts.1 ∙ faulty_answer r.study bytes parts.0 m word parts.2 told)) (worth_of (Faulty m word) (ap Err fault_is))
 
   -- the file goes on beyond the limit, and no line is faulty
-  faultless_is : (told : Told) → p.fault ≡ None → StandsAs study p.fault p.judging told → beyond told ≡ TooLong
+  faultless_is : (told : Told) → r.progress.fault ≡ None → StandsAt r.study r.progress told → beyond told ≡ TooLong
   faultless_is (Good s) e h = refl
   faultless_is (Refused m word) e h = absurd (cc)
 
@@ -160,8 +159,8 @@ module _ (study : Question) (p : Progress) (now : List ℕ) where
   take_whole (x ∷ xs) ys k e = ap (λ i. take i (x ∷ (xs ++ ys))) (sym e) ∙ ap (λ zs. x ∷ zs) (take_whole xs ys (length xs) refl)
 
   pub long_worth : (e : Ending) (known left : Option (List ℕ)) (bytes held : List ℕ)
-      → p.fault ≡ None → e ≢ ending.Whole → IsEndedAt e known left p.fault bytes → known ≡ Some held → StandsForText study p now bytes
-      → IsWorth (answer_within most_report_bytes study held) worth.TooLong
+      → r.progress.fault ≡ None → e ≢ ending.Whole → IsEndedAt e known left r.progress.fault bytes → known ≡ Some held → StandsForText r bytes
+      → IsWorth (answer_within most_report_bytes r.study held) worth.TooLong
   long_worth ending.Whole known left bytes held f differs ended k stands = absurd (differs refl)
   long_worth ending.Faulty known left bytes held f differs ended k stands = absurd (let bad : false ≡ true = ap is_some (sym f) ∙ ended.2 in true≢false (sym bad))
   long_worth ending.TooLong known left bytes held f differs ended k stands =
@@ -171,7 +170,7 @@ module _ (study : Question) (p : Progress) (now : List ℕ) where
       let more : length (ended.0 ++ front_of.0) ≡ length ended.0 + length front_of.0 = length-append ended.0 front_of.0 in
       let long : most_report_bytes < length held = omega (arith, sum, more, ended.2, ended.3) in
       let front_is : take most_report_bytes held ≡ bytes = ap (take most_report_bytes) split ∙ take_whole bytes (ended.0 ++ front_of.0) most_report_bytes ended.3 in
-      subst (λ a. IsWorth a worth.TooLong) (sym (long_answer study held long ∙ ap (λ t. beyond (judge study (front (pieces t)))) front_is ∙ faultless_is (judge study (front (pieces bytes))) f stands.0.1)) refl
+      subst (λ a. IsWorth a worth.TooLong) (sym (long_answer r.study held long ∙ ap (λ t. beyond (judge r.study (front (pieces t)))) front_is ∙ faultless_is (judge r.study (front (pieces bytes))) f stands.0.1)) refl
 
 -- the file that is told to be held is worth this
 pub file_worth : (told : Option Files) (study : Question) (name : List ℕ) (first : Option (List ℕ)) (w : Worth)

@@ -16,8 +16,6 @@ use Rattle.report_files.specs.declared.files.FileFault.{FileFault}
 use Rattle.report_files.specs.declared.files.FileFault.TheVariants as fault
 use Rattle.report_files.specs.declared.files.Worth.{Worth}
 use Rattle.report_files.specs.declared.files.Worth.TheVariants as worth
-use Rattle.report.specs.declared.progress.Progress.{Progress}
-use Rattle.report_files.specs.Pieces.{StandsForText}
 
 -- the most bytes of a report
 abbrev pub most_report_bytes : ℕ
@@ -27,11 +25,6 @@ most_report_bytes = 268435456
 abbrev pub file_fault : RewindFault → FileFault
 file_fault rewind.Failed = fault.Failed
 file_fault rewind.NoMemory = fault.NoMemory
-
--- the reader took these bytes
-abbrev pub HasTaken : Question → (before now : Progress) (held_before held_now bytes : List ℕ) → Type 0
-HasTaken study p q held now bytes = (text : List ℕ) → StandsForText study p held text →
-    StandsForText study q now (text ++ bytes)
 
 -- where the reading of a file ended: all of it was read, or as much as the limit allows, or as much as has the first faulty line
 abbrev pub IsEndedAt : Ending → (before now : Option (List ℕ)) (fault : Option ReportFault) (bytes : List ℕ)

@@ -7,11 +7,11 @@ ghost use Rattle.vocab.specs.Size.{IsSize};
 ghost use Rattle.vocab.specs.Study.{HasFewAxioms};
 ghost use Rattle.verdicts.specs.Judge.{Judgement, answer_within};
 ghost use Rattle.report.specs.Answers.{Concludes};
-ghost use Rattle.report.specs.Stands.{IsReady};
-ghost use Rattle.report_files.specs.Files.{HasTaken, IsEndedAt, IsWorth, IsWorthOf, FileIsRight, FileIsConfirmed, WorthHolds, most_report_bytes};
-ghost use Rattle.report_files.specs.Pieces.{StandsForText};
+ghost use Rattle.report_files.specs.Files.{IsEndedAt, IsWorth, IsWorthOf, FileIsRight, FileIsConfirmed, WorthHolds, most_report_bytes};
+ghost use Rattle.report_files.specs.Pieces.{StandsForText, HasTaken};
 
 use crate::reader::Reader;
+use crew::Crew;
 use edge::{Failed, Gate, RewindFault, Shelf};
 use lists::NoMemory;
 use outcomes::OutcomeKind;
@@ -105,22 +105,17 @@ const MOST_BYTES: usize = 268_435_456;
 
 /// Gives the reader what is left under the name, piece by piece, up to the limit and no further than to the first faulty line.
 fn read_pieces<R: Threads + Sync, S: Shelf, K: OutcomeKind, G: Gate>(
-    rt: &R,
-    gate: &G,
+    crew: &Crew<R, G>,
     reader: &mut Reader<K>,
     shelf: &mut S,
     name: &str,
 ) -> Result<Ending, FileFault>
-    requires held { length reader.old.held.items ≤ 4097 }
-    requires lines { reader.old.checker.progress.lines ≡ 0 }
-    requires ready { IsReady reader.old.checker.subject.study.now reader.old.checker.progress }
-    ensures subject { reader.new.checker.subject ≡ reader.old.checker.subject }
-    ensures lines { IfOk result (λ _. reader.new.checker.progress.lines ≤ 268435456) }
+    requires lines { reader.old.progress.lines ≡ 0 }
+    ensures study { reader.new.study ≡ reader.old.study }
+    ensures lines { IfOk result (λ _. reader.new.progress.lines ≤ 268435456) }
     ensures read { IfOk result (λ ending. (bytes : List ℕ) ×
         IsEndedAt ending (S.left shelf.old name.now) (S.left shelf.new name.now)
-        reader.new.checker.progress.fault bytes ×
-        HasTaken reader.old.checker.subject.study.now reader.old.checker.progress reader.new.checker.progress
-        reader.old.held.items reader.new.held.items bytes) }
+        reader.new.progress.fault bytes × HasTaken reader.old reader.new bytes) }
     ensures failed { IsErrOf result FileFault.Failed →
         Rose (S.faults shelf.old name.now) (S.faults shelf.new name.now) }
     ensures same { S.files shelf.new ≡ S.files shelf.old }
@@ -138,27 +133,23 @@ fn read_pieces<R: Threads + Sync, S: Shelf, K: OutcomeKind, G: Gate>(
             return Ok(Ending::Whole);
         }
         if count > room {
-            reader.piece(rt, gate, &chunk[..room])?;
+            reader.piece(crew, &chunk[..room])?;
             return Ok(Ending::TooLong);
         }
-        reader.piece(rt, gate, &chunk[..count])?;
+        reader.piece(crew, &chunk[..count])?;
         room -= count;
     }
 }
 
 /// What the report is worth whose reading ended so.
 fn worth_at<K: OutcomeKind>(reader: &Reader<K>, ending: Ending) -> Result<Worth, NoMemory>
-    requires lines { reader.now.checker.progress.lines ≤ 268435456 }
+    requires { reader.now.progress.lines ≤ 268435456 }
     ensures worth { IfOk result (λ worth. (known left : Option (List ℕ)) (bytes held : List ℕ) →
-        IsEndedAt ending known left reader.now.checker.progress.fault bytes → known ≡ Some held →
-        StandsForText reader.now.checker.subject.study.now reader.now.checker.progress
-        reader.now.held.items bytes →
-        IsWorth (answer_within most_report_bytes reader.now.checker.subject.study.now held) worth) }
-    ensures holds { IfOk result (λ worth. (bytes : List ℕ) →
-        IsSize reader.now.checker.subject.study.now.size →
-        StandsForText reader.now.checker.subject.study.now reader.now.checker.progress
-        reader.now.held.items bytes →
-        WorthHolds reader.now.checker.subject.study.now worth) }
+        IsEndedAt ending known left reader.now.progress.fault bytes → known ≡ Some held →
+        StandsForText reader.now bytes →
+        IsWorth (answer_within most_report_bytes reader.now.study held) worth) }
+    ensures holds { IfOk result (λ worth. (bytes : List ℕ) → IsSize reader.now.study.size →
+        StandsForText reader.now bytes → WorthHolds reader.now.study worth) }
 {
     match ending {
         Ending::Whole => Worth::of(reader.end()),
@@ -171,21 +162,15 @@ fn worth_at<K: OutcomeKind>(reader: &Reader<K>, ending: Ending) -> Result<Worth,
 
 /// What the report under the name is worth to a reader that has read nothing.
 fn worth_of<R: Threads + Sync, S: Shelf, K: OutcomeKind, G: Gate>(
-    rt: &R,
-    gate: &G,
+    crew: &Crew<R, G>,
     reader: &mut Reader<K>,
     shelf: &mut S,
     name: &str,
 ) -> Result<Worth, FileFault>
-    requires held { length reader.old.held.items ≤ 4097 }
-    requires lines { reader.old.checker.progress.lines ≡ 0 }
-    requires ready { IsReady reader.old.checker.subject.study.now reader.old.checker.progress }
-    requires unread { StandsForText reader.old.checker.subject.study.now reader.old.checker.progress
-        reader.old.held.items [] }
+    requires unread { StandsForText reader.old [] }
     ensures worth { IfSome (S.files shelf.old) (λ files.
-        IfOk result (IsWorthOf reader.old.checker.subject.study.now files name.now)) }
-    ensures holds { IsSize reader.old.checker.subject.study.now.size →
-        IfOk result (WorthHolds reader.old.checker.subject.study.now) }
+        IfOk result (IsWorthOf reader.old.study files name.now)) }
+    ensures holds { IsSize reader.old.study.size → IfOk result (WorthHolds reader.old.study) }
     ensures failed { IsErrOf result FileFault.Failed →
         Rose (S.faults shelf.old name.now) (S.faults shelf.new name.now) }
     ensures same { S.files shelf.new ≡ S.files shelf.old }
@@ -193,7 +178,7 @@ fn worth_of<R: Threads + Sync, S: Shelf, K: OutcomeKind, G: Gate>(
     ensures none_fell { NoneFell (S.faults shelf.old) (S.faults shelf.new) }
 {
     shelf.rewind(name)?;
-    let ending = read_pieces(rt, gate, reader, shelf, name)?;
+    let ending = read_pieces(crew, reader, shelf, name)?;
     let worth = worth_at(reader, ending)?;
     Ok(worth)
 }
@@ -228,6 +213,7 @@ pub fn check_file<R: Threads + Sync, S: Shelf, K: OutcomeKind, G: Gate>(
 {
     // Its contract says that the size of the study is one that the bench takes.
     kinds_have_sizes(kind);
+    let crew = Crew { rt, gate, workers };
     let mut reader = Reader::new(alloc, kind, study, workers)?;
-    worth_of(rt, gate, &mut reader, shelf, name)
+    worth_of(&crew, &mut reader, shelf, name)
 }

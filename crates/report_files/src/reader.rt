@@ -1,19 +1,21 @@
 //! Reads a report in pieces of its bytes.
 
-ghost use Rattle.std.specs.Prelude.{◌≡◌, ◌≢◌, ◌+◌, ◌≤◌, ◌<◌, List, ℕ, [], ◌∷◌, ◌++◌, length, is_some, Err, IfOk, OnOk, ◌⊎◌};
+ghost use Rattle.std.specs.Prelude.{◌≡◌, ◌+◌, ◌≤◌, ◌<◌, List, ℕ, [], ◌∷◌, ◌++◌, length, is_some, Err, IfOk, OnOk, ◌⊎◌};
 ghost use Rattle.vocab.specs.Study.{HasFewAxioms};
 ghost use Rattle.verdicts.specs.Judge.{answer};
 ghost use Rattle.report.specs.Answers.{Concludes, ConfirmsRight, ConfirmsAll, ConfirmsTrue};
-ghost use Rattle.report.specs.Stands.{StandsFor, IsReady};
-ghost use Rattle.report_files.specs.Pieces.{head_of, StandsForText};
+ghost use Rattle.report.specs.Stands.{StandsFor};
+ghost use Rattle.report_files.specs.Pieces.{head_of, StandsForText, HasTaken};
 
 use crate::cutting::cut_line;
+use crew::Crew;
 use edge::Gate;
 use lists::NoMemory;
 use outcomes::OutcomeKind;
 use outcomes::laws::kinds_have_sizes;
 use report::{Checker, ReportFault};
 use std::alloc::Global;
+use std::marker::Model;
 use std::thread::Threads;
 use verdicts::Confirmed;
 use vocab::Study;
@@ -25,8 +27,27 @@ const HELD: usize = 4097;
 /// 4,097 bytes.
 #[derive(Drop)]
 pub struct Reader<'a, K: OutcomeKind> {
-    pub checker: Checker<'a, K>,
-    pub held: Vec<u8>,
+    checker: Checker<'a, K>,
+    held: Vec<u8>,
+}
+
+impl<'a, K: OutcomeKind> Model for Reader<'a, K> {
+    ghost use Rattle.std.specs.Coded.{codes};
+    ghost use Rattle.vocab.specs.TreeCode.{titled_code};
+    ghost use Rattle.report_files.specs.Pieces.{ReaderState, IsSound};
+
+    ghost Value = { ReaderState };
+
+    ghost coded = { Prim.hlevel (codes, titled_code) };
+
+    ghost view = { λ r.
+        record {
+          study = r.checker.subject.setting.study.now;
+          progress = r.checker.progress;
+          held = r.held.items;
+        } };
+
+    ghost invariant = { λ r. IsSound r.checker.subject.setting.study.now r.checker.progress r.held.items };
 }
 
 impl<'a, K: OutcomeKind> Reader<'a, K> {
@@ -41,13 +62,8 @@ impl<'a, K: OutcomeKind> Reader<'a, K> {
         requires few { workers ≤ 16 }
         requires size { study.now.size ≡ K.size kind.now }
         requires listed { HasFewAxioms study.now }
-        ensures study { IfOk result (λ reader. reader.checker.subject.study.now ≡ study.now) }
-        ensures kind { IfOk result (λ reader. reader.checker.subject.kind.now ≡ kind.now) }
-        ensures workers { IfOk result (λ reader. reader.checker.subject.workers ≡ workers) }
-        ensures lines { IfOk result (λ reader. reader.checker.progress.lines ≡ 0) }
-        ensures held { IfOk result (λ reader. length reader.held.items ≤ 4097) }
-        ensures stands { IfOk result (λ reader. StandsForText study.now reader.checker.progress
-            reader.held.items []) }
+        ensures study { IfOk result (λ reader. reader.study ≡ study.now) }
+        ensures stands { IfOk result (λ reader. StandsForText reader []) }
     {
         let checker = Checker::new(alloc, kind, study, workers)?;
         Ok(Reader {
@@ -58,9 +74,9 @@ impl<'a, K: OutcomeKind> Reader<'a, K> {
 
     /// Holds the next bytes of a line that has not ended, as far as there is room.
     fn hold(&mut self, piece: &[u8]) -> Result<(), NoMemory>
-        requires { length self.old.held.items ≤ 4097 }
-        ensures checker { self.new.checker ≡ self.old.checker }
-        ensures held { OnOk result (self.new.held.items ≡ head_of (self.old.held.items ++ piece.now)) }
+        ensures study { self.new.study ≡ self.old.study }
+        ensures progress { self.new.progress ≡ self.old.progress }
+        ensures held { OnOk result (self.new.held ≡ head_of (self.old.held ++ piece.now)) }
     {
         let room = HELD - self.held.len();
         let count = piece.len().min(room);
@@ -71,28 +87,22 @@ impl<'a, K: OutcomeKind> Reader<'a, K> {
     /// Ends the line that is held with this piece.
     fn end_line<R: Threads + Sync, G: Gate>(
         &mut self,
-        rt: &R,
-        gate: &G,
+        crew: &Crew<R, G>,
         piece: &[u8],
     ) -> Result<(), NoMemory>
-        requires held { length self.old.held.items ≤ 4097 }
-        requires room { self.old.checker.progress.lines < 4294967294 }
-        requires ready { IsReady self.old.checker.subject.study.now self.old.checker.progress }
-        ensures subject { self.new.checker.subject ≡ self.old.checker.subject }
-        ensures lines { OnOk result (self.new.checker.progress.lines ≡ self.old.checker.progress.lines + 1) }
-        ensures ready { OnOk result (IsReady self.old.checker.subject.study.now self.new.checker.progress) }
-        ensures ended { OnOk result (self.new.held.items ≡ []) }
+        requires { self.old.progress.lines < 4294967294 }
+        ensures study { self.new.study ≡ self.old.study }
+        ensures lines { OnOk result (self.new.progress.lines ≡ self.old.progress.lines + 1) }
+        ensures ended { OnOk result (self.new.held ≡ []) }
         ensures taken { OnOk result ((lines : List (List ℕ)) (rest : List ℕ) →
-            StandsFor self.old.checker.subject.study.now self.old.checker.progress lines →
-            self.old.held.items ≡ head_of rest →
-            StandsFor self.old.checker.subject.study.now self.new.checker.progress (lines ++
-            (rest ++ piece.now) ∷ [])) }
+            StandsFor self.old.study self.old.progress lines → self.old.held ≡ head_of rest →
+            StandsFor self.old.study self.new.progress (lines ++ (rest ++ piece.now) ∷ [])) }
     {
         if self.held.is_empty() {
-            return self.checker.take(rt, gate, piece);
+            return self.checker.take(crew.rt, crew.gate, piece);
         }
         self.hold(piece)?;
-        self.checker.take(rt, gate, self.held.as_slice())?;
+        self.checker.take(crew.rt, crew.gate, self.held.as_slice())?;
         self.held.clear();
         Ok(())
     }
@@ -100,27 +110,17 @@ impl<'a, K: OutcomeKind> Reader<'a, K> {
     /// Takes the next bytes of the text.
     pub fn piece<R: Threads + Sync, G: Gate>(
         &mut self,
-        rt: &R,
-        gate: &G,
+        crew: &Crew<R, G>,
         bytes: &[u8],
     ) -> Result<(), NoMemory>
-        requires held { length self.old.held.items ≤ 4097 }
-        requires room { self.old.checker.progress.lines + length bytes.now < 4294967294 }
-        requires ready { IsReady self.old.checker.subject.study.now self.old.checker.progress }
-        ensures subject { self.new.checker.subject ≡ self.old.checker.subject }
-        ensures lines { OnOk result (self.new.checker.progress.lines ≤ self.old.checker.progress.lines +
-            length bytes.now) }
-        ensures ready { OnOk result (IsReady self.old.checker.subject.study.now self.new.checker.progress) }
-        ensures held { OnOk result (length self.new.held.items ≤ 4097) }
-        ensures taken { OnOk result ((text : List ℕ) →
-            StandsForText self.old.checker.subject.study.now self.old.checker.progress
-            self.old.held.items text →
-            StandsForText self.old.checker.subject.study.now self.new.checker.progress
-            self.new.held.items (text ++ bytes.now)) }
+        requires { self.old.progress.lines + length bytes.now < 4294967294 }
+        ensures study { self.new.study ≡ self.old.study }
+        ensures lines { OnOk result (self.new.progress.lines ≤ self.old.progress.lines + length bytes.now) }
+        ensures taken { OnOk result (HasTaken self.old self.new bytes.now) }
     {
         let mut rest = bytes;
         while let Some((line, after)) = cut_line(rest) {
-            self.end_line(rt, gate, line)?;
+            self.end_line(crew, line)?;
             rest = after;
         }
         self.hold(rest)
@@ -128,25 +128,23 @@ impl<'a, K: OutcomeKind> Reader<'a, K> {
 
     /// The first fault, if there was one.
     pub fn fault(&self) -> Option<ReportFault>
-        ensures { result ≡ self.now.checker.progress.fault }
+        ensures { result ≡ self.now.progress.fault }
     {
         self.checker.progress.fault
     }
 
     /// Whether a line was faulty, so that no byte after it plays a part.
     pub fn is_faulty(&self) -> bool
-        ensures { result ≡ is_some self.now.checker.progress.fault }
+        ensures { result ≡ is_some self.now.progress.fault }
     {
         self.checker.progress.fault.is_some()
     }
 
     /// What is answered of the text: Ok exactly where it is confirmed.
     pub fn end(&self) -> Result<Confirmed, ReportFault>
-        requires room { self.now.checker.progress.lines ≤ 4294967294 }
-        ensures { (text : List ℕ) →
-            StandsForText self.now.checker.subject.study.now self.now.checker.progress
-            self.now.held.items text →
-            Concludes (answer self.now.checker.subject.study.now text) result }
+        requires { self.now.progress.lines ≤ 4294967294 }
+        ensures { (text : List ℕ) → StandsForText self.now text →
+            Concludes (answer self.now.study text) result }
     {
         self.checker.conclude(self.held.as_slice())
     }
@@ -176,7 +174,8 @@ pub fn check_report<R: Threads + Sync, K: OutcomeKind, G: Gate>(
 {
     // Its contract says that the size of the study is one that the bench takes.
     kinds_have_sizes(kind);
+    let crew = Crew { rt, gate, workers };
     let mut reader = Reader::new(alloc, kind, study, workers)?;
-    reader.piece(rt, gate, text)?;
+    reader.piece(&crew, text)?;
     reader.end()
 }

@@ -5,33 +5,25 @@ use Rattle.report_files.proofs.files.worth_at.Goals as goal
 
 pub returns-in-Whole-clause-worth : goal.returns-in-Whole-clause-worth
 returns-in-Whole-clause-worth g c =
-    let checker = c.args.reader.now.checker in
     if_ok c.of.result c.of.ensures.worth (λ w worth_of known left bytes held ended k stands.
-    whole_worth checker.subject.study.now checker.progress c.args.reader.now.held.items c.args.ending known left bytes held c.end.result w
-    c.in-Whole.is ended k (c.end.ensures bytes stands) worth_of)
+    whole_worth c.args.reader.now c.args.ending known left bytes held c.end.result w c.in-Whole.is ended k (c.end.ensures bytes stands) worth_of)
 
 pub returns-in-None-clause-worth : goal.returns-in-None-clause-worth
 returns-in-None-clause-worth g c = λ known left bytes held ended k stands.
-    let checker = c.args.reader.now.checker in
-    long_worth checker.subject.study.now checker.progress c.args.reader.now.held.items c.args.ending known left bytes held (sym c.fault.ensures ∙ c.in-None.is) c.in_default.not-Whole ended k stands
+    long_worth c.args.reader.now c.args.ending known left bytes held (sym c.fault.ensures ∙ c.in-None.is) c.in_default.not-Whole ended k stands
 
 pub returns-in-Some-clause-worth : goal.returns-in-Some-clause-worth
 returns-in-Some-clause-worth g c =
-    let checker = c.args.reader.now.checker in
     if_ok c.of-in-Some.result c.of-in-Some.ensures.worth (λ w worth_of known left bytes held ended k stands.
-    faulty_worth checker.subject.study.now checker.progress c.args.reader.now.held.items c.args.ending known left bytes held c.in-Some.fault w (sym c.fault.ensures ∙ c.in-Some.is) ended k stands worth_of)
+    faulty_worth c.args.reader.now c.args.ending known left bytes held c.in-Some.fault w (sym c.fault.ensures ∙ c.in-Some.is) ended k stands worth_of)
 
 pub returns-in-Whole-clause-holds : goal.returns-in-Whole-clause-holds
 returns-in-Whole-clause-holds g c =
-    let reader = c.args.reader.now in
-    let study = reader.checker.subject.study.now in
-    answered_holds study (StandsForText study reader.checker.progress reader.held.items) c.end.result c.of.result c.of.ensures.claimed c.end.ensures
+    answered_holds c.args.reader.now.study (StandsForText c.args.reader.now) c.end.result c.of.result c.of.ensures.claimed c.end.ensures
 
 pub returns-in-None-clause-holds : goal.returns-in-None-clause-holds
 returns-in-None-clause-holds g c = λ bytes size stands claim is. absurd (cc)
 
 pub returns-in-Some-clause-holds : goal.returns-in-Some-clause-holds
 returns-in-Some-clause-holds g c =
-    let reader = c.args.reader.now in
-    let study = reader.checker.subject.study.now in
-    refused_holds study (StandsForText study reader.checker.progress reader.held.items) c.in-Some.fault c.of-in-Some.result c.of-in-Some.ensures.claimed
+    refused_holds c.args.reader.now.study (StandsForText c.args.reader.now) c.in-Some.fault c.of-in-Some.result c.of-in-Some.ensures.claimed

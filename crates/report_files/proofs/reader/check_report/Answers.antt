@@ -1,25 +1,17 @@
-use Rattle.std.proofs.Common.{◌≡◌, ◌∙◌, sym, subst, ap, [], inr}
+use Rattle.std.proofs.Common.{◌∙◌, sym, subst, [], inr}
 use Rattle.vocab.specs.Size.{Extent, IsSize}
 use Rattle.vocab.specs.Study.{Question}
 use Rattle.verdicts.specs.Judge.{answer}
 use Rattle.report.specs.Answers.{Concludes}
 use Rattle.report.proofs.AnswerLemmas.{true_if_right}
-use Rattle.report_files.specs.Pieces.{StandsForText}
 use Rattle.report_files.proofs.TextLemmas.{text_right, text_all}
 use Rattle.report_files.proofs.reader.check_report.Goals as goal
 
 pub returns-clause-value : goal.returns-clause-value
 returns-clause-value g c =
-    let before = c.in_ok-reader.reader in
-    let after = c.piece.new.self in
-    let first : StandsForText before.checker.subject.study.now before.checker.progress before.held.items [] =
-    rw (sym c.in_ok-reader.ensures.study) at c.in_ok-reader.ensures.stands in
-    let read : StandsForText before.checker.subject.study.now after.checker.progress after.held.items c.args.text.now =
-    c.in_ok-piece.ensures.taken [] first in
-    let whole : StandsForText after.checker.subject.study.now after.checker.progress after.held.items c.args.text.now =
-    rw (sym c.piece.ensures.subject) at read in
-    let study : after.checker.subject.study.now ≡ c.args.study.now = ap (λ s. s.study.now) c.piece.ensures.subject ∙ c.in_ok-reader.ensures.study in
-    inr (subst (λ (q : Question). Concludes (answer q c.args.text.now) c.end.result) study (c.end.ensures c.args.text.now whole))
+    let study = c.piece.ensures.study ∙ c.in_ok-reader.ensures.study in
+    inr (subst (λ (q : Question). Concludes (answer q c.args.text.now) c.end.result) study
+    (c.end.ensures c.args.text.now (c.in_ok-piece.ensures.taken [] c.in_ok-reader.ensures.stands)))
 
 pub returns-clause-right : goal.returns-clause-right
 returns-clause-right g c = text_right c.args.study.now c.args.text.now c.end.result (returns-clause-value g c)

@@ -4,9 +4,8 @@ use Rattle.report.specs.Answers.{Concludes}
 use Rattle.report_files.proofs.ReaderLemmas.{head_concludes}
 use Rattle.report_files.proofs.reader.Reader.end.Goals as goal
 
--- src/reader.rt:161:5
 pub returns : goal.returns
-returns g c =
-    λ text stands. subst (λ (a : Judgement). Concludes a c.conclude.result)
-    (head_concludes c.args.self.now.checker.subject.study.now text c.as_slice.result.now (c.as_slice.ensures.value ∙ stands.1))
-    (c.conclude.ensures.value (front (pieces text)) stands.0)
+returns g c = rw (← c.self.view_is) (λ text stands.
+    subst (λ (a : Judgement). Concludes a c.conclude.result)
+    (head_concludes c.self.inside.checker.subject.setting.study.now text c.as_slice.result.now (c.as_slice.ensures.value ∙ stands.1))
+    (c.conclude.ensures.value (front (pieces text)) stands.0))
