@@ -34,7 +34,7 @@ use Rattle.report_lines.specs.declared.places.Place.TheVariants as place
 use Rattle.report_lines.specs.Held.{held_number, held_reason, held_place, held_line, if_core}
 use Rattle.report.specs.declared.judging.Judging.{Judging}
 use Rattle.report.specs.Stands.{Stands, IsRead}
-use Rattle.report.specs.Taken.{Takes, IsInStory, IsLine}
+use Rattle.report.specs.Taken.{Takes, IsInStory, IsLine, IsNextRow}
 use Rattle.report.proofs.TableLineLemmas.{is_witness_row}
 
 module _ (study : Question) where
@@ -196,37 +196,29 @@ module _ (study : Question) where
 
   -- ---- what is held
 
-  -- what a row finds
-  pub record HoldsRows (r : Judging) (o : ℕ) : Type 0 where
-    pub rows : list_all (λ o. nat_lt o (outcome_count study.size.kind study.size.alternatives)) r.rows ≡ true
-    pub more : length r.rows < sort_count study.size Profile
-    pub outcome : o < outcome_count study.size.kind study.size.alternatives
-    pub core : list_all (λ k. nat_lt k (length study.axioms)) r.core ≡ true
-    pub next : r.place ≡ place.AtWitnessRow → r.witnesses < length r.core
-
   next_less : (core : List ℕ) (witnesses : List Witness) (k : ℕ) → next_after core witnesses ≡ Some k → length witnesses < length core
   next_less [] witnesses k e = absurd (cc)
   next_less (c ∷ core) [] k e = omega arith
   next_less (c ∷ core) (w ∷ witnesses) k e = omega (arith, next_less core witnesses k e)
 
-  row_found : (r : Judging) (s : Standing) (p o n : ℕ) (q : Place) → Stands study r s → s.place ≡ q → Fits study q n (Row p o) → Holds study q s → list_all (λ k. nat_lt k (length study.axioms)) s.core ≡ true → HoldsRows r o
+  row_found : (r : Judging) (s : Standing) (p o n : ℕ) (q : Place) → Stands study r s → s.place ≡ q → Fits study q n (Row p o) → Holds study q s → list_all (λ k. nat_lt k (length study.axioms)) s.core ≡ true → IsNextRow study r o
   row_found r s p o n AtRow h at fits holds core = record {
     rows = subst (λ rows. list_all (λ o. nat_lt o (outcome_count study.size.kind study.size.alternatives)) rows ≡ true) (sym h.rows) holds.0;
     more = subst (λ rows. length rows < sort_count study.size Profile) (sym h.rows) (holds.1 (let some : 0 < sort_count study.size Profile = omega (arith, fits.0) in some));
-    outcome = fits.1;
+    fits = fits.1;
     core = subst (λ core. list_all (λ k. nat_lt k (length study.axioms)) core ≡ true) (sym h.core) core;
     next = λ e. let same : AtRow ≡ AtWitnessRow = is_witness_row AtRow (sym e ∙ h.place ∙ ap held_place at) in absurd (cc);
   }
   row_found r s p o n AtWitnessRow h at fits holds core = record {
     rows = subst (λ rows. list_all (λ o. nat_lt o (outcome_count study.size.kind study.size.alternatives)) rows ≡ true) (sym h.rows) holds.1.0;
     more = subst (λ rows. length rows < sort_count study.size Profile) (sym h.rows) (holds.1.1 (let some : 0 < sort_count study.size Profile = omega (arith, fits.0) in some));
-    outcome = fits.1;
+    fits = fits.1;
     core = subst (λ core. list_all (λ k. nat_lt k (length study.axioms)) core ≡ true) (sym h.core) core;
     next = λ e. let same : length r.core ≡ length s.core = ap length h.core in omega (arith, h.witnesses, same, next_less s.core s.witnesses holds.2 holds.3);
   }
   row_found r s p o n q h at fits holds core = absurd fits
 
-  pub holds_rows : (r : Judging) (text : List ℕ) (line : HeldLine) (p o : ℕ) → line ≡ held.Row p o → IsRead study r → ((s : Standing) → Stands study r s → IsLine study s text line) → HoldsRows r o
+  pub holds_rows : (r : Judging) (text : List ℕ) (line : HeldLine) (p o : ℕ) → line ≡ held.Row p o → IsRead study r → ((s : Standing) → Stands study r s → IsLine study s text line) → IsNextRow study r o
   holds_rows r text line p o e read lines =
       let s = read.standing in
       let l = lines s read.stands in

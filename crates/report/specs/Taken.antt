@@ -1,16 +1,18 @@
 -- What it is to take a line that is read.
-use Rattle.std.specs.Prelude.{◌≡◌, ℕ, nat_lt, length, List, Option, None, Some, Result, IfOk, IsTrue}
+use Rattle.std.specs.Prelude.{◌≡◌, ℕ, ◌<◌, nat_lt, length, List, Option, None, Some, Result, IfOk, IsTrue}
 use Rattle.std.specs.List.{list_all}
 use Rattle.lists.specs.declared.memory.NoMemory.{NoMemory}
-use Rattle.vocab.specs.Size.{Extent, outcome_count}
+use Rattle.vocab.specs.declared.kinds.Sort.TheVariants.{Profile}
+use Rattle.vocab.specs.Size.{Extent, sort_count, outcome_count}
 use Rattle.vocab.specs.Study.{Question}
+use Rattle.meaning.specs.Truth.{is_rule}
 use Rattle.verdicts.specs.declared.refusals.Refusal.{Refusal}
 use Rattle.verdicts.specs.Lines.{Line}
-use Rattle.verdicts.specs.Places.{Place, Standing, AtSuppose, AtStep}
+use Rattle.verdicts.specs.Places.{Place, Standing, AtSuppose, AtStep, AtWitnessRow}
 use Rattle.verdicts.specs.Faults.{table_fault, asked_at, fault_of}
 use Rattle.verdicts.specs.Judge.{after_row, advance, read_line}
 use Rattle.report_lines.specs.declared.lines.Line.{Line as HeldLine}
-use Rattle.report_lines.specs.Held.{held_line}
+use Rattle.report_lines.specs.Held.{held_line, held_place}
 use Rattle.report.specs.declared.judging.Judging.{Judging}
 use Rattle.report.specs.Stands.{Stands}
 
@@ -30,6 +32,20 @@ ArePlaces study core = IsTrue (list_all (λ k. nat_lt k (length study.axioms)) c
 -- these are outcomes of the size
 abbrev pub AreOutcomes : Extent → List ℕ → Type 0
 AreOutcomes size rows = IsTrue (list_all (λ o. nat_lt o (outcome_count size.kind size.alternatives)) rows)
+
+-- the table has room for one more row, and this is an outcome of the size; where it is the table of a witness, one is still due
+pub record IsNextRow (study : Question) (r : Judging) (outcome : ℕ) : Type 0 where
+  pub rows : AreOutcomes study.size r.rows
+  pub more : length r.rows < sort_count study.size Profile
+  pub fits : outcome < outcome_count study.size.kind study.size.alternatives
+  pub core : ArePlaces study r.core
+  pub next : r.place ≡ held_place AtWitnessRow → r.witnesses < length r.core
+
+-- the table has all its rows; where it is that of a witness, one is still due
+pub record HasTable (study : Question) (r : Judging) : Type 0 where
+  pub rule : IsTrue (is_rule study.size r.rows)
+  pub core : ArePlaces study r.core
+  pub next : r.place ≡ held_place AtWitnessRow → r.witnesses < length r.core
 
 -- a lemma is being read
 abbrev pub IsInStory : Place → Type 0

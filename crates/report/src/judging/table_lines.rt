@@ -1,8 +1,6 @@
 //! Takes the rows of tables.
 
-ghost use Rattle.std.specs.Prelude.{◌≡◌, ◌≤◌, ◌<◌, ℕ, length, filter, not, ◌==◌, IsTrue, IfOk};
-ghost use Rattle.vocab.specs.declared.kinds.Sort.TheVariants.{Profile};
-ghost use Rattle.vocab.specs.Size.{sort_count, outcome_count};
+ghost use Rattle.std.specs.Prelude.{◌≡◌, ◌≤◌, filter, not, ◌==◌, IsTrue, IfOk};
 ghost use Rattle.meaning.specs.Space.{below};
 ghost use Rattle.meaning.specs.Truth.{is_rule};
 ghost use Rattle.verdicts.specs.Lines.{Row};
@@ -10,7 +8,7 @@ ghost use Rattle.verdicts.specs.Places.{Standing, AtWitnessRow};
 ghost use Rattle.verdicts.specs.Faults.{table_fault};
 ghost use Rattle.report_lines.specs.Held.{held_place};
 ghost use Rattle.report.specs.Stands.{Stands};
-ghost use Rattle.report.specs.Taken.{Takes, TakesTable, ArePlaces, AreOutcomes};
+ghost use Rattle.report.specs.Taken.{Takes, TakesTable, ArePlaces, IsNextRow, HasTable};
 
 use crate::judging::Judging;
 use crate::subject::Subject;
@@ -74,12 +72,7 @@ impl Judging {
         profile: u32,
         outcome: u8,
     ) -> Result<Option<Refusal>, NoMemory>
-        requires rows { AreOutcomes subject.now.setting.study.now.size self.old.rows }
-        requires more { length self.old.rows < sort_count subject.now.setting.study.now.size Profile }
-        requires outcome { outcome < outcome_count subject.now.setting.study.now.size.kind
-            subject.now.setting.study.now.size.alternatives }
-        requires core { ArePlaces subject.now.setting.study.now self.old.core }
-        requires next { self.old.place ≡ held_place AtWitnessRow → self.old.witnesses < length self.old.core }
+        requires row { IsNextRow subject.now.setting.study.now self.old outcome }
         ensures { (s : Standing) → Stands subject.now.setting.study.now self.old s →
             Takes subject.now.setting.study.now s (Row profile outcome) self.new result }
     {
@@ -100,9 +93,7 @@ impl Judging {
         crew: &Crew<R, G>,
         subject: &Subject<K>,
     ) -> Result<Option<Refusal>, NoMemory>
-        requires rule { IsTrue (is_rule subject.now.setting.study.now.size self.old.rows) }
-        requires core { ArePlaces subject.now.setting.study.now self.old.core }
-        requires next { self.old.place ≡ held_place AtWitnessRow → self.old.witnesses < length self.old.core }
+        requires table { HasTable subject.now.setting.study.now self.old }
         ensures { (s : Standing) → Stands subject.now.setting.study.now self.old s →
             TakesTable subject.now.setting.study.now s self.new result }
     {
@@ -137,10 +128,8 @@ impl Judging {
         crew: &Crew<R, G>,
         subject: &Subject<K>,
     ) -> Result<Option<Refusal>, NoMemory>
-        requires rule { IsTrue (is_rule subject.now.setting.study.now.size self.old.rows) }
-        requires core { ArePlaces subject.now.setting.study.now self.old.core }
+        requires table { HasTable subject.now.setting.study.now self.old }
         requires place { self.old.place ≡ held_place AtWitnessRow }
-        requires next { self.old.witnesses < length self.old.core }
         ensures { (s : Standing) → Stands subject.now.setting.study.now self.old s →
             TakesTable subject.now.setting.study.now s self.new result }
     {

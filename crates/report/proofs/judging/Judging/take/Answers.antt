@@ -4,20 +4,8 @@ use Rattle.report_lines.specs.declared.lines.Line.TheVariants as held
 use Rattle.report.proofs.TakingLemmas.{said_of, taken_as, at_suppose, at_so, at_clash, at_rule, at_open, core_names, holds_rows, suppose_in, so_in}
 use Rattle.report.proofs.judging.Judging.take.Goals as goal
 
-pub take_row-requires-clause-rows : goal.take_row-requires-clause-rows
-take_row-requires-clause-rows g c κs within = (holds_rows c.args.subject.now.setting.study.now c.args.self.now c.args.text.now c.args.line.now c.in-Row.profile c.in-Row.outcome c.in-Row.is c.requires.read c.requires.line).rows
-
-pub take_row-requires-clause-more : goal.take_row-requires-clause-more
-take_row-requires-clause-more g c κs within = (holds_rows c.args.subject.now.setting.study.now c.args.self.now c.args.text.now c.args.line.now c.in-Row.profile c.in-Row.outcome c.in-Row.is c.requires.read c.requires.line).more
-
-pub take_row-requires-clause-outcome : goal.take_row-requires-clause-outcome
-take_row-requires-clause-outcome g c κs within = (holds_rows c.args.subject.now.setting.study.now c.args.self.now c.args.text.now c.args.line.now c.in-Row.profile c.in-Row.outcome c.in-Row.is c.requires.read c.requires.line).outcome
-
-pub take_row-requires-clause-core : goal.take_row-requires-clause-core
-take_row-requires-clause-core g c κs within = (holds_rows c.args.subject.now.setting.study.now c.args.self.now c.args.text.now c.args.line.now c.in-Row.profile c.in-Row.outcome c.in-Row.is c.requires.read c.requires.line).core
-
-pub take_row-requires-clause-next : goal.take_row-requires-clause-next
-take_row-requires-clause-next g c κs within = (holds_rows c.args.subject.now.setting.study.now c.args.self.now c.args.text.now c.args.line.now c.in-Row.profile c.in-Row.outcome c.in-Row.is c.requires.read c.requires.line).next
+pub take_row-requires-clause-row : goal.take_row-requires-clause-row
+take_row-requires-clause-row g c κs within = holds_rows c.args.subject.now.setting.study.now c.args.self.now c.args.text.now c.args.line.now c.in-Row.profile c.in-Row.outcome c.in-Row.is c.requires.read c.requires.line
 
 pub take_suppose-requires-clause-literal : goal.take_suppose-requires-clause-literal
 take_suppose-requires-clause-literal g c κs within = suppose_in c.args.subject.now.setting.study.now c.args.self.now c.args.text.now c.args.line.now c.in-Suppose.literal c.in-Suppose.is c.requires.read c.requires.line
