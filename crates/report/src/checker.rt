@@ -19,7 +19,7 @@ use edge::Gate;
 use lists::NoMemory;
 use outcomes::laws::kinds_have_sizes;
 use outcomes::{OutcomeKind, Setting};
-use report_lines::Place;
+use report_lines::{IndexedStudy, Place};
 use std::alloc::Global;
 use std::thread::Threads;
 use verdicts::{Confirmed, Refusal};
@@ -69,6 +69,7 @@ impl<'a, K: OutcomeKind> Checker<'a, K> {
         let subject = Subject {
             alloc,
             setting: Setting { kind, study },
+            indexed: IndexedStudy::new(alloc, study)?,
             workers,
         };
         let judging = Judging::new(&subject)?;

@@ -27,7 +27,7 @@ impl Judging {
             names ≡ drop 1 (words_of text.now) →
             Takes subject.now.setting.study.now s (CoreIs names) self.new result }
     {
-        let read = read_core(subject.alloc, subject.setting.study, text)?;
+        let read = read_core(subject.alloc, &subject.indexed, text)?;
         let Some(core) = read else {
             return Ok(Some(Refusal::Core));
         };

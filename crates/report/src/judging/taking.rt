@@ -49,7 +49,7 @@ impl Judging {
         let number = self.earlier.len() as u64 + 1;
         let Some(said) = read_line(
             subject.setting.kind,
-            subject.setting.study,
+            &subject.indexed,
             self.place,
             number,
             text,

@@ -8,12 +8,12 @@ use Rattle.report.proofs.judging.Judging.take_core.Goals as goal
 pub returns-in_default : goal.returns-in_default
 returns-in_default g c = λ s names h e.
     let study = c.args.subject.now.setting.study.now in
-    let read = sym c.in_default.is ∙ c.in_ok-read.ensures ∙ ap (λ (ns : List (List ℕ)). if_core study (places_of study.axioms ns)) (sym e) in
+    let read = sym c.in_default.is ∙ (rw c.args.subject.now.same at c.in_ok-read.ensures) ∙ ap (λ (ns : List (List ℕ)). if_core study (places_of study.axioms ns)) (sym e) in
     (no_core study (places_of study.axioms names) read, λ none. absurd (none-some _ (sym none)))
 
 pub returns : goal.returns
 returns g c = λ s names h e.
     let study = c.args.subject.now.setting.study.now in
-    let read = sym c.in-Some.is ∙ c.in_ok-read.ensures ∙ ap (λ (ns : List (List ℕ)). if_core study (places_of study.axioms ns)) (sym e) in
+    let read = sym c.in-Some.is ∙ (rw c.args.subject.now.same at c.in_ok-read.ensures) ∙ ap (λ (ns : List (List ℕ)). if_core study (places_of study.axioms ns)) (sym e) in
     let core = some_core study (places_of study.axioms names) c.in-Some.core read in
     (core.0, λ _. with_core study c.args.self.now s c.in-Some.core names h core.1)
