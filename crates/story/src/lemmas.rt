@@ -6,7 +6,7 @@ ghost use Rattle.meaning.specs.Literals.{is_literal};
 ghost use Rattle.meaning.specs.Stories.{has_literals};
 ghost use Rattle.meaning.specs.StoryFaults.{suppose_fault, steps_fault, lemma_fault};
 ghost use Rattle.story.specs.Answers.{Answers};
-ghost use Rattle.story.specs.Conditions.{has_places, is_short};
+ghost use Rattle.story.specs.Conditions.{has_places, is_short, IsCheckable, IsClear};
 
 use crate::grounds::Grounds;
 use crate::lines::suppose;
@@ -56,10 +56,8 @@ impl<K: OutcomeKind> Grounds<'_, K> {
         board: &mut Board,
         lemma: &Lemma,
     ) -> Result<(), PlacedFault>
-        requires board { board.old.size ≡ K.size self.now.setting.now.kind.now }
-        requires cleared { board.old.literals ≡ [] }
-        requires literals { IsTrue (has_literals (K.size self.now.setting.now.kind.now) lemma.now) }
-        requires short { IsTrue (is_short lemma.now) }
+        requires board { IsClear (K.size self.now.setting.now.kind.now) board.old }
+        requires lemma { IsCheckable (K.size self.now.setting.now.kind.now) lemma.now }
         ensures fault { Answers result (lemma_fault (K.size self.now.setting.now.kind.now)
             self.now.setting.now.study.now.axioms self.now.core.now self.now.lemmas.now final_one lemma.now) }
         ensures size { board.new.size ≡ board.old.size }
@@ -77,10 +75,8 @@ impl<K: OutcomeKind> Grounds<'_, K> {
         board: &mut Board,
         lemma: &Lemma,
     ) -> Result<(), PlacedFault>
-        requires board { board.old.size ≡ K.size self.now.setting.now.kind.now }
-        requires cleared { board.old.literals ≡ [] }
-        requires literals { IsTrue (has_literals (K.size self.now.setting.now.kind.now) lemma.now) }
-        requires short { IsTrue (is_short lemma.now) }
+        requires board { IsClear (K.size self.now.setting.now.kind.now) board.old }
+        requires lemma { IsCheckable (K.size self.now.setting.now.kind.now) lemma.now }
         ensures fault { Answers result (lemma_fault (K.size self.now.setting.now.kind.now)
             self.now.setting.now.study.now.axioms self.now.core.now self.now.lemmas.now final_one lemma.now) }
         ensures size { board.new.size ≡ board.old.size }
@@ -93,8 +89,7 @@ impl<K: OutcomeKind> Grounds<'_, K> {
     fn take_steps(&self, board: &mut Board, lemma: &Lemma) -> Result<(), PlacedFault>
         requires board { board.old.size ≡ K.size self.now.setting.now.kind.now }
         requires supposed { board.old.literals ≡ lemma.now.suppose }
-        requires literals { IsTrue (has_literals (K.size self.now.setting.now.kind.now) lemma.now) }
-        requires short { IsTrue (is_short lemma.now) }
+        requires lemma { IsCheckable (K.size self.now.setting.now.kind.now) lemma.now }
         ensures fault { Answers result (steps_fault (K.size self.now.setting.now.kind.now)
             self.now.setting.now.study.now.axioms self.now.core.now self.now.lemmas.now lemma.now.last
             (length lemma.now.suppose + 1) lemma.now.suppose lemma.now.steps) }

@@ -7,7 +7,7 @@ ghost use Rattle.meaning.specs.StoryFaults.{next_refusal, story_refusal};
 ghost use Rattle.meaning.specs.Truth.{satisfies};
 ghost use Rattle.meaning.specs.declared.stories.Lemma.{Lemma};
 ghost use Rattle.story.specs.Answers.{Answers};
-ghost use Rattle.story.specs.Conditions.{has_places, is_short};
+ghost use Rattle.story.specs.Conditions.{has_places, is_short, AreNumbered, IsClear};
 
 use crate::grounds::Grounds;
 use lists::Items;
@@ -58,10 +58,8 @@ pub fn check_story<K: OutcomeKind>(
 impl<K: OutcomeKind> Grounds<'_, K> {
     /// Whether there is a lemma, each follows from those before it, and the last supposes nothing.
     fn check_lemmas(&self, board: &mut Board) -> Result<(), StoryRefusal>
-        requires board { board.old.size ≡ K.size self.now.setting.now.kind.now }
-        requires cleared { board.old.literals ≡ [] }
-        requires short { IsTrue (list_all is_short self.now.lemmas.now) }
-        requires few { length self.now.lemmas.now ≤ 4294967295 }
+        requires board { IsClear (K.size self.now.setting.now.kind.now) board.old }
+        requires numbered { AreNumbered self.now.lemmas.now }
         ensures { Answers result (story_refusal (K.size self.now.setting.now.kind.now)
             self.now.setting.now.study.now.axioms self.now.core.now self.now.lemmas.now) }
     {
@@ -85,10 +83,8 @@ impl<K: OutcomeKind> Grounds<'_, K> {
         place: usize,
         final_one: bool,
     ) -> Result<(), StoryRefusal>
-        requires board { board.old.size ≡ K.size self.now.setting.now.kind.now }
-        requires cleared { board.old.literals ≡ [] }
-        requires short { IsTrue (list_all is_short self.now.lemmas.now) }
-        requires few { length self.now.lemmas.now ≤ 4294967295 }
+        requires board { IsClear (K.size self.now.setting.now.kind.now) board.old }
+        requires numbered { AreNumbered self.now.lemmas.now }
         requires place { place < length self.now.lemmas.now }
         ensures fault { (lemma : Lemma) → slice_get self.now.lemmas.now place ≡ Some lemma →
             Answers result (next_refusal (K.size self.now.setting.now.kind.now)
