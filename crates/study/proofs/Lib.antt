@@ -1,6 +1,7 @@
 pub mod OneAnswer
 pub mod Collected
 pub mod Listings
+pub mod FirstPlaces
 pub mod ListedBallots
 pub mod StudySizes
 pub mod Resolved

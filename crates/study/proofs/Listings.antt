@@ -1,5 +1,5 @@
 -- What holds of each listing.
-use Rattle.std.proofs.Common.{◌≡◌, ◌≤◌, ◌<◌, ◌+◌, ℕ, suc, get_or, take, drop, List, [], ◌∷◌, ◌++◌, length, Bool, true, false, ◌||◌, if◌then◌else◌, ℤ, pos, negsuc, nat_abs, nat_le, Option, None, Some, is_some, option_map, Result, Ok, Err, refl, sym, ap, ◌∙◌, subst, append_assoc}
+use Rattle.std.proofs.Common.{◌≡◌, ◌≤◌, ◌<◌, ◌+◌, ℕ, suc, get_or, take, drop, List, [], ◌∷◌, ◌++◌, length, Bool, true, false, ◌||◌, if◌then◌else◌, ℤ, pos, negsuc, nat_abs, nat_le, Result, Ok, Err, refl, sym, ap, ◌∙◌, subst, append_assoc}
 use Rattle.std.proofs.lemmas.Bool.{false≢true, and_parts, and_from, or_parts, not_from_false, leb-true}
 use Rattle.std.proofs.lemmas.List.{append-nil, take_more, drop_more}
 use Rattle.std.proofs.lemmas.List.Folds.{list_any-append}
@@ -7,7 +7,7 @@ use Rattle.std.specs.List.{list_any}
 use Rattle.std.specs.Str.{bytes_eq}
 use Rattle.vocab.specs.declared.kinds.Kind.{Kind}
 use Rattle.vocab.specs.SizeFault.{is_between}
-use Rattle.axiom_library.specs.Library.{Entry, text_among}
+use Rattle.axiom_library.specs.Library.{Entry}
 use Rattle.study.specs.declared.drafts.Draft.{Draft}
 use Rattle.study.specs.declared.faults.StudyFault.{StudyFault}
 use Rattle.study.specs.declared.faults.StudyFault.TheVariants as fault
@@ -43,19 +43,6 @@ all_entries (Ok entries) = refl
 
 pub listed_all : (kind : Kind) (own : List Entry) (names : List (List ℕ)) → listed_after kind own [] names ≡ listed kind own names
 listed_all kind own names = listed_each kind own names [] ∙ all_entries (listed kind own names)
-
--- one of some entries has a name exactly where there is a text under it
-text_found : (entries : List Entry) (name : List ℕ) → list_any (λ other. bytes_eq other.name name) entries ≡ is_some (text_among entries name)
-text_found [] name = refl
-text_found (e ∷ entries) name = by (bytes_eq e.name name) (text_found entries name)
-  where
-    by : (b : Bool) → list_any (λ other. bytes_eq other.name name) entries ≡ is_some (text_among entries name) → (b || list_any (λ other. bytes_eq other.name name) entries) ≡ is_some (if b then Some e.text else text_among entries name)
-    by true rest = refl
-    by false rest = rest
-
-pub found_among : {A : Type 0} (f : A → List ℕ) (o : Option A) (found : Bool) (entries : List Entry) (name : List ℕ) → found ≡ is_some o → option_map f o ≡ text_among entries name → found ≡ list_any (λ other. bytes_eq other.name name) entries
-found_among f None found entries name is e = is ∙ ap is_some e ∙ sym (text_found entries name)
-found_among f (Some x) found entries name is e = is ∙ ap is_some e ∙ sym (text_found entries name)
 
 -- a step that came through came from one that did
 pub record CameFrom {A B E : Type 0} (f : A → Result B E) (r : Result A E) (y : B) : Type 0 where

@@ -9,6 +9,7 @@ mod faults;
 pub mod laws;
 mod limits;
 mod listing;
+mod names;
 mod reading;
 mod sentences;
 #[cfg(test)]
