@@ -28,9 +28,19 @@ impl Drop for Head {
 }
 
 /// The head, the names of the axioms, and the study's own sentences.
-#[derive(Drop)]
 pub(crate) struct Draft {
     pub(crate) head: Head,
     pub(crate) axioms: Texts,
     pub(crate) sentences: Entries,
+}
+
+/// Written out, as that of a head.
+impl Drop for Draft {
+    fn drop(self) {
+        let Draft {
+            head: _,
+            axioms: _,
+            sentences: _,
+        } = self;
+    }
 }

@@ -9,10 +9,16 @@ use std::marker::Model;
 use vocab::Name;
 
 /// The name of an axiom, and the text of its sentence.
-#[derive(Drop)]
 pub struct Entry {
     name: Name,
     text: Text,
+}
+
+/// Written out, so that letting go of an entry is one call.
+impl Drop for Entry {
+    fn drop(self) {
+        let Entry { name: _, text: _ } = self;
+    }
 }
 
 impl Model for Entry {

@@ -15,7 +15,6 @@ use std::alloc::Global;
 use vocab::{Kind, Name, Size};
 
 /// A size, a limit on learned clauses, and axioms with their texts.
-#[derive(Drop)]
 pub struct Listing {
     /// The voters, the alternatives, the rankings that may be cast, and whether voters may be absent.
     pub size: Size,
@@ -23,6 +22,17 @@ pub struct Listing {
     pub conflicts: u32,
     /// The axioms, each with the text of its sentence.
     pub axioms: Entries,
+}
+
+/// Written out, so that letting go of a listing is one call.
+impl Drop for Listing {
+    fn drop(self) {
+        let Listing {
+            size: _,
+            conflicts: _,
+            axioms: _,
+        } = self;
+    }
 }
 
 /// The most clauses that a search may learn.

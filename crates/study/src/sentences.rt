@@ -16,10 +16,19 @@ use syntax::{SyntaxFault, read};
 use vocab::{Axiom, Axioms, Name, Named, Size};
 
 /// A name and a sentence as it is written, before its names are resolved.
-#[derive(Drop)]
 pub(crate) struct Unresolved {
     pub(crate) name: Name,
     pub(crate) sentence: Named,
+}
+
+/// Written out, so that letting go of a sentence is one call.
+impl Drop for Unresolved {
+    fn drop(self) {
+        let Unresolved {
+            name: _,
+            sentence: _,
+        } = self;
+    }
 }
 
 /// The sentence of a text, or why it has none.
