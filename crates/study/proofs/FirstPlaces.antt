@@ -1,16 +1,15 @@
--- Names as the keys of maps and sets.
-use Rattle.std.proofs.Common.{◌≡◌, ◌<◌, ◌+◌, ℕ, suc, cond, get_or, map, take, drop, List, [], ◌∷◌, ◌++◌, length, Bool, true, false, not, if◌then◌else◌, Option, None, Some, IfSome, Vec, refl, sym, ap, ◌∙◌, subst, arith}
-use Rattle.std.proofs.lemmas.Bool.{false≢true, true≢false}
-use Rattle.std.proofs.lemmas.List.{drop_more, map-append, take_more}
+-- Names as the keys of a map.
+use Rattle.std.proofs.Common.{◌≡◌, ◌<◌, ◌+◌, ℕ, zero, suc, nat_lt, lt-ltb, le-ltb, cond, get_or, take, drop, List, [], ◌∷◌, length, Bool, true, false, ◌||◌, if◌then◌else◌, Option, None, Some, IfSome, Vec, refl, sym, ap, ◌∙◌, subst, arith}
+use Rattle.std.proofs.lemmas.Bool.{true≢false}
+use Rattle.std.proofs.lemmas.List.{drop_more}
 use Rattle.std.specs.Cmp.Lexicographic.{bytes_decides, nat_list_eq_equiv}
 use Rattle.std.specs.List.{list_any, position_from}
 use Rattle.std.specs.Map.{lookup}
 use Rattle.std.specs.Str.{bytes_eq}
 use Rattle.std.specs.declared.alloc.Global.{Global}
 use Rattle.indexmap.specs.IndexMap.{insert_entry}
-use Rattle.indexmap.specs.IndexSet.{insert_key}
 use Rattle.axiom_library.specs.Library.{Entry, text_among}
-use Rattle.study.specs.Names.{FindsFirst, texts_of}
+use Rattle.study.specs.Names.{FindsFirst}
 
 -- a key is the bytes of a name
 abbrev is_named : List ℕ → Vec ℕ Global → Bool
@@ -104,43 +103,37 @@ none_under (e ∷ entries) name first h = by (bytes_eq e.name name) h (none_unde
     by true h later = absurd cc
     by false h later = later h
 
--- a look-up among the keys of a set is one among their texts
-any_text : (name : List ℕ) (keys : List (Vec ℕ Global)) → list_any (λ key. bytes_eq name key.items) keys ≡ list_any (bytes_eq name) (texts_of keys)
-any_text name [] = refl
-any_text name (k ∷ keys) = rw (any_text name keys) refl
+before_first : (entries : List Entry) (name : List ℕ) (first place count : ℕ) → position_from (λ e. bytes_eq e.name name) first entries ≡ Some place
+    → nat_lt place (first + count) ≡ list_any (λ e. bytes_eq e.name name) (take count entries)
+before_first [] name first place count h = absurd cc
+before_first (e ∷ entries) name first place zero h =
+    let (k, at, stands) = stands_from (e ∷ entries) name first place h in
+    le-ltb place (first + 0) (omega (arith, at))
+before_first (e ∷ entries) name first place (suc count) h = by (bytes_eq e.name name) h (before_first entries name (first + 1) place count)
+  where
+    by : (b : Bool) → cond b (Some first) (position_from (λ x. bytes_eq x.name name) (first + 1) entries) ≡ Some place
+        → (position_from (λ x. bytes_eq x.name name) (first + 1) entries ≡ Some place → nat_lt place (first + 1 + count) ≡ list_any (λ x. bytes_eq x.name name) (take count entries))
+        → nat_lt place (first + suc count) ≡ (b || list_any (λ x. bytes_eq x.name name) (take count entries))
+    by true h later =
+        let here : first ≡ place = cc in
+        lt-ltb place (first + suc count) (omega (arith, here))
+    by false h later = ap (nat_lt place) (omega arith) ∙ later h
 
--- what a set answers of a name that is put
-pub is_fresh : (keys : List (Vec ℕ Global)) (key : Vec ℕ Global) (name : List ℕ) → key.items ≡ name → list_any (same_key key) keys ≡ list_any (bytes_eq name) (texts_of keys)
-is_fresh keys key name is = any_text key.items keys ∙ ap (λ n. list_any (bytes_eq n) (texts_of keys)) is
+before_none : (entries : List Entry) (name : List ℕ) (first count : ℕ) → position_from (λ e. bytes_eq e.name name) first entries ≡ None → false ≡ list_any (λ e. bytes_eq e.name name) (take count entries)
+before_none [] name first zero h = refl
+before_none [] name first (suc count) h = refl
+before_none (e ∷ entries) name first zero h = refl
+before_none (e ∷ entries) name first (suc count) h = by (bytes_eq e.name name) h (before_none entries name (first + 1) count)
+  where
+    by : (b : Bool) → cond b (Some first) (position_from (λ x. bytes_eq x.name name) (first + 1) entries) ≡ None
+        → (position_from (λ x. bytes_eq x.name name) (first + 1) entries ≡ None → false ≡ list_any (λ x. bytes_eq x.name name) (take count entries))
+        → false ≡ (b || list_any (λ x. bytes_eq x.name name) (take count entries))
+    by true h later = absurd cc
+    by false h later = later h
 
-texts_then : (keys : List (Vec ℕ Global)) (key : Vec ℕ Global) → texts_of (keys ++ key ∷ []) ≡ texts_of keys ++ key.items ∷ []
-texts_then [] key = refl
-texts_then (k ∷ keys) key = ap (λ ns. k.items ∷ ns) (texts_then keys key)
+-- an entry before a place has the name exactly where the first of the name stands before it
+pub stands_earlier : (entries : List Entry) (name : List ℕ) (place first : ℕ) → Some first ≡ position_from (λ e. bytes_eq e.name name) 0 entries → nat_lt first place ≡ list_any (λ e. bytes_eq e.name name) (take place entries)
+stands_earlier entries name place first h = ap (nat_lt first) (omega arith) ∙ before_first entries name 0 first place (sym h)
 
--- and which names it then has, where the name is new
-pub fresh_last : (keys : List (Vec ℕ Global)) (key : Vec ℕ Global) (name : List ℕ) (there : Bool) → key.items ≡ name → list_any (same_key key) keys ≡ there → not there ≡ true
-    → texts_of (insert_key same_key keys key) ≡ texts_of keys ++ name ∷ []
-fresh_last keys key name true is there new = absurd (false≢true new)
-fresh_last keys key name false is there new = rw there (texts_then keys key ∙ ap (λ n. texts_of keys ++ n ∷ []) is)
-
--- a name that stands among entries is one of their names
-any_name : (name : List ℕ) (entries : List Entry) → list_any (λ other. bytes_eq other.name name) entries ≡ list_any (bytes_eq name) (map (λ e. e.name) entries)
-any_name name [] = refl
-any_name name (e ∷ entries) = rw (any_name name entries, nat_list_eq_equiv.symm e.name name) refl
-
-not_twice : (b : Bool) → b ≡ not (not b)
-not_twice true = refl
-not_twice false = refl
-
--- where the names of entries are noted, a name that is not new stands among them
-pub stands_among : (new : Bool) (noted : List (List ℕ)) (entries : List Entry) (name : List ℕ) → new ≡ not (list_any (bytes_eq name) noted) → noted ≡ map (λ e. e.name) entries
-    → list_any (λ other. bytes_eq other.name name) entries ≡ not new
-stands_among new noted entries name is same =
-    any_name name entries ∙ ap (list_any (bytes_eq name)) (sym same) ∙ not_twice (list_any (bytes_eq name) noted) ∙ ap not (sym is)
-
--- and one that is new is noted after them
-pub noted_then : (new : Bool) (noted more : List (List ℕ)) (entries : List Entry) (place : ℕ) (e : Entry) (name : List ℕ) → place < length entries → e ≡ get_or entries place e → name ≡ e.name
-    → new ≡ true → (new ≡ true → more ≡ noted ++ name ∷ []) → noted ≡ map (λ e. e.name) (take place entries) → more ≡ map (λ e. e.name) (take (place + 1) entries)
-noted_then false noted more entries place e name within is same is_new after before = absurd (false≢true is_new)
-noted_then true noted more entries place e name within is same is_new after before =
-    after refl ∙ rw (take_more entries place e within, ← is, map-append (λ (e : Entry). e.name) (take place entries) (e ∷ []), before, same) refl
+pub stands_not : (entries : List Entry) (name : List ℕ) (place : ℕ) → None ≡ position_from (λ e. bytes_eq e.name name) 0 entries → false ≡ list_any (λ e. bytes_eq e.name name) (take place entries)
+stands_not entries name place h = before_none entries name 0 place (sym h)

@@ -1,5 +1,5 @@
 -- Several steps as one give what they give one after the other.
-use Rattle.std.proofs.Common.{◌≡◌, ℕ, List, Result, Ok, Err, refl, ap, ◌∙◌}
+use Rattle.std.proofs.Common.{◌≡◌, ℕ, List, [], Result, Ok, Err, refl, ap, ◌∙◌}
 use Rattle.std.specs.Prelude.{codes}
 use Rattle.std.specs.Option.{ok_or}
 use Rattle.toml.specs.Data.{Members, get_member}
@@ -12,10 +12,13 @@ use Rattle.study.specs.declared.drafts.Head.{Head}
 use Rattle.study.specs.declared.faults.StudyFault.{StudyFault}
 use Rattle.study.specs.declared.faults.StudyFault.TheVariants as fault
 use Rattle.study.specs.declared.limits.Limit.TheVariants.{Instances, Body, Work}
+use Rattle.study.specs.declared.listing.Listing.{Listing}
+use Rattle.study.specs.Ballots.{sized}
 use Rattle.study.specs.Document.{axioms_of, sentences_of, known_keys, head_of, draft_of}
+use Rattle.study.specs.Listing.{limit_of, few_of, listed, once, listing_of}
 use Rattle.study.specs.Refusing.{and_then, refused_as, ◌>>=◌}
 use Rattle.study.specs.Sentences.{Worded, resolved_all, opened, within, study_of}
-use Rattle.study.specs.Steps.{last_of, fitting}
+use Rattle.study.specs.Steps.{last_of, listed_once, fitting}
 use Rattle.study.proofs.Listings.{came_from, known}
 
 -- four tests, and what follows them
@@ -48,6 +51,25 @@ pass_each size axioms e =
     let instances = came_from _ (within size Instances axioms) tt open_to.after in
     let body = came_from _ (within size Body axioms) tt instances.after in
     record { open_to = open_to.first; instances = instances.first; body = body.first; work = body.after }
+
+-- ---- a listing
+
+once_after : {A B : Type 0} (f : A → Result B StudyFault) (test : A → Result (Unit {0}) StudyFault) (found : Result A StudyFault)
+    → (found >>= (λ x. test x >>= (λ _. f x))) ≡ and_then f (found >>= (λ x. test x >>= (λ _. Ok x)))
+once_after f test (Err e) = refl
+once_after f test (Ok x) = by (test x)
+  where
+    by : (r : Result (Unit {0}) StudyFault) → and_then (λ _. f x) r ≡ and_then f (and_then (λ _. Ok x) r)
+    by (Err e) = refl
+    by (Ok u) = refl
+
+-- what a draft lists of a size, a limit and few axioms: the first refusal of an axiom, or all of it
+pub listing_said : (draft : Draft) (size : Extent) (conflicts : ℕ) (axioms : Result (List Entry) StudyFault) → sized draft.head ≡ Ok size → limit_of draft.head.conflicts ≡ Ok conflicts → few_of draft.axioms ≡ Ok tt
+    → listed_once draft.head.kind draft.sentences draft.axioms ≡ axioms → listing_of draft ≡ and_then (λ axioms. Ok (record { size = size; conflicts = conflicts; axioms = axioms })) axioms
+unfolding listing_of
+listing_said draft size conflicts axioms s l f h =
+    let given : List Entry → Result Listing StudyFault = λ axioms. Ok (record { size = size; conflicts = conflicts; axioms = axioms }) in
+    rw (s, l, f) (once_after given (once draft.head.kind draft.sentences []) (listed draft.head.kind draft.sentences draft.axioms)) ∙ ap (and_then given) h
 
 -- ---- a document
 

@@ -1,14 +1,10 @@
--- Names as the keys of maps and sets.
-use Rattle.std.specs.Prelude.{◌≡◌, ℕ, List, map, Vec}
+-- Names as the keys of a map.
+use Rattle.std.specs.Prelude.{◌≡◌, ℕ, List, Vec}
 use Rattle.std.specs.List.{position_from}
 use Rattle.std.specs.Map.{lookup}
 use Rattle.std.specs.Str.{bytes_eq}
 use Rattle.std.specs.declared.alloc.Global.{Global}
 use Rattle.axiom_library.specs.Library.{Entry}
-
--- the texts of some keys
-abbrev pub texts_of : List (Vec ℕ Global) → List (List ℕ)
-texts_of keys = map (λ key. key.items) keys
 
 -- under each name a map has the place of the first entry of that name, the first of all entries standing at a place
 abbrev pub FindsFirst : List (Vec ℕ Global × ℕ) → ℕ → List Entry → Type 0

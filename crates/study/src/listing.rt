@@ -3,12 +3,13 @@
 ghost use Rattle.std.specs.Prelude.{◌≡◌, ◌≢◌, []};
 ghost use Rattle.study.specs.Listing.{limit_of, few_of, text_of, entry_of, listed, is_in_both, once, listing_of};
 ghost use Rattle.study.specs.Refusing.{Gives};
+ghost use Rattle.study.specs.Steps.{listed_once};
 
 use crate::ballots::sized;
-use crate::drafts::Draft;
+use crate::drafts::{Draft, Head};
 use crate::entries::{Entries, Entry, Texts, copied};
 use crate::faults::{StudyFault, Text};
-use crate::names::{Noted, OwnSentences};
+use crate::names::ByName;
 use axiom_library::text_under;
 use lists::NoMemory;
 use std::alloc::Global;
@@ -36,12 +37,12 @@ impl Drop for Listing {
 }
 
 /// The most clauses that a search may learn.
-fn limit_of(conflicts: i64) -> Result<u32, StudyFault>
-    ensures { result ≡ limit_of conflicts }
+fn limit_of(head: &Head) -> Result<u32, StudyFault>
+    ensures { result ≡ limit_of head.now.conflicts }
 {
-    match conflicts {
-        1..=1_000_000 => Ok(conflicts as u32),
-        _ => Err(StudyFault::Conflicts(conflicts)),
+    match head.conflicts {
+        1..=1_000_000 => Ok(head.conflicts as u32),
+        _ => Err(StudyFault::Conflicts(head.conflicts)),
     }
 }
 
@@ -67,7 +68,7 @@ fn unknown(alloc: Global, name: &[u8]) -> StudyFault
 }
 
 /// A name with its text: the library's for the kind, or else the study's own.
-fn entry_of(alloc: Global, kind: Kind, own: &OwnSentences, name: &Text) -> Result<Entry, StudyFault>
+fn entry_of(alloc: Global, kind: Kind, own: &ByName, name: &Text) -> Result<Entry, StudyFault>
     ensures { Gives (entry_of name.now (text_of kind own.now.entries.now name.now)) result }
 {
     let bytes = name.as_slice();
@@ -86,7 +87,7 @@ fn entry_of(alloc: Global, kind: Kind, own: &OwnSentences, name: &Text) -> Resul
 fn listed(
     alloc: Global,
     kind: Kind,
-    own: &OwnSentences,
+    own: &ByName,
     names: &Texts,
 ) -> Result<Entries, StudyFault>
     ensures { Gives (listed kind own.now.entries.now names.now) result }
@@ -100,7 +101,7 @@ fn listed(
 }
 
 /// Whether a name is in the library for the kind and among the study's own sentences.
-fn is_in_both(kind: Kind, own: &OwnSentences, name: &Name) -> bool
+fn is_in_both(kind: Kind, own: &ByName, name: &Name) -> bool
     ensures { result ≡ is_in_both kind own.now.entries.now name.now }
 {
     let name = name.bytes();
@@ -108,13 +109,13 @@ fn is_in_both(kind: Kind, own: &OwnSentences, name: &Name) -> bool
 }
 
 /// Refuses a name that stands earlier, or has two texts.
-fn once(alloc: Global, kind: Kind, own: &OwnSentences, entries: &[Entry]) -> Result<(), StudyFault>
+fn once(alloc: Global, kind: Kind, own: &ByName, entries: &[Entry]) -> Result<(), StudyFault>
     ensures { Gives (once kind own.now.entries.now [] entries.now) result }
 {
-    let mut earlier = Noted::new(alloc);
+    let listed = ByName::new(alloc, entries)?;
     for place in 0..entries.len() {
         let name = entries[place].name();
-        if !earlier.is_new(alloc, name.bytes())? {
+        if listed.stands_before(place, name.bytes()) {
             return Err(StudyFault::Twice(name));
         }
         if is_in_both(kind, own, &name) {
@@ -124,21 +125,33 @@ fn once(alloc: Global, kind: Kind, own: &OwnSentences, entries: &[Entry]) -> Res
     Ok(())
 }
 
+/// The axioms that a draft lists, each once, with their texts.
+fn listed_once(alloc: Global, draft: &Draft) -> Result<Entries, StudyFault>
+    ensures { Gives (listed_once draft.now.head.kind draft.now.sentences draft.now.axioms) result }
+{
+    let kind = draft.head.kind;
+    let own = ByName::new(alloc, draft.sentences.as_slice())?;
+    let axioms = listed(alloc, kind, &own, &draft.axioms)?;
+    match once(alloc, kind, &own, axioms.as_slice()) {
+        Ok(()) => Ok(axioms),
+        Err(fault) => Err(fault),
+    }
+}
+
 /// What a draft lists, or the first refusal.
 #[tactic(auto, unfolding(crate::specs::Listing::listing_of))]
 pub(crate) fn listing_of(alloc: Global, draft: &Draft) -> Result<Listing, StudyFault>
     ensures { Gives (listing_of draft.now) result }
 {
-    let head = &draft.head;
-    let size = sized(alloc, head)?;
-    let conflicts = limit_of(head.conflicts)?;
+    let size = sized(alloc, &draft.head)?;
+    let conflicts = limit_of(&draft.head)?;
     few_of(&draft.axioms)?;
-    let own = OwnSentences::new(alloc, draft.sentences.as_slice())?;
-    let axioms = listed(alloc, head.kind, &own, &draft.axioms)?;
-    once(alloc, head.kind, &own, axioms.as_slice())?;
-    Ok(Listing {
-        size,
-        conflicts,
-        axioms,
-    })
+    match listed_once(alloc, draft) {
+        Ok(axioms) => Ok(Listing {
+            size,
+            conflicts,
+            axioms,
+        }),
+        Err(fault) => Err(fault),
+    }
 }

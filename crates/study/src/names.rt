@@ -1,28 +1,27 @@
-//! The study's own sentences by their names, and names that were noted.
+//! Entries by their names.
 
-ghost use Rattle.std.specs.Prelude.{◌≡◌, ◌<◌, [], ◌∷◌, ◌++◌, length, not, option_map, IfOk, IfSome, IsTrue};
+ghost use Rattle.std.specs.Prelude.{◌≡◌, ◌<◌, length, take, option_map, IfOk, IfSome};
 ghost use Rattle.std.specs.List.{list_any, position_from};
 ghost use Rattle.std.specs.Str.{bytes_eq};
 ghost use Rattle.axiom_library.specs.Library.{text_among};
 ghost use Rattle.study.specs.Names.{FindsFirst};
 
 use crate::entries::Entry;
-use indexmap::{IndexMap, IndexSet};
+use indexmap::IndexMap;
 use lists::NoMemory;
 use std::alloc::Global;
-use std::marker::Model;
 
-/// A study's own sentences, each found by its name without going over the others. Of two under one name the first is found.
-pub(crate) struct OwnSentences<'a> {
+/// Entries, each found by its name without going over the others. Of two under one name the first is found.
+pub(crate) struct ByName<'a> {
     pub(crate) entries: &'a [Entry],
     pub(crate) places: IndexMap<Vec<u8>, usize>,
     ghost first: { FindsFirst places.entries 0 entries.now },
 }
 
 /// Written out, so that letting go of them is one call.
-impl Drop for OwnSentences<'_> {
+impl Drop for ByName<'_> {
     fn drop(self) {
-        let OwnSentences {
+        let ByName {
             entries: _,
             places: _,
         } = self;
@@ -41,13 +40,13 @@ fn places_of(alloc: Global, entries: &[Entry]) -> Result<IndexMap<Vec<u8>, usize
     Ok(places)
 }
 
-impl<'a> OwnSentences<'a> {
-    /// The sentences of some entries.
-    pub(crate) fn new(alloc: Global, entries: &'a [Entry]) -> Result<OwnSentences<'a>, NoMemory>
-        ensures { IfOk result (λ own. own.entries.now ≡ entries.now) }
+impl<'a> ByName<'a> {
+    /// The entries of a list.
+    pub(crate) fn new(alloc: Global, entries: &'a [Entry]) -> Result<ByName<'a>, NoMemory>
+        ensures { IfOk result (λ by_name. by_name.entries.now ≡ entries.now) }
     {
         let places = places_of(alloc, entries)?;
-        Ok(OwnSentences { entries, places })
+        Ok(ByName { entries, places })
     }
 
     /// The place of the first entry under a name.
@@ -66,46 +65,14 @@ impl<'a> OwnSentences<'a> {
         let place = self.place_of(name)?;
         Some(&self.entries[place])
     }
-}
 
-/// Names, each noted once, in the order in which they came.
-pub(crate) struct Noted {
-    keys: IndexSet<Vec<u8>>,
-}
-
-impl Model for Noted {
-    ghost use Rattle.std.specs.Prelude.{ℕ, List};
-    ghost use Rattle.study.specs.Names.{texts_of};
-
-    ghost Value = { List (List ℕ) };
-
-    ghost view = { λ noted. texts_of noted.keys.keys };
-}
-
-/// Written out, so that letting go of them is one call.
-impl Drop for Noted {
-    fn drop(self) {
-        let Noted { keys: _ } = self;
-    }
-}
-
-impl Noted {
-    /// No names.
-    pub(crate) fn new(alloc: Global) -> Noted
-        ensures { result ≡ [] }
+    /// Whether an entry before a place has a name.
+    pub(crate) fn stands_before(&self, place: usize, name: &[u8]) -> bool
+        ensures { result ≡ list_any (λ e. bytes_eq e.name name.now) (take place self.now.entries.now) }
     {
-        Noted {
-            keys: IndexSet::new(alloc),
+        match self.place_of(name) {
+            Some(first) => first < place,
+            None => false,
         }
-    }
-
-    /// Notes a name. True where it was not noted before.
-    pub(crate) fn is_new(&mut self, alloc: Global, name: &[u8]) -> Result<bool, NoMemory>
-        ensures new { IfOk result (λ new. new ≡ not (list_any (bytes_eq name.now) self.old)) }
-        ensures noted { IfOk result (λ new. IsTrue new → self.new ≡ self.old ++ name.now ∷ []) }
-    {
-        let key = Vec::from_slice(alloc, name)?;
-        let new = self.keys.insert(key)?;
-        Ok(new)
     }
 }

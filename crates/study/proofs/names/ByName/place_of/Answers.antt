@@ -1,6 +1,6 @@
 use Rattle.std.proofs.Common.{◌∙◌}
 use Rattle.study.proofs.FirstPlaces.{stands_within}
-use Rattle.study.proofs.names.OwnSentences.place_of.Goals as goal
+use Rattle.study.proofs.names.ByName.place_of.Goals as goal
 
 pub returns-clause-place : goal.returns-clause-place
 returns-clause-place c = c.copied.ensures ∙ c.get.ensures.value ∙ c.args.self.now.first c.args.name.now
