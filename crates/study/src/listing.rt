@@ -84,12 +84,7 @@ fn entry_of(alloc: Global, kind: Kind, own: &ByName, name: &Text) -> Result<Entr
 
 /// Each name with its text.
 #[tactic(auto, using(crate::proofs::Listings::listed_all))]
-fn listed(
-    alloc: Global,
-    kind: Kind,
-    own: &ByName,
-    names: &Texts,
-) -> Result<Entries, StudyFault>
+fn listed(alloc: Global, kind: Kind, own: &ByName, names: &Texts) -> Result<Entries, StudyFault>
     ensures { Gives (listed kind own.now.entries.now names.now) result }
 {
     let mut entries = Entries::new(alloc);
