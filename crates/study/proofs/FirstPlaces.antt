@@ -1,67 +1,35 @@
--- Names as the keys of a map.
-use Rattle.std.proofs.Common.{◌≡◌, ◌<◌, ◌+◌, ℕ, zero, suc, nat_lt, lt-ltb, le-ltb, cond, get_or, take, drop, List, [], ◌∷◌, length, Bool, true, false, ◌||◌, if◌then◌else◌, Option, None, Some, IfSome, Vec, refl, sym, ap, ◌∙◌, subst, arith}
-use Rattle.std.proofs.lemmas.Bool.{true≢false}
-use Rattle.std.proofs.lemmas.List.{drop_more}
-use Rattle.std.specs.Cmp.Lexicographic.{bytes_decides, nat_list_eq_equiv}
+-- The first entry of a name.
+use Rattle.std.proofs.Common.{◌≡◌, ◌<◌, ◌≤◌, ◌-◌, map, ◌+◌, ℕ, zero, suc, nat_lt, lt-ltb, le-ltb, cond, get_or, take, drop, List, [], ◌∷◌, length, Bool, true, false, ◌||◌, if◌then◌else◌, Option, None, Some, IfSome, refl, sym, ap, ◌∙◌, subst, arith}
+use Rattle.std.proofs.lemmas.List.{drop_more, drop_all}
+use Rattle.std.specs.Cmp.Lexicographic.{bytes_decides}
 use Rattle.std.specs.List.{list_any, position_from}
-use Rattle.std.specs.Map.{lookup}
 use Rattle.std.specs.Str.{bytes_eq}
-use Rattle.std.specs.declared.alloc.Global.{Global}
-use Rattle.indexmap.specs.IndexMap.{insert_entry}
 use Rattle.axiom_library.specs.Library.{Entry, text_among}
-use Rattle.study.specs.Names.{FindsFirst}
+use Rattle.names.specs.Names.{FindsFirst}
+use Rattle.names.specs.declared.index.NameIndex.{NameIndex}
 
--- a key is the bytes of a name
-abbrev is_named : List ℕ → Vec ℕ Global → Bool
-is_named name key = bytes_eq name key.items
+abbrev names_of : List Entry → List (List ℕ)
+names_of entries = map (λ e. e.name) entries
 
-abbrev same_key : Vec ℕ Global → Vec ℕ Global → Bool
-same_key a b = bytes_eq a.items b.items
+-- a place among the names is one among the entries
+pub among_names : (entries : List Entry) (name : List ℕ) (first : ℕ) → position_from (λ n. bytes_eq n name) first (names_of entries) ≡ position_from (λ e. bytes_eq e.name name) first entries
+among_names [] name first = refl
+among_names (e ∷ entries) name first = ap (cond (bytes_eq e.name name) (Some first)) (among_names entries name (first + 1))
 
-module _ (name : List ℕ) (key : Vec ℕ Global) (place : ℕ) where
-  put_first : (e : Vec ℕ Global × ℕ) (es : List (Vec ℕ Global × ℕ)) (named : Bool) → is_named name key ≡ named → is_named name e.0 ≡ named
-      → lookup (is_named name) ((e.0, place) ∷ es) ≡ (if is_named name key then Some place else lookup (is_named name) (e ∷ es))
-  put_first e es true k h = rw (k, h) refl
-  put_first e es false k h = rw (k, h) refl
+-- an index of the names from a place on, with one more name before them
+pub one_more_entry : (before after : NameIndex) (entries : List Entry) (place : ℕ) (e : Entry) (name : List ℕ) → 0 < place → place ≤ length entries → e ≡ get_or entries (place - 1) e → name ≡ e.name
+    → ((names : List (List ℕ)) → FindsFirst before (place - 1 + 1) names → FindsFirst after (place - 1) (name ∷ names))
+    → FindsFirst before place (names_of (drop place entries)) → FindsFirst after (place - 1) (names_of (drop (place - 1) entries))
+one_more_entry before after entries place e name some within is same put finds =
+    let up : place ≡ place - 1 + 1 = omega (arith, some) in
+    let least : place - 1 < length entries = omega (arith, some, within) in
+    let rest : List (List ℕ) = names_of (drop (place - 1 + 1) entries) in
+    let names : names_of (drop (place - 1) entries) ≡ name ∷ rest = ap names_of (drop_more entries (place - 1) e least) ∙ ap (λ (x : Entry). x.name ∷ rest) (sym is) ∙ ap (λ (n : List ℕ). n ∷ rest) (sym same) in
+    subst (FindsFirst after (place - 1)) (sym names) (put _ (subst (λ n. FindsFirst before n (names_of (drop n entries))) up finds))
 
-  put_later : (e : Vec ℕ Global × ℕ) (es more : List (Vec ℕ Global × ℕ)) (named : Bool) → is_named name key ≡ named → (named ≡ true → is_named name e.0 ≡ false)
-      → lookup (is_named name) more ≡ (if is_named name key then Some place else lookup (is_named name) es)
-      → lookup (is_named name) (e ∷ more) ≡ (if is_named name key then Some place else lookup (is_named name) (e ∷ es))
-  put_later e es more true k apart h = rw (apart refl, h, k) refl
-  put_later e es more false k apart h = rw (h, k) refl
-
-  -- after a key is put, its name has the new place, and each other name has what it had
-  found_after : (es : List (Vec ℕ Global × ℕ)) → lookup (is_named name) (insert_entry same_key es key place) ≡ (if is_named name key then Some place else lookup (is_named name) es)
-  found_after [] = by (is_named name key)
-    where
-      by : (b : Bool) → cond b (Some place) None ≡ (if b then Some place else None)
-      by true = refl
-      by false = refl
-  found_after (e ∷ es) = by (same_key key e.0) refl (found_after es)
-    where
-      by : (b : Bool) → same_key key e.0 ≡ b → lookup (is_named name) (insert_entry same_key es key place) ≡ (if is_named name key then Some place else lookup (is_named name) es)
-          → lookup (is_named name) (if b then (e.0, place) ∷ es else e ∷ insert_entry same_key es key place) ≡ (if is_named name key then Some place else lookup (is_named name) (e ∷ es))
-      by true same h = put_first e es (is_named name key) refl (ap (bytes_eq name) (sym ((bytes_decides key.items e.0.items).0 same)))
-      by false other h = put_later e es (insert_entry same_key es key place) (is_named name key) refl (λ named. nat_list_eq_equiv.congr name key.items e.0.items named ∙ other) h
-
--- one more entry, before the others
-pub finds_one_more : (found : List (Vec ℕ Global × ℕ)) (key : Vec ℕ Global) (place : ℕ) (e : Entry) (entries : List Entry) → key.items ≡ e.name
-    → FindsFirst found (place + 1) entries → FindsFirst (insert_entry same_key found key place) place (e ∷ entries)
-finds_one_more found key place e entries is finds name =
-    found_after name key place found ∙ by (bytes_eq name key.items) (bytes_eq e.name name) (nat_list_eq_equiv.symm name key.items ∙ ap (λ n. bytes_eq n name) is) (finds name)
-  where
-    by : (a b : Bool) → a ≡ b → lookup (λ k. bytes_eq name k.items) found ≡ position_from (λ x. bytes_eq x.name name) (place + 1) entries
-        → (if a then Some place else lookup (λ k. bytes_eq name k.items) found) ≡ cond b (Some place) (position_from (λ x. bytes_eq x.name name) (place + 1) entries)
-    by true true h rest = refl
-    by true false h rest = absurd (true≢false h)
-    by false true h rest = absurd (true≢false (sym h))
-    by false false h rest = rest
-
--- and so a step back through a list
-pub finds_earlier : (found new : List (Vec ℕ Global × ℕ)) (key : Vec ℕ Global) (entries : List Entry) (place : ℕ) (e : Entry) → place < length entries → e ≡ get_or entries place e → key.items ≡ e.name
-    → new ≡ insert_entry same_key found key place → FindsFirst found (place + 1) (drop (place + 1) entries) → FindsFirst new place (drop place entries)
-finds_earlier found new key entries place e within is named put finds name =
-    rw (drop_more entries place e within, ← is, put) (finds_one_more found key place e (drop (place + 1) entries) named finds name)
+-- an index without names
+pub no_entry : (index : NameIndex) (entries : List Entry) → ((first : ℕ) → FindsFirst index first []) → FindsFirst index (length entries) (names_of (drop (length entries) entries))
+no_entry index entries none = subst (λ xs. FindsFirst index (length entries) (names_of xs)) (sym (drop_all (length entries) entries (omega arith))) (none (length entries))
 
 -- the first entry of a name stands at a place
 pub record StandsAt (entries : List Entry) (name : List ℕ) (place : ℕ) : Type 0 where

@@ -2,6 +2,7 @@
 #![tactic(auto)]
 
 mod ballots;
+mod by_name;
 mod document;
 mod drafts;
 mod entries;
@@ -9,7 +10,6 @@ mod faults;
 pub mod laws;
 mod limits;
 mod listing;
-mod names;
 mod reading;
 mod sentences;
 #[cfg(test)]

@@ -6,10 +6,10 @@ ghost use Rattle.study.specs.Refusing.{Gives};
 ghost use Rattle.study.specs.Steps.{listed_once};
 
 use crate::ballots::sized;
+use crate::by_name::ByName;
 use crate::drafts::{Draft, Head};
 use crate::entries::{Entries, Entry, Texts, copied};
 use crate::faults::{StudyFault, Text};
-use crate::names::ByName;
 use axiom_library::text_under;
 use lists::NoMemory;
 use std::alloc::Global;

@@ -1,21 +1,21 @@
 //! Entries by their names.
 
-ghost use Rattle.std.specs.Prelude.{◌≡◌, ◌<◌, length, take, option_map, IfOk, IfSome};
+ghost use Rattle.std.specs.Prelude.{◌≡◌, ◌<◌, length, map, take, option_map, IfOk, IfSome};
 ghost use Rattle.std.specs.List.{list_any, position_from};
 ghost use Rattle.std.specs.Str.{bytes_eq};
 ghost use Rattle.axiom_library.specs.Library.{text_among};
-ghost use Rattle.study.specs.Names.{FindsFirst};
+ghost use Rattle.names.specs.Names.{FindsFirst};
 
 use crate::entries::Entry;
-use indexmap::IndexMap;
 use lists::NoMemory;
+use names::NameIndex;
 use std::alloc::Global;
 
 /// Entries, each found by its name without going over the others. Of two under one name the first is found.
 pub(crate) struct ByName<'a> {
     pub(crate) entries: &'a [Entry],
-    pub(crate) places: IndexMap<Vec<u8>, usize>,
-    ghost first: { FindsFirst places.entries 0 entries.now },
+    pub(crate) index: NameIndex,
+    ghost first: { FindsFirst index 0 (map (λ e. e.name) entries.now) },
 }
 
 /// Written out, so that letting go of them is one call.
@@ -23,21 +23,21 @@ impl Drop for ByName<'_> {
     fn drop(self) {
         let ByName {
             entries: _,
-            places: _,
+            index: _,
         } = self;
     }
 }
 
 /// The place of the first entry under each name.
-fn places_of(alloc: Global, entries: &[Entry]) -> Result<IndexMap<Vec<u8>, usize>, NoMemory>
-    ensures { IfOk result (λ places. FindsFirst places.entries 0 entries.now) }
+fn index_of(alloc: Global, entries: &[Entry]) -> Result<NameIndex, NoMemory>
+    ensures { IfOk result (λ index. FindsFirst index 0 (map (λ e. e.name) entries.now)) }
 {
-    let mut places = IndexMap::new(alloc);
+    let mut index = NameIndex::new(alloc);
     for place in (0..entries.len()).rev() {
-        let name = Vec::from_slice(alloc, entries[place].name().bytes())?;
-        places.insert(name, place)?;
+        let name = entries[place].name();
+        index.put(alloc, name.bytes(), place)?;
     }
-    Ok(places)
+    Ok(index)
 }
 
 impl<'a> ByName<'a> {
@@ -45,8 +45,8 @@ impl<'a> ByName<'a> {
     pub(crate) fn new(alloc: Global, entries: &'a [Entry]) -> Result<ByName<'a>, NoMemory>
         ensures { IfOk result (λ by_name. by_name.entries.now ≡ entries.now) }
     {
-        let places = places_of(alloc, entries)?;
-        Ok(ByName { entries, places })
+        let index = index_of(alloc, entries)?;
+        Ok(ByName { entries, index })
     }
 
     /// The place of the first entry under a name.
@@ -54,7 +54,7 @@ impl<'a> ByName<'a> {
         ensures place { result ≡ position_from (λ e. bytes_eq e.name name.now) 0 self.now.entries.now }
         ensures within { IfSome result (λ place. place < length self.now.entries.now) }
     {
-        self.places.get(name).copied()
+        self.index.place_of(name)
     }
 
     /// The first entry under a name.

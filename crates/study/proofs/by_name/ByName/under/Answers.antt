@@ -1,6 +1,6 @@
 use Rattle.std.proofs.Common.{sym}
 use Rattle.study.proofs.FirstPlaces.{none_under, stands_there}
-use Rattle.study.proofs.names.ByName.under.Goals as goal
+use Rattle.study.proofs.by_name.ByName.under.Goals as goal
 
 pub returns-in_err-place-clause-text : goal.returns-in_err-place-clause-text
 returns-in_err-place-clause-text c = rw c.from_residual.ensures (sym (none_under c.args.self.now.entries.now c.args.name.now 0 (sym c.in_err-place.ensures.place)))
