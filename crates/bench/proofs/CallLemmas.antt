@@ -77,11 +77,11 @@ keeps None = tt
 keeps (Some xs) = refl
 
 module _ (words : List (List ℕ)) (d : Devices) where
-  abbrev Held : Result Answer Stop → Type 0
-  Held result = Answers (request_of words) d.told d.left_before d.left_now d.faults_before d.faults_now result
+  abbrev Promised : Result Answer Stop → Type 0
+  Promised result = Answers (request_of words) d.told d.left_before d.left_now d.faults_before d.faults_now result
 
   -- the text was written
-  pub written : (answer : Answer) → Held (Ok answer) → Appends d.taken_before d.taken_now (text_of answer) → IsCall words d (run_of answer)
+  pub written : (answer : Answer) → Promised (Ok answer) → Appends d.taken_before d.taken_now (text_of answer) → IsCall words d (run_of answer)
   written answer a bytes = record {
     status = a.status;
     lawful = λ files h low. record { text = text_of answer; lawful = a.lawful files h; written = bytes };
@@ -94,7 +94,7 @@ module _ (words : List (List ℕ)) (d : Devices) where
   }
 
   -- the front of it was
-  pub cut : (answer : Answer) → Held (Ok answer) → AppendsPrefix d.taken_before d.taken_now (text_of answer) → Rose d.sink_faults_before d.sink_faults_now
+  pub cut : (answer : Answer) → Promised (Ok answer) → AppendsPrefix d.taken_before d.taken_now (text_of answer) → Rose d.sink_faults_before d.sink_faults_now
       → IsCall words d (with_status 6 (run_of answer))
   cut answer a bytes rose = record {
     status = may_be_cut (request_of words);
@@ -124,9 +124,9 @@ module _ (words : List (List ℕ)) (d : Devices) where
   }
 
   -- a file could not be read
-  pub unread : (run : Run) → IsBare run 5 → d.taken_now ≡ d.taken_before → Held (Err stop.ReadFault) → IsCall words d run
+  pub unread : (run : Run) → IsBare run 5 → d.taken_now ≡ d.taken_before → Promised (Err stop.ReadFault) → IsCall words d run
   unread run bare same a = silent_call run 5 bare (omega arith) (λ e. absurd (omega (arith, e))) same a.status (λ e. a.read_fault refl) a.untouched a.uncounted
 
   -- there was no memory for the answer
-  pub wanted : (run : Run) → IsBare run 7 → d.taken_now ≡ d.taken_before → Held (Err stop.NoMemory) → IsCall words d run
+  pub wanted : (run : Run) → IsBare run 7 → d.taken_now ≡ d.taken_before → Promised (Err stop.NoMemory) → IsCall words d run
   wanted run bare same a = silent_call run 7 bare (omega arith) (λ e. absurd (omega (arith, e))) same a.status (λ e. absurd (omega (arith, e))) a.untouched a.uncounted

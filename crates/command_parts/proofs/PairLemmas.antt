@@ -58,8 +58,8 @@ module _ (request : Option Request) (name second : List ℕ) (command : IsPairCo
   free_at s other free = subst (λ (names : List (List ℕ)). list_any (bytes_eq other) (touched_at s names) ≡ false) command.two free
 
   module _ (left_now : Files) (faults_now : List ℕ → ℕ) where
-    abbrev Held : Result Answer Stop → Type 0
-    Held result = Answers request told left_before left_now faults_before faults_now result
+    abbrev Promised : Result Answer Stop → Type 0
+    Promised result = Answers request told left_before left_now faults_before faults_now result
 
     two_files : OthersStay left_middle left_now second → (other : List ℕ) → list_any (bytes_eq other) (name ∷ second ∷ []) ≡ false → left_now other ≡ left_before other
     two_files more other free =
@@ -69,7 +69,7 @@ module _ (request : Option Request) (name second : List ℕ) (command : IsPairCo
     pub second_judged : (result : Result Answer Stop) → IfSome told (λ files. IsFirstTaken request files name) → NoneFell faults_before faults_middle
         → ((files : Files) → AreFiles told (name ∷ second ∷ []) files → IfOk result (λ answer. IsAnswer request files (run_of answer) (text_of answer)))
         → IfOk result (λ answer. status_of answer ≤ 1) → IfOk result HasText
-        → (IsErrOf result stop.ReadFault → Rose (faults_middle second) (faults_now second)) → OthersStay left_middle left_now second → Held result
+        → (IsErrOf result stop.ReadFault → Rose (faults_middle second) (faults_now second)) → OthersStay left_middle left_now second → Promised result
     second_judged (Ok answer) taken fell row low has_text rose more = record {
       lawful = λ files h. row files (files_are files h);
       status = status_is (status_of answer) (low_status (status_of answer) low);
@@ -102,7 +102,7 @@ module _ (request : Option Request) (name second : List ℕ) (command : IsPairCo
   -- the first file is refused, and the second was not opened
   pub first_refused : (answer : Answer) → IsBare (run_of answer) 3 → HasText answer
       → ((files : Files) → AreFiles told (name ∷ second ∷ []) files → IsAnswer request files (run_of answer) (text_of answer))
-      → Held left_middle faults_middle (Ok answer)
+      → Promised left_middle faults_middle (Ok answer)
   first_refused answer bare has_text row = record {
     lawful = λ files h. row files (files_are files h);
     status = status_is (status_of answer) (subst (λ (s : ℕ). list_any (λ n. n == s) pair_statuses ≡ true) (sym bare.ends) refl);
@@ -115,7 +115,7 @@ module _ (request : Option Request) (name second : List ℕ) (command : IsPairCo
   }
 
   -- the first file could not be read, or memory was wanting
-  pub first_stopped : {T : Type 0} (e : Stop) → (IsErrOf {T = T} (Err e) stop.ReadFault → Rose (faults_before name) (faults_middle name)) → Held left_middle faults_middle (Err e)
+  pub first_stopped : {T : Type 0} (e : Stop) → (IsErrOf {T = T} (Err e) stop.ReadFault → Rose (faults_before name) (faults_middle name)) → Promised left_middle faults_middle (Err e)
   first_stopped stop.ReadFault rose = record {
     lawful = λ files h. tt;
     status = status_is 5 refl;

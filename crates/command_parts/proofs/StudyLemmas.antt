@@ -85,8 +85,8 @@ module _ (told : Option Files) (name : List ℕ) where
 
 module _ (request : Option Request) (name : List ℕ) (IsRest : Question → Run → List ℕ → Type 0) (command : IsStudyCommand request name IsRest)
     (told : Option Files) (left_before left_now : Files) (faults_before faults_now : List ℕ → ℕ) (others : OthersStay left_before left_now name) where
-  abbrev Held : Result Answer Stop → Type 0
-  Held result = Answers request told left_before left_now faults_before faults_now result
+  abbrev Promised : Result Answer Stop → Type 0
+  Promised result = Answers request told left_before left_now faults_before faults_now result
 
   files_are : (files : Files) → AreFiles told (files_of request) files → AreFiles told (name ∷ []) files
   files_are files h = subst (λ (names : List (List ℕ)). AreFiles told names files) command.one h
@@ -100,7 +100,7 @@ module _ (request : Option Request) (name : List ℕ) (IsRest : Question → Run
   reads_one e = let no : name ∷ [] ≡ [] = sym command.one ∙ e in cc
 
   ended : (answer : Answer) → IsLow request (status_of answer) → HasText answer
-      → ((files : Files) → AreFiles told (name ∷ []) files → IsAnswer request files (run_of answer) (text_of answer)) → Held (Ok answer)
+      → ((files : Files) → AreFiles told (name ∷ []) files → IsAnswer request files (run_of answer) (text_of answer)) → Promised (Ok answer)
   ended answer low has_text row = record {
     lawful = λ files h. row files (files_are files h);
     status = low.0;
@@ -111,7 +111,7 @@ module _ (request : Option Request) (name : List ℕ) (IsRest : Question → Run
     uncounted = λ e. absurd (reads_one e);
   }
 
-  wanting : Held (Err stop.NoMemory)
+  wanting : Promised (Err stop.NoMemory)
   wanting = record {
     lawful = λ files h. tt;
     status = may_want_memory request;
@@ -124,7 +124,7 @@ module _ (request : Option Request) (name : List ℕ) (IsRest : Question → Run
 
   -- the study was read, and the rest holds of the answer
   pub study_answer : (study : Question) (result : Result Answer Stop) → IsRead told name study
-      → IfOk result (λ answer. IsRest study (run_of answer) (text_of answer)) → IfOk result HasText → result ≢ Err stop.ReadFault → Held result
+      → IfOk result (λ answer. IsRest study (run_of answer) (text_of answer)) → IfOk result HasText → result ≢ Err stop.ReadFault → Promised result
   study_answer study (Ok answer) read rest has_text none =
       ended answer (command.ends study (run_of answer) (text_of answer) rest) has_text
       (λ files h. command.into files (run_of answer) (text_of answer) (study_given study (given told name study read files h) rest))
@@ -132,13 +132,13 @@ module _ (request : Option Request) (name : List ℕ) (IsRest : Question → Run
   study_answer study (Err stop.NoMemory) read rest has_text none = wanting
 
   -- the study is refused
-  pub refused_study : (answer : Answer) → Refuses told name answer → Held (Ok answer)
+  pub refused_study : (answer : Answer) → Refuses told name answer → Promised (Ok answer)
   refused_study answer refuses =
       ended answer (low_at request 3 (status_of answer) refuses.bare.ends command.can_refuse) refuses.has_text
       (λ files h. command.into files (run_of answer) (text_of answer) (refusal told name answer (λ study. IsRest study (run_of answer) (text_of answer)) refuses files h))
 
   -- or could not be read
-  pub stopped_study : (e : Stop) → (IsErrOf {T = Opened} (Err e) stop.ReadFault → Rose (faults_before name) (faults_now name)) → Held (Err e)
+  pub stopped_study : (e : Stop) → (IsErrOf {T = Opened} (Err e) stop.ReadFault → Rose (faults_before name) (faults_now name)) → Promised (Err e)
   stopped_study stop.ReadFault rose = record {
     lawful = λ files h. tt;
     status = command.can_fail;

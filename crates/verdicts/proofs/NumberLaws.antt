@@ -82,10 +82,10 @@ value_push a [] d = refl
 value_push a (c ∷ cs) d = value_push (a * 10 + (c - 48)) cs d
 
 -- how a number is written: one digit, or one after the text of its tenth part
-abbrev Written : (ℕ → Type 0) → Type 0
-Written P = ((n : ℕ) → n < 10 → P n) × ((a d : ℕ) → 0 < a → d < 10 → P a → P (a * 10 + d))
+abbrev ByDigits : (ℕ → Type 0) → Type 0
+ByDigits P = ((n : ℕ) → n < 10 → P n) × ((a d : ℕ) → 0 < a → d < 10 → P a → P (a * 10 + d))
 
-by_digits : (P : ℕ → Type 0) → Written P → (k n : ℕ) → n < k → P n
+by_digits : (P : ℕ → Type 0) → ByDigits P → (k n : ℕ) → n < k → P n
 by_digits P w zero n h = absurd (omega (arith, h))
 by_digits P w (suc k) n h = elim (cases_lt n 10) [
   | inl l ↦ w.0 n l
