@@ -53,6 +53,10 @@ few_statuses (Some (Axioms kind)) = refl
 few_statuses (Some (Sample number)) = refl
 few_statuses (Some (Adopt study proof workers)) = refl
 
+-- each status is at most 7
+pub low_status : (words : List (List ℕ)) (d : Devices) (run : Run) → IsCall words d run → run.status ≤ 7
+low_status words d run call = any_below (statuses_of (request_of words)) run.status (few_statuses (request_of words)) call.status
+
 no_read_cause : (request : Option Request) (d : Devices) (names : List (List ℕ)) → AreQuiet d names → HasReadCause request d.told d.left_before d.left_now d.faults_before d.faults_now names → ⊥
 no_read_cause request d names quiet (at_first name others is rose stay) = (subst (λ (xs : List (List ℕ)). AreQuiet d xs) is quiet).0 rose
 no_read_cause request d names quiet (at_second name second is rose taken) = (subst (λ (xs : List (List ℕ)). AreQuiet d xs) is quiet).1.0 rose
@@ -120,7 +124,7 @@ module _ (words : List (List ℕ)) (d : Devices) (run : Run) (call : IsCall word
       | inl five ↦ absurd (no_read_fault (omega (arith, five, high)))
       | inr more ↦ elim (cases_lt run.status 7) [
         | inl six ↦ absurd (no_write_fault (omega (arith, six, more)))
-        | inr most ↦ inr (let few : run.status ≤ 7 = any_below (statuses_of (request_of words)) run.status (few_statuses (request_of words)) call.status in omega (arith, most, few))
+        | inr most ↦ inr (let few : run.status ≤ 7 = low_status words d run call in omega (arith, most, few))
       ]
     ]
   ]

@@ -42,7 +42,7 @@ module _ (words : List (List ℕ)) (d : Devices) (run : Run) (call : IsCall word
       let a = call.lawful files (subst (λ (r : Option Request). AreFiles d.told (files_of r) files) (sym asked) are) low in
       (a.text, row_of words files run a.text request asked a.lawful, a.written)
 
-  front_at : (files : Files) → AreFiles d.told (files_of request) files → run.status ≡ 6
+  pub front_at : (files : Files) → AreFiles d.told (files_of request) files → run.status ≡ 6
       → (status : ℕ) × (text : List ℕ) × IsAnswer request files (with_status status run) text × AppendsPrefix d.taken_before d.taken_now text
   front_at files are six =
       let a = call.cut_short files (subst (λ (r : Option Request). AreFiles d.told (files_of r) files) (sym asked) are) six in

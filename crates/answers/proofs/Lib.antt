@@ -12,3 +12,4 @@ mod RangeLemmas
 mod ExportLemmas
 mod ConfirmedLaws
 mod AdoptLaws
+mod ConclusiveCalls

@@ -32,7 +32,7 @@ use Rattle.answers.specs.FileLimits.{most_report_bytes, most_proof_bytes, Holds}
 use Rattle.answers.specs.Studies.{GivesStudy}
 use Rattle.verdicts.specs.Claims.{IsRuleFor, HasNoRule, Claims}
 use Rattle.answers.specs.Grounding.{all_clauses, fault_of}
-use Rattle.words.specs.Words.{Decide, Adopt, request_of}
+use Rattle.words.specs.Words.{Request, Decide, Proof, Adopt, request_of}
 use Rattle.answers.specs.Devices.{Devices}
 use Rattle.answers.specs.Call.{IsCall}
 use Rattle.answers.specs.Check.{judgement}
@@ -239,6 +239,22 @@ ProvedAreAdopted =
 abbrev pub EnoughAdopts : Type 0
 EnoughAdopts = (files : Files) (name proof : List ℕ) (run : Run) (text : List ℕ) (study : Question) →
     IsAdoption files name proof run text → GivesStudy files name study →
+    3 ^ variable_count study.size ≤ study.conflicts → IsConclusive run
+
+-- the command searches over the study of this name
+abbrev pub Searches : Request → List ℕ → Type 0
+Searches (Decide study workers) name = study ≡ name
+Searches (Proof study workers) name = study ≡ name
+Searches (Adopt study proof workers) name = study ≡ name
+Searches request name = ⊥
+
+-- where the limit of a study is at least 3 to the number of its variables, no call that searches over it spends
+-- the limit, whatever its status
+abbrev pub CallsAreConclusive : Type 0
+CallsAreConclusive =
+    (words : List (List ℕ)) (d : Devices) (run : Run) (files : Files) (request : Request) (name : List ℕ)
+    (study : Question) → IsCall words d run → d.told ≡ Some files → request_of words ≡ Some request →
+    Searches request name → GivesStudy files name study →
     3 ^ variable_count study.size ≤ study.conflicts → IsConclusive run
 
 -- ---- `sample`

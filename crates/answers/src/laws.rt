@@ -1,6 +1,6 @@
 //! What follows from the table of answers. Each law is the contract of a function that does nothing.
 
-ghost use Rattle.answers.specs.RowLaws.{AdoptedAreConfirmed, AdoptedHolds, AdoptsAsLrat, ConfirmedIsUnsatisfiable, DecidedAreConfirmed, DecidedHolds, EnoughAdopts, EnoughDecides, EnoughProves, ExportedSaysStudy, ProvedAreAdopted, ProvedAreConfirmed, ProvedHolds, RowsAreOne, SampledHolds, WrittenAdoptionsHold, WrittenDecisionsHold};
+ghost use Rattle.answers.specs.RowLaws.{AdoptedAreConfirmed, AdoptedHolds, AdoptsAsLrat, CallsAreConclusive, ConfirmedIsUnsatisfiable, DecidedAreConfirmed, DecidedHolds, EnoughAdopts, EnoughDecides, EnoughProves, ExportedSaysStudy, ProvedAreAdopted, ProvedAreConfirmed, ProvedHolds, RowsAreOne, SampledHolds, WrittenAdoptionsHold, WrittenDecisionsHold};
 ghost use Rattle.answers.specs.Laws.{CheckedAreRight, ConfirmedHolds, ChecksAreAnswered, AnswersAreOne, UsageIsExact, LibraryIsWritten, RefusedLeavesUnopened, OtherWordsTouchNone, CallsAreComplete, WrittenProofsAreAdopted, WrittenProofsAreConfirmed};
 
 /// `check` confirms exactly the reports of right verdicts that claim something, within its limit.
@@ -138,6 +138,12 @@ pub fn written_proofs_are_adopted()
 /// Where the limit of a study is at least 3 to the number of its variables, each axiom of a core that `adopt` prints has its rule.
 pub fn enough_adopts()
     ensures { EnoughAdopts }
+{}
+
+/// The same of calls: no call of `decide`, `proof` or `adopt` over such a study ends with status 4, has a log of a search that spent
+/// its limit, or prints an open mark.
+pub fn calls_are_conclusive()
+    ensures { CallsAreConclusive }
 {}
 
 /// What `sample` says of the study of a number holds.
