@@ -112,6 +112,8 @@ fn proofs_are_refused_as_by_lrat(rt: HostRuntime) -> Result<(), Fail> {
         ("21 -3 0 -9 17 6 0\n", "proof line 1: rat\n"),
         ("21 -3 0 6 9 17 0\n", "proof line 1: not_unit 6\n"),
         ("", "proof line 1: not_empty\n"),
+        ("20 d 9 0\n", "proof line 2: not_empty\n"),
+        ("9223372036854775808 0 1 0\n", "proof line 1: line\n"),
     ];
     for (proof, text) in cases {
         let words = ["adopt", "first", "second"];

@@ -103,8 +103,34 @@ fn axioms_are_tested_in_the_order_of_the_study(rt: HostRuntime) -> Result<(), Fa
 /// A study of rules that choose, of two voters and two alternatives.
 const SMALL: &str = "kind = \"choice\"\nvoters = 2\nalternatives = 2\naxioms = [\"odd\"]\n";
 
+/// Whether each command that reads a study refuses this one by the text, and rewinds no other file. The calls of the shelf are: 0
+/// rewinds the study, 1 and 2 read it, 3 would rewind the report or the proof.
+fn refuses<R: Threads + Sync>(
+    rt: &R,
+    alloc: Global,
+    study: &str,
+    text: &str,
+) -> Result<bool, Fail> {
+    let mut right = judges(rt, alloc, study, REPORT, &[3], 3, text)?;
+    for command in ["decide", "export", "proof"] {
+        let words = [command, "first"];
+        let said = answered(rt, alloc, &Open, &words, study.as_bytes(), b"", 1_000)?;
+        right = right && said.is(3, text.as_bytes());
+    }
+    let shelf = shelf_of(alloc, &[3], study.as_bytes(), b"")?;
+    let said = answered_over(
+        rt,
+        alloc,
+        &Open,
+        &["adopt", "first", "second"],
+        shelf,
+        1_000,
+    )?;
+    Ok(right && said.is(3, text.as_bytes()))
+}
+
 #[test]
-fn studies_are_refused_before_the_report_is_opened(rt: HostRuntime) -> Result<(), Fail> {
+fn studies_are_refused_before_another_file_is_opened(rt: HostRuntime) -> Result<(), Fail> {
     let cases = [
         ("kind =", "study: not toml\n"),
         ("kind = 1", "study: key kind\n"),
@@ -139,8 +165,7 @@ fn studies_are_refused_before_the_report_is_opened(rt: HostRuntime) -> Result<()
         ),
     ];
     for (study, text) in cases {
-        // The calls of the shelf are: 0 rewinds the study, 1 and 2 read it, 3 would rewind the report.
-        let right = judges(&rt, rt.alloc(), study, REPORT, &[3], 3, text)?;
+        let right = refuses(&rt, rt.alloc(), study, text)?;
         assert!(rt; right, "at {study}");
     }
     Ok(())
@@ -183,7 +208,7 @@ fn own_sentences_are_refused_at_their_first_fault(rt: HostRuntime) -> Result<(),
     for (sentence, text) in cases {
         let study = format!(in alloc; "{SMALL}[sentences]\nodd = \"{sentence}\"\n")?;
         let line = format!(in alloc; "study: odd: {text}\n")?;
-        let right = judges(&rt, alloc, study.as_str(), REPORT, &[3], 3, line.as_str())?;
+        let right = refuses(&rt, alloc, study.as_str(), line.as_str())?;
         assert!(rt; right, "at {sentence}");
     }
     Ok(())
@@ -346,7 +371,7 @@ fn is_refused<R: Threads + Sync>(
         return judges(rt, alloc, study, REPORT, &[3], 5, "");
     }
     let line = format!(in alloc; "study: {text}\n")?;
-    judges(rt, alloc, study, REPORT, &[3], 3, line.as_str())
+    refuses(rt, alloc, study, line.as_str())
 }
 
 #[test]
