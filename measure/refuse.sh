@@ -3,23 +3,26 @@
 # that answer, status and text, or end with status 7 and nothing written. A signal, another status, another text and anything on standard
 # error are wrong, and the script ends at the first such, with what was run and what came.
 # Each command runs once for each of its allocations, by number, in two ways: that one alone is refused; that one and all after it are.
-# Where a command has more than 20,000, only every kth is tried, and its line says so. Commands that share work run with 2 workers too,
-# over inputs for which threads are started; with 1 worker an allocation has the same number at each run.
+# Where a command has more than 20,000, or than the number that is given to the script, only every kth is tried, and its line says so.
+# Commands that share work run with 2 workers too, over inputs for which threads are started; with 1 worker an allocation has the same
+# number at each run. The commands are those of the tests over failing devices (crates/bench/src/fault_tests.rt), and others: larger
+# studies, clauses that are refused, searches that spend their limit, and reports with open marks.
 # What is tried is the program that LLVM built, on the paths of these commands, where a call from its own code of malloc and the like is
 # refused (measure/refuse.c). What the C library and the loader ask for themselves, as for the stack of a thread, is always given; the
 # program's own piece for starting a thread is refused as any other. A system that gives memory and then lacks it is not tried, and
 # neither is another study, nor two refused allocations with a given one between them.
 # Prints a line for each command: its allocations, how many were tried, and of the runs of each way how many ended with status 7 and how
-# many gave the undisturbed answer. The last line is `refused N`: in so many runs an allocation was refused.
+# many gave the undisturbed answer. The last lines are `sampled K of M`, with the K commands of which not each allocation was tried, and
+# `refused N`: in so many runs an allocation was refused.
 set -eu
 . "$(dirname -- "$(readlink -f -- "${BASH_SOURCE[0]}")")/setup.sh"
 build_program
 cc -O2 -Wall -shared -fPIC -o "$work/refuse.so" "$root/measure/refuse.c"
 ulimit -c 0
-python3 - "$program" "$root/studies" "$work" <<'PY'
-import itertools, multiprocessing, os, struct, subprocess, sys
-program, studies, work = sys.argv[1:]
-MOST, SECONDS = 20_000, 600
+python3 - "$program" "$root/studies" "$root/crates/bench/src" "$work" "${1-20000}" <<'PY'
+import itertools, multiprocessing, os, re, struct, subprocess, sys
+program, studies, tests, work, most = sys.argv[1:]
+MOST, SECONDS = int(most), 600
 WAYS = ("alone", "with all after")
 
 def run(words, refused=None): # the answer; with `refused`, also how many allocations were asked for, and how many refused
@@ -49,7 +52,7 @@ def wrong(words, setting, answer, why):
     sys.exit("refuse: %s\n  run: %s\n  came: %s; standard output %r; standard error %r"
              % (why, " ".join([*("%s=%s" % pair for pair in setting.items()), "bench", *words]), came, out[:400], err[:400]))
 
-def try_all(pool, words, status): # in how many runs an allocation was refused
+def try_all(pool, words, status): # in how many runs an allocation was refused; the command, where not each of its allocations was
     plain = run(words)
     if plain[0] != status or plain[2]: wrong(words, {}, plain, "undisturbed, status %d was wanted" % status)
     counted, count, _ = run(words, {})
@@ -66,31 +69,70 @@ def try_all(pool, words, status): # in how many runs an allocation was refused
             wrong(words, refusal(way, number), answer, "%d allocations were refused" % refused)
     tried = "each tried" if step == 1 else "one of every %d tried, %d" % (step, len(numbers))
     ends = "; ".join("%s: %d with 7, %d undisturbed" % (way, seven[way], same[way]) for way in WAYS)
-    print("%s: %d allocations, %s; %s" % (" ".join(map(os.path.basename, words)) or "no words", count, tried, ends), flush=True)
-    return len(tasks)
+    command = " ".join(map(os.path.basename, words)) or "no words"
+    print("%s: %d allocations, %s; %s" % (command, count, tried, ends), flush=True)
+    return len(tasks), [] if step == 1 else [command]
+
+def hold(name, text): # a file of the work folder, by its path
+    with open("%s/%s" % (work, name), "w") as file: file.write(text)
+    return file.name
+
+def of_tests(source, name): # a text that the tests of the commands use, by its name there
+    with open("%s/%s.rt" % (tests, source)) as file:
+        text = re.search(r'const %s: &str =\s*"(.*)";' % name, file.read())[1]
+    return text.replace(r"\n", "\n").replace(r'\"', '"')
+
+def head(voters, alternatives, axioms, more=""): # of a study of rules that choose
+    listed = ", ".join('"%s"' % axiom for axiom in axioms.split())
+    return 'kind = "choice"\nvoters = %d\nalternatives = %d\n%saxioms = [%s]\n' % (voters, alternatives, more, listed)
 
 # A rule of so many rows that two workers share its check: the first voter's best alternative.
 ballots = ["".join(letters) for letters in itertools.permutations("abcd")]
-with open(work + "/rule.toml", "w") as file:
-    print('kind = "choice"\nvoters = 2\nalternatives = 4\naxioms = ["unanimity", "pareto"]', file=file)
-with open(work + "/rule.report", "w") as file:
-    print("bench report 1\nkind choice\nvoters 2\nalternatives 4\naxioms unanimity pareto", file=file)
-    print("verdict possible\nrule %d" % len(ballots) ** 2, file=file)
-    for one, two in itertools.product(ballots, ballots):
-        print("%s|%s %s" % (one, two, one[0]), file=file)
-    print("end", file=file)
+rule = hold("rule.toml", head(2, 4, "unanimity pareto"))
+table = hold("rule.report", "bench report 1\nkind choice\nvoters 2\nalternatives 4\naxioms unanimity pareto\nverdict possible\nrule %d\n%send\n"
+             % (len(ballots) ** 2, "".join("%s|%s %s\n" % (one, two, one[0]) for one, two in itertools.product(ballots, ballots))))
+unanimity, symmetric, liberal, arrow = (
+    "%s/%s.toml" % (studies, name) for name in ("unanimity", "anonymity_neutrality", "paretian_liberal", "arrow"))
+absent, empty = work + "/absent", hold("empty", "")
+story = hold("story.report", of_tests("report_tests", "SYMMETRIC_STORY"))
 
-total = 0
+total, commands, sampled = 0, 0, []
 with multiprocessing.get_context("fork").Pool(os.cpu_count()) as pool:
     def each(*words, status=0):
-        global total
-        total += try_all(pool, list(words), status)
+        global total, commands
+        runs, named = try_all(pool, list(words), status)
+        total, commands = total + runs, commands + 1
+        sampled.extend(named)
     each("axioms", "choice")
     each(status=2)
-    each("elect", studies + "/unanimity.toml", status=2)
-    each("decide", work + "/absent.toml", status=5)
-    each("check", studies + "/unanimity.toml", studies + "/anonymity_neutrality.report", status=1)
-    each("check", work + "/rule.toml", work + "/rule.report", "--workers", "2")
+    each("elect", unanimity, status=2)
+    for words in (("check", unanimity, absent), ("check", absent, unanimity), ("decide", absent), ("export", absent), ("proof", absent),
+                  ("lrat", absent, unanimity), ("adopt", absent, unanimity)):
+        each(*words, status=5)
+    # No study: the second file is not opened.
+    each("check", hold("cut.toml", "voters = 2"), story, status=3)
+    each("adopt", empty, empty, status=3)
+    # Clauses that are refused, of a study and of a file.
+    far = hold("far.toml", head(2, 3, "far") + """[sentences]
+far = "some p: profile. (wins(@a, p) & wins(@b, with(p, #1, <bac>)))"
+""")
+    for words in (("decide", far), ("export", far), ("proof", far), ("adopt", far, absent)):
+        each(*words, status=3)
+    each("lrat", hold("count.cnf", "p cnf 1 2\n1 0\n"), absent, status=3)
+    # Reports and proofs that the program did not write.
+    each("check", symmetric, story)
+    each("check", unanimity, story, status=1) # the report is of another study
+    each("check", liberal, hold("marked.report", of_tests("report_tests", "LIBERAL_STORY"))) # with open marks
+    each("check", rule, table, "--workers", "2")
+    each("lrat", hold("square.cnf", of_tests("lrat_tests", "SQUARE")), hold("square.lrat", "5 2 0 1 2 0\n6 0 5 3 4 0\n"))
+    each("adopt", symmetric, hold("symmetric.lrat", "21 -3 0 9 17 6 0\n22 0 21 3 11 19 6 0\n"))
+    # Searches that spend their limit: the one over all axioms, and one without an axiom, which then has an open mark.
+    spent = hold("spent.toml", head(2, 3, "onto strategyproof non_dictatorship", "conflicts = 1\n"))
+    each("decide", spent, status=4)
+    each("proof", spent, status=4)
+    each("decide", hold("favour.toml", head(2, 2, "favour anonymity neutrality", "conflicts = 1\n") + """[sentences]
+favour = "all p: profile. ((casts(#1, <ab>, p) & casts(#2, <ba>, p)) -> wins(@a, p))"
+"""))
     for name in ("anonymity_neutrality", "unanimity", "paretian_liberal"):
         study, texts = "%s/%s.toml" % (studies, name), {}
         refuted = 1 if name == "unanimity" else 0 # there is a rule: what `proof` says is then no refutation
@@ -98,14 +140,17 @@ with multiprocessing.get_context("fork").Pool(os.cpu_count()) as pool:
         each("decide", study)
         for command in ("export", "proof"):
             each(command, study)
-            texts[command] = "%s/%s.%s" % (work, name, command)
-            with open(texts[command], "wb") as file: file.write(run([command, study])[1])
+            texts[command] = hold("%s.%s" % (name, command), run([command, study])[1].decode())
         each("lrat", texts["export"], texts["proof"], status=refuted)
         each("adopt", study, texts["proof"], status=refuted)
         if name != "paretian_liberal": continue # no thread is started over the smaller ones
         for command in ("decide", "export", "proof"):
             each(command, study, "--workers", "2")
         each("adopt", study, texts["proof"], "--workers", "2")
+    for command in ("export", "proof"):
+        each(command, arrow)
+    each("sample", "0")
     each("sample", "29")
+print("sampled %d of %d%s" % (len(sampled), commands, "".join("; " + command for command in sampled)))
 print("refused %d" % total)
 PY
