@@ -1,7 +1,8 @@
 #!/usr/bin/env bash
-# The least stack within which each command over a study answers as with 64 MB, over the deepest sentences
-# that a study may have: depth 64, by signs, by groups, by calls, and by 12 quantifiers with signs. The first two stand beside an axiom that contradicts
-# them, so that there is a story. Each with one worker and with two. The limit is a quarter of the 8 MB that a main thread has.
+# The least stack within which each command over a study answers as with 64 MB, over the deepest sentences that a study may have: depth
+# 64, by signs, by groups, by calls, and by 12 quantifiers with signs, of rules that choose; by signs and by quantifiers of rules that rank
+# too. Those by signs and by groups stand beside an axiom that contradicts them, so that there is a story. Each with one worker and with
+# two. The limit is a quarter of the 8 MB that a main thread has.
 # Prints `COMMAND K KB of 2048` for each command, the most of all sentences, and ends with status 1 where one is above.
 set -eu
 . "$(dirname -- "$(readlink -f -- "${BASH_SOURCE[0]}")")/setup.sh"
@@ -10,26 +11,32 @@ repeated() { # PIECE TIMES
     local i
     for ((i = 0; i < $2; i++)); do printf '%s' "$1"; done
 }
-study() { # NAME AXIOMS SENTENCE
+study() { # NAME KIND AXIOMS SENTENCE
+    local atom='wins(@b, p)'
+    [ "$2" = choice ] || atom='ranks(@b, @a, p)'
     cat >"$work/$1.toml" <<TOML
-kind = "choice"
+kind = "$2"
 voters = 2
 alternatives = 2
 conflicts = 100
-axioms = [$2]
+axioms = [$3]
 
 [sentences]
-deep = "$3"
-other = "all p: profile. wins(@b, p)"
+deep = "$4"
+other = "all p: profile. $atom"
 TOML
 }
-study signs '"deep", "other"' "all p: profile. $(repeated '!' 61)wins(@b, p)"
-study groups '"deep", "other"' "all p: profile. $(repeated '(' 61)wins(@a, p)$(repeated ' & wins(@a, p))' 61)"
-study calls '"deep"' "all x: alt. $(repeated 'swap(x, x, ' 61)x$(repeated ')' 61) = x"
+study signs choice '"deep", "other"' "all p: profile. $(repeated '!' 61)wins(@b, p)"
+study ranked_signs ranking '"deep", "other"' "all p: profile. $(repeated '!' 61)ranks(@b, @a, p)"
+study groups choice '"deep", "other"' "all p: profile. $(repeated '(' 61)wins(@a, p)$(repeated ' & wins(@a, p))' 61)"
+study calls choice '"deep"' "all x: alt. $(repeated 'swap(x, x, ' 61)x$(repeated ')' 61) = x"
 quantified='all p: profile. '
 for i in 1 2 3 4 5; do quantified+="all x$i: alt. some y$i: alt. "; done
-study quantifiers '"deep"' "${quantified}some z: alt. $(repeated '!' 48)(wins(swap(x1, x1, x1), p) | z = y5)"
-for name in signs groups calls quantifiers; do
+quantified+="some z: alt. $(repeated '!' 48)"
+study quantifiers choice '"deep"' "$quantified(wins(swap(x1, x1, x1), p) | z = y5)"
+study ranked_quantifiers ranking '"deep"' "$quantified(ranks(swap(x1, x1, x1), z, p) | z = y5)"
+names=(signs ranked_signs groups calls quantifiers ranked_quantifiers)
+for name in "${names[@]}"; do
     "$program" decide "$work/$name.toml" >"$work/$name.report"
     "$program" proof "$work/$name.toml" >"$work/$name.lrat"
 done
@@ -49,11 +56,11 @@ least() { # WORDS: the least stack by halving, to 16 KB
 status=0
 for command in decide check export proof adopt; do
     most=0
-    for name in signs groups calls quantifiers; do
+    for name in "${names[@]}"; do
         words=("$command" "$work/$name.toml")
         case $command-$name in
             check-*) words+=("$work/$name.report") ;;
-            adopt-calls | adopt-quantifiers) continue ;;
+            adopt-calls | adopt-*quantifiers) continue ;;
             adopt-*) words+=("$work/$name.lrat") ;;
         esac
         for workers in 1 2; do
