@@ -1,8 +1,8 @@
 #!/usr/bin/env bash
 # Seconds and peak memory of `decide` for each study of studies/ and for Arrow's axioms with 2 voters and 3 and 4 alternatives, each
 # against `export` of the same study and stock solvers on what that writes: `minisat` and `cadical`, where they are installed. It also
-# says how many lemmas, steps and lines the report has; each report is checked, and is the one beside the study. Each runs once where
-# it takes more than 2 seconds, else 3 times, and the shortest run counts.
+# says how many lemmas, steps and lines the report has, and the seconds of `check` for it; each report is confirmed, and is the one beside
+# the study. Each runs once where it takes more than 2 seconds, else 3 times, and the shortest run counts.
 # The last line is `ratio R`: the seconds of `decide` for four alternatives by those of `export` and `cadical` together, or by those
 # of `export` alone where there is no `cadical`.
 set -eu
@@ -33,11 +33,14 @@ for study in sorted(glob.glob(studies + "/*.toml")):
     lines = open(report).read().split("\n")
     words = [line.split(" ")[0] for line in lines]
     verdict = next(line for line in lines if line.startswith("verdict "))
+    checked = ""
     if not verdict.endswith("undecided"):
-        said = subprocess.run([program, "check", study, report], capture_output=True, text=True)
-        assert said.returncode == 0 and said.stdout.startswith("confirmed "), said
+        check, _ = run(work + "/said", program, "check", study, report)
+        said = open(work + "/said").read()
+        assert said == "confirmed %s\n" % verdict[8:], said
+        checked = "; check %.4f s" % check
         assert open(report).read() == open(study[:-5] + ".report").read(), "studies/%s.report is not what decide writes" % name
-    row = "%s: %s; decide %.3f s, %d KB; export %.3f s" % (name, verdict[8:], decide, peak, export)
+    row = "%s: %s; decide %.3f s, %d KB%s; export %.3f s" % (name, verdict[8:], decide, peak, checked, export)
     times = {}
     for solver in solvers:
         times[solver], _ = run(work + "/solved", *([solver, "-q", cnf] if solver == "cadical" else [solver, cnf]), ends=(10, 20))
