@@ -191,9 +191,9 @@ fn faultless_lines<R: Threads + Sync, K: OutcomeKind>(
     text: &str,
 ) -> u32
     requires few { checker.old.progress.lines ≤ 101 }
-    requires ready { IsReady checker.old.subject.study.now checker.old.progress }
+    requires ready { IsReady checker.old.subject.setting.study.now checker.old.progress }
     ensures few { checker.new.progress.lines ≤ 101 }
-    ensures ready { IsReady checker.new.subject.study.now checker.new.progress }
+    ensures ready { IsReady checker.new.subject.setting.study.now checker.new.progress }
 {
     let mut count: u32 = 0;
     for line in text.split('\n') {
