@@ -110,7 +110,8 @@ DecidedAreConfirmed = (files : Files) (name : List ℕ) (run : Run) (text : List
     length text ≤ most_report_bytes →
     (verdict : Verdict) × (run.verdict ≡ Some verdict) × (judgement study text ≡ Confirmed verdict)
 
--- no search spent its limit: status 4 did not come, and each axiom of a core that was found has a rule
+-- as far as the run tells, no search spent its limit: status 4 did not come, and each axiom of a core that was
+-- found has a rule
 pub record IsConclusive (run : Run) : Type 0 where
   pub decided : run.status ≢ 4
   pub no_log : run.logs ≡ []
@@ -248,8 +249,8 @@ Searches (Proof study workers) name = study ≡ name
 Searches (Adopt study proof workers) name = study ≡ name
 Searches request name = ⊥
 
--- where the limit of a study is at least 3 to the number of its variables, no call that searches over it spends
--- the limit, whatever its status
+-- where the limit of a study is at least 3 to the number of its variables, no call that searches over it ends
+-- with status 4, or tells of a search that spent the limit, whatever its status
 abbrev pub CallsAreConclusive : Type 0
 CallsAreConclusive =
     (words : List (List ℕ)) (d : Devices) (run : Run) (files : Files) (request : Request) (name : List ℕ)

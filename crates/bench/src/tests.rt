@@ -103,8 +103,8 @@ fn axioms_are_tested_in_the_order_of_the_study(rt: HostRuntime) -> Result<(), Fa
 /// A study of rules that choose, of two voters and two alternatives.
 const SMALL: &str = "kind = \"choice\"\nvoters = 2\nalternatives = 2\naxioms = [\"odd\"]\n";
 
-/// Whether each command that reads a study refuses this one by the text, and rewinds no other file. The calls of the shelf are: 0
-/// rewinds the study, 1 and 2 read it, 3 would rewind the report or the proof.
+/// Whether each command that reads a study refuses this one by the text, `check` and `adopt` without a call for the other file. The
+/// calls of the shelf are: 0 rewinds the study, 1 and 2 read it, 3 would rewind the report or the proof.
 fn refuses<R: Threads + Sync>(
     rt: &R,
     alloc: Global,

@@ -31,7 +31,7 @@ impl NameIndex {
         }
     }
 
-    /// Gives a name this place, also where it had another one.
+    /// Gives a name this place, also where it had another one. Names come from the last to the first.
     pub fn put(&mut self, alloc: Global, name: &[u8], place: usize) -> Result<(), NoMemory>
         ensures { OnOk result ((names : List (List ℕ)) → FindsFirst self.old (place + 1) names →
             FindsFirst self.new place (name.now ∷ names)) }

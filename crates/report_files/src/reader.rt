@@ -34,7 +34,7 @@ pub struct Reader<'a, K: OutcomeKind> {
 impl<'a, K: OutcomeKind> Model for Reader<'a, K> {
     ghost use Rattle.std.specs.Coded.{codes};
     ghost use Rattle.vocab.specs.TreeCode.{titled_code};
-    ghost use Rattle.report_files.specs.Pieces.{ReaderState, IsSound};
+    ghost use Rattle.report_files.specs.Pieces.{ReaderState, IsSoundReader};
 
     ghost Value = { ReaderState };
 
@@ -47,7 +47,7 @@ impl<'a, K: OutcomeKind> Model for Reader<'a, K> {
           held = r.held.items;
         } };
 
-    ghost invariant = { λ r. IsSound r.checker.subject.setting.study.now r.checker.progress r.held.items };
+    ghost invariant = { λ r. IsSoundReader r.checker.subject.setting.study.now r.checker.progress r.held.items };
 }
 
 impl<'a, K: OutcomeKind> Reader<'a, K> {
@@ -107,7 +107,8 @@ impl<'a, K: OutcomeKind> Reader<'a, K> {
         Ok(())
     }
 
-    /// Takes the next bytes of the text.
+    /// Takes the next bytes of the text. Of the crew the runtime and the gate serve: among how many workers the axioms of a
+    /// rule are checked was said when the reader was made.
     pub fn piece<R: Threads + Sync, G: Gate>(
         &mut self,
         crew: &Crew<R, G>,
