@@ -1,5 +1,5 @@
 -- `lrat`, from what is read to what is said.
-use Rattle.std.proofs.Common.{◌≡◌, ◌≢◌, refl, ℕ, ◌≤◌, List, [], length, Option, None, Some, IfSome, Result, Ok, Err, IfOk}
+use Rattle.std.proofs.Common.{◌≡◌, ◌≢◌, refl, ℕ, ◌≤◌, List, [], ◌∷◌, length, Option, None, Some, IfSome, Result, Ok, Err, IfOk}
 use Rattle.edge.specs.Shelf.{Files}
 use Rattle.clause_text.specs.declared.faults.CnfFault.{CnfFault}
 use Rattle.clause_text.specs.declared.faults.CnfFault.TheVariants as cnf

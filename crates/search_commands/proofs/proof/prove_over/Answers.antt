@@ -10,5 +10,5 @@ returns-in-Err g c = record {
   read = λ e. absurd (cc);
 }
 
-pub returns-in-Ok-prove-clause-row : goal.returns-in-Ok-prove-clause-row
-returns-in-Ok-prove-clause-row g c = clauses_made c.in-Ok.ensures.none c.answer_of.ensures.shown
+pub returns-clause-row : goal.returns-clause-row
+returns-clause-row g c = clauses_made c.in-Ok.ensures.none c.answer_of.ensures.shown
