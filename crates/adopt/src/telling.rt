@@ -14,7 +14,8 @@ use std::alloc::Global;
 use story::Story;
 use vocab::{Places, Study};
 
-/// A core that no rule satisfies, with the story of it, a witness for each of its axioms, and the searches that spent their limit.
+/// A core that no rule satisfies, with the story of it, a witness for each of its axioms, and the searches
+/// that spent their limit.
 #[derive(Drop)]
 pub struct Adopted {
     pub core: Places,

@@ -1,7 +1,7 @@
-//! Proofs over the clauses of anonymity and neutrality, for two voters and two alternatives. Variables 1 and 2 say that a
-//! and b win at ab|ab, 3 and 4 at ab|ba, 5 and 6 at ba|ab, and 7 and 8 at ba|ba. The clauses 9 to 12 are anonymity's, and 13 to
-//! 20 neutrality's. And a proof over two axioms for one voter and two alternatives, where variables 1 and 2 say that a stands above b
-//! at ab and ba.
+//! Proofs over the clauses of anonymity and neutrality, for two voters and two alternatives. Variables 1 and
+//! 2 say that a and b win at ab|ab, 3 and 4 at ab|ba, 5 and 6 at ba|ab, and 7 and 8 at ba|ba. The clauses 9
+//! to 12 are anonymity's, and 13 to 20 neutrality's. And a proof over two axioms for one voter and two
+//! alternatives, where variables 1 and 2 say that a stands above b at ab and ba.
 
 ghost use Rattle.std.specs.Prelude.{◌≡◌, ◌≤◌, [], ◌∷◌, length, IfOk, OnOk, IsTrue};
 ghost use Rattle.std.specs.List.{list_all};
@@ -104,7 +104,8 @@ fn equal(clauses: &mut Clauses, one: u32, other: u32, origin: u64) -> Result<(),
     Ok(())
 }
 
-/// The clauses of the study: frames, instances 10 and 11 of anonymity, and instances 2, 3, 10 and 11 of neutrality.
+/// The clauses of the study: frames, instances 10 and 11 of anonymity, and instances 2, 3, 10 and 11 of
+/// neutrality.
 fn clauses(alloc: Global) -> Result<Clauses, Fail>
     ensures { IfOk result (λ list. list ≡ twenty) }
 {
@@ -144,7 +145,8 @@ fn drops(alloc: Global, at: u32, id: u64) -> Result<Line, NoMemory>
     Ok(Line { at, step })
 }
 
-/// If a won at ab|ba, then it would at ba|ab by anonymity, and b by neutrality. So b wins at ab|ba, and both at ba|ab.
+/// If a won at ab|ba, then it would at ba|ab by anonymity, and b by neutrality. So b wins at ab|ba, and both
+/// at ba|ab.
 fn refutation(alloc: Global) -> Result<Derivation, NoMemory>
     ensures { IfOk result (λ lines. lines ≡
         added 1 21 (negated 3 ∷ []) (9 ∷ 17 ∷ 6 ∷ []) ∷ added 2 22 [] (21 ∷ 3 ∷ 11 ∷ 19 ∷ 6 ∷ []) ∷ []) }
@@ -155,7 +157,8 @@ fn refutation(alloc: Global) -> Result<Derivation, NoMemory>
     Ok(lines)
 }
 
-/// The same by other ids, after a tautology, with a clause that is taken away and hints that it does not need.
+/// The same by other ids, after a tautology, with a clause that is taken away and hints that it does not
+/// need.
 fn roundabout(alloc: Global) -> Result<Derivation, NoMemory>
     ensures { IfOk result (λ lines. lines ≡
         added 2 30 (plain 1 ∷ negated 1 ∷ []) (99 ∷ []) ∷
@@ -329,7 +332,8 @@ fn is_of_both(answer: &Result<Adopted, AdoptFault>) -> bool {
         && adopted.logs.is_empty()
 }
 
-/// Both axioms are the core: the first has an open mark, of the one search that spent its limit, and the second a rule.
+/// Both axioms are the core: the first has an open mark, of the one search that spent its limit, and the
+/// second a rule.
 fn has_open_mark(answer: &Result<Adopted, AdoptFault>) -> bool {
     let Ok(adopted) = answer else {
         return false;

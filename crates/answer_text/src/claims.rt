@@ -51,8 +51,8 @@ impl Text for ClaimLine<'_> {
     }
 }
 
-/// The line of a sample: its number, the size of its study, how many axioms and how many clauses that has, and the word of
-/// a verdict on it.
+/// The line of a sample: its number, the size of its study, how many axioms and how many clauses that has,
+/// and the word of a verdict on it.
 #[derive(Drop)]
 pub struct SummaryLine<'a> {
     pub number: u32,

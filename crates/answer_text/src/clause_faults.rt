@@ -44,7 +44,8 @@ fn name_of(study: &Study, place: u32) -> Option<Name>
     }
 }
 
-/// Adds the name of the axiom at a place of a study, a colon and words. Where there is no axiom, the name is empty.
+/// Adds the name of the axiom at a place of a study, a colon and words. Where there is no axiom, the name is
+/// empty.
 fn pour_of_place<W: Text + Drop, O: Sink>(
     study: &Study,
     place: u32,
@@ -85,8 +86,8 @@ impl Text for FaultWords<'_> {
     }
 }
 
-/// The line of a study whose clauses are refused: the axiom at fault, and which of its instances is too wide, with its
-/// counts, or that the list is full. Want of memory, which is never told, has no words.
+/// The line of a study whose clauses are refused: the axiom at fault, and which of its instances is too wide,
+/// with its counts, or that the list is full. Want of memory, which is never told, has no words.
 #[derive(Drop)]
 pub struct GroundLine<'a> {
     pub study: &'a Study,

@@ -1,5 +1,5 @@
-//! The lines of answers, as texts that are poured and nowhere built: of studies, clauses and proofs that are refused, of a report
-//! that is judged, of the library of axioms, and of a verdict in one line.
+//! The lines of answers, as texts that are poured and nowhere built: of studies, clauses and proofs that are
+//! refused, of a report that is judged, of the library of axioms, and of a verdict in one line.
 #![tactic(auto)]
 
 mod claims;

@@ -131,7 +131,8 @@ impl Text for FaultWords<'_> {
     }
 }
 
-/// The line of a study that is refused. Want of memory, which is never told, has no words between `study: ` and the line end.
+/// The line of a study that is refused. Want of memory, which is never told, has no words between `study: `
+/// and the line end.
 #[derive(Drop)]
 pub struct StudyLine<'a>(pub &'a StudyFault);
 

@@ -43,7 +43,8 @@ pub fn other_words_touch_none()
     ensures { OtherWordsTouchNone }
 {}
 
-/// Where no fault is counted and nothing is refused, the answer is the one that was asked for, or want of memory.
+/// Where no fault is counted and nothing is refused, the answer is the one that was asked for, or want of
+/// memory.
 pub fn calls_are_complete()
     ensures { CallsAreComplete }
 {}
@@ -53,14 +54,15 @@ pub fn exported_says_study()
     ensures { ExportedSaysStudy }
 {}
 
-/// Whatever study is read, a rule that `decide` prints satisfies its axioms, and an impossibility holds for every rule: its
-/// story is accepted over the sentences alone, and each axiom of its core is needed or marked open.
+/// Whatever study is read, a rule that `decide` prints satisfies its axioms, and an impossibility holds for
+/// every rule: its story is accepted over the sentences alone, and each axiom of its core is needed or marked
+/// open.
 pub fn decided_holds()
     ensures { DecidedHolds }
 {}
 
-/// The headline, of what was written: a rule that a call of `decide` has written satisfies the axioms of the study that was read,
-/// and an impossibility holds for every rule of its size.
+/// The headline, of what was written: a rule that a call of `decide` has written satisfies the axioms of the
+/// study that was read, and an impossibility holds for every rule of its size.
 pub fn written_decisions_hold()
     ensures { WrittenDecisionsHold }
 {}
@@ -70,12 +72,14 @@ pub fn decided_are_confirmed()
     ensures { DecidedAreConfirmed }
 {}
 
-/// Where the limit of a study is at least 3 to the number of its variables, `decide` decides it, with no open mark.
+/// Where the limit of a study is at least 3 to the number of its variables, `decide` decides it, with no open
+/// mark.
 pub fn enough_decides()
     ensures { EnoughDecides }
 {}
 
-/// Where the limit of a study is at least 3 to the number of its variables, `proof` finds a rule or a refutation.
+/// Where the limit of a study is at least 3 to the number of its variables, `proof` finds a rule or a
+/// refutation.
 pub fn enough_proves()
     ensures { EnoughProves }
 {}
@@ -90,21 +94,21 @@ pub fn confirmed_is_unsatisfiable()
     ensures { ConfirmedIsUnsatisfiable }
 {}
 
-/// Where `export` and `proof` end with status 0 over one study, `lrat` confirms over files that hold what they write, whatever else
-/// these hold; but where `proof` writes that there is a rule, or a text that is longer than `lrat` reads. What `export` writes never
-/// is.
+/// Where `export` and `proof` end with status 0 over one study, `lrat` confirms over files that hold what
+/// they write, whatever else these hold; but where `proof` writes that there is a rule, or a text that is
+/// longer than `lrat` reads. What `export` writes never is.
 pub fn proved_are_confirmed()
     ensures { ProvedAreConfirmed }
 {}
 
-/// The same of calls: what calls of `export` and `proof` have written of one study, a call of `lrat` over files that hold it confirms,
-/// faults and want of memory aside.
+/// The same of calls: what calls of `export` and `proof` have written of one study, a call of `lrat` over
+/// files that hold it confirms, faults and want of memory aside.
 pub fn written_proofs_are_confirmed()
     ensures { WrittenProofsAreConfirmed }
 {}
 
-/// Whatever study and proof are read, an impossibility that `adopt` prints holds for every rule, and the proof names each axiom
-/// of its core.
+/// Whatever study and proof are read, an impossibility that `adopt` prints holds for every rule, and the
+/// proof names each axiom of its core.
 pub fn adopted_holds()
     ensures { AdoptedHolds }
 {}
@@ -129,19 +133,20 @@ pub fn proved_are_adopted()
     ensures { ProvedAreAdopted }
 {}
 
-/// The same of calls: what a call of `proof` has written, a call of `adopt` over files that hold it adopts, faults and want of memory
-/// aside.
+/// The same of calls: what a call of `proof` has written, a call of `adopt` over files that hold it adopts,
+/// faults and want of memory aside.
 pub fn written_proofs_are_adopted()
     ensures { WrittenProofsAreAdopted }
 {}
 
-/// Where the limit of a study is at least 3 to the number of its variables, each axiom of a core that `adopt` prints has its rule.
+/// Where the limit of a study is at least 3 to the number of its variables, each axiom of a core that `adopt`
+/// prints has its rule.
 pub fn enough_adopts()
     ensures { EnoughAdopts }
 {}
 
-/// The same of calls: no call of `decide`, `proof` or `adopt` over such a study ends with status 4, has a log of a search that spent
-/// its limit, or prints an open mark.
+/// The same of calls: no call of `decide`, `proof` or `adopt` over such a study ends with status 4, has a log
+/// of a search that spent its limit, or prints an open mark.
 pub fn calls_are_conclusive()
     ensures { CallsAreConclusive }
 {}

@@ -36,8 +36,8 @@ pub fn text_under(kind: Kind, name: &[u8]) -> Option<&'static [u8]>
     None
 }
 
-/// The sentence that the library of a kind has under a name: the tree that its text reads as. `None` comes exactly
-/// where the library has no such name.
+/// The sentence that the library of a kind has under a name: the tree that its text reads as. `None` comes
+/// exactly where the library has no such name.
 pub fn find(alloc: Global, name: &Name, kind: Kind) -> Result<Option<Named>, NoMemory>
     ensures { IfOk result (λ found. MatchOption found (text_under kind name.now ≡ None)
         (λ named. IsSomeAnd (text_under kind name.now) (λ text. IsSentence text (named_tree named)))) }

@@ -25,9 +25,9 @@ fn choice_name(place: u32) -> Option<&'static [u8]>
     }
 }
 
-/// The text at a place of the library of rules that choose an alternative. The last, `participation`, says that a voter
-/// who is absent gets no worse winner by coming to cast a ballot (Moulin, "Condorcet's principle implies the no show
-/// paradox", 1988).
+/// The text at a place of the library of rules that choose an alternative. The last, `participation`, says
+/// that a voter who is absent gets no worse winner by coming to cast a ballot (Moulin, "Condorcet's principle
+/// implies the no show paradox", 1988).
 #[tactic(auto, unfolding(crate::specs::Library::choice))]
 fn choice_text(place: u32) -> Option<&'static [u8]>
     ensures { option_map (λ text. text.now) result ≡ option_map (λ e. e.text) (slice_get choice place) }

@@ -7,7 +7,8 @@ use std::alloc::Global;
 use std::test::Fail;
 use std::thread::Threads;
 
-/// Anonymity and neutrality for two voters and two alternatives. The clauses 9 to 12 are anonymity's, and 13 to 20 neutrality's.
+/// Anonymity and neutrality for two voters and two alternatives. The clauses 9 to 12 are anonymity's, and 13
+/// to 20 neutrality's.
 const BOTH: &str =
     "kind = \"choice\"\nvoters = 2\nalternatives = 2\naxioms = [\"anonymity\", \"neutrality\"]\n";
 
@@ -15,8 +16,8 @@ const BOTH: &str =
 const BOTH_REPORT: &str =
     "bench report 1\nkind choice\nvoters 2\nalternatives 2\naxioms anonymity neutrality\nverdict impossible\ncore anonymity neutrality\n";
 
-/// Whether `adopt` with this word for the workers ends with status 0 over a study and a proof, with a report that begins so, and
-/// `check` confirms this.
+/// Whether `adopt` with this word for the workers ends with status 0 over a study and a proof, with a report
+/// that begins so, and `check` confirms this.
 fn adopts<R: Threads + Sync>(
     rt: &R,
     alloc: Global,
@@ -41,7 +42,8 @@ fn adopts<R: Threads + Sync>(
 fn foreign_refutations_are_adopted(rt: HostRuntime) -> Result<(), Fail> {
     let proofs = [
         "21 -3 0 9 17 6 0\n22 0 21 3 11 19 6 0\n",
-        // Ids with gaps, a tautology with a hint of no clause, hints that are not needed, lines behind the end.
+        // Ids with gaps, a tautology with a hint of no clause, hints that are not needed, lines behind the
+        // end.
         "30 1 -1 0 99 0\n33 -3 0 4 9 17 6 0\n40 0 33 3 11 19 6 0\n7 1 0 99 0\n",
         // Clauses that are taken away, comments, blank lines, a literal that stands twice.
         "c a\n\n21 -3 -3 0 9 17 6 0\n21 d 9 17 0\n22 -5 0 21 3 11 6 0\n23 0 21 3 22 19 0",

@@ -1,4 +1,5 @@
-//! The worked examples of `decide`, with 1, 2 and 16 workers, over devices in memory. Each report that is written is checked too.
+//! The worked examples of `decide`, with 1, 2 and 16 workers, over devices in memory. Each report that is
+//! written is checked too.
 
 use crate::calls::answered;
 use edge::Open;
@@ -36,9 +37,9 @@ fn outline(alloc: Global, report: &[u8]) -> Result<Vec<u8>, Fail> {
     Ok(text)
 }
 
-/// Whether `decide` writes a report that is this text or tells its verdict, its core and its marks by these lines, and its spent
-/// searches learned so many clauses; and whether it writes the same bytes with 2 and 16 workers as with one, and `check` confirms them
-/// with each number.
+/// Whether `decide` writes a report that is this text or tells its verdict, its core and its marks by these
+/// lines, and its spent searches learned so many clauses; and whether it writes the same bytes with 2 and 16
+/// workers as with one, and `check` confirms them with each number.
 pub fn decides<R: Threads + Sync>(
     rt: &R,
     alloc: Global,
@@ -62,7 +63,8 @@ pub fn decides<R: Threads + Sync>(
     Ok(right)
 }
 
-/// The verdict, the core and the marks of Arrow's theorem, of Gibbard's and Satterthwaite's, and of other studies.
+/// The verdict, the core and the marks of Arrow's theorem, of Gibbard's and Satterthwaite's, and of other
+/// studies.
 #[test]
 fn worked_studies_are_decided(rt: HostRuntime) -> Result<(), Fail> {
     let cases = [
@@ -126,11 +128,13 @@ fn worked_studies_are_decided(rt: HostRuntime) -> Result<(), Fail> {
     Ok(())
 }
 
-/// Each study has axioms that no core needs: the report that leaves them out, and how many clauses spent searches learned.
+/// Each study has axioms that no core needs: the report that leaves them out, and how many clauses spent
+/// searches learned.
 #[test]
 fn cores_are_small(rt: HostRuntime) -> Result<(), Fail> {
     let cases = [
-        // The first proof has no need of `unanimity`, and the search for a rule without `pareto` reaches the limit.
+        // The first proof has no need of `unanimity`, and the search for a rule without `pareto` reaches the
+        // limit.
         (
             "kind = \"choice\"\nvoters = 2\nalternatives = 3\nconflicts = 2\naxioms = [\"unanimity\", \"pareto\", \"anonymity\", \"neutrality\"]\n",
             2,
@@ -148,7 +152,8 @@ fn cores_are_small(rt: HostRuntime) -> Result<(), Fail> {
             0,
             "verdict impossible\ncore anonymity neutrality\nwithout anonymity rule 4\nwithout neutrality rule 4\n",
         ),
-        // The search without `link` reaches the limit, so that it is marked; the proof without `first` does not cite it, and then both go.
+        // The search without `link` reaches the limit, so that it is marked; the proof without `first` does
+        // not cite it, and then both go.
         (
             "kind = \"ranking\"\nvoters = 2\nalternatives = 2\nconflicts = 2\naxioms = [\"link\", \"first\", \"both\"]\n[sentences]\nlink = \"all p: profile. ((casts(#1, <ab>, p) & casts(#2, <ab>, p)) -> (ranks(@a, @b, p) -> ranks(@a, @b, with(p, #1, <ba>))))\"\nfirst = \"all p: profile. ((casts(#1, <ab>, p) & casts(#2, <ab>, p)) -> ((ranks(@a, @b, p) | ranks(@a, @b, with(p, #2, <ba>))) & (ranks(@a, @b, p) | !ranks(@a, @b, with(p, #2, <ba>)))))\"\nboth = \"all p: profile. ((casts(#1, <ba>, p) & casts(#2, <ab>, p)) -> ((ranks(@a, @b, p) <-> ranks(@a, @b, with(p, #2, <ba>))) & !(ranks(@a, @b, p) <-> ranks(@a, @b, with(p, #2, <ba>)))))\"\n",
             2,
@@ -180,7 +185,8 @@ fn one_of_two_axioms_goes(rt: HostRuntime) -> Result<(), Fail> {
     Ok(())
 }
 
-/// Clauses that are too many are refused, with a limit of one learned clause nothing is known, and a sink with little room takes a front.
+/// Clauses that are too many are refused, with a limit of one learned clause nothing is known, and a sink
+/// with little room takes a front.
 #[test]
 fn other_studies_are_not_decided(rt: HostRuntime) -> Result<(), Fail> {
     let cases = [

@@ -1,4 +1,5 @@
-//! Studies that say which ballots voters may cast, and that let voters stay away, with 1, 2 and 16 workers, over devices in memory.
+//! Studies that say which ballots voters may cast, and that let voters stay away, with 1, 2 and 16 workers,
+//! over devices in memory.
 
 use crate::calls::answered;
 use crate::decide_tests::decides;
@@ -115,7 +116,8 @@ fn domains_are_refuted(rt: HostRuntime) -> Result<(), Fail> {
     Ok(())
 }
 
-/// Reports of both versions: of a study that says neither, both are confirmed; of another, that of version 2 alone.
+/// Reports of both versions: of a study that says neither, both are confirmed; of another, that of version 2
+/// alone.
 #[test]
 fn reports_say_the_domain(rt: HostRuntime) -> Result<(), Fail> {
     let full = "kind = \"choice\"\nvoters = 1\nalternatives = 2\naxioms = [\"unanimity\"]\n";

@@ -17,8 +17,8 @@ const PAGE: usize = 4_096;
 /// Room for each text that is written here.
 const ROOM: usize = 100_000;
 
-/// Whether a command makes so many calls of the shelf, ends with status 5 and nothing written where one of them fails, and comes to
-/// the undisturbed answer where a later one would.
+/// Whether a command makes so many calls of the shelf, ends with status 5 and nothing written where one of
+/// them fails, and comes to the undisturbed answer where a later one would.
 fn stops_at_failed_reads<R: Threads + Sync>(
     rt: &R,
     alloc: Global,
@@ -38,9 +38,9 @@ fn stops_at_failed_reads<R: Threads + Sync>(
     Ok(right && told.is(whole.status, whole.bytes.as_slice()))
 }
 
-/// Whether a command, where this call of the sink fails, ends with status 6 and writes the front of the undisturbed text that the calls
-/// before it took, and comes to the undisturbed answer where it makes no such call. A write takes a page, the last one the rest, and
-/// then comes the flush.
+/// Whether a command, where this call of the sink fails, ends with status 6 and writes the front of the
+/// undisturbed text that the calls before it took, and comes to the undisturbed answer where it makes no such
+/// call. A write takes a page, the last one the rest, and then comes the flush.
 fn leaves_a_front<R: Threads + Sync>(
     rt: &R,
     alloc: Global,
@@ -64,7 +64,8 @@ fn leaves_a_front<R: Threads + Sync>(
     Ok(told.is(wanted, &text[..front]))
 }
 
-/// Whether a command comes to the undisturbed answer where each read gives one byte, and each write takes one.
+/// Whether a command comes to the undisturbed answer where each read gives one byte, and each write takes
+/// one.
 fn moves_single_bytes<R: Threads + Sync>(
     rt: &R,
     alloc: Global,
@@ -94,9 +95,9 @@ fn over_calm<R: Threads + Sync>(
     Ok(bench_calmly(rt, alloc, &words, &mut shelf, &Open).status)
 }
 
-/// Whether a command over these files makes so many calls of the shelf, and answers each fault of a device, and what it does without
-/// one, as it should. Undisturbed it ends with this status, and its text has so many bytes at least and at most three pages, so that the
-/// sink has at most four calls.
+/// Whether a command over these files makes so many calls of the shelf, and answers each fault of a device,
+/// and what it does without one, as it should. Undisturbed it ends with this status, and its text has so many
+/// bytes at least and at most three pages, so that the sink has at most four calls.
 fn withstands<R: Threads + Sync>(
     rt: &R,
     alloc: Global,
@@ -120,7 +121,8 @@ fn withstands<R: Threads + Sync>(
 
 #[test]
 fn commands_withstand_devices(rt: HostRuntime) -> Result<(), Fail> {
-    // Each file that is read takes three calls of the shelf: a rewind, a read that gives its bytes, and one that finds the end.
+    // Each file that is read takes three calls of the shelf: a rewind, a read that gives its bytes, and one
+    // that finds the end.
     let cases: [(&[&str], &str, &str, u8, u32); 12] = [
         (
             &["check", "first", "second"],

@@ -9,10 +9,12 @@ use std::thread::Threads;
 /// Two variables that can be neither equal nor different.
 pub const SQUARE: &str = "p cnf 2 4\n1 2 0\n-1 2 0\n1 -2 0\n-1 -2 0\n";
 
-/// The same four clauses, with comments, blank lines, other blanks and other line ends, and no end of the last line.
+/// The same four clauses, with comments, blank lines, other blanks and other line ends, and no end of the
+/// last line.
 const SCATTERED: &str = "c a\n\np\tcnf 2 4\r\n1\nc 9 -0 0\n2 0 -1 2\r\n\t0 1 -2 0 -1\nc\n\n-2 0";
 
-/// Whether `lrat` over clauses and the proof of this name ends with the status, and writes the text; the proof `second` is this one.
+/// Whether `lrat` over clauses and the proof of this name ends with the status, and writes the text; the
+/// proof `second` is this one.
 fn judges<R: Threads + Sync>(
     rt: &R,
     alloc: Global,
@@ -69,7 +71,8 @@ fn proofs_are_judged(rt: HostRuntime) -> Result<(), Fail> {
             "proof line 4: not_empty\n",
         ),
         ("", 1, "proof line 1: not_empty\n"),
-        // A clause with a variable and its negation, which is then skipped as a hint, or has two literals left.
+        // A clause with a variable and its negation, which is then skipped as a hint, or has two literals
+        // left.
         (
             "5 1 -1 0 99 0\n6 2 0 1 5 2 0\n7 0 6 3 4 0\n",
             0,

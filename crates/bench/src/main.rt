@@ -1,4 +1,5 @@
-//! A theorem bench for social choice: decides whether a rule satisfies axioms, tells why none does, and checks reports of both.
+//! A theorem bench for social choice: decides whether a rule satisfies axioms, tells why none does, and
+//! checks reports of both.
 #![tactic(auto)]
 
 mod top;

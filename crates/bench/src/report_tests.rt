@@ -1,4 +1,5 @@
-//! Reports that are confirmed, and changes of them, each refused at the line that was changed, with 1, 2 and 16 workers.
+//! Reports that are confirmed, and changes of them, each refused at the line that was changed, with 1, 2 and
+//! 16 workers.
 
 ghost use Rattle.std.specs.Prelude.{◌≤◌};
 ghost use Rattle.report.specs.Stands.{IsReady};
@@ -32,7 +33,8 @@ const LIBERAL: &str =
 const LIBERAL_STORY: &str =
     "bench report 1\nkind choice\nvoters 2\nalternatives 3\naxioms pareto right_one right_two\nverdict impossible\ncore pareto right_one right_two\nlemmas 1\nlemma 1\nso !b@cab|bca by axiom right_one cab|bca\nso !c@cab|bca by axiom right_two cab|bca\nso !a@cab|bca by axiom pareto cab|bca c a\nclash by outcome cab|bca\nwithout pareto open 1000\nwithout right_one open 1000\nwithout right_two open 1000\nend\n";
 
-/// Whether the text is written of the report, with 1, 2 and 16 workers; the status is 0 where it is confirmed, and else 1.
+/// Whether the text is written of the report, with 1, 2 and 16 workers; the status is 0 where it is
+/// confirmed, and else 1.
 fn is_answered<R: Threads + Sync>(
     rt: &R,
     alloc: Global,
@@ -278,7 +280,8 @@ fn long_lines_are_no_lines(rt: HostRuntime) -> Result<(), Fail> {
     Ok(())
 }
 
-/// The report of the rule that gives at each profile the ballot of voter 1, or the alternative that it has on top.
+/// The report of the rule that gives at each profile the ballot of voter 1, or the alternative that it has on
+/// top.
 fn dictatorship(alloc: Global, size: Size, names: &str) -> Result<String, Fail> {
     let space = Space::new(size);
     let (kind, width) = match size.kind() {

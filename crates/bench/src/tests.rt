@@ -13,7 +13,8 @@ pub const STUDY: &str =
 const REPORT: &str =
     "bench report 1\nkind choice\nvoters 1\nalternatives 2\naxioms unanimity\nverdict possible\nrule 2\nab a\nba b\nend\n";
 
-/// Whether `check` with 1, 2 and 16 workers, where these calls of the shelf fail, ends with the status and writes the text.
+/// Whether `check` with 1, 2 and 16 workers, where these calls of the shelf fail, ends with the status and
+/// writes the text.
 fn judges<R: Threads + Sync>(
     rt: &R,
     alloc: Global,
@@ -66,8 +67,8 @@ fn reports_are_judged(rt: HostRuntime) -> Result<(), Fail> {
 
 #[test]
 fn axioms_are_tested_in_the_order_of_the_study(rt: HostRuntime) -> Result<(), Fail> {
-    // The rule that never chooses `b` fails each of the three: `onto` at b, `pareto` at ba (b above a, a wins),
-    // `unanimity` at ba and b.
+    // The rule that never chooses `b` fails each of the three: `onto` at b, `pareto` at ba (b above a, a
+    // wins), `unanimity` at ba and b.
     let table = "verdict possible\nrule 2\nab a\nba a\nend\n";
     let cases = [
         (
@@ -103,8 +104,9 @@ fn axioms_are_tested_in_the_order_of_the_study(rt: HostRuntime) -> Result<(), Fa
 /// A study of rules that choose, of two voters and two alternatives.
 const SMALL: &str = "kind = \"choice\"\nvoters = 2\nalternatives = 2\naxioms = [\"odd\"]\n";
 
-/// Whether each command that reads a study refuses this one by the text, `check` and `adopt` without a call for the other file. The
-/// calls of the shelf are: 0 rewinds the study, 1 and 2 read it, 3 would rewind the report or the proof.
+/// Whether each command that reads a study refuses this one by the text, `check` and `adopt` without a call
+/// for the other file. The calls of the shelf are: 0 rewinds the study, 1 and 2 read it, 3 would rewind the
+/// report or the proof.
 fn refuses<R: Threads + Sync>(
     rt: &R,
     alloc: Global,
@@ -360,7 +362,8 @@ fn sentences_have_limits(rt: HostRuntime) -> Result<(), Fail> {
     Ok(())
 }
 
-/// Whether the study is refused by this text, or is not where the text is empty: then the report would be opened.
+/// Whether the study is refused by this text, or is not where the text is empty: then the report would be
+/// opened.
 fn is_refused<R: Threads + Sync>(
     rt: &R,
     alloc: Global,

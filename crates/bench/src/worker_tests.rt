@@ -7,8 +7,8 @@ use std::alloc::Global;
 use std::test::Fail;
 use std::thread::Threads;
 
-/// Whether `export` into a sink with so much room ends with the status and writes the text, or begins with it where more is to follow;
-/// with 2, 3 and 16 workers it writes the same bytes as with one.
+/// Whether `export` into a sink with so much room ends with the status and writes the text, or begins with it
+/// where more is to follow; with 2, 3 and 16 workers it writes the same bytes as with one.
 pub fn exports<R: Threads + Sync>(
     rt: &R,
     alloc: Global,
@@ -80,8 +80,8 @@ fn clauses_are_refused_or_written(rt: HostRuntime) -> Result<(), Fail> {
     Ok(())
 }
 
-/// Whether `proof` with this word for the workers ends with the status and writes the text; where the text is empty, whether `lrat`
-/// confirms what it writes over the clauses that `export` writes.
+/// Whether `proof` with this word for the workers ends with the status and writes the text; where the text is
+/// empty, whether `lrat` confirms what it writes over the clauses that `export` writes.
 pub fn proves<R: Threads + Sync>(
     rt: &R,
     alloc: Global,

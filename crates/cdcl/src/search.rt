@@ -22,8 +22,8 @@ use lists::{Items, NoMemory};
 use propagate::{Outcome, Trail};
 use std::alloc::Global;
 
-/// What a search came to: an assignment that satisfies the clauses; a derivation of the empty clause from them; or the clauses
-/// that it learned, as many as it was allowed.
+/// What a search came to: an assignment that satisfies the clauses; a derivation of the empty clause from
+/// them; or the clauses that it learned, as many as it was allowed.
 #[derive(Drop)]
 pub enum Search {
     Found(Bits),
@@ -31,15 +31,17 @@ pub enum Search {
     Spent(Derivation),
 }
 
-/// Searches for an assignment of the variables that satisfies the clauses, and learns a clause from each conflict, up to a
-/// limit of at most 1,000,000. No variable of a clause is above the number of variables, which is at most 2,147,483,647. It
-/// decides the variable without a value that has the greatest activity, and of those the least, with the sign that it last had, false at
-/// first, and goes back to the assertion level of the clause of the first unique implication point (Marques-Silva and
-/// Sakallah, 1999), or to level 0 when a restart is due.
+/// Searches for an assignment of the variables that satisfies the clauses, and learns a clause from each
+/// conflict, up to a limit of at most 1,000,000. No variable of a clause is above the number of variables,
+/// which is at most 2,147,483,647. It decides the variable without a value that has the greatest activity,
+/// and of those the least, with the sign that it last had, false at first, and goes back to the assertion
+/// level of the clause of the first unique implication point (Marques-Silva and Sakallah, 1999), or to level
+/// 0 when a restart is due.
 ///
 /// `Found` has exactly these variables and satisfies each clause. `Refuted` is accepted. `Spent` has as many lines as the limit
-/// allows, each of which learns a clause that follows by its hints and is fresh; it never comes where the limit is at least 3
-/// to the number of variables. Where a clause is empty, `Refuted` is the one line that cites the first such clause.
+/// allows, each of which learns a clause that follows by its hints and is fresh; it never comes where the
+/// limit is at least 3 to the number of variables. Where a clause is empty, `Refuted` is the one line that
+/// cites the first such clause.
 pub fn solve(
     alloc: Global,
     clauses: &Clauses,
@@ -200,7 +202,8 @@ fn choose(trail: &Trail, order: &mut Order, variables: u32) -> Option<Lit>
     }
 }
 
-/// Goes back to a level, and puts the variables that lose their value back into the order, each with the sign that it had.
+/// Goes back to a level, and puts the variables that lose their value back into the order, each with the sign
+/// that it had.
 fn go_back(trail: &mut Trail, order: &mut Order, variables: u32, level: u32)
     requires form { IsTrail trail.old }
     requires variables { variables ≡ trail.old.variables }

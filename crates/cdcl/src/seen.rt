@@ -6,8 +6,8 @@ use lists::NoMemory;
 use std::alloc::Global;
 use std::marker::Model;
 
-/// Which variables are marked. A variable is marked where its stamp is the number of the round, so that a next round unmarks all
-/// of them at once. Only `new` takes memory.
+/// Which variables are marked. A variable is marked where its stamp is the number of the round, so that a
+/// next round unmarks all of them at once. Only `new` takes memory.
 #[derive(Drop)]
 pub struct Seen {
     stamps: Vec<u32>,

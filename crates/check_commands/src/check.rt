@@ -91,9 +91,10 @@ fn judge_report<R: Threads + Sync, S: Shelf, G: Gate>(
     Ok(Answer::Judged(worth))
 }
 
-/// Reads the study, and then the report over it. Where the study is refused, what the shelf has left under the report's name
-/// stays as it was. The axioms of a rule are checked among 1 to 16 workers, which changes no answer; the gate is told of each
-/// piece of that work. Errors: `Stop::ReadFault` where the shelf fails, and `Stop::NoMemory`.
+/// Reads the study, and then the report over it. Where the study is refused, what the shelf has left under
+/// the report's name stays as it was. The axioms of a rule are checked among 1 to 16 workers, which changes
+/// no answer; the gate is told of each piece of that work. Errors: `Stop::ReadFault` where the shelf fails,
+/// and `Stop::NoMemory`.
 pub fn check<R: Threads + Sync, S: Shelf, G: Gate>(
     rt: &R,
     alloc: Global,

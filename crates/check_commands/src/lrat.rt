@@ -92,8 +92,9 @@ fn judge_proof<S: Shelf>(
     }
 }
 
-/// Reads the clauses, and then a proof from them. Where the clauses are refused, what the shelf has left under the proof's name
-/// stays as it was. Errors: `Stop::ReadFault` where the shelf fails, and `Stop::NoMemory`.
+/// Reads the clauses, and then a proof from them. Where the clauses are refused, what the shelf has left
+/// under the proof's name stays as it was. Errors: `Stop::ReadFault` where the shelf fails, and
+/// `Stop::NoMemory`.
 pub fn lrat<S: Shelf>(alloc: Global, shelf: &mut S, cnf: &str, proof: &str) -> Result<Answer, Stop>
     ensures { Answers (Some (Lrat cnf.now proof.now)) (S.files shelf.old)
         (S.left shelf.old) (S.left shelf.new) (S.faults shelf.old) (S.faults shelf.new) result }

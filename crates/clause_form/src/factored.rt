@@ -8,8 +8,8 @@ use lists::NoMemory;
 use std::alloc::Global;
 use std::marker::Model;
 
-/// Clauses that all begin with the same literals: those literals once, from the last to the first, and what is left of
-/// each clause. So literals are put before all clauses by appending them to the former.
+/// Clauses that all begin with the same literals: those literals once, from the last to the first, and what
+/// is left of each clause. So literals are put before all clauses by appending them to the former.
 pub(crate) struct Factored {
     prefix: Vec<Lit>,
     rests: Store,
@@ -45,7 +45,8 @@ fn extend_backwards(row: &mut Vec<Lit>, more: &[Lit]) -> Result<(), NoMemory>
     Ok(())
 }
 
-/// Appends all clauses of a list, each with literals before its own, which are given from the last to the first.
+/// Appends all clauses of a list, each with literals before its own, which are given from the last to the
+/// first.
 fn push_behind(
     alloc: Global,
     out: &mut Store,

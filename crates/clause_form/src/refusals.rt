@@ -3,9 +3,9 @@
 use lists::NoMemory;
 use meaning::Counts;
 
-/// Why the clauses of a study for chosen axioms are not made: an instance of the axiom at a place of the study is too wide,
-/// by its counts before anything is left out; the list of all clauses passes a limit with those of the axiom at a place; or
-/// no memory was found.
+/// Why the clauses of a study for chosen axioms are not made: an instance of the axiom at a place of the
+/// study is too wide, by its counts before anything is left out; the list of all clauses passes a limit with
+/// those of the axiom at a place; or no memory was found.
 #[derive(Clone, Copy, Debug, PartialEq, Eq)]
 pub enum GroundFault {
     Wide {

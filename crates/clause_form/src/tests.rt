@@ -1,5 +1,6 @@
-//! Clauses of formulas, worked out by hand: for five voters and two alternatives, where at profile 0 the variables 1 and 2 say that
-//! `a` and `b` win, and at profile 1 the variables 3 and 4; and of one for one voter and rankings.
+//! Clauses of formulas, worked out by hand: for five voters and two alternatives, where at profile 0 the
+//! variables 1 and 2 say that `a` and `b` win, and at profile 1 the variables 3 and 4; and of one for one
+//! voter and rankings.
 
 ghost use Rattle.std.specs.Prelude.{◌≡◌, ◌≤◌, ◌<◌, [], IfOk, IsTrue, if◌then◌else◌};
 ghost use Rattle.vocab.specs.declared.kinds.Kind.TheVariants.{Choice};
@@ -280,7 +281,8 @@ fn append(
     clauses(alloc, &choices(rt), &sentence.formula, &Env::none(), list)
 }
 
-/// Takes a sentence with so many clauses and literals, which is refused as wide once one clause more is asked for.
+/// Takes a sentence with so many clauses and literals, which is refused as wide once one clause more is asked
+/// for.
 fn is_at_limit(
     rt: &impl Abort,
     alloc: Global,

@@ -44,8 +44,8 @@ impl<H: Text> Text for Lent<'_, H> {
     }
 }
 
-/// Clauses over so many variables in the form of DIMACS: two comments, of which `head` is what the second says, the header
-/// `p cnf VARIABLES CLAUSES`, and a line for each clause.
+/// Clauses over so many variables in the form of DIMACS: two comments, of which `head` is what the second
+/// says, the header `p cnf VARIABLES CLAUSES`, and a line for each clause.
 #[derive(Drop)]
 pub struct DimacsText<'a, H> {
     pub head: H,
@@ -83,8 +83,8 @@ impl<H: Text> Text for DimacsText<'_, H> {
     }
 }
 
-/// Writes the text of some clauses over so many variables; `head` is what the second comment says. Where the sink fails,
-/// a prefix of the text was written. No memory is taken.
+/// Writes the text of some clauses over so many variables; `head` is what the second comment says. Where the
+/// sink fails, a prefix of the text was written. No memory is taken.
 pub fn write_dimacs<O: Sink>(
     head: &[u8],
     clauses: &Clauses,

@@ -68,7 +68,8 @@ impl Text for Steps<'_> {
     }
 }
 
-/// A derivation in the form of LRAT: a line for each added clause, with its id, its literals, 0, its hints and 0.
+/// A derivation in the form of LRAT: a line for each added clause, with its id, its literals, 0, its hints
+/// and 0.
 #[derive(Drop)]
 pub struct LratText<'a>(pub &'a Derivation);
 
@@ -82,7 +83,8 @@ impl Text for LratText<'_> {
     }
 }
 
-/// Writes the text of a derivation. Where the sink fails, a prefix of the text was written. No memory is taken.
+/// Writes the text of a derivation. Where the sink fails, a prefix of the text was written. No memory is
+/// taken.
 pub fn write_lrat<O: Sink>(derivation: &Derivation, out: &mut O) -> Result<(), Failed>
     ensures ok { OnOk result (Appends (O.taken out.old) (O.taken out.new) (lrat_text derivation.now)) }
     ensures err { OnErr result

@@ -20,7 +20,8 @@ fn kind_word(kind: Kind) -> &'static [u8]
     }
 }
 
-/// A size, as the second comment of exported clauses tells it: the kind, and the numbers of voters and alternatives.
+/// A size, as the second comment of exported clauses tells it: the kind, and the numbers of voters and
+/// alternatives.
 #[derive(Drop)]
 pub struct SizeText(pub Size);
 

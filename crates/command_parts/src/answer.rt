@@ -55,7 +55,8 @@ pub enum Answer {
     },
     /// A refutation of the clauses of a study.
     Refutation(Derivation),
-    /// The verdict of a search over the clauses of a study that refuted nothing, with the searches that spent their limit.
+    /// The verdict of a search over the clauses of a study that refuted nothing, with the searches that spent
+    /// their limit.
     Claim(Verdict, Logs),
     /// The file of the clauses is longer than such a file may be.
     LongCnf,
@@ -74,7 +75,8 @@ pub enum Answer {
     GoodProof,
     /// The library of a kind was asked for.
     Library(Kind),
-    /// The verdict of a search on the study of a number, which has so many clauses, with the searches that spent their limit.
+    /// The verdict of a search on the study of a number, which has so many clauses, with the searches that
+    /// spent their limit.
     Summary {
         number: u32,
         study: Study,

@@ -23,8 +23,8 @@ pub enum GivenProof {
     Refused(Answer),
 }
 
-/// Reads the derivation of a file, over so many variables, at most 10,000,000. Errors: `Stop::ReadFault` where the shelf fails,
-/// and `Stop::NoMemory`.
+/// Reads the derivation of a file, over so many variables, at most 10,000,000. Errors: `Stop::ReadFault`
+/// where the shelf fails, and `Stop::NoMemory`.
 pub fn open_derivation<S: Shelf>(
     alloc: Global,
     shelf: &mut S,

@@ -19,8 +19,8 @@ use std::alloc::Global;
 use std::thread::Threads;
 use vocab::{Kind, Study};
 
-/// The clauses of all axioms of a study, over a kind of its size, made among workers, which changes none of them. Error: the
-/// first refusal, or want of memory.
+/// The clauses of all axioms of a study, over a kind of its size, made among workers, which changes none of
+/// them. Error: the first refusal, or want of memory.
 pub fn ground_all<R: Threads + Sync, K: OutcomeKind, G: Gate>(
     alloc: Global,
     crew: &Crew<R, G>,

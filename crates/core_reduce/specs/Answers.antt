@@ -1,4 +1,4 @@
--- What the answers of a decision say.
+-- What a decision says.
 use Rattle.std.specs.Prelude.{◌≡◌, ℕ, ◌<◌, ◌-◌, ◌^◌, Bool, ◌||◌, ◌==◌, List, [], ◌∷◌, length, Any, IsTrue, IsFalse}
 use Rattle.std.specs.List.{list_all}
 use Rattle.vocab.specs.Study.{Question}
@@ -38,10 +38,10 @@ module _ (study : Question) where
   IsFinding logs (Impossible r) = IsRefutation logs r
   IsFinding logs Undecided = Any (IsOfAll study) logs
 
-  -- an answer is right: its finding is, and each of its logs is of a search that spent its limit
-  pub record IsDecision (answer : Decision) : Type 0 where
-    pub finding : IsFinding answer.logs answer.finding
-    pub logs : AreSpentLogs study answer.logs
+  -- a decision is right: its finding is, and each of its logs is of a search that spent its limit
+  pub record IsDecision (decision : Decision) : Type 0 where
+    pub finding : IsFinding decision.logs decision.finding
+    pub logs : AreSpentLogs study decision.logs
 
   -- ---- the core of a given proof
 

@@ -46,10 +46,11 @@ fn start(
     Ok(focus.into_reduction(core, Vec::new(alloc), Items::new(alloc)))
 }
 
-/// Reduces a refutation of the clauses of the chosen axioms, whoever found it, to a core with a witness for each axiom: each axiom
-/// of the core is one of the chosen, and a hint of `proof` names a clause of it. What `proof` does not need plays no part. One axiom
-/// after the other is left out, in the order of the study, and a search goes over the clauses of the rest; where it spends the
-/// study's limit, the mark is open, and the logs have that search.
+/// Reduces a refutation of the clauses of the chosen axioms, whoever found it, to a core with a witness for
+/// each axiom: each axiom of the core is one of the chosen, and a hint of `proof` names a clause of it. What
+/// `proof` does not need plays no part. One axiom after the other is left out, in the order of the study, and
+/// a search goes over the clauses of the rest; where it spends the study's limit, the mark is open, and the
+/// logs have that search.
 ///
 /// `chosen` are places of the study that rise, and `clauses` those of these axioms. `lrat_check::check` accepts `proof` over them.
 pub fn reduce<K: OutcomeKind>(
@@ -77,8 +78,8 @@ pub fn reduce<K: OutcomeKind>(
     Ok(reduced)
 }
 
-/// Decides a study over its clauses: a rule that satisfies all axioms, a core that none satisfies, or nothing where the search spent
-/// its limit.
+/// Decides a study over its clauses: a rule that satisfies all axioms, a core that none satisfies, or nothing
+/// where the search spent its limit.
 pub fn decide<K: OutcomeKind>(
     alloc: Global,
     kind: &K,

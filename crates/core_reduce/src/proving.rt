@@ -17,8 +17,8 @@ use search_logs::{SearchLog, all_places};
 use std::alloc::Global;
 use vocab::Study;
 
-/// Searches over the clauses of all axioms of a study: a rule that satisfies all axioms; a trimmed refutation of the clauses; or
-/// neither, where the search spent its limit.
+/// Searches over the clauses of all axioms of a study: a rule that satisfies all axioms; a trimmed refutation
+/// of the clauses; or neither, where the search spent its limit.
 pub fn prove<K: OutcomeKind>(
     alloc: Global,
     kind: &K,

@@ -30,8 +30,8 @@ use search_logs::{Logs, SearchLog};
 use std::alloc::Global;
 use vocab::{Places, Study, Table};
 
-/// A core that is being reduced: its clauses, a proof over them, the witnesses of its first axioms, and the searches that spent
-/// their limit.
+/// A core that is being reduced: its clauses, a proof over them, the witnesses of its first axioms, and the
+/// searches that spent their limit.
 pub struct Reduction {
     pub core: Places,
     pub clauses: Ground,
@@ -128,7 +128,8 @@ fn listed(alloc: Global, witnesses: Vec<Witness>) -> Result<Witnesses, NoMemory>
 }
 
 impl Reduction {
-    /// The core without its first axiom that has no witness, and without those that a refutation of the rest does not need.
+    /// The core without its first axiom that has no witness, and without those that a refutation of the rest
+    /// does not need.
     fn without(
         self,
         alloc: Global,

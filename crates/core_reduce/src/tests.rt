@@ -205,7 +205,8 @@ fn drops(alloc: Global, at: u32, id: u64) -> Result<Line, NoMemory>
     Ok(Line { at, step })
 }
 
-/// A refutation by the first axiom and the third, with a tautology, a clause that is taken away, and gaps in its ids.
+/// A refutation by the first axiom and the third, with a tautology, a clause that is taken away, and gaps in
+/// its ids.
 fn proof_by_first_and_third(alloc: Global) -> Result<Derivation, NoMemory>
     ensures { IfOk result (λ lines. lines ≡ by_first_and_third) }
 {

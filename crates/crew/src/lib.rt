@@ -1,5 +1,5 @@
-//! Pieces of work among workers. A piece reads values that nobody changes and gives a value of its own, so the parts are
-//! the same for every number of workers.
+//! Pieces of work among workers. A piece reads values that nobody changes and gives a value of its own, so
+//! the parts are the same for every number of workers.
 #![tactic(auto)]
 
 mod crews;

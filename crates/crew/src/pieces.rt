@@ -31,8 +31,8 @@ fn in_turn<J: Job, G: Gate>(
     Ok(parts)
 }
 
-/// The parts of the pieces from `from` up to `to`: the pieces are halved, and so are the workers, until a run has one of
-/// either.
+/// The parts of the pieces from `from` up to `to`: the pieces are halved, and so are the workers, until a run
+/// has one of either.
 fn among<R: Threads + Sync, J: Job, G: Gate>(
     rt: &R,
     alloc: Global,
@@ -72,8 +72,9 @@ fn among<R: Threads + Sync, J: Job, G: Gate>(
     Ok(parts)
 }
 
-/// The parts of the pieces 0, 1, 2 .. in that order, each right, whatever the number of workers, from 1 to 16. At most so
-/// many consecutive runs of pieces are worked on at a time, and the gate is told of each piece before it begins.
+/// The parts of the pieces 0, 1, 2 .. in that order, each right, whatever the number of workers, from 1 to
+/// 16. At most so many consecutive runs of pieces are worked on at a time, and the gate is told of each piece
+/// before it begins.
 pub fn map_pieces<R: Threads + Sync, J: Job, G: Gate>(
     rt: &R,
     alloc: Global,

@@ -118,7 +118,8 @@ fn read_in_pieces(
     Ok(read_all(alloc, &mut shelf, "report", 27))
 }
 
-// What a sink of which each write takes at most `most` bytes has taken, once the report was written and flushed.
+// What a sink of which each write takes at most `most` bytes has taken, once the report was written and
+// flushed.
 fn written_in_pieces(alloc: Global, most: u32, failing: &[u32]) -> Result<Bytes, Fail>
     requires most { 1 ≤ most }
 {

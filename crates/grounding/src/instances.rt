@@ -16,8 +16,8 @@ use vocab::{Axiom, Env, Formula};
 use worlds::instance_count;
 use worlds::laws::bodies_have_values;
 
-/// The values of the environment, and then those that an instance of the formula gives its leading universals: the
-/// digits of its number, the first most significant.
+/// The values of the environment, and then those that an instance of the formula gives its leading
+/// universals: the digits of its number, the first most significant.
 fn values_after(space: &Space, formula: &Formula, env: &Env, number: u64) -> Env
     requires room { length env.now + length (bases_of space.now (tree_of formula.now)) ≤ 12 }
     requires few { instance_count space.now (tree_of formula.now) ≤ 40000000 }

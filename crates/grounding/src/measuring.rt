@@ -99,8 +99,8 @@ fn measure_round<R: Threads + Sync, K: OutcomeKind, G: Gate>(
     Ok(first_found(round, &parts))
 }
 
-/// The first instance of an axiom that is too wide, of round after round. Appends the sum of the measures of each piece,
-/// up to the round that has it.
+/// The first instance of an axiom that is too wide, of round after round. Appends the sum of the measures of
+/// each piece, up to the round that has it.
 pub(crate) fn measure_axiom<R: Threads + Sync, K: OutcomeKind, G: Gate>(
     alloc: Global,
     crew: &Crew<R, G>,

@@ -107,8 +107,8 @@ fn keep_parts<K: OutcomeKind>(
     Ok(())
 }
 
-/// Appends the clauses of a round, each unless an equal one of the axiom was kept. The number of an instance is added to
-/// `base`.
+/// Appends the clauses of a round, each unless an equal one of the axiom was kept. The number of an instance
+/// is added to `base`.
 fn add_round<R: Threads + Sync, K: OutcomeKind, G: Gate>(
     alloc: Global,
     crew: &Crew<R, G>,

@@ -57,7 +57,8 @@ pub(crate) fn measure_all<K: OutcomeKind>(kind: &K, named: &Axiom, from: u64, to
     }
 }
 
-/// The clauses of the instances from `from` up to `to`, of which none is too wide. The number of an instance is added to `base`.
+/// The clauses of the instances from `from` up to `to`, of which none is too wide. The number of an instance
+/// is added to `base`.
 pub(crate) fn clauses_of_all<K: OutcomeKind>(
     alloc: Global,
     kind: &K,

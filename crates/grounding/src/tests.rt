@@ -1,11 +1,11 @@
-//! Anonymity and neutrality of two voters, worked by hand: their clauses, which are the same for every number of workers, and
-//! an instance that is too wide.
+//! Anonymity and neutrality of two voters, worked by hand: their clauses, which are the same for every number
+//! of workers, and an instance that is too wide.
 //!
-//! Two voters with two ballots make four profiles, with two frame clauses each. Anonymity equates the outcomes at the two
-//! profiles of different ballots, by two clauses for each alternative. Neutrality equates that one alternative wins at a
-//! profile with that the other wins at the profile of the opposite ballots, by four clauses for each of two pairs of
-//! profiles. With three alternatives there are 36 profiles with four frame clauses each, and 15 pairs of profiles that
-//! anonymity equates, by two clauses for each alternative.
+//! Two voters with two ballots make four profiles, with two frame clauses each. Anonymity equates the
+//! outcomes at the two profiles of different ballots, by two clauses for each alternative. Neutrality equates
+//! that one alternative wins at a profile with that the other wins at the profile of the opposite ballots, by
+//! four clauses for each of two pairs of profiles. With three alternatives there are 36 profiles with four
+//! frame clauses each, and 15 pairs of profiles that anonymity equates, by two clauses for each alternative.
 
 ghost use Rattle.std.specs.Prelude.{◌≡◌, ◌≤◌, length, IfOk, IsTrue};
 ghost use Rattle.vocab.specs.Size.{full_size};
@@ -57,7 +57,8 @@ fn same(alloc: Global, left: Box<Formula>, right: Box<Formula>) -> Result<Box<Fo
     Ok(Box::new(alloc, Formula::Same(left, right))?)
 }
 
-/// For each profile, two voters and an alternative: it wins exactly where it does once their ballots are exchanged.
+/// For each profile, two voters and an alternative: it wins exactly where it does once their ballots are
+/// exchanged.
 fn anonymity(alloc: Global) -> Result<Formula, NoMemory>
     ensures { IfOk result (λ f. tree_of f ≡ All Sort.Profile (All Sort.Voter (All Sort.Voter (All Sort.Alt
         (Same (Leaf (WinsAt (Var 3) (Var 0)))
@@ -71,7 +72,8 @@ fn anonymity(alloc: Global) -> Result<Formula, NoMemory>
     Ok(Formula::All(Sort::Profile, voters))
 }
 
-/// For each profile and two alternatives: the first wins exactly where the second does once the two are exchanged.
+/// For each profile and two alternatives: the first wins exactly where the second does once the two are
+/// exchanged.
 fn neutrality(alloc: Global) -> Result<Formula, NoMemory>
     ensures { IfOk result (λ f. tree_of f ≡ All Sort.Profile (All Sort.Alt (All Sort.Alt
         (Same (Leaf (WinsAt (Var 1) (Var 0))) (Leaf (WinsAt (Var 2) (SwapAlts (Var 0) (Var 1) (Var 2)))))))) }

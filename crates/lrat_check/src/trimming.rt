@@ -23,10 +23,10 @@ use cnf::{Clauses, Derivation};
 use lists::NoMemory;
 use std::alloc::Global;
 
-/// The lines of an accepted derivation that its empty clause needs, each with the hints that it needs, numbered after
-/// the clauses; or `NoMemory`. It is accepted and has no more lines. Whatever each added clause of the given one passes,
-/// each clause of the result passes, so that it has no variable that the given one lacks; and it cites no other clause of
-/// the input.
+/// The lines of an accepted derivation that its empty clause needs, each with the hints that it needs,
+/// numbered after the clauses; or `NoMemory`. It is accepted and has no more lines. Whatever each added
+/// clause of the given one passes, each clause of the result passes, so that it has no variable that the
+/// given one lacks; and it cites no other clause of the input.
 pub fn trim(
     alloc: Global,
     clauses: &Clauses,

@@ -9,7 +9,7 @@ use Rattle.std.proofs.Math.Nat.{pow-zero, div-add-mod'}
 use Rattle.vocab.specs.declared.kinds.Sort.TheVariants.{Profile}
 use Rattle.vocab.specs.Size.{Extent, ballot_count, cast_count, lists_of, sort_count}
 use Rattle.meaning.specs.Space.{number_of, digits_of}
-use Rattle.meaning.specs.Digits.{AreDigits, AreNumbered, AreProfiles}
+use Rattle.meaning.specs.Digits.{AreDigits, AreOneToOne, AreProfiles}
 use Rattle.vocab.specs.Limits.{product}
 
 -- a product that is above some number has no factor 0
@@ -47,8 +47,8 @@ digits_number (b ∷ bases) (d ∷ digits) h =
     ap₂ (λ (x : ℕ) (xs : List ℕ). x ∷ xs) (div-mul-add d (product bases) (number_of bases digits) rest)
     (ap (digits_of bases) (mod-mul-add d (product bases) (number_of bases digits) rest) ∙ digits_number bases digits e.1)
 
-pub are_numbered : (bases : List ℕ) → AreNumbered bases
-are_numbered bases = record { digits = digits_in bases; number = number_below bases; of_digits = number_digits bases; of_number = digits_number bases }
+pub are_one_to_one : (bases : List ℕ) → AreOneToOne bases
+are_one_to_one bases = record { digits = digits_in bases; number = number_below bases; of_digits = number_digits bases; of_number = digits_number bases }
 
 pub product-replicate : (n b : ℕ) → product (replicate n b) ≡ b ^ n
 product-replicate zero b = sym (pow-zero b)

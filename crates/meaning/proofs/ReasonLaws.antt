@@ -34,7 +34,7 @@ use Rattle.meaning.specs.Written.{And, Fact, Iff, Known, Neg, Or, Written}
 use Rattle.meaning.specs.declared.three.Three.{Three}
 use Rattle.meaning.specs.declared.three.Three.TheVariants.{False, True, Unknown}
 use Rattle.meaning.proofs.ClauseLaws.{clauses_decide}
-use Rattle.meaning.proofs.DigitLaws.{are_numbered}
+use Rattle.meaning.proofs.DigitLaws.{are_one_to_one}
 use Rattle.meaning.proofs.FrameLaws.{is_frame}
 use Rattle.meaning.proofs.LiteralLaws.{choice_literal, is_literal-opposite, profile_of-opposite, ranking_literal, same_literal-equal, unequal}
 use Rattle.meaning.proofs.PairLaws.{pairs-from, triples-from}
@@ -233,7 +233,7 @@ module _ (size : Extent) (known_kind : HasOutcomes size.kind) (axioms : List Tit
   instance_told : (k i : ℕ) (a : Titled) → slice_get axioms k ≡ Some a → is_sorted size [] a.sentence ≡ true → i < instance_count size a.sentence → list_any (λ c. c == k) chosen ≡ true → AllByRecursion Told (from_instance size k a.sentence i)
   instance_told k i a is sorted lt inside =
       let values = digits_of (bases_of size a.sentence) i in
-      let digits = (are_numbered (bases_of size a.sentence)).digits i lt in
+      let digits = (are_one_to_one (bases_of size a.sentence)).digits i lt in
       let facts = instance_literals size known_kind a.sentence sorted i lt in
       each_clause size known all_known (is_instance_false size known (Some a) values ≡ true) (λ c. record { clause = c; origin = Instance k i }) (λ c. refl) (RefuteOrigin size axioms chosen known)
       (λ c e. subst (λ o. IfAxiom o (λ x. (i < instance_count size x.sentence) × IsTrue (list_any (λ d. d == k) chosen && is_instance_false size known o (instance_values size x.sentence i)))) (sym is) (lt, and_from _ _ inside e))

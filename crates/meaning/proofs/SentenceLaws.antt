@@ -16,7 +16,7 @@ use Rattle.meaning.specs.Laws.{AllFacts}
 use Rattle.meaning.specs.Literals.{is_literal}
 use Rattle.meaning.specs.Space.{digits_of}
 use Rattle.meaning.specs.StudyClauses.{instance_of}
-use Rattle.meaning.proofs.DigitLaws.{are_numbered}
+use Rattle.meaning.proofs.DigitLaws.{are_one_to_one}
 use Rattle.meaning.proofs.RangeLaws.{have_literals}
 
 module _ (size : Extent) where
@@ -49,5 +49,5 @@ module _ (size : Extent) where
   pub instance_literals : HasOutcomes size.kind → (sentence : Tree) → is_sorted size [] sentence ≡ true → (k : ℕ) → k < instance_count size sentence → AllFacts (λ l. is_literal size l ≡ true) (instance_of size sentence k)
   instance_literals n sentence h k lt =
       let values = digits_of (bases_of size sentence) k in
-      let suited = suited_from (prefix_of sentence) values ((are_numbered (bases_of size sentence)).digits k lt) in
+      let suited = suited_from (prefix_of sentence) values ((are_one_to_one (bases_of size sentence)).digits k lt) in
       have_literals size n (prefix_of sentence) values suited (body_of sentence) (body_sorted sentence [] h)

@@ -1,6 +1,7 @@
 //! What is said of clauses beside their literals.
 
-/// Where a clause of a study comes from: the frame of a profile, or an instance of the axiom at a place of the study.
+/// Where a clause of a study comes from: the frame of a profile, or an instance of the axiom at a place of
+/// the study.
 #[derive(Clone, Copy, Debug, PartialEq, Eq)]
 pub enum Origin {
     Frame(u32),

@@ -3,8 +3,8 @@
 use lists::Items;
 use vocab::Table;
 
-/// The mark of an axiom of a core: a rule that satisfies the others, or open, with the limit on learned clauses
-/// within which none was found.
+/// The mark of an axiom of a core: a rule that satisfies the others, or open, with the limit on learned
+/// clauses within which none was found.
 #[derive(Drop)]
 pub enum Witness {
     Rule(Table),

@@ -1,7 +1,7 @@
 //! What holds of the definitions. Each law is the contract of a function that does nothing.
 
 ghost use Rattle.meaning.specs.Rankings.{AreAllRankings, AreAllBallots};
-ghost use Rattle.meaning.specs.Digits.{AreAllNumbered, AreAllProfiles};
+ghost use Rattle.meaning.specs.Digits.{AreAllOneToOne, AreAllProfiles};
 ghost use Rattle.meaning.specs.Tarski.{IsTarskis};
 ghost use Rattle.meaning.specs.Laws.{TermsHaveValues, SentencesHaveInstances, TruthIsWritten, FormulasHaveLiterals, OneOfOppositesHolds, PartialTruthIsSound, AcceptedStoryHasNoRule, FaultlessIsAccepted, ClausesSayTruth, ClausesDecide, ClausesOfIff, FormulasHaveCounts, LiteralsAreVariables, RulesHaveBits, FramesSayOutcome, ClausesSayStudy, AssignmentsAreRules, ClausesAreSatisfiable, ClausesHaveReasons};
 
@@ -12,7 +12,7 @@ pub fn rankings_are_all()
 
 /// Numbers and their digits are one to one.
 pub fn numbers_are_digits()
-    ensures { AreAllNumbered }
+    ensures { AreAllOneToOne }
 {}
 
 /// Profiles are the lists of casts that a size allows.
@@ -55,7 +55,8 @@ pub fn one_of_opposites_holds()
     ensures { OneOfOppositesHolds }
 {}
 
-/// A formula that is known to be false under some literals is false of each rule of which they hold, and one that is known to be true is true of it.
+/// A formula that is known to be false under some literals is false of each rule of which they hold, and one
+/// that is known to be true is true of it.
 pub fn partial_truth_is_sound()
     ensures { PartialTruthIsSound }
 {}
@@ -70,12 +71,14 @@ pub fn faultless_is_accepted()
     ensures { FaultlessIsAccepted }
 {}
 
-/// Where opposites have opposite truth values, the plus clauses of a formula hold exactly where it is true, and the minus clauses exactly where it is false.
+/// Where opposites have opposite truth values, the plus clauses of a formula hold exactly where it is true,
+/// and the minus clauses exactly where it is false.
 pub fn clauses_say_truth()
     ensures { ClausesSayTruth }
 {}
 
-/// Where known literals, of which no two are opposites, falsify a clause of a formula, they decide the formula.
+/// Where known literals, of which no two are opposites, falsify a clause of a formula, they decide the
+/// formula.
 pub fn clauses_decide()
     ensures { ClausesDecide }
 {}
@@ -105,12 +108,14 @@ pub fn frames_say_outcome()
     ensures { FramesSayOutcome }
 {}
 
-/// An assignment satisfies the clauses of a study exactly where it satisfies the frames and makes each instance true.
+/// An assignment satisfies the clauses of a study exactly where it satisfies the frames and makes each
+/// instance true.
 pub fn clauses_say_study()
     ensures { ClausesSayStudy }
 {}
 
-/// An assignment satisfies the clauses of a study exactly where it is the bits of a rule that satisfies the chosen axioms.
+/// An assignment satisfies the clauses of a study exactly where it is the bits of a rule that satisfies the
+/// chosen axioms.
 pub fn assignments_are_rules()
     ensures { AssignmentsAreRules }
 {}
@@ -120,7 +125,8 @@ pub fn clauses_are_satisfiable()
     ensures { ClausesAreSatisfiable }
 {}
 
-/// Where known literals of the size, of which no two are opposites, falsify a clause of a study, its origin is a reason of a story that refutes them.
+/// Where known literals of the size, of which no two are opposites, falsify a clause of a study, its origin
+/// is a reason of a story that refutes them.
 pub fn clauses_have_reasons()
     ensures { ClausesHaveReasons }
 {}

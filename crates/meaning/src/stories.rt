@@ -3,8 +3,8 @@
 use lists::Items;
 use vocab::{Env, Literal};
 
-/// Why some literals cannot all hold of one rule: an instance of the axiom at a place of the study, by the values
-/// of its leading universals; the outcomes at a profile; or an earlier lemma, by its place.
+/// Why some literals cannot all hold of one rule: an instance of the axiom at a place of the study, by the
+/// values of its leading universals; the outcomes at a profile; or an earlier lemma, by its place.
 #[derive(Clone, Copy, Debug, PartialEq, Eq)]
 pub enum Reason {
     Axiom(u32, Env),
@@ -33,8 +33,8 @@ pub struct Lemma {
     pub last: Reason,
 }
 
-/// Why a line of a story is refused: the reason's axiom is not in the core, its lemma is not an earlier one, or
-/// it does not refute; the literal or its opposite is already there; or the last lemma supposes something.
+/// Why a line of a story is refused: the reason's axiom is not in the core, its lemma is not an earlier one,
+/// or it does not refute; the literal or its opposite is already there; or the last lemma supposes something.
 #[derive(Clone, Copy, Debug, PartialEq, Eq)]
 pub enum StoryFault {
     NotInCore,
@@ -51,8 +51,8 @@ pub struct PlacedFault {
     pub fault: StoryFault,
 }
 
-/// Why a story is refused: the first faulty line and its lemma, from 0, or that there is no lemma. Want of memory
-/// may come in place of both.
+/// Why a story is refused: the first faulty line and its lemma, from 0, or that there is no lemma. Want of
+/// memory may come in place of both.
 #[derive(Clone, Copy, Debug, PartialEq, Eq)]
 pub enum StoryRefusal {
     Lemma { lemma: u32, fault: PlacedFault },

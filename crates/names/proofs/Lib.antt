@@ -1,1 +1,2 @@
 mod FoundNames
+pub mod FromTheLast

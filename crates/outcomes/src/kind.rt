@@ -55,8 +55,8 @@ pub trait OutcomeKind: Sync {
         requires high { lit.variable ≤ variable_count (size self.now) }
         ensures { result ≡ literal_of (size self.now) lit };
 
-    /// Appends the clauses of the frame of profile p, with p as their origin. Refused as full exactly where with all of
-    /// them the list would pass a limit; after a refusal the list may have some of them.
+    /// Appends the clauses of the frame of profile p, with p as their origin. Refused as full exactly where
+    /// with all of them the list would pass a limit; after a refusal the list may have some of them.
     fn frame(&self, p: u32, out: &mut Clauses) -> Result<(), PushFault>
         requires { p < sort_count (size self.now) Profile }
         ensures ok { OnOk result (out.new ≡ with_clauses out.old (frame_clauses (size self.now) p) p) }
@@ -93,8 +93,8 @@ pub trait OutcomeKind: Sync {
         self.holds(outcome, &self.literal(lit))
     }
 
-    /// The one outcome whose bits the variables of profile p have, where they satisfy its frame. It tries each outcome
-    /// in turn.
+    /// The one outcome whose bits the variables of profile p have, where they satisfy its frame. It tries
+    /// each outcome in turn.
     final fn decode(&self, assignment: &Bits, p: u32) -> u32
         requires profile { p < sort_count (size self.now) Profile }
         requires variables { (p + 1) * bits (size self.now).kind

@@ -10,15 +10,16 @@ pub fn kinds_have_sizes<K: OutcomeKind>(_kind: &K)
     ensures { IsSizeWithLiterals (K.size _kind.now) }
 {}
 
-/// The literals of a kind and the variables with signs are one to one, opposites are opposites, and the literals at a
-/// profile are those of its own stretch of variables.
+/// The literals of a kind and the variables with signs are one to one, opposites are opposites, and the
+/// literals at a profile are those of its own stretch of variables.
 pub fn literals_are_variables<K: OutcomeKind>(kind: &K)
     ensures { AreVariables (K.size kind.now) }
 {
     kinds_have_sizes(kind);
 }
 
-/// The bits of an outcome satisfy the frame of a profile, and bits that satisfy it are those of exactly one outcome.
+/// The bits of an outcome satisfy the frame of a profile, and bits that satisfy it are those of exactly one
+/// outcome.
 pub fn frames_say_one_outcome<K: OutcomeKind>(kind: &K)
     ensures { FramesSayOneOutcome (K.size kind.now) }
 {
@@ -32,7 +33,8 @@ pub fn bits_say_literals<K: OutcomeKind>(kind: &K)
     kinds_have_sizes(kind);
 }
 
-/// A profile has at most 10 variables, and its frame no others, at most 20 clauses, and at most 60 literals together.
+/// A profile has at most 10 variables, and its frame no others, at most 20 clauses, and at most 60 literals
+/// together.
 pub fn frames_are_small<K: OutcomeKind>(kind: &K)
     ensures { AreFramesSmall (K.size kind.now) }
 {

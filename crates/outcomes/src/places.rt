@@ -1,6 +1,7 @@
 //! The pairs and the triples of at most five alternatives, in lexicographic order.
 //!
-//! The last ones of five alternatives leave out the first 5 - m alternatives: they are those of m alternatives.
+//! The last ones of five alternatives leave out the first 5 - m alternatives: they are those of m
+//! alternatives.
 
 ghost use Rattle.std.specs.Prelude.{◌≡◌, ◌+◌, ◌-◌, ◌*◌, ◌<◌, ◌≤◌, length, get_or};
 ghost use Rattle.meaning.specs.Variables.{pairs, triples, pair_place};

@@ -10,8 +10,8 @@ use cnf::{Clauses, Lit, PushFault};
 use profiles::{Space, is_above, laws, place_of, ranking_count, ranking_text};
 use vocab::{Literal, Name};
 
-/// Outcomes that are strict rankings: the code of an outcome is the place of its ranking among all rankings, whatever ballots the
-/// size has.
+/// Outcomes that are strict rankings: the code of an outcome is the place of its ranking among all rankings,
+/// whatever ballots the size has.
 #[derive(Clone, Copy)]
 pub struct RankingKind {
     space: Space,

@@ -31,7 +31,8 @@ fn rankings(rt: &impl Abort, voters: i64, alternatives: i64) -> RankingKind {
 /// Takes what workers on several threads may read.
 fn share<T: Send + Sync>(_shared: &T) {}
 
-/// Whether the frame of a profile is these clauses, each followed by a 0, in which a variable without its sign is negative.
+/// Whether the frame of a profile is these clauses, each followed by a 0, in which a variable without its
+/// sign is negative.
 fn has_frame<K: OutcomeKind>(
     rt: &impl Abort,
     alloc: Global,
@@ -267,7 +268,9 @@ fn a_rule_gives_what_nobody_may_cast(rt: HostRuntime) {
 fn bits_of<K: OutcomeKind>(kind: &K, outcome: u32, p: u32, alloc: Global) -> Result<Bits, NoMemory>
     requires outcome { outcome < outcome_count (K.size kind.now).kind (K.size kind.now).alternatives }
     requires profile { p < sort_count (K.size kind.now) Profile }
-    ensures { IfOk result (λ b. (length b ≡ (p + 1) * bits (K.size kind.now).kind (K.size kind.now).alternatives) × IsTrue (is_satisfied (value_of b) (frame_clauses (K.size kind.now) p))) }
+    ensures { IfOk result (λ b.
+        (length b ≡ (p + 1) * bits (K.size kind.now).kind (K.size kind.now).alternatives) ×
+        IsTrue (is_satisfied (value_of b) (frame_clauses (K.size kind.now) p))) }
 {
     laws::frames_say_one_outcome(kind);
     let count = kind.bits();

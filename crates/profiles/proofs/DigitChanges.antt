@@ -13,7 +13,7 @@ use Rattle.vocab.specs.Limits.{product}
 use Rattle.vocab.specs.Size.{Extent, IsSize, cast_count}
 use Rattle.meaning.specs.Digits.{AreDigits}
 use Rattle.meaning.specs.Space.{number_of, digits_of, cast_bases, casts_of, profile_number, with_ballot, with_voters_swapped}
-use Rattle.meaning.proofs.DigitLaws.{are_numbered}
+use Rattle.meaning.proofs.DigitLaws.{are_one_to_one}
 use Rattle.profiles.specs.Weights.{place_values, weights_of}
 use Rattle.profiles.proofs.DigitPlaces.{IsListed, length-digits_of, length-bases, length-casts, weight_at, at_place_value, weight_positive}
 
@@ -35,7 +35,7 @@ AreDigits-set (b ∷ bases) (d ∷ digits) (suc i) v h l =
     let parts = and_parts (nat_lt d b) (pointwise nat_lt digits bases) h in and_from _ _ parts.0 (AreDigits-set bases digits i v parts.1 l)
 
 pub ballot_digits : (size : Extent) (p : ℕ) → IsListed size p → AreDigits (cast_bases size) (casts_of size p)
-ballot_digits size p h = (are_numbered (cast_bases size)).digits p h
+ballot_digits size p h = (are_one_to_one (cast_bases size)).digits p h
 
 replaced_digits : (size : Extent) (p i b : ℕ) → IsListed size p → i < size.voters → b < cast_count size → AreDigits (cast_bases size) (set (casts_of size p) i b)
 replaced_digits size p i b h l k =
@@ -48,11 +48,11 @@ replaced_number size p i b h l =
     let w = get_or (place_values (cast_bases size)) i 0 in
     ap (λ x. with_ballot size p i b + get_or (casts_of size p) i 0 * x) (weight_at size i l)
     ∙ number_of-set (cast_bases size) (casts_of size p) i b (omega (arith, length-bases size)) (length-digits_of (cast_bases size) p)
-    ∙ ap (λ x. x + b * w) ((are_numbered (cast_bases size)).of_digits p h)
+    ∙ ap (λ x. x + b * w) ((are_one_to_one (cast_bases size)).of_digits p h)
     ∙ ap (λ x. p + b * x) (sym (weight_at size i l))
 
 pub replaced_within : (size : Extent) (p i b : ℕ) → IsListed size p → i < size.voters → b < cast_count size → IsListed size (with_ballot size p i b)
-replaced_within size p i b h l k = (are_numbered (cast_bases size)).number (set (casts_of size p) i b) (replaced_digits size p i b h l k)
+replaced_within size p i b h l k = (are_one_to_one (cast_bases size)).number (set (casts_of size p) i b) (replaced_digits size p i b h l k)
 
 -- what a ballot is worth is part of the number
 pub worth_within : (size : Extent) (p i : ℕ) → IsListed size p → i < size.voters → get_or (casts_of size p) i 0 * get_or (weights_of size) i 0 ≤ p
@@ -71,7 +71,7 @@ is_replaced size p i b old weight h l e f =
     record { taken = part; added = omega arith; number = omega arith }
 
 pub replaced_ballots : (size : Extent) (p i b : ℕ) → IsListed size p → i < size.voters → b < cast_count size → casts_of size (with_ballot size p i b) ≡ set (casts_of size p) i b
-replaced_ballots size p i b h l k = (are_numbered (cast_bases size)).of_number (set (casts_of size p) i b) (replaced_digits size p i b h l k)
+replaced_ballots size p i b h l k = (are_one_to_one (cast_bases size)).of_number (set (casts_of size p) i b) (replaced_digits size p i b h l k)
 
 -- ---- two digits exchanged
 

@@ -8,7 +8,7 @@ use Rattle.vocab.specs.Size.{Extent, IsSize, ballot_count, ballot_places, cast_c
 use Rattle.meaning.specs.Digits.{AreDigits}
 use Rattle.meaning.specs.Space.{ballot_number, casts_of, cast_bases, number_of}
 use Rattle.meaning.specs.Texts.{ballot_text, cast_text, profile_text, ranking_text}
-use Rattle.meaning.proofs.DigitLaws.{are_numbered}
+use Rattle.meaning.proofs.DigitLaws.{are_one_to_one}
 use Rattle.profiles.specs.Distinct.{HaveTextsOfTheirOwn}
 use Rattle.profiles.proofs.DigitChanges.{ballot_digits}
 use Rattle.profiles.proofs.DigitPlaces.{IsListed, below_product}
@@ -73,7 +73,7 @@ same_listed size valid p q h l e =
     let some : 0 < size.voters = valid.some_voter in
     let texts : barred (texts_of size p) ≡ barred (texts_of size q) = barred-join (texts_of size p) (omega (arith, length-texts_of size p)) ∙ ap (λ (t : List ℕ). 124 ∷ t) e ∙ sym (barred-join (texts_of size q) (omega (arith, length-texts_of size q))) in
     let same : casts_of size p ≡ casts_of size q = same_barred size valid size.voters (casts_of size p) (casts_of size q) (ballot_digits size p h) (ballot_digits size q l) texts in
-    sym ((are_numbered (cast_bases size)).of_digits p h) ∙ ap (number_of (cast_bases size)) same ∙ (are_numbered (cast_bases size)).of_digits q l
+    sym ((are_one_to_one (cast_bases size)).of_digits p h) ∙ ap (number_of (cast_bases size)) same ∙ (are_one_to_one (cast_bases size)).of_digits q l
 
 pub have_texts_of_their_own : (size : Extent) → IsSize size → HaveTextsOfTheirOwn size
 have_texts_of_their_own size valid = record { rankings = same_place size valid; ballots = same_ballot size valid; profiles = λ p q h l. same_listed size valid p q (below_product size p h) (below_product size q l) }

@@ -1,6 +1,7 @@
 //! The strict rankings of five alternatives in their order, and what is read off them.
 //!
-//! The first m! of them leave the first 5 - m alternatives in front: what follows them are the rankings of m alternatives.
+//! The first m! of them leave the first 5 - m alternatives in front: what follows them are the rankings of m
+//! alternatives.
 
 ghost use Rattle.std.specs.Prelude.{◌≡◌, ◌≢◌, ℕ, ◌+◌, ◌-◌, ◌<◌, ◌≤◌, map, take, length, count_by, nat_lt, slice_index};
 ghost use Rattle.std.specs.Bool.{OnTrue, OnFalse};
@@ -456,8 +457,9 @@ fn lower(letters: &[u8], letter: u8) -> u32
     letters.iter().filter(|y| **y < letter).count() as u32
 }
 
-/// The number that a text of letters has among the orders of its letters: for each letter, how many later ones are below it,
-/// as the digits of a number in the factorial base (an inversion table: Knuth, The Art of Computer Programming, 5.1.1).
+/// The number that a text of letters has among the orders of its letters: for each letter, how many later
+/// ones are below it, as the digits of a number in the factorial base (an inversion table: Knuth, The Art of
+/// Computer Programming, 5.1.1).
 pub(crate) fn rank(text: &[u8]) -> u32
     requires { length text.now ≤ 5 }
     ensures value { result ≡ rank_of text.now }

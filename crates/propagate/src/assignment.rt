@@ -15,9 +15,9 @@ use lists::NoMemory;
 use std::alloc::Global;
 use std::marker::Model;
 
-/// A partial assignment: the assigned literals in order, over a list of clauses. Each has a level, and it was decided or forced
-/// by a clause. `Trail` adds the watches and unit propagation. Only `new` and `learn` take memory: they make the room for all
-/// that the other calls add.
+/// A partial assignment: the assigned literals in order, over a list of clauses. Each has a level, and it was
+/// decided or forced by a clause. `Trail` adds the watches and unit propagation. Only `new` and `learn` take
+/// memory: they make the room for all that the other calls add.
 #[derive(Drop)]
 pub struct Assignment {
     clauses: Store,
@@ -33,13 +33,29 @@ impl Model for Assignment {
 
     ghost Value = { TrailState };
 
-    ghost view = { λ t. record { clauses = t.clauses; variables = length t.marks.items; entries = t.entries.items; level = t.level; settled = t.settled; watches = [] } };
+    ghost view = { λ t.
+        record {
+          clauses = t.clauses;
+          variables = length t.marks.items;
+          entries = t.entries.items;
+          level = t.level;
+          settled = t.settled;
+          watches = [];
+        } };
 
-    ghost invariant = { λ t. IsSound t.marks.items (vec_capacity t.entries) (record { clauses = t.clauses; variables = length t.marks.items; entries = t.entries.items; level = t.level; settled = t.settled; watches = [] }) };
+    ghost invariant = { λ t. IsSound t.marks.items (vec_capacity t.entries) (record {
+      clauses = t.clauses;
+      variables = length t.marks.items;
+      entries = t.entries.items;
+      level = t.level;
+      settled = t.settled;
+      watches = [];
+    }) };
 }
 
 impl Assignment {
-    /// The assignment over these clauses that has no entry. No variable of a clause is above the number of variables.
+    /// The assignment over these clauses that has no entry. No variable of a clause is above the number of
+    /// variables.
     pub fn new(alloc: Global, clauses: &Clauses, variables: u32) -> Result<Assignment, NoMemory>
         requires { All (StaysWithin variables) clauses.now.clauses }
         ensures form { IfOk result IsTrail }
@@ -58,8 +74,9 @@ impl Assignment {
         })
     }
 
-    /// Adds a clause after the others, and gives its number, from 0. The entries stay. The clause is one from which unit
-    /// propagation gets nothing below the current level. Without memory the assignment stays as it is.
+    /// Adds a clause after the others, and gives its number, from 0. The entries stay. The clause is one from
+    /// which unit propagation gets nothing below the current level. Without memory the assignment stays as it
+    /// is.
     pub fn learn(&mut self, clause: &[Lit]) -> Result<u32, NoMemory>
         requires room { length self.old.clauses < 4294967295 }
         requires variables { StaysWithin self.old.variables clause.now }

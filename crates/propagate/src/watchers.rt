@@ -10,9 +10,10 @@ use std::marker::Model;
 /// The link after the last node.
 const END: usize = usize::MAX;
 
-/// Linked lists of nodes. Clause k has the nodes 2k and 2k + 1, one for each literal at which it is watched. The owner of a node is
-/// the number of the list of its literal, or 0 where the clause is not watched. Each node is in the list of its owner, or loose
-/// while its list is visited: then `cursor` is the first loose node. Only `new` and `reserve` take memory.
+/// Linked lists of nodes. Clause k has the nodes 2k and 2k + 1, one for each literal at which it is watched.
+/// The owner of a node is the number of the list of its literal, or 0 where the clause is not watched. Each
+/// node is in the list of its owner, or loose while its list is visited: then `cursor` is the first loose
+/// node. Only `new` and `reserve` take memory.
 #[derive(Drop)]
 pub struct Watchers {
     owners: Vec<u32>,
@@ -27,7 +28,13 @@ impl Model for Watchers {
 
     ghost Value = { WatchersState };
 
-    ghost view = { λ l. record { owners = l.owners.items; lists = length l.heads.items; loose = follow l.next.items l.cursor (length l.next.items); room = room_of (vec_capacity l.owners) (vec_capacity l.next) } };
+    ghost view = { λ l.
+        record {
+          owners = l.owners.items;
+          lists = length l.heads.items;
+          loose = follow l.next.items l.cursor (length l.next.items);
+          room = room_of (vec_capacity l.owners) (vec_capacity l.next);
+        } };
 
     ghost invariant = { λ l. IsLinked l.owners.items l.heads.items l.next.items l.cursor };
 }

@@ -25,8 +25,8 @@ use std::thread::Threads;
 use verdicts::{Confirmed, Refusal};
 use vocab::Study;
 
-/// What is answered where no line is faulty, of a place and of what follows the last line end, with the number of the line
-/// that it would be.
+/// What is answered where no line is faulty, of a place and of what follows the last line end, with the
+/// number of the line that it would be.
 fn end_of(place: Place, rest: &[u8], line: u32) -> Result<Confirmed, ReportFault>
     ensures { (p : WantedPlace) → place ≡ held_place p → p ≢ AtNothing Undecided →
         Concludes (at_end line rest.now p) result }
@@ -40,8 +40,8 @@ fn end_of(place: Place, rest: &[u8], line: u32) -> Result<Confirmed, ReportFault
     }
 }
 
-/// Checks a report line by line. It stands for the lines that it was given; after its first fault it answers that fault to
-/// every call.
+/// Checks a report line by line. It stands for the lines that it was given; after its first fault it answers
+/// that fault to every call.
 #[derive(Drop)]
 pub struct Checker<'a, K: OutcomeKind> {
     pub subject: Subject<'a, K>,
@@ -49,8 +49,8 @@ pub struct Checker<'a, K: OutcomeKind> {
 }
 
 impl<'a, K: OutcomeKind> Checker<'a, K> {
-    /// A checker that stands for no line. The study has at most 40 axioms, and those of a rule are checked among so many
-    /// workers, from 1 to 16.
+    /// A checker that stands for no line. The study has at most 40 axioms, and those of a rule are checked
+    /// among so many workers, from 1 to 16.
     pub fn new(
         alloc: Global,
         kind: &'a K,
@@ -81,8 +81,8 @@ impl<'a, K: OutcomeKind> Checker<'a, K> {
         Ok(Checker { subject, progress })
     }
 
-    /// Takes the next line, without its line end. Err is want of memory alone, now or before; what is wrong with a line is
-    /// kept.
+    /// Takes the next line, without its line end. Err is want of memory alone, now or before; what is wrong
+    /// with a line is kept.
     pub fn take<R: Threads + Sync, G: Gate>(
         &mut self,
         rt: &R,
@@ -133,8 +133,8 @@ impl<'a, K: OutcomeKind> Checker<'a, K> {
         }
     }
 
-    /// Takes the next line, without its line end. Ok comes exactly where no line so far is faulty; else the first faulty one
-    /// is answered. After want of memory that is the answer to every call.
+    /// Takes the next line, without its line end. Ok comes exactly where no line so far is faulty; else the
+    /// first faulty one is answered. After want of memory that is the answer to every call.
     pub fn line<R: Threads + Sync, G: Gate>(
         &mut self,
         rt: &R,
@@ -184,8 +184,8 @@ impl<'a, K: OutcomeKind> Checker<'a, K> {
         }
     }
 
-    /// What is answered of the report that has these lines, each with its line end: Ok exactly where it is confirmed.
-    /// Before the line `end` was read, the line after the last is refused as `Form`.
+    /// What is answered of the report that has these lines, each with its line end: Ok exactly where it is
+    /// confirmed. Before the line `end` was read, the line after the last is refused as `Form`.
     pub fn finish(&self) -> Result<Confirmed, ReportFault>
         requires room { self.now.progress.lines ≤ 4294967294 }
         ensures value { (lines : List (List ℕ)) →

@@ -3,7 +3,8 @@
 use lists::NoMemory;
 use verdicts::Refusal;
 
-/// The first faulty line, from 1, with its refusal, or want of memory, which may come in place of any other answer.
+/// The first faulty line, from 1, with its refusal, or want of memory, which may come in place of any other
+/// answer.
 #[derive(Clone, Copy, Debug, PartialEq, Eq)]
 pub enum ReportFault {
     Line { line: u32, refusal: Refusal },

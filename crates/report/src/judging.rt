@@ -19,9 +19,10 @@ use report_lines::Place;
 use vocab::{Places, Table};
 use worlds::Board;
 
-/// What a checker keeps of the lines that it took: the place in the grammar; the version of the report; the outcomes of the
-/// table that is being read; the core; how many lemmas there will be; the suppositions of those that are read; what the
-/// present one supposes; on the board, all that it has supposed or forced; and how many witnesses are read.
+/// What a checker keeps of the lines that it took: the place in the grammar; the version of the report; the
+/// outcomes of the table that is being read; the core; how many lemmas there will be; the suppositions of
+/// those that are read; what the present one supposes; on the board, all that it has supposed or forced; and
+/// how many witnesses are read.
 #[derive(Drop)]
 pub(crate) struct Judging {
     pub(crate) place: Place,

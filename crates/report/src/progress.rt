@@ -3,7 +3,8 @@
 use crate::faults::ReportFault;
 use crate::judging::Judging;
 
-/// What a checker has of the lines that it was given: what they have given, how many they are, and their first fault.
+/// What a checker has of the lines that it was given: what they have given, how many they are, and their
+/// first fault.
 #[derive(Drop)]
 pub struct Progress {
     pub(crate) judging: Judging,

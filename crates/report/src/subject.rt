@@ -7,8 +7,8 @@ use outcomes::{OutcomeKind, Setting};
 use report_lines::IndexedStudy;
 use std::alloc::Global;
 
-/// A study with the kind of its rules, an index of its axioms, and the number of workers among whom the axioms of a rule are
-/// checked.
+/// A study with the kind of its rules, an index of its axioms, and the number of workers among whom the
+/// axioms of a rule are checked.
 #[derive(Drop)]
 pub struct Subject<'a, K: OutcomeKind> {
     pub(crate) alloc: Global,

@@ -12,7 +12,7 @@ pub record ReaderState : Type 0 where
   pub held : List ℕ
 
 -- its checker stands for some lines, unless memory was wanting, and it holds few bytes
-pub record IsSoundReader (study : Question) (p : Progress) (held : List ℕ) : Type 0 where
+pub record IsReader (study : Question) (p : Progress) (held : List ℕ) : Type 0 where
   pub ready : IsReady study p
   pub short : length held ≤ 4097
 

@@ -22,8 +22,8 @@ use std::thread::Threads;
 use verdicts::{Confirmed, Refusal};
 use vocab::Study;
 
-/// What a report is worth: it is confirmed; a line, from 1, is its first faulty one; or it has more than 268,435,456 bytes,
-/// and no line that ends within them is faulty.
+/// What a report is worth: it is confirmed; a line, from 1, is its first faulty one; or it has more than
+/// 268,435,456 bytes, and no line that ends within them is faulty.
 #[derive(Clone, Copy, Debug, PartialEq, Eq)]
 pub enum Worth {
     Confirmed(Confirmed),
@@ -46,7 +46,8 @@ impl Worth {
     }
 }
 
-/// Why a report in a file was not checked: the shelf failed, and has counted the fault under the name, or no memory was found.
+/// Why a report in a file was not checked: the shelf failed, and has counted the fault under the name, or no
+/// memory was found.
 #[derive(Clone, Copy, Debug, PartialEq, Eq)]
 pub enum FileFault {
     Failed,
@@ -103,7 +104,8 @@ const CHUNK: usize = 65_536;
 /// The most bytes of a report.
 const MOST_BYTES: usize = 268_435_456;
 
-/// Gives the reader what is left under the name, piece by piece, up to the limit and no further than to the first faulty line.
+/// Gives the reader what is left under the name, piece by piece, up to the limit and no further than to the
+/// first faulty line.
 fn read_pieces<R: Threads + Sync, S: Shelf, K: OutcomeKind, G: Gate>(
     crew: &Crew<R, G>,
     reader: &mut Reader<K>,
@@ -183,10 +185,10 @@ fn worth_of<R: Threads + Sync, S: Shelf, K: OutcomeKind, G: Gate>(
     Ok(worth)
 }
 
-/// What the report under the name is worth over the study, which has at most 40 axioms. It is read in pieces of
-/// 65,536 bytes, and no further than to its first faulty line or to 268,435,456 bytes; of the report no more is held
-/// than a checker holds, and the front of a line that has not ended. The answer is the same for every number of
-/// workers, from 1 to 16.
+/// What the report under the name is worth over the study, which has at most 40 axioms. It is read in pieces
+/// of 65,536 bytes, and no further than to its first faulty line or to 268,435,456 bytes; of the report no
+/// more is held than a checker holds, and the front of a line that has not ended. The answer is the same for
+/// every number of workers, from 1 to 16.
 pub fn check_file<R: Threads + Sync, S: Shelf, K: OutcomeKind, G: Gate>(
     rt: &R,
     alloc: Global,

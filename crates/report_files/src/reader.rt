@@ -23,8 +23,8 @@ use vocab::Study;
 /// As many bytes of a line as tell that it is too long.
 const HELD: usize = 4097;
 
-/// Checks a report that comes in pieces of its bytes, which may end anywhere. Of a line that has not ended it holds at most
-/// 4,097 bytes.
+/// Checks a report that comes in pieces of its bytes, which may end anywhere. Of a line that has not ended it
+/// holds at most 4,097 bytes.
 #[derive(Drop)]
 pub struct Reader<'a, K: OutcomeKind> {
     checker: Checker<'a, K>,
@@ -34,7 +34,7 @@ pub struct Reader<'a, K: OutcomeKind> {
 impl<'a, K: OutcomeKind> Model for Reader<'a, K> {
     ghost use Rattle.std.specs.Coded.{codes};
     ghost use Rattle.vocab.specs.TreeCode.{titled_code};
-    ghost use Rattle.report_files.specs.Pieces.{ReaderState, IsSoundReader};
+    ghost use Rattle.report_files.specs.Pieces.{ReaderState, IsReader};
 
     ghost Value = { ReaderState };
 
@@ -47,7 +47,7 @@ impl<'a, K: OutcomeKind> Model for Reader<'a, K> {
           held = r.held.items;
         } };
 
-    ghost invariant = { λ r. IsSoundReader r.checker.subject.setting.study.now r.checker.progress r.held.items };
+    ghost invariant = { λ r. IsReader r.checker.subject.setting.study.now r.checker.progress r.held.items };
 }
 
 impl<'a, K: OutcomeKind> Reader<'a, K> {
@@ -107,8 +107,8 @@ impl<'a, K: OutcomeKind> Reader<'a, K> {
         Ok(())
     }
 
-    /// Takes the next bytes of the text. Of the crew the runtime and the gate serve: among how many workers the axioms of a
-    /// rule are checked was said when the reader was made.
+    /// Takes the next bytes of the text. Of the crew the runtime and the gate serve: among how many workers
+    /// the axioms of a rule are checked was said when the reader was made.
     pub fn piece<R: Threads + Sync, G: Gate>(
         &mut self,
         crew: &Crew<R, G>,
@@ -151,9 +151,9 @@ impl<'a, K: OutcomeKind> Reader<'a, K> {
     }
 }
 
-/// What is answered of the text of a report over the study, which has at most 40 axioms: Ok exactly where it is
-/// confirmed, and else its first faulty line with its refusal. Want of memory may come in place of both. The answer is
-/// the same for every number of workers, from 1 to 16.
+/// What is answered of the text of a report over the study, which has at most 40 axioms: Ok exactly where it
+/// is confirmed, and else its first faulty line with its refusal. Want of memory may come in place of both.
+/// The answer is the same for every number of workers, from 1 to 16.
 pub fn check_report<R: Threads + Sync, K: OutcomeKind, G: Gate>(
     rt: &R,
     alloc: Global,

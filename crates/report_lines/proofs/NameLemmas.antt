@@ -1,12 +1,9 @@
 -- The first axiom of a name, and the texts of all items of a list.
-use Rattle.std.proofs.Common.{◌≡◌, refl, sym, ap, ap₂, ◌∙◌, ℕ, zero, suc, ◌+◌, ◌<◌, ◌≤◌, Bool, true, false, cond, ◌&&◌, Option, Some, None, List, [], ◌∷◌, ◌++◌, map, length, drop, arith, subst, get_or, ◌-◌}
+use Rattle.std.proofs.Common.{◌≡◌, refl, sym, ap, ap₂, ◌∙◌, ℕ, zero, suc, ◌+◌, ◌<◌, Bool, true, false, cond, ◌&&◌, Option, Some, None, List, [], ◌∷◌, ◌++◌, map, length, drop, arith}
 use Rattle.std.specs.Prelude.{slice_get}
 use Rattle.std.specs.List.{position_from}
 use Rattle.std.specs.Cmp.Lexicographic.{pointwise}
 use Rattle.std.specs.Str.{bytes_eq}
-use Rattle.std.proofs.lemmas.List.{drop_more, drop_all}
-use Rattle.names.specs.Names.{FindsFirst}
-use Rattle.names.specs.declared.index.NameIndex.{NameIndex}
 use Rattle.vocab.specs.Titled.{Titled}
 use Rattle.meaning.specs.Cores.{is_core_from}
 use Rattle.meaning.specs.Space.{up_from}
@@ -57,21 +54,6 @@ module _ (axioms : List Titled) (word : List ℕ) where
   -- is one of the axioms
   pub place_within : (k : ℕ) → read_axiom axioms word ≡ Some k → k < length axioms
   place_within k h = let within = within_from (name_at axioms) word (length axioms) 0 k h in omega (arith, within)
-
--- an index of the names from a place on, with one more name before them
-pub one_more_name : (before after : NameIndex) (axioms : List Titled) (place : ℕ) (a : Titled) (name : List ℕ) → 0 < place → place ≤ length axioms → a ≡ get_or axioms (place - 1) a → name ≡ a.name
-    → ((names : List (List ℕ)) → FindsFirst before (place - 1 + 1) names → FindsFirst after (place - 1) (name ∷ names))
-    → FindsFirst before place (names_of (drop place axioms)) → FindsFirst after (place - 1) (names_of (drop (place - 1) axioms))
-one_more_name before after axioms place a name some within is same put finds =
-    let up : place ≡ place - 1 + 1 = omega (arith, some) in
-    let least : place - 1 < length axioms = omega (arith, some, within) in
-    let rest : List (List ℕ) = names_of (drop (place - 1 + 1) axioms) in
-    let names : names_of (drop (place - 1) axioms) ≡ name ∷ rest = ap names_of (drop_more axioms (place - 1) a least) ∙ ap (λ (x : Titled). x.name ∷ rest) (sym is) ∙ ap (λ (n : List ℕ). n ∷ rest) (sym same) in
-    subst (FindsFirst after (place - 1)) (sym names) (put _ (subst (λ n. FindsFirst before n (names_of (drop n axioms))) up finds))
-
--- an index without names
-pub no_name : (index : NameIndex) (axioms : List Titled) → ((first : ℕ) → FindsFirst index first []) → FindsFirst index (length axioms) (names_of (drop (length axioms) axioms))
-no_name index axioms none = subst (λ xs. FindsFirst index (length axioms) (names_of xs)) (sym (drop_all (length axioms) axioms (omega arith))) (none (length axioms))
 
 module _ {X : Type 0} (f : X → List ℕ) where
   -- the texts of items from a place on

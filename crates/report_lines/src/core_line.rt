@@ -9,8 +9,8 @@ use lists::NoMemory;
 use std::alloc::Global;
 use vocab::Places;
 
-/// The places of the axioms that a line names after its first word, where the names are those of distinct axioms of the
-/// study in order.
+/// The places of the axioms that a line names after its first word, where the names are those of distinct
+/// axioms of the study in order.
 pub fn read_core(
     alloc: Global,
     study: &IndexedStudy,

@@ -3,10 +3,10 @@
 use meaning::Reason;
 use vocab::{Kind, Literal, Name};
 
-/// What a line says. `Title` has the version of the report, 1 or 2. A number stands still at the end of `u64`, and the
-/// number of a cited lemma, which is counted from 0, at the end of `u32`. `BallotsAre` tells whether the rankings are the
-/// ballots of the study's size in order, and `AxiomsAre` whether the names are those of the study's axioms in order. Of
-/// the names of `CoreIs` nothing is told: `read_core` reads them.
+/// What a line says. `Title` has the version of the report, 1 or 2. A number stands still at the end of
+/// `u64`, and the number of a cited lemma, which is counted from 0, at the end of `u32`. `BallotsAre` tells
+/// whether the rankings are the ballots of the study's size in order, and `AxiomsAre` whether the names are
+/// those of the study's axioms in order. Of the names of `CoreIs` nothing is told: `read_core` reads them.
 #[derive(Clone, Copy, Debug, PartialEq, Eq)]
 pub enum Line {
     Title(u8),

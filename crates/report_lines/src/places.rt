@@ -2,8 +2,8 @@
 
 use verdicts::Confirmed;
 
-/// A place of the grammar, by the line that is wanted next. Where all of the verdict is read, the place tells what it
-/// claims, if it claims something.
+/// A place of the grammar, by the line that is wanted next. Where all of the verdict is read, the place tells
+/// what it claims, if it claims something.
 #[derive(Clone, Copy, Debug, PartialEq, Eq)]
 pub enum Place {
     AtTitle,

@@ -52,8 +52,9 @@ fn read_at<K: OutcomeKind>(
     }
 }
 
-/// What a line says, without its line end, where it is the one that is wanted at the place and has at most 4,096 bytes.
-/// `number` is the number of the lemma that is being read, or comes next, from 1. No memory is taken.
+/// What a line says, without its line end, where it is the one that is wanted at the place and has at most
+/// 4,096 bytes. `number` is the number of the lemma that is being read, or comes next, from 1. No memory is
+/// taken.
 pub fn read_line<K: OutcomeKind>(
     kind: &K,
     study: &IndexedStudy,

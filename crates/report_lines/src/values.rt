@@ -76,7 +76,8 @@ fn read_alternative(space: &Space, word: &[u8]) -> Option<u32>
     }
 }
 
-/// The place of the ranking of a word among all rankings of the size's alternatives, whether voters may cast it or not.
+/// The place of the ranking of a word among all rankings of the size's alternatives, whether voters may cast
+/// it or not.
 pub(crate) fn read_place(space: &Space, word: &[u8]) -> Option<u32>
     ensures { result ≡ read_place space.now.alternatives word.now }
 {

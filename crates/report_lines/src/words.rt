@@ -1,5 +1,5 @@
-//! The words of a line, cut off its front one by one. What is left of a line after a word is nothing, or a blank with
-//! the other words.
+//! The words of a line, cut off its front one by one. What is left of a line after a word is nothing, or a
+//! blank with the other words.
 
 ghost use Rattle.std.specs.Prelude.{◌≡◌, ◌<◌, ◌≤◌, ◌==◌, [], ◌∷◌, length, Some, None, MatchOption, position};
 ghost use Rattle.std.specs.List.{list_all, position_or_len};

@@ -68,7 +68,8 @@ fn kind_word(kind: Kind) -> &'static [u8]
     }
 }
 
-/// The version of a report on the study: 1 where voters may cast any ranking and none may be absent, and else 2.
+/// The version of a report on the study: 1 where voters may cast any ranking and none may be absent, and else
+/// 2.
 fn version_of(study: &Study) -> u64
     ensures { result ≡ own_version study.now }
 {

@@ -100,8 +100,8 @@ pub fn pour_verdict<K: OutcomeKind, O: Sink>(
     }
 }
 
-/// Writes the text of a verdict that has one. Where the sink fails, the front of the text was written. No memory is
-/// taken.
+/// Writes the text of a verdict that has one. Where the sink fails, the front of the text was written. No
+/// memory is taken.
 pub fn print<K: OutcomeKind, O: Sink>(
     kind: &K,
     study: &Study,

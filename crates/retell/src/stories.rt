@@ -147,8 +147,8 @@ fn lemma_of_line<K: OutcomeKind>(
     }
 }
 
-/// The story of a trimmed derivation over the clauses of a core: a lemma for each line. It is accepted, and each of its
-/// lemmas and steps is needed.
+/// The story of a trimmed derivation over the clauses of a core: a lemma for each line. It is accepted, and
+/// each of its lemmas and steps is needed.
 pub fn retell<K: OutcomeKind>(
     alloc: Global,
     kind: &K,

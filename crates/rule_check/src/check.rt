@@ -52,9 +52,10 @@ fn axiom_failure<R: Threads + Sync, K: OutcomeKind, G: Gate>(
     Ok(None)
 }
 
-/// The first of the axioms at some places that the rule does not satisfy, by its name, with its least failing instance;
-/// None where it satisfies them all. Instances are tried in pieces of 4,096, with up to 256 pieces in a round, which are
-/// shared among the workers, from 1 to 16. The answer is the same for every number of workers.
+/// The first of the axioms at some places that the rule does not satisfy, by its name, with its least failing
+/// instance; None where it satisfies them all. Instances are tried in pieces of 4,096, with up to 256 pieces
+/// in a round, which are shared among the workers, from 1 to 16. The answer is the same for every number of
+/// workers.
 pub fn check_rule<R: Threads + Sync, K: OutcomeKind, G: Gate>(
     alloc: Global,
     crew: &Crew<R, G>,

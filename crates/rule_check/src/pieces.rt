@@ -29,7 +29,8 @@ pub(crate) struct Round<'a, K> {
     pub(crate) to: u64,
 }
 
-/// The pieces of the instances from `from` up to `to`, and how the least failing instance of a piece is found.
+/// The pieces of the instances from `from` up to `to`, and how the least failing instance of a piece is
+/// found.
 #[derive(Drop)]
 struct Pieces<'a, F> {
     find: &'a F,

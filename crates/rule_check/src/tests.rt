@@ -35,8 +35,8 @@ fn same(alloc: Global) -> Result<Axiom, Fail>
     Ok(Axiom::new(name, Formula::All(Sort::Voter, Box::new(alloc, same)?)))
 }
 
-/// The axiom `first`, that the first alternative wins at every profile, for each further profile and each ballot. It
-/// has 7,776 instances, of which 216 have one value of the first variable.
+/// The axiom `first`, that the first alternative wins at every profile, for each further profile and each
+/// ballot. It has 7,776 instances, of which 216 have one value of the first variable.
 fn first(alloc: Global) -> Result<Axiom, Fail>
     ensures { IfOk result (λ named.
         named ≡ record {

@@ -51,7 +51,8 @@ fn entry_at(alloc: Global, kind: Kind, place: u32) -> Result<Entry, NoMemory>
     Ok(Entry::new(name, text))
 }
 
-/// The axioms of those places at which the number has a digit that is 1, the lowest digit being that of place 0.
+/// The axioms of those places at which the number has a digit that is 1, the lowest digit being that of place
+/// 0.
 fn entries_by(alloc: Global, digits: u32, kind: Kind) -> Result<Entries, NoMemory>
     ensures { IfOk result (λ entries. entries ≡ entries_by digits (sample_entries kind)) }
 {
@@ -77,8 +78,8 @@ fn sample_listing(alloc: Global, number: u32) -> Result<Listing, NoMemory>
     })
 }
 
-/// The study of a number from 0 to 4,294,967,295, or want of memory; there is no other error. Digits are binary, the
-/// lowest being digit 0.
+/// The study of a number from 0 to 4,294,967,295, or want of memory; there is no other error. Digits are
+/// binary, the lowest being digit 0.
 ///
 /// | Digits | Meaning |
 /// |---|---|
@@ -86,9 +87,11 @@ fn sample_listing(alloc: Global, number: u32) -> Result<Listing, NoMemory>
 /// | 1 | 0: two voters; 1: three |
 /// | 2 and higher | 1: the axiom of this place is listed, digit 2 standing for the first axiom of the library for the kind |
 ///
-/// The places are the first nine of the library of rules that choose, and the first five of that of rules that rank;
-/// higher digits mean nothing, and no number has `participation` (`laws::samples_lack_participation`). There are three alternatives, each ranking of them may be cast, no voter is absent, and a
-/// search may learn at most 20,000 clauses. Each number has exactly one study (`laws::samples_are_studies`).
+/// The places are the first nine of the library of rules that choose, and the first five of that of rules
+/// that rank; higher digits mean nothing, and no number has `participation`
+/// (`laws::samples_lack_participation`). There are three alternatives, each ranking of them may be cast, no
+/// voter is absent, and a search may learn at most 20,000 clauses. Each number has exactly one study
+/// (`laws::samples_are_studies`).
 pub fn sample(alloc: Global, number: u32) -> Result<Study, NoMemory>
     ensures { IfOk result (λ study. IsSampleStudy number study) }
 {

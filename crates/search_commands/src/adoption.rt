@@ -54,7 +54,8 @@ fn report_of(study: Study, adopted: Adopted, lines: &Derivation) -> Answer
     Answer::Report(study, verdict, logs)
 }
 
-/// The report of a derivation from the clauses of a study of a kind, or what is said of its first faulty line.
+/// The report of a derivation from the clauses of a study of a kind, or what is said of its first faulty
+/// line.
 fn judge_lines<K: OutcomeKind>(
     alloc: Global,
     kind: &K,
@@ -139,10 +140,11 @@ fn judge_proof<S: Shelf>(
     }
 }
 
-/// Reads the study and makes its clauses, and then reads a refutation of them, whoever found it: this becomes the report of an
-/// impossibility, or is refused at its first faulty line. Where the study or its clauses are refused, what the shelf has left
-/// under the proof's name stays as it was. The clauses are made among 1 to 16 workers, which changes none; the gate is told of
-/// each piece of that work. Errors: `Stop::ReadFault` where the shelf fails, and `Stop::NoMemory`.
+/// Reads the study and makes its clauses, and then reads a refutation of them, whoever found it: this becomes
+/// the report of an impossibility, or is refused at its first faulty line. Where the study or its clauses are
+/// refused, what the shelf has left under the proof's name stays as it was. The clauses are made among 1 to
+/// 16 workers, which changes none; the gate is told of each piece of that work. Errors: `Stop::ReadFault`
+/// where the shelf fails, and `Stop::NoMemory`.
 pub fn adopt<R: Threads + Sync, S: Shelf, G: Gate>(
     rt: &R,
     alloc: Global,

@@ -132,10 +132,10 @@ fn decide_study<R: Threads + Sync, G: Gate>(
     }
 }
 
-/// Reads the study, and decides it: a rule that satisfies all its axioms, or a core of them with a story that no rule
-/// satisfies these, or neither where the search spent the study's limit. The clauses of the axioms are made among 1 to 16
-/// workers, which changes none; the gate is told of each piece of that work. Errors: `Stop::ReadFault` where the shelf fails,
-/// and `Stop::NoMemory`.
+/// Reads the study, and decides it: a rule that satisfies all its axioms, or a core of them with a story that
+/// no rule satisfies these, or neither where the search spent the study's limit. The clauses of the axioms
+/// are made among 1 to 16 workers, which changes none; the gate is told of each piece of that work. Errors:
+/// `Stop::ReadFault` where the shelf fails, and `Stop::NoMemory`.
 pub fn decide<R: Threads + Sync, S: Shelf, G: Gate>(
     rt: &R,
     alloc: Global,

@@ -64,8 +64,9 @@ fn export_study<R: Threads + Sync, G: Gate>(
     }
 }
 
-/// Reads the study, and makes the clauses of all its axioms. These are made among 1 to 16 workers, which changes none; the
-/// gate is told of each piece of that work. Errors: `Stop::ReadFault` where the shelf fails, and `Stop::NoMemory`.
+/// Reads the study, and makes the clauses of all its axioms. These are made among 1 to 16 workers, which
+/// changes none; the gate is told of each piece of that work. Errors: `Stop::ReadFault` where the shelf
+/// fails, and `Stop::NoMemory`.
 pub fn export<R: Threads + Sync, S: Shelf, G: Gate>(
     rt: &R,
     alloc: Global,

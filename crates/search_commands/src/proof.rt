@@ -79,10 +79,10 @@ fn prove_study<R: Threads + Sync, G: Gate>(
     }
 }
 
-/// Reads the study, and searches over the clauses that `export` writes of it: a trimmed refutation of them, or that a rule
-/// satisfies all axioms, or neither where the search spent the study's limit. The clauses are made among 1 to 16 workers, which
-/// changes none; the gate is told of each piece of that work. Errors: `Stop::ReadFault` where the shelf fails, and
-/// `Stop::NoMemory`.
+/// Reads the study, and searches over the clauses that `export` writes of it: a trimmed refutation of them,
+/// or that a rule satisfies all axioms, or neither where the search spent the study's limit. The clauses are
+/// made among 1 to 16 workers, which changes none; the gate is told of each piece of that work. Errors:
+/// `Stop::ReadFault` where the shelf fails, and `Stop::NoMemory`.
 pub fn proof<R: Threads + Sync, S: Shelf, G: Gate>(
     rt: &R,
     alloc: Global,

@@ -96,8 +96,8 @@ fn sample_study<R: Threads + Sync, G: Gate>(
     }
 }
 
-/// Decides the study of a number with one worker; the gate is told of each piece of its work. No file is read. Error:
-/// `Stop::NoMemory` alone.
+/// Decides the study of a number with one worker; the gate is told of each piece of its work. No file is
+/// read. Error: `Stop::NoMemory` alone.
 pub fn sample<R: Threads + Sync, G: Gate>(
     rt: &R,
     alloc: Global,

@@ -6,8 +6,8 @@ use crate::texts::{ConstantText, Symbol};
 use lists::NoMemory;
 use vocab::Name;
 
-/// Why a sentence is none of a size. Of several reasons the first in the order of visiting counts: a formula before its
-/// parts, and parts from left to right.
+/// Why a sentence is none of a size. Of several reasons the first in the order of visiting counts: a formula
+/// before its parts, and parts from left to right.
 #[derive(Clone, Copy, Debug, PartialEq, Eq)]
 pub enum SortFault {
     /// A variable of this name that no quantifier outside binds.
@@ -16,8 +16,8 @@ pub enum SortFault {
     Symbol(Name),
     /// A symbol with more arguments than it has, or with fewer.
     Arity(Symbol),
-    /// An argument of another sort than its symbol asks for, with the argument's place from 1. Of an equality the two
-    /// terms are of different sorts, and the place is 2.
+    /// An argument of another sort than its symbol asks for, with the argument's place from 1. Of an equality
+    /// the two terms are of different sorts, and the place is 2.
     Sort(Symbol, u8),
     /// `wins` is said of rules whose outcome is a ranking, or `ranks` of others.
     Kind(Symbol),

@@ -17,8 +17,8 @@ use profiles::Space;
 use std::alloc::Global;
 use vocab::{Formula, Named, Sort};
 
-/// A formula in a box. Where a visit ends early, what is dropped is a box: to drop a formula in place would write out the
-/// drop of each of its forms there.
+/// A formula in a box. Where a visit ends early, what is dropped is a box: to drop a formula in place would
+/// write out the drop of each of its forms there.
 fn boxed(alloc: Global, part: Formula) -> Result<Box<Formula>, NoMemory>
     ensures { IfOk result (λ b. tree_of b.value ≡ tree_of part) }
 {

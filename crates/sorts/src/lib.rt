@@ -1,4 +1,5 @@
-//! Sentences against a size: `resolve` gives the tree of a sentence without names, or the first of its faults.
+//! Sentences against a size: `resolve` gives the tree of a sentence without names, or the first of its
+//! faults.
 #![tactic(auto)]
 
 mod atoms;

@@ -19,8 +19,9 @@ use vocab::{Formula, Named};
 
 /// The tree of a sentence for the size of a space, or the first of its faults in the order of visiting.
 ///
-/// Names become levels, and constants numbers. The sentence's depth is at most 64, with at most 12 quantifiers on one
-/// path. The tree is closed, well sorted for the size and its kind, and true of the same rules as the sentence by name.
+/// Names become levels, and constants numbers. The sentence's depth is at most 64, with at most 12
+/// quantifiers on one path. The tree is closed, well sorted for the size and its kind, and true of the same
+/// rules as the sentence by name.
 pub fn resolve(alloc: Global, sentence: &Named, space: &Space) -> Result<Formula, SortFault>
     requires shallow { depth (named_tree sentence.now) ≤ 64 }
     requires few { quantifiers (named_tree sentence.now) ≤ 12 }

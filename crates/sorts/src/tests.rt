@@ -55,8 +55,8 @@ fn ballot(
     Ok(resolve(alloc, &sentence, &Space::new(size)))
 }
 
-// A ballot constant is its number among the ballots that may be cast: ba is ballot 1 of ab and ba, and ballot 0 where it
-// stands alone.
+// A ballot constant is its number among the ballots that may be cast: ba is ballot 1 of ab and ba, and ballot
+// 0 where it stands alone.
 #[test]
 fn ballots_are_those_that_may_be_cast(rt: HostRuntime) -> Result<(), Fail> {
     let both = ballot(rt.alloc(), b"ba", 3)??;

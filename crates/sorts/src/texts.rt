@@ -61,8 +61,8 @@ impl Symbol {
     }
 }
 
-/// A constant as it is written: `#` and a number, `@` and a letter, or the letters of a ballot between `<` and `>`. Up
-/// to 34 bytes.
+/// A constant as it is written: `#` and a number, `@` and a letter, or the letters of a ballot between `<`
+/// and `>`. Up to 34 bytes.
 #[derive(Clone, Copy, Debug, PartialEq, Eq)]
 pub struct ConstantText {
     cells: [u8; 34],

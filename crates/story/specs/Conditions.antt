@@ -21,7 +21,7 @@ pub record IsCheckable (size : Extent) (lemma : Lemma) : Type 0 where
   pub short : IsTrue (is_short lemma)
 
 -- each lemma is short and has a number
-pub record AreNumbered (story : List Lemma) : Type 0 where
+pub record AreShortAndFew (story : List Lemma) : Type 0 where
   pub short : IsTrue (list_all is_short story)
   pub few : length story ≤ 4294967295
 

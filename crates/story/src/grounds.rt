@@ -9,7 +9,8 @@ use meaning::Lemma;
 use outcomes::{OutcomeKind, Setting};
 use vocab::Places;
 
-/// A study with the kind of its rules, a core of its axioms, and lemmas: those that may be cited, or a whole story.
+/// A study with the kind of its rules, a core of its axioms, and lemmas: those that may be cited, or a whole
+/// story.
 #[derive(Drop)]
 pub(crate) struct Grounds<'a, K: OutcomeKind> {
     pub setting: &'a Setting<'a, K>,

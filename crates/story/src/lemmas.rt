@@ -15,9 +15,9 @@ use outcomes::{OutcomeKind, Setting};
 use vocab::{Literal, Places, Study};
 use worlds::Board;
 
-/// Whether the lemma follows from earlier ones, and else its first faulty line: the heading is line 0, and then come
-/// the suppositions, the steps and the last reason. The board has no literal before and none afterwards, whatever the
-/// answer. No memory is taken.
+/// Whether the lemma follows from earlier ones, and else its first faulty line: the heading is line 0, and
+/// then come the suppositions, the steps and the last reason. The board has no literal before and none
+/// afterwards, whatever the answer. No memory is taken.
 pub fn check_lemma<K: OutcomeKind>(
     kind: &K,
     study: &Study,

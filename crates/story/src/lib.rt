@@ -1,5 +1,5 @@
-//! Whether a story is accepted, and else its first faulty line. The checker knows the sentences alone: no clause, no
-//! variable and no search.
+//! Whether a story is accepted, and else its first faulty line. The checker knows the sentences alone: no
+//! clause, no variable and no search.
 #![tactic(auto)]
 
 mod grounds;

@@ -16,8 +16,9 @@ use outcomes::{OutcomeKind, Setting};
 use vocab::{Literal, Places, Study};
 use worlds::Board;
 
-/// Supposes a literal: it comes on the board. Else `Supposes` in the last lemma, which may have no supposition, and
-/// `Known` where the literal or its opposite is on the board; the literals of the board then stay. No memory is taken.
+/// Supposes a literal: it comes on the board. Else `Supposes` in the last lemma, which may have no
+/// supposition, and `Known` where the literal or its opposite is on the board; the literals of the board then
+/// stay. No memory is taken.
 pub fn suppose(final_one: bool, board: &mut Board, literal: &Literal) -> Result<(), StoryFault>
     requires { IsTrue (is_literal board.old.size literal.now) }
     ensures fault { Answers result (supposition_fault final_one board.old.literals literal.now) }
@@ -35,9 +36,9 @@ pub fn suppose(final_one: bool, board: &mut Board, literal: &Literal) -> Result<
     Ok(())
 }
 
-/// Takes a step: its literal comes on the board. Else `Known` where the literal or its opposite is on the board, and
-/// the fault of its reason, which has to refute the board with the opposite of the literal; the literals of the board
-/// then stay. No memory is taken.
+/// Takes a step: its literal comes on the board. Else `Known` where the literal or its opposite is on the
+/// board, and the fault of its reason, which has to refute the board with the opposite of the literal; the
+/// literals of the board then stay. No memory is taken.
 pub fn take_step<K: OutcomeKind>(
     kind: &K,
     study: &Study,

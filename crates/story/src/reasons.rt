@@ -24,9 +24,9 @@ use vocab::{Axiom, Env, Formula, Literal, Places, Size, Study};
 use worlds::laws::bodies_have_values;
 use worlds::{Board, excludes, partial};
 
-/// Whether the reason refutes the literals of the board: no rule that satisfies the core has all of them. Else
-/// `NotInCore` where it cites an axiom that the core lacks, `Later` where it cites a lemma that is not an earlier one,
-/// and `NotForced` where it may be given and does not refute. No memory is taken.
+/// Whether the reason refutes the literals of the board: no rule that satisfies the core has all of them.
+/// Else `NotInCore` where it cites an axiom that the core lacks, `Later` where it cites a lemma that is not
+/// an earlier one, and `NotForced` where it may be given and does not refute. No memory is taken.
 pub fn refutes<K: OutcomeKind>(
     kind: &K,
     study: &Study,
@@ -101,7 +101,8 @@ fn is_in(core: &Places, place: u32) -> bool
     core.as_slice().iter().any(|c| *c == place)
 }
 
-/// Whether there is one value in range for each leading universal of the axiom, and its body is false at these values.
+/// Whether there is one value in range for each leading universal of the axiom, and its body is false at
+/// these values.
 fn is_instance_false<K: OutcomeKind>(kind: &K, board: &Board, cited: &Axiom, values: &Env) -> bool
     requires board { board.now.size ≡ K.size kind.now }
     requires sentence { IsTrue (is_sentence (K.size kind.now) cited.now) }
@@ -122,7 +123,8 @@ fn is_false(known: Three) -> bool
     known == Three::False
 }
 
-/// Whether the values from a level on are as many as the leading universals of the formula, and in their ranges.
+/// Whether the values from a level on are as many as the leading universals of the formula, and in their
+/// ranges.
 fn are_in_range(size: Size, formula: &Formula, values: &Env, level: u8) -> bool
     requires { level ≤ length values.now }
     ensures { result ≡ pointwise nat_lt (drop level values.now) (bases_of size (tree_of formula.now)) }

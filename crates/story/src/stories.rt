@@ -7,7 +7,7 @@ ghost use Rattle.meaning.specs.StoryFaults.{next_refusal, story_refusal};
 ghost use Rattle.meaning.specs.Truth.{satisfies};
 ghost use Rattle.meaning.specs.declared.stories.Lemma.{Lemma};
 ghost use Rattle.story.specs.Answers.{Answers};
-ghost use Rattle.story.specs.Conditions.{has_places, is_short, AreNumbered, IsClear};
+ghost use Rattle.story.specs.Conditions.{has_places, is_short, AreShortAndFew, IsClear};
 
 use crate::grounds::Grounds;
 use lists::Items;
@@ -21,8 +21,8 @@ use worlds::Board;
 /// A story: its lemmas in order.
 pub type Story = Items<Lemma>;
 
-/// Whether the story is accepted, so that no rule satisfies the axioms of the core. Else the first faulty line and its
-/// lemma, from 0, `Empty` where there is no lemma, or `NoMemory`.
+/// Whether the story is accepted, so that no rule satisfies the axioms of the core. Else the first faulty
+/// line and its lemma, from 0, `Empty` where there is no lemma, or `NoMemory`.
 pub fn check_story<K: OutcomeKind>(
     alloc: Global,
     kind: &K,
@@ -59,7 +59,7 @@ impl<K: OutcomeKind> Grounds<'_, K> {
     /// Whether there is a lemma, each follows from those before it, and the last supposes nothing.
     fn check_lemmas(&self, board: &mut Board) -> Result<(), StoryRefusal>
         requires board { IsClear (K.size self.now.setting.now.kind.now) board.old }
-        requires numbered { AreNumbered self.now.lemmas.now }
+        requires numbered { AreShortAndFew self.now.lemmas.now }
         ensures { Answers result (story_refusal (K.size self.now.setting.now.kind.now)
             self.now.setting.now.study.now.axioms self.now.core.now self.now.lemmas.now) }
     {
@@ -84,7 +84,7 @@ impl<K: OutcomeKind> Grounds<'_, K> {
         final_one: bool,
     ) -> Result<(), StoryRefusal>
         requires board { IsClear (K.size self.now.setting.now.kind.now) board.old }
-        requires numbered { AreNumbered self.now.lemmas.now }
+        requires numbered { AreShortAndFew self.now.lemmas.now }
         requires place { place < length self.now.lemmas.now }
         ensures fault { (lemma : Lemma) → slice_get self.now.lemmas.now place ≡ Some lemma →
             Answers result (next_refusal (K.size self.now.setting.now.kind.now)

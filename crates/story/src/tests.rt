@@ -1,5 +1,5 @@
-//! The story of anonymity and neutrality for two voters and two alternatives, and changes of it that are refused.
-//! Profile 0 is ab|ab, 1 is ab|ba, 2 is ba|ab and 3 is ba|ba.
+//! The story of anonymity and neutrality for two voters and two alternatives, and changes of it that are
+//! refused. Profile 0 is ab|ab, 1 is ab|ba, 2 is ba|ab and 3 is ba|ba.
 
 ghost use Rattle.std.specs.Prelude.{◌≡◌, ◌≤◌, nat_lt, [], ◌∷◌, codes, length, IfOk, IsTrue};
 ghost use Rattle.std.specs.List.{list_all};

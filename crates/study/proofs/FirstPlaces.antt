@@ -1,12 +1,9 @@
 -- The first entry of a name.
-use Rattle.std.proofs.Common.{◌≡◌, ◌<◌, ◌≤◌, ◌-◌, map, ◌+◌, ℕ, zero, suc, nat_lt, lt-ltb, le-ltb, cond, get_or, take, drop, List, [], ◌∷◌, length, Bool, true, false, ◌||◌, if◌then◌else◌, Option, None, Some, IfSome, refl, sym, ap, ◌∙◌, subst, arith}
-use Rattle.std.proofs.lemmas.List.{drop_more, drop_all}
+use Rattle.std.proofs.Common.{◌≡◌, ◌<◌, map, ◌+◌, ℕ, zero, suc, nat_lt, lt-ltb, le-ltb, cond, get_or, take, List, [], ◌∷◌, length, Bool, true, false, ◌||◌, if◌then◌else◌, Option, None, Some, IfSome, refl, sym, ap, ◌∙◌, subst, arith}
 use Rattle.std.specs.Cmp.Lexicographic.{bytes_decides}
 use Rattle.std.specs.List.{list_any, position_from}
 use Rattle.std.specs.Str.{bytes_eq}
 use Rattle.axiom_library.specs.Library.{Entry, text_among}
-use Rattle.names.specs.Names.{FindsFirst}
-use Rattle.names.specs.declared.index.NameIndex.{NameIndex}
 
 abbrev names_of : List Entry → List (List ℕ)
 names_of entries = map (λ e. e.name) entries
@@ -16,34 +13,19 @@ pub among_names : (entries : List Entry) (name : List ℕ) (first : ℕ) → pos
 among_names [] name first = refl
 among_names (e ∷ entries) name first = ap (cond (bytes_eq e.name name) (Some first)) (among_names entries name (first + 1))
 
--- an index of the names from a place on, with one more name before them
-pub one_more_entry : (before after : NameIndex) (entries : List Entry) (place : ℕ) (e : Entry) (name : List ℕ) → 0 < place → place ≤ length entries → e ≡ get_or entries (place - 1) e → name ≡ e.name
-    → ((names : List (List ℕ)) → FindsFirst before (place - 1 + 1) names → FindsFirst after (place - 1) (name ∷ names))
-    → FindsFirst before place (names_of (drop place entries)) → FindsFirst after (place - 1) (names_of (drop (place - 1) entries))
-one_more_entry before after entries place e name some within is same put finds =
-    let up : place ≡ place - 1 + 1 = omega (arith, some) in
-    let least : place - 1 < length entries = omega (arith, some, within) in
-    let rest : List (List ℕ) = names_of (drop (place - 1 + 1) entries) in
-    let names : names_of (drop (place - 1) entries) ≡ name ∷ rest = ap names_of (drop_more entries (place - 1) e least) ∙ ap (λ (x : Entry). x.name ∷ rest) (sym is) ∙ ap (λ (n : List ℕ). n ∷ rest) (sym same) in
-    subst (FindsFirst after (place - 1)) (sym names) (put _ (subst (λ n. FindsFirst before n (names_of (drop n entries))) up finds))
-
--- an index without names
-pub no_entry : (index : NameIndex) (entries : List Entry) → ((first : ℕ) → FindsFirst index first []) → FindsFirst index (length entries) (names_of (drop (length entries) entries))
-no_entry index entries none = subst (λ xs. FindsFirst index (length entries) (names_of xs)) (sym (drop_all (length entries) entries (omega arith))) (none (length entries))
-
 -- the first entry of a name stands at a place
-pub record StandsAt (entries : List Entry) (name : List ℕ) (place : ℕ) : Type 0 where
+pub record IsFirstAt (entries : List Entry) (name : List ℕ) (place : ℕ) : Type 0 where
   pub within : place < length entries
   pub text : (d : Entry) → text_among entries name ≡ Some (get_or entries place d).text
   pub named : (d : Entry) → (get_or entries place d).name ≡ name
 
-stands_from : (entries : List Entry) (name : List ℕ) (first place : ℕ) → position_from (λ e. bytes_eq e.name name) first entries ≡ Some place → (k : ℕ) × (place ≡ first + k) × StandsAt entries name k
+stands_from : (entries : List Entry) (name : List ℕ) (first place : ℕ) → position_from (λ e. bytes_eq e.name name) first entries ≡ Some place → (k : ℕ) × (place ≡ first + k) × IsFirstAt entries name k
 stands_from [] name first place h = absurd cc
 stands_from (e ∷ entries) name first place h = by (bytes_eq e.name name) refl h (stands_from entries name (first + 1) place)
   where
     by : (b : Bool) → bytes_eq e.name name ≡ b → cond b (Some first) (position_from (λ e. bytes_eq e.name name) (first + 1) entries) ≡ Some place
-        → (position_from (λ e. bytes_eq e.name name) (first + 1) entries ≡ Some place → (k : ℕ) × (place ≡ first + 1 + k) × StandsAt entries name k)
-        → (k : ℕ) × (place ≡ first + k) × StandsAt (e ∷ entries) name k
+        → (position_from (λ e. bytes_eq e.name name) (first + 1) entries ≡ Some place → (k : ℕ) × (place ≡ first + 1 + k) × IsFirstAt entries name k)
+        → (k : ℕ) × (place ≡ first + k) × IsFirstAt (e ∷ entries) name k
     by true same h later =
         let here : first ≡ place = cc in
         (0, omega (arith, here), record { within = omega arith; text = λ d. rw same refl; named = λ d. (bytes_decides e.name name).0 same })
@@ -51,10 +33,10 @@ stands_from (e ∷ entries) name first place h = by (bytes_eq e.name name) refl 
         let (k, at, stands) = later h in
         (suc k, omega (arith, at), record { within = omega (arith, stands.within); text = λ d. rw other (stands.text d); named = stands.named })
 
-pub stands_there : (entries : List Entry) (name : List ℕ) (place : ℕ) → position_from (λ e. bytes_eq e.name name) 0 entries ≡ Some place → StandsAt entries name place
+pub stands_there : (entries : List Entry) (name : List ℕ) (place : ℕ) → position_from (λ e. bytes_eq e.name name) 0 entries ≡ Some place → IsFirstAt entries name place
 stands_there entries name place h =
     let (k, at, stands) = stands_from entries name 0 place h in
-    subst (StandsAt entries name) (sym (at ∙ omega arith)) stands
+    subst (IsFirstAt entries name) (sym (at ∙ omega arith)) stands
 
 -- a place that may be found is among them
 pub stands_within : (entries : List Entry) (name : List ℕ) (found : Option ℕ) → found ≡ position_from (λ e. bytes_eq e.name name) 0 entries → IfSome found (λ place. place < length entries)

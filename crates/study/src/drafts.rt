@@ -3,7 +3,8 @@
 use crate::entries::{Entries, Texts};
 use vocab::Kind;
 
-/// The kind and the numbers, the texts of the ballots where they are listed, and whether voters may be absent.
+/// The kind and the numbers, the texts of the ballots where they are listed, and whether voters may be
+/// absent.
 pub(crate) struct Head {
     pub(crate) kind: Kind,
     pub(crate) voters: i64,

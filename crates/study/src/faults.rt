@@ -12,9 +12,9 @@ use vocab::{Name, SizeFault};
 /// The bytes of a string.
 pub type Text = Items<u8>;
 
-/// Why bytes are no study. Of several reasons the first in this order counts, but that a fault of the ballots as a whole
-/// or of the profiles comes after `Ballot`. Each goes over all axioms, in the order in which the study lists them, before
-/// the next.
+/// Why bytes are no study. Of several reasons the first in this order counts, but that a fault of the ballots
+/// as a whole or of the profiles comes after `Ballot`. Each goes over all axioms, in the order in which the
+/// study lists them, before the next.
 #[derive(Debug, Drop, Error)]
 pub enum StudyFault {
     /// The bytes are no TOML document, or no UTF-8.
@@ -38,7 +38,8 @@ pub enum StudyFault {
     /// This axiom is neither in the library for the kind nor among the study's own sentences.
     #[error("an axiom is neither in the library nor among the study's own sentences")]
     Unknown(Text),
-    /// This axiom stands earlier in the list, or is both in the library for the kind and among the study's own sentences.
+    /// This axiom stands earlier in the list, or is both in the library for the kind and among the study's
+    /// own sentences.
     #[error("a name stands for two axioms, or an axiom is listed twice")]
     Twice(Name),
     /// The axiom's text is no sentence.

@@ -10,7 +10,8 @@ ghost use Rattle.study.specs.Steps.{fitting};
 use crate::faults::StudyFault;
 use vocab::{Axiom, Formula, Name, Size};
 
-/// What is limited of an axiom: its instances, the atoms of its body, and those of the whole, quantifiers written out.
+/// What is limited of an axiom: its instances, the atoms of its body, and those of the whole, quantifiers
+/// written out.
 #[derive(Clone, Copy)]
 enum Limit {
     Instances,
@@ -110,8 +111,8 @@ fn opened(size: Size, axioms: &[Axiom]) -> Result<(), StudyFault>
     Ok(())
 }
 
-/// Refuses the first axiom that exchanges alternatives where it may not, and then the first that passes a limit, one limit
-/// after the other.
+/// Refuses the first axiom that exchanges alternatives where it may not, and then the first that passes a
+/// limit, one limit after the other.
 pub(crate) fn fitting(size: Size, axioms: &[Axiom]) -> Result<(), StudyFault>
     ensures { Gives (fitting size axioms.now) result }
 {

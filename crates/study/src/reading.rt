@@ -31,7 +31,8 @@ fn study_of(alloc: Global, listing: &Listing, sentences: &[Unresolved]) -> Resul
     }
 }
 
-/// The study of a listing, whether bytes gave it or the caller made it, or the first refusal of a text or a sentence.
+/// The study of a listing, whether bytes gave it or the caller made it, or the first refusal of a text or a
+/// sentence.
 pub fn answer_of(alloc: Global, listing: &Listing) -> Result<Study, StudyFault>
     requires { IsListing listing.now }
     ensures ok { IfOk result (λ study. IsAnswer listing.now (Ok study)) }
@@ -79,7 +80,8 @@ fn listing_in(alloc: Global, bytes: &[u8]) -> Result<Listing, StudyFault>
 /// | `axioms` | an array of strings, at most 40, each once, of the library for the kind or among `sentences` |
 /// | `sentences` | a table of names, each with the text of a sentence, or missing |
 ///
-/// There is no other key. There is at most one answer beside want of memory (`laws::studies_have_one_answer`).
+/// There is no other key. There is at most one answer beside want of memory
+/// (`laws::studies_have_one_answer`).
 pub fn read_study(alloc: Global, bytes: &[u8]) -> Result<Study, StudyFault>
     ensures ok { IfOk result (λ study. IsStudyOf bytes.now (Ok study)) }
     ensures refused { IfErr result (λ fault. fault ≢ StudyFault.NoMemory → IsStudyOf bytes.now (Err fault)) }

@@ -157,8 +157,8 @@ const CASES: &[(&str, &str, &str)] = &[
     ),
 ];
 
-/// A part of the plain document, what stands in its place, and what the document then gives: the ballots of a size are
-/// digits in base 2, the first ranking's last.
+/// A part of the plain document, what stands in its place, and what the document then gives: the ballots of a
+/// size are digits in base 2, the first ranking's last.
 const BALLOTS: &[(&str, &str, &str)] = &[
     ("3", "2\nballots = ['ba']", "2 2 100000 pareto of 10"),
     (
@@ -401,7 +401,8 @@ fn push_domain(alloc: Global, text: &mut String, size: Size) -> Result<(), Alloc
     Ok(())
 }
 
-/// The numbers of a study, the names of its axioms, its ballots where these are not all, and whether voters may be absent.
+/// The numbers of a study, the names of its axioms, its ballots where these are not all, and whether voters
+/// may be absent.
 fn shown(alloc: Global, study: &Study) -> Result<String, AllocError> {
     let voters = study.size().voters();
     let alternatives = study.size().alternatives();
@@ -427,7 +428,8 @@ fn changed(alloc: Global, part: &str, other: &str) -> Result<String, Fail> {
     Ok(answer(alloc, text.as_bytes())?)
 }
 
-/// The first row whose document gives something else than it says, with what it gives; empty where each gives what it says.
+/// The first row whose document gives something else than it says, with what it gives; empty where each gives
+/// what it says.
 fn first_wrong(alloc: Global, rows: &[(&str, &str, &str)]) -> Result<String, Fail> {
     for (part, other, want) in rows {
         let found = changed(alloc, *part, *other)?;

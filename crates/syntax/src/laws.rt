@@ -12,7 +12,8 @@ pub fn texts_have_one_answer()
     ensures { HaveOneAnswer }
 {}
 
-/// The canonical text of a tree that some text reads as is read as that tree, where it has at most 600 lexemes.
+/// The canonical text of a tree that some text reads as is read as that tree, where it has at most 600
+/// lexemes.
 pub fn canonical_texts_are_read_back()
     ensures { AreReadBack }
 {}

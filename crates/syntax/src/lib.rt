@@ -1,5 +1,5 @@
-//! Sentences as texts: `read` gives the one tree that a text reads as, or the first reason why it has none, and
-//! `print` writes the canonical text of a tree.
+//! Sentences as texts: `read` gives the one tree that a text reads as, or the first reason why it has none,
+//! and `print` writes the canonical text of a tree.
 #![tactic(auto)]
 
 mod faults;

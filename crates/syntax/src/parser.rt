@@ -1,7 +1,7 @@
 //! From lexemes to trees.
 //!
-//! Each form of a formula is a small function of its own that is not inlined, so that a level of nesting takes little of
-//! the stack: with 600 lexemes there are up to 600 levels.
+//! Each form of a formula is a small function of its own that is not inlined, so that a level of nesting
+//! takes little of the stack: with 600 lexemes there are up to 600 levels.
 
 ghost use Rattle.std.specs.Prelude.{◌≡◌, ◌<◌, ◌↔◌, List, ℕ, [], ◌∷◌, length, codes, MatchOption, IsTrue, IfOk, IsErrOf};
 ghost use Rattle.vocab.specs.NamedView.{named_term_tree, named_terms_tree, named_tree};
@@ -62,8 +62,8 @@ fn after(lexemes: &[Lexeme], mark: Lexeme) -> Option<&[Lexeme]>
     }
 }
 
-/// A formula in a box. The parser holds its formulas so: to drop a formula in place would write out the drop of each of its
-/// forms at each early exit, where the drop of a box is one call.
+/// A formula in a box. The parser holds its formulas so: to drop a formula in place would write out the drop
+/// of each of its forms at each early exit, where the drop of a box is one call.
 fn boxed(alloc: Global, formula: Named) -> Result<Box<Named>, NoMemory>
     ensures { IfOk result (λ b. named_tree b.value ≡ named_tree formula) }
 {

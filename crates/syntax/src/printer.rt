@@ -13,10 +13,11 @@ use edge::{Failed, Sink};
 use texts::{Number, Page, Raw, Text, Two, put_text};
 use vocab::{Name, Named, NamedTerm, Sort, Terms};
 
-/// Writes the canonical text of a sentence. Where the sink fails, a prefix of that text was written. No memory is taken.
+/// Writes the canonical text of a sentence. Where the sink fails, a prefix of that text was written. No
+/// memory is taken.
 ///
-/// An alternative is written as its letter. No text reads as an alternative above 25: such a one is written as the
-/// byte that follows `a` by that many, after 255 again from 0.
+/// An alternative is written as its letter. No text reads as an alternative above 25: such a one is written
+/// as the byte that follows `a` by that many, after 255 again from 0.
 pub fn print<K: Sink>(sentence: &Named, out: &mut K) -> Result<(), Failed>
     ensures ok { OnOk result (Appends (K.taken out.old) (K.taken out.new)
         (text_of (named_tree sentence.now))) }

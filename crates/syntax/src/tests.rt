@@ -251,8 +251,8 @@ fn repeated(
     Ok(text)
 }
 
-// Whether the text reads as a sentence, of which a sink with so much room, whose writes of these numbers fail, then holds
-// this, and whether all was taken.
+// Whether the text reads as a sentence, of which a sink with so much room, whose writes of these numbers
+// fail, then holds this, and whether all was taken.
 fn is_printed(
     alloc: Global,
     text: &[u8],

@@ -11,8 +11,8 @@ ghost use Rattle.edge.specs.Told.{TellsAsBefore};
 use crate::page::Page;
 use edge::{Failed, Sink};
 
-/// Holds up to 4,096 bytes of what it takes, in place, before it hands them on. It has taken what the sink behind it took
-/// and then what it holds, and `flush` hands on all. What it holds when it is dropped is lost.
+/// Holds up to 4,096 bytes of what it takes, in place, before it hands them on. It has taken what the sink
+/// behind it took and then what it holds, and `flush` hands on all. What it holds when it is dropped is lost.
 #[derive(Drop)]
 pub struct Buffered<'a, K: Sink> {
     /// The sink behind it.

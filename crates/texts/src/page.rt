@@ -100,8 +100,8 @@ impl Page {
         Ok(())
     }
 
-    /// Takes a prefix of the piece, and some of a piece that has bytes. Where there is no room, what the page holds is
-    /// handed on first, and where that fails nothing of the piece was taken.
+    /// Takes a prefix of the piece, and some of a piece that has bytes. Where there is no room, what the page
+    /// holds is handed on first, and where that fails nothing of the piece was taken.
     #[tactic(auto, using(crate::proofs::PageLemmas::grows_more))]
     pub fn write<K: Sink>(&mut self, out: &mut K, piece: &[u8]) -> Result<usize, Failed>
         ensures bound { WritesAtMost result piece.now }

@@ -9,8 +9,8 @@ use crate::page::Page;
 use crate::text::Text;
 use edge::{Failed, Sink};
 
-/// Writes the whole text through a page of its own. Where it fails, a prefix of the text was written. No memory is
-/// taken.
+/// Writes the whole text through a page of its own. Where it fails, a prefix of the text was written. No
+/// memory is taken.
 pub fn put_text<T: Text, O: Sink>(text: &T, out: &mut O) -> Result<(), Failed>
     requires { T.can text.now }
     ensures ok { OnOk result (Appends (O.taken out.old) (O.taken out.new) (T.text text.now)) }

@@ -207,8 +207,8 @@ module _ (study : Question) where
   abbrev pub AreRows : Standing → Type 0
   AreRows s = (list_all (λ o. nat_lt o K) s.rows ≡ true) × (0 < P → length s.rows < P)
 
-  abbrev pub IsSound : Verdict → Type 0
-  IsSound v = (is_right study v ≡ true) × (has_text study v ≡ true) × (claims study v ≡ true)
+  abbrev pub IsJudgedRight : Verdict → Type 0
+  IsJudgedRight v = (is_right study v ≡ true) × (has_text study v ≡ true) × (claims study v ≡ true)
 
   -- what holds of the parts at a place
   abbrev pub Holds : Place → Standing → Type 0
@@ -222,8 +222,8 @@ module _ (study : Question) where
   Holds AtStep s = IsInLemma s
   Holds AtWitness s = IsTold s × (s.rows ≡ []) × (k : ℕ) × (next_core s ≡ Some k)
   Holds AtWitnessRow s = IsTold s × AreRows s × (k : ℕ) × (next_core s ≡ Some k)
-  Holds (AtEnd v) s = IsSound v
-  Holds (AtNothing v) s = IsSound v
+  Holds (AtEnd v) s = IsJudgedRight v
+  Holds (AtNothing v) s = IsJudgedRight v
   Holds _ s = IsIdle s
 
   -- a reader that has read these lines, all of them right

@@ -22,7 +22,7 @@ use Rattle.meaning.specs.Space.{number_of, digits_of, ranking, ranking_number, b
 use Rattle.meaning.specs.Digits.{AreDigits}
 use Rattle.meaning.proofs.RankingLaws.{are_rankings}
 use Rattle.meaning.proofs.BallotLaws.{numbered_place, place_below, place_of_ballot, ranking_of_ballot}
-use Rattle.meaning.proofs.DigitLaws.{are_numbered, are_profiles, lists_within}
+use Rattle.meaning.proofs.DigitLaws.{are_one_to_one, are_profiles, lists_within}
 use Rattle.std.proofs.lemmas.Option.{slice_get_past}
 use Rattle.verdicts.specs.Numbers.{number_text, value_after}
 use Rattle.meaning.specs.Texts.{letter, ballot_text, cast_text, letters_or_dash, profile_text, ranking_text, outcome_text_of, outcome_text}
@@ -196,7 +196,7 @@ module _ (size : Extent) (is : IsSize size) where
       ap₂ (λ x xs. x ∷ xs) (casts_same b c (ltb-true b (cast_count size) p.0) (ltb-true c (cast_count size) q.0) s.0) (texts_same n bs cs p.1 q.1 s.1)
 
   digits_are : (p : ℕ) → p < sort_count size Profile → AreDigits (cast_bases size) (casts_of size p)
-  digits_are p h = (are_numbered (cast_bases size)).digits p (omega (arith, h, lists_within size))
+  digits_are p h = (are_one_to_one (cast_bases size)).digits p (omega (arith, h, lists_within size))
 
   pub profiles_same : (p q : ℕ) → p < sort_count size Profile → q < sort_count size Profile → profile_text size p ≡ profile_text size q → p ≡ q
   profiles_same p q h k e =

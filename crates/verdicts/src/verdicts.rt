@@ -4,8 +4,8 @@ use lists::Items;
 use meaning::{Lemma, Witnesses};
 use vocab::{Places, Table};
 
-/// What a report says of a study: a rule that satisfies its axioms; a core of axioms, by their places, with a story
-/// that no rule satisfies them together and a witness for each of them; or that neither was found.
+/// What a report says of a study: a rule that satisfies its axioms; a core of axioms, by their places, with a
+/// story that no rule satisfies them together and a witness for each of them; or that neither was found.
 #[derive(Drop)]
 pub enum Verdict {
     Possible(Table),

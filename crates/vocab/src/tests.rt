@@ -82,8 +82,8 @@ fn domain(voters: i64, alternatives: i64, ballots: u128, absent: bool) -> Result
     Size::with_domain(Kind::Choice, voters, alternatives, ballots, absent)
 }
 
-// Digit j of the ballots stands for the j-th ranking: 1 is ab of two alternatives, 3 is ab and ba, and 45 is abc, bac, bca
-// and cba of three. With absence there are (B + 1)^n - 1 profiles, since some voter is there.
+// Digit j of the ballots stands for the j-th ranking: 1 is ab of two alternatives, 3 is ab and ba, and 45 is
+// abc, bac, bca and cba of three. With absence there are (B + 1)^n - 1 profiles, since some voter is there.
 #[test]
 fn domains_have_their_lengths(rt: HostRuntime) -> Result<(), Fail> {
     for (voters, alternatives, ballots, absent, count, profiles) in [

@@ -82,8 +82,8 @@ fn top_command<'a>(alloc: Global) -> Command<'a>
         .subcommand_required(true)
 }
 
-/// A command with one more below it, where both could be made. (Both are handed over as they come, so that one place alone lets
-/// a command go where memory ends.)
+/// A command with one more below it, where both could be made. (Both are handed over as they come, so that
+/// one place alone lets a command go where memory ends.)
 fn add_command<'a>(
     command: Result<Command<'a>, AllocError>,
     below: Result<Command<'a>, AllocError>,

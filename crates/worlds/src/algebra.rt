@@ -9,8 +9,8 @@ use vocab::Literal;
 
 /// Values that stand for written-out formulas, with an operation for each way to build one.
 ///
-/// An operation answers a value that stands for what it builds, whatever its arguments stand for, or a stop. None
-/// changes what values stand for or which literals are taken.
+/// An operation answers a value that stands for what it builds, whatever its arguments stand for, or a stop.
+/// None changes what values stand for or which literals are taken.
 pub trait Algebra {
     /// What formulas are evaluated to.
     type V: Drop;
@@ -40,8 +40,9 @@ pub trait Algebra {
         ensures err { IfErr result may_stop }
         ensures same { SameMeaning (stands self.old) (stands self.new) (takes self.old) (takes self.new) };
 
-    /// Whether a value decides: what is false stands for each conjunction that it is a side of, and what is true
-    /// for each disjunction, so that the other side need not be evaluated. An algebra may always answer no.
+    /// Whether a value decides: what is false stands for each conjunction that it is a side of, and what is
+    /// true for each disjunction, so that the other side need not be evaluated. An algebra may always answer
+    /// no.
     fn is_known(&self, value: &Self::V, truth: bool) -> bool
         ensures no { IsTrue result → IsFalse truth → (x y : Written) → stands self.now value.now x →
             stands self.now value.now (And x y) × stands self.now value.now (And y x) }

@@ -15,9 +15,9 @@ use crate::atoms::eval_atom;
 use profiles::Space;
 use vocab::{Env, Formula, Size, Sort};
 
-/// The value of a formula, where its free variables have the values of the environment: one that stands for the
-/// formula written out, or a stop that the algebra may answer. Sides and values that cannot matter any more are
-/// left out. No memory is taken but what the algebra takes.
+/// The value of a formula, where its free variables have the values of the environment: one that stands for
+/// the formula written out, or a stop that the algebra may answer. Sides and values that cannot matter any
+/// more are left out. No memory is taken but what the algebra takes.
 pub fn eval<A: Algebra>(
     space: &Space,
     formula: &Formula,
@@ -36,7 +36,8 @@ pub fn eval<A: Algebra>(
     eval_formula(space, formula, env, algebra)
 }
 
-/// The recursion of `eval`, with a function for each connective: a call then has room for the values of one alone.
+/// The recursion of `eval`, with a function for each connective: a call then has room for the values of one
+/// alone.
 #[cycle(eval)]
 pub(crate) fn eval_formula<A: Algebra>(
     space: &Space,
@@ -214,7 +215,8 @@ fn eval_same<A: Algebra>(
     }
 }
 
-/// A universal, from the last value of its sort to the first. Where a value makes it false, those before are left out.
+/// A universal, from the last value of its sort to the first. Where a value makes it false, those before are
+/// left out.
 #[cycle(eval)]
 fn eval_all<A: Algebra>(
     space: &Space,
@@ -249,7 +251,8 @@ fn eval_all<A: Algebra>(
     }
 }
 
-/// An existential, from the last value of its sort to the first. Where a value makes it true, those before are left out.
+/// An existential, from the last value of its sort to the first. Where a value makes it true, those before
+/// are left out.
 #[cycle(eval)]
 fn eval_exists<A: Algebra>(
     space: &Space,

@@ -14,8 +14,8 @@ use cnf::Lit;
 use outcomes::OutcomeKind;
 use outcomes::laws::kinds_have_sizes;
 
-/// Whether no outcome at profile p makes all literals of the board there hold. However many literals the board has,
-/// only those of the profile are looked at. No memory is taken.
+/// Whether no outcome at profile p makes all literals of the board there hold. However many literals the
+/// board has, only those of the profile are looked at. No memory is taken.
 pub fn excludes<K: OutcomeKind>(kind: &K, board: &Board, p: u32) -> bool
     requires { board.now.size ≡ K.size kind.now }
     ensures { result ≡ is_outcome_excluded (K.size kind.now) board.now.literals p }

@@ -27,9 +27,9 @@ pub fn instance_count(space: &Space, formula: &Formula) -> u64
     }
 }
 
-/// The least instance from `from` up to `to` whose body is false of the rule, where the free variables of the formula
-/// have the values of the environment. The instances of one value of the outermost universal are a block, and follow
-/// those of the value before it.
+/// The least instance from `from` up to `to` whose body is false of the rule, where the free variables of the
+/// formula have the values of the environment. The instances of one value of the outermost universal are a
+/// block, and follow those of the value before it.
 fn first_false<K: OutcomeKind>(
     kind: &K,
     space: &Space,

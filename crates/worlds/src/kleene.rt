@@ -18,7 +18,8 @@ use outcomes::OutcomeKind;
 use std::convert::Infallible;
 use vocab::{Env, Formula, Literal};
 
-/// Three truth values: a literal is true where it is on the board, false where its opposite is, and else unknown.
+/// Three truth values: a literal is true where it is on the board, false where its opposite is, and else
+/// unknown.
 #[derive(Drop)]
 struct PartialAlgebra<'a> {
     board: &'a Board,
@@ -74,8 +75,9 @@ impl Algebra for PartialAlgebra<'_> {
     }
 }
 
-/// What is known of the formula under the literals of the board, where its free variables have the values of the
-/// environment. What is known to be so is so of each rule of which all these literals hold. No memory is taken.
+/// What is known of the formula under the literals of the board, where its free variables have the values of
+/// the environment. What is known to be so is so of each rule of which all these literals hold. No memory is
+/// taken.
 pub fn partial<K: OutcomeKind>(kind: &K, board: &Board, formula: &Formula, env: &Env) -> Three
     requires size { board.now.size ≡ K.size kind.now }
     requires fits { IsFormulaAt (K.size kind.now) (tree_of formula.now) env.now }

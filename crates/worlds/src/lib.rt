@@ -1,4 +1,5 @@
-//! Whether sentences are true of a rule, or known to be under some literals, and at which instance one fails first.
+//! Whether sentences are true of a rule, or known to be under some literals, and at which instance one fails
+//! first.
 #![tactic(auto)]
 
 mod algebra;

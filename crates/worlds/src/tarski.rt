@@ -30,7 +30,8 @@ impl<K: OutcomeKind> Algebra for TruthAlgebra<'_, K> {
 
     ghost may_stop = { λ _. ⊥ };
 
-    ghost takes = { λ a l. IsTrue (is_rule (K.size a.kind.now) a.table.now) × IsTrue (is_literal (K.size a.kind.now) l) };
+    ghost takes = { λ a l. IsTrue (is_rule (K.size a.kind.now) a.table.now) ×
+        IsTrue (is_literal (K.size a.kind.now) l) };
 
     fn known(&mut self, truth: bool) -> Result<bool, Infallible> {
         Ok(truth)
@@ -62,8 +63,8 @@ impl<K: OutcomeKind> Algebra for TruthAlgebra<'_, K> {
     }
 }
 
-/// Whether the formula is true of the rule, where its free variables have the values of the environment. No memory
-/// is taken.
+/// Whether the formula is true of the rule, where its free variables have the values of the environment. No
+/// memory is taken.
 pub fn truth<K: OutcomeKind>(kind: &K, table: &Table, formula: &Formula, env: &Env) -> bool
     requires rule { IsTrue (is_rule (K.size kind.now) table.now) }
     requires fits { IsFormulaAt (K.size kind.now) (tree_of formula.now) env.now }

@@ -65,8 +65,8 @@ impl Judging {
         }
     }
 
-    /// Takes a line of this text, as it was read at the place: None where it has no fault, and then its part is held with
-    /// what was held.
+    /// Takes a line of this text, as it was read at the place: None where it has no fault, and then its part
+    /// is held with what was held.
     pub(crate) fn take<R: Threads + Sync, G: Gate, K: OutcomeKind>(
         &mut self,
         crew: &Crew<R, G>,
