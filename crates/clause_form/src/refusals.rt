@@ -20,6 +20,11 @@ pub enum GroundFault {
 }
 
 impl From<NoMemory> for GroundFault {
+    ghost use Rattle.std.specs.Prelude.{◌≡◌};
+    ghost use Rattle.clause_form.specs.declared.refusals.GroundFault.TheVariants.{NoMemory as GroundWantsMemory};
+
+    ghost from_gives = { λ _ fault. fault ≡ GroundWantsMemory };
+
     fn from(_: NoMemory) -> Self {
         GroundFault::NoMemory
     }
