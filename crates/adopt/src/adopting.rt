@@ -77,10 +77,10 @@ fn adopt_accepted<K: OutcomeKind>(
 /// axioms that its hints name, with a witness for each of these. A proof that is not accepted is refused at
 /// its first faulty line.
 ///
-/// `clauses` are those of all axioms, in their order, and the proof is a derivation over them in the form of LRAT, with no variable
-/// above those of the study. Each of its lines has the number of a line of a text, after which there is a
-/// further number; so there are fewer than 2^32 - 1. It may take clauses away, add tautologies, and leave out
-/// ids.
+/// `clauses` are those of all axioms, in their order, and the proof is a derivation over them in the form of
+/// LRAT, with no variable above those of the study. Each of its lines has the number of a line of a text,
+/// after which there is a further number; so there are fewer than 2^32 - 1. It may take clauses away, add
+/// tautologies, and leave out ids.
 pub fn adopt<K: OutcomeKind>(
     alloc: Global,
     kind: &K,

@@ -38,10 +38,10 @@ pub enum Search {
 /// level of the clause of the first unique implication point (Marques-Silva and Sakallah, 1999), or to level
 /// 0 when a restart is due.
 ///
-/// `Found` has exactly these variables and satisfies each clause. `Refuted` is accepted. `Spent` has as many lines as the limit
-/// allows, each of which learns a clause that follows by its hints and is fresh; it never comes where the
-/// limit is at least 3 to the number of variables. Where a clause is empty, `Refuted` is the one line that
-/// cites the first such clause.
+/// `Found` has exactly these variables and satisfies each clause. `Refuted` is accepted. `Spent` has as many
+/// lines as the limit allows, each of which learns a clause that follows by its hints and is fresh; it never
+/// comes where the limit is at least 3 to the number of variables. Where a clause is empty, `Refuted` is the
+/// one line that cites the first such clause.
 pub fn solve(
     alloc: Global,
     clauses: &Clauses,

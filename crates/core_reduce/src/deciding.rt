@@ -52,7 +52,8 @@ fn start(
 /// a search goes over the clauses of the rest; where it spends the study's limit, the mark is open, and the
 /// logs have that search.
 ///
-/// `chosen` are places of the study that rise, and `clauses` those of these axioms. `lrat_check::check` accepts `proof` over them.
+/// `chosen` are places of the study that rise, and `clauses` those of these axioms. `lrat_check::check`
+/// accepts `proof` over them.
 pub fn reduce<K: OutcomeKind>(
     alloc: Global,
     kind: &K,

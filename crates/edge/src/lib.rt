@@ -1,8 +1,9 @@
 //! The outside: files that are read by name, a sink that takes bytes, and a gate that work passes.
 //!
-//! `Shelf` and `Sink` say what a device does with bytes, where it tells them, and count its faults, so that a caller
-//! can show that a failure is a failure of the device. There are devices in memory, which can be made to fail
-//! at chosen calls; calm ones, which never fail; and those of the system, which promise nothing of content.
+//! `Shelf` and `Sink` say what a device does with bytes, where it tells them, and count its faults, so that a
+//! caller can show that a failure is a failure of the device. There are devices in memory, which can be made
+//! to fail at chosen calls; calm ones, which never fail; and those of the system, which promise nothing of
+//! content.
 #![tactic(auto)]
 
 mod calls;
