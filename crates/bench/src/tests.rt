@@ -104,6 +104,20 @@ fn axioms_are_tested_in_the_order_of_the_study(rt: HostRuntime) -> Result<(), Fa
 /// A study of rules that choose, of two voters and two alternatives.
 const SMALL: &str = "kind = \"choice\"\nvoters = 2\nalternatives = 2\naxioms = [\"odd\"]\n";
 
+/// Whether `adopt` ends with the status and writes the text, where the first call for the proof fails.
+fn adopts<R: Threads + Sync>(
+    rt: &R,
+    alloc: Global,
+    study: &str,
+    status: u8,
+    text: &str,
+) -> Result<bool, Fail> {
+    let words = ["adopt", "first", "second"];
+    let shelf = shelf_of(alloc, &[3], study.as_bytes(), b"")?;
+    let said = answered_over(rt, alloc, &Open, &words, shelf, 1_000)?;
+    Ok(said.is(status, text.as_bytes()))
+}
+
 /// Whether each command that reads a study refuses this one by the text, `check` and `adopt` without a call
 /// for the other file. The calls of the shelf are: 0 rewinds the study, 1 and 2 read it, 3 would rewind the
 /// report or the proof.
@@ -119,16 +133,18 @@ fn refuses<R: Threads + Sync>(
         let said = answered(rt, alloc, &Open, &words, study.as_bytes(), b"", 1_000)?;
         right = right && said.is(3, text.as_bytes());
     }
-    let shelf = shelf_of(alloc, &[3], study.as_bytes(), b"")?;
-    let said = answered_over(
-        rt,
-        alloc,
-        &Open,
-        &["adopt", "first", "second"],
-        shelf,
-        1_000,
-    )?;
-    Ok(right && said.is(3, text.as_bytes()))
+    Ok(right && adopts(rt, alloc, study, 3, text)?)
+}
+
+/// Whether each command that reads a study takes this one: `check` and `adopt` then ask for the other file.
+fn takes<R: Threads + Sync>(rt: &R, alloc: Global, study: &str) -> Result<bool, Fail> {
+    let mut right = judges(rt, alloc, study, REPORT, &[3], 5, "")?;
+    for command in ["decide", "export", "proof"] {
+        let words = [command, "first"];
+        let said = answered(rt, alloc, &Open, &words, study.as_bytes(), b"", 100_000)?;
+        right = right && said.status == 0;
+    }
+    Ok(right && adopts(rt, alloc, study, 5, "")?)
 }
 
 #[test]
@@ -362,8 +378,7 @@ fn sentences_have_limits(rt: HostRuntime) -> Result<(), Fail> {
     Ok(())
 }
 
-/// Whether the study is refused by this text, or is not where the text is empty: then the report would be
-/// opened.
+/// Whether the study is refused by this text, or is taken where the text is empty.
 fn is_refused<R: Threads + Sync>(
     rt: &R,
     alloc: Global,
@@ -371,7 +386,7 @@ fn is_refused<R: Threads + Sync>(
     text: &str,
 ) -> Result<bool, Fail> {
     if text.is_empty() {
-        return judges(rt, alloc, study, REPORT, &[3], 5, "");
+        return takes(rt, alloc, study);
     }
     let line = format!(in alloc; "study: {text}\n")?;
     refuses(rt, alloc, study, line.as_str())
