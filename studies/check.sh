@@ -1,8 +1,9 @@
 #!/usr/bin/env bash
 # Holds the program against the reports beside the studies: over each study `decide` writes its report byte for byte and `check`
 # confirms it, as it does another rule over studies/median_voter.toml, and over studies/anonymity_neutrality.toml each report in
-# studies/refused/ is refused with the line that docs/FORMATS.md shows. Over each study without a rule `adopt` takes what `proof` writes, and `check` confirms its report. Where all is
-# so, nothing is written; else a line for each fault, and the status is 1.
+# studies/refused/ is refused with the line that docs/FORMATS.md shows. Over each study without a rule `adopt` takes what `proof`
+# writes, and `check` confirms its report. A sentence is answered as docs/START.md shows. Where all is so, nothing is written; else a
+# line for each fault, and the status is 1.
 # `export` of Arrow's axioms for four alternatives is the same with 1, 2 and 16 workers, and takes an axiom of 21,233,664 instances but
 # none of 84,934,656; a sample is the same line at each run, no words end with status 2, and an absent study with status 5.
 # The program is the one that the launcher runs, which is proved and built first where a source is newer; with --built, as after `rt ci`,
@@ -65,6 +66,47 @@ while read -r file line; do
     is_line 1 "$line" || fault "check does not say of refused/$file: $line"
 done < <(sed -n 's/^| `\([a-z_]*\.report\)` | `\(refused [^`]*\)` |$/\1 \2/p' "$root/docs/FORMATS.md")
 [ "$shown" -eq "$(find "$root/studies/refused" -name '*.report' | wc -l)" ] || fault "docs/FORMATS.md does not show each report in refused/"
+
+# The study with which docs/START.md shows how to write an axiom, written otherwise: each wrong sentence is refused by the line that
+# stands there, and what is asked beside it has the answer that stands there.
+sentence=$(sed -n 's/^never_last = "\(.*\)"$/\1/p' "$root/studies/never_last.toml")
+
+ask() { # COMMAND ALTERNATIVES AXIOMS, what `never_last` says, and VOTERS where these are not two
+    printf '%s\n' 'kind = "choice"' "voters = ${5-2}" "alternatives = $2" "axioms = [$3]" '[sentences]' "never_last = \"$4\"" >"$work/last.toml"
+    answer "$1" "$work/last.toml"
+}
+
+# Whether what was written has these lines, one after the other.
+has() {
+    [[ $(<"$work/written") == *"$1"* ]]
+}
+
+wrong() { # SENTENCE LINE
+    ask decide 3 '"never_last"' "$1"
+    is_line 3 "study: never_last: $2" && grep -qF "\`study: never_last: $2\`" "$root/docs/START.md" ||
+        fault "a wrong sentence is not refused as docs/START.md shows: $2"
+}
+
+wrong "${sentence/wins(x, p)/wins(z, p)}" 'unbound z'
+wrong "${sentence/prefers(i, y, x, p)/prefers(i, y, x)}" 'arity prefers'
+wrong "${sentence/prefers(i, y, x, p)/prefers(x, y, i, p)}" 'sort prefers 1'
+wrong "${sentence/wins(x, p)/ranks(x, y, p)}" 'kind ranks'
+without=${sentence/(all i/all i}
+wrong "${without%)}" 'no reading'
+wrong "${sentence/\!wins(x, p)/x = @d}" 'constant @d'
+ask decide 3 '"onto", "never_last", "strategyproof", "non_dictatorship"' "$sentence"
+[ "$status" -eq 0 ] && has $'\ncore onto strategyproof non_dictatorship\n' || fault "with onto never_last has another core"
+ask decide 2 '"never_last"' "$sentence" 1
+[ "$status" -eq 0 ] && has $'\nrule 2\nab a\nba b\n' || fault "never_last alone has another rule"
+ask export 3 '"never_last"' 'some p: profile. (wins(@a, p) & wins(@b, with(p, #1, <bac>)))'
+is_line 3 'study: never_last: wide 0 68719476736 2473901162496' || fault "a wide sentence is not refused as docs/START.md shows"
+for limit in 5 10; do
+    { echo "conflicts = $limit"; grep -v '^conflicts' "$root/studies/gibbard_satterthwaite.toml"; } >"$work/last.toml"
+    answer decide "$work/last.toml"
+    wanted=impossible
+    [ "$limit" -eq 10 ] || wanted=undecided
+    has $'\nverdict '"$wanted" || fault "gibbard_satterthwaite with conflicts = $limit is not $wanted, as docs/START.md says"
+done
 
 for workers in 1 2 16; do
     answer export "$root/studies/arrow_four.toml" --workers "$workers"
