@@ -3,7 +3,8 @@
 # that answer, status and text, or end with status 7 and nothing written. A signal, another status, another text and anything on standard
 # error are wrong, and the script ends at the first such, with what was run and what came.
 # Each command runs once for each of its allocations, by number, in two ways: that one alone is refused; that one and all after it are.
-# Where a command has more than 20,000, or than the number that is given to the script, only every kth is tried, and its line says so.
+# No command has more than 100,000; where one has more than the number that is given to the script, only every kth is tried, and its
+# line says so.
 # Commands that share work run with 2 workers too, over inputs for which threads are started; with 1 worker an allocation has the same
 # number at each run. The commands are those of the tests over failing devices (crates/bench/src/fault_tests.rt), and others: larger
 # studies, clauses that are refused, searches that spend their limit, and reports with open marks.
@@ -19,7 +20,7 @@ set -eu
 build_program
 cc -O2 -Wall -shared -fPIC -o "$work/refuse.so" "$root/measure/refuse.c"
 ulimit -c 0
-python3 - "$program" "$root/studies" "$root/crates/bench/src" "$work" "${1-20000}" <<'PY'
+python3 - "$program" "$root/studies" "$root/crates/bench/src" "$work" "${1-100000}" <<'PY'
 import itertools, multiprocessing, os, re, struct, subprocess, sys
 program, studies, tests, work, most = sys.argv[1:]
 MOST, SECONDS = int(most), 600
