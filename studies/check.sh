@@ -70,6 +70,10 @@ done < <(sed -n 's/^| `\([a-z_]*\.report\)` | `\(refused [^`]*\)` |$/\1 \2/p' "$
 # The study with which docs/START.md shows how to write an axiom, written otherwise: each wrong sentence is refused by the line that
 # stands there, and what is asked beside it has the answer that stands there.
 sentence=$(sed -n 's/^never_last = "\(.*\)"$/\1/p' "$root/studies/never_last.toml")
+shows() { # LINE
+    grep -qxF -- "    $1" "$root/docs/START.md"
+}
+shows "never_last = \"$sentence\"" || fault "docs/START.md shows another sentence than never_last.toml"
 
 ask() { # COMMAND ALTERNATIVES AXIOMS, what `never_last` says, and VOTERS where these are not two
     printf '%s\n' 'kind = "choice"' "voters = ${5-2}" "alternatives = $2" "axioms = [$3]" '[sentences]' "never_last = \"$4\"" >"$work/last.toml"
@@ -99,7 +103,8 @@ ask decide 3 '"onto", "never_last", "strategyproof", "non_dictatorship"' "$sente
 ask decide 2 '"never_last"' "$sentence" 1
 [ "$status" -eq 0 ] && has $'\nrule 2\nab a\nba b\n' || fault "never_last alone has another rule"
 ask export 3 '"never_last"' 'some p: profile. (wins(@a, p) & wins(@b, with(p, #1, <bac>)))'
-is_line 3 'study: never_last: wide 0 68719476736 2473901162496' || fault "a wide sentence is not refused as docs/START.md shows"
+wide='study: never_last: wide 0 68719476736 2473901162496'
+is_line 3 "$wide" && shows "$wide" || fault "a wide sentence is not refused as docs/START.md shows"
 for limit in 5 10; do
     { echo "conflicts = $limit"; grep -v '^conflicts' "$root/studies/gibbard_satterthwaite.toml"; } >"$work/last.toml"
     answer decide "$work/last.toml"
