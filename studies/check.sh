@@ -80,7 +80,7 @@ ask() { # COMMAND ALTERNATIVES AXIOMS, what `never_last` says, and VOTERS where 
     answer "$1" "$work/last.toml"
 }
 
-# Whether what was written has these lines, one after the other.
+# Whether this text stands in what was written.
 has() {
     [[ $(<"$work/written") == *"$1"* ]]
 }
