@@ -1,4 +1,5 @@
 pub mod SwapLaws
 pub mod Ranges
 pub mod Powers
+pub mod DigitNumbers
 pub mod PrefixLemmas
