@@ -9,7 +9,7 @@ use Rattle.vocab.specs.declared.kinds.Kind.TheVariants.{Choice, Ranking, Sets}
 use Rattle.vocab.specs.declared.kinds.Sort.TheVariants.{Profile}
 use Rattle.vocab.specs.declared.literals.Literal.{Literal}
 use Rattle.vocab.specs.declared.literals.Literal.TheVariants.{Above, Loses, Wins}
-use Rattle.meaning.specs.Literals.{is_literal_of}
+use Rattle.meaning.specs.Literals.{is_literal_of, is_of_winner}
 
 -- ---- numbers that differ
 
@@ -56,8 +56,8 @@ profile_of-opposite (Above x y q) = refl
 
 module _ (size : Extent) where
   -- what it says that a literal is one of the size
-  pub choice_in : (x p : ℕ) → (nat_lt x size.alternatives && nat_lt p (sort_count size Profile)) ≡ true → (x < size.alternatives) × (p < sort_count size Profile)
-  choice_in x p h = let e = and_parts (nat_lt x size.alternatives) (nat_lt p (sort_count size Profile)) h in (ltb-true x _ e.0, ltb-true p _ e.1)
+  pub winner_in : (x p : ℕ) → (nat_lt x size.alternatives && nat_lt p (sort_count size Profile)) ≡ true → (x < size.alternatives) × (p < sort_count size Profile)
+  winner_in x p h = let e = and_parts (nat_lt x size.alternatives) (nat_lt p (sort_count size Profile)) h in (ltb-true x _ e.0, ltb-true p _ e.1)
 
   pub ranking_in : (x y p : ℕ) → is_literal_of size Ranking (Above x y p) ≡ true → (x < size.alternatives) × (y < size.alternatives) × ((x == y) ≡ false) × (p < sort_count size Profile)
   ranking_in x y p h =
@@ -67,27 +67,33 @@ module _ (size : Extent) where
       (ltb-true x _ c.0, ltb-true y _ c.1, not-true _ b.1, ltb-true p _ a.1)
 
   -- and what makes it one
-  pub choice_literal : (x p : ℕ) → x < size.alternatives → p < sort_count size Profile → (nat_lt x size.alternatives && nat_lt p (sort_count size Profile)) ≡ true
-  choice_literal x p in_x in_p = and_from _ _ (lt-ltb x _ in_x) (lt-ltb p _ in_p)
+  pub winner_literal : (x p : ℕ) → x < size.alternatives → p < sort_count size Profile → (nat_lt x size.alternatives && nat_lt p (sort_count size Profile)) ≡ true
+  winner_literal x p in_x in_p = and_from _ _ (lt-ltb x _ in_x) (lt-ltb p _ in_p)
 
   pub ranking_literal : (x y p : ℕ) → x < size.alternatives → y < size.alternatives → (x == y) ≡ false → p < sort_count size Profile → is_literal_of size Ranking (Above x y p) ≡ true
   ranking_literal x y p in_x in_y ne in_p = and_from _ _ (and_from _ _ (and_from _ _ (lt-ltb x _ in_x) (lt-ltb y _ in_y)) (ap not ne)) (lt-ltb p _ in_p)
 
+  winner-opposite : (l : Literal) → is_of_winner size l ≡ true → is_of_winner size (opposite_of l) ≡ true
+  winner-opposite (Wins x p) h = h
+  winner-opposite (Loses x p) h = h
+  winner-opposite (Above x y p) h = absurd (true≢false (sym h))
+
   pub is_literal-opposite : (k : Kind) (l : Literal) → is_literal_of size k l ≡ true → is_literal_of size k (opposite_of l) ≡ true
-  is_literal-opposite Choice (Wins x p) h = h
-  is_literal-opposite Choice (Loses x p) h = h
-  is_literal-opposite Choice (Above x y p) h = absurd (true≢false (sym h))
+  is_literal-opposite Choice l h = winner-opposite l h
   is_literal-opposite Ranking (Wins x p) h = absurd (true≢false (sym h))
   is_literal-opposite Ranking (Loses x p) h = absurd (true≢false (sym h))
   is_literal-opposite Ranking (Above x y p) h = let a = ranking_in x y p h in ranking_literal y x p a.1 a.0 (differ x y a.2) a.3
-  is_literal-opposite Sets l h = absurd (true≢false (sym h))
+  is_literal-opposite Sets l h = winner-opposite l h
+
+  profile_of_winner : (l : Literal) → is_of_winner size l ≡ true → profile_of l < sort_count size Profile
+  profile_of_winner (Wins x p) h = (winner_in x p h).1
+  profile_of_winner (Loses x p) h = (winner_in x p h).1
+  profile_of_winner (Above x y p) h = absurd (true≢false (sym h))
 
   -- the profile of a literal of the size is one of the size
   pub profile_in : (k : Kind) (l : Literal) → is_literal_of size k l ≡ true → profile_of l < sort_count size Profile
-  profile_in Choice (Wins x p) h = (choice_in x p h).1
-  profile_in Choice (Loses x p) h = (choice_in x p h).1
-  profile_in Choice (Above x y p) h = absurd (true≢false (sym h))
+  profile_in Choice l h = profile_of_winner l h
   profile_in Ranking (Wins x p) h = absurd (true≢false (sym h))
   profile_in Ranking (Loses x p) h = absurd (true≢false (sym h))
   profile_in Ranking (Above x y p) h = (ranking_in x y p h).3
-  profile_in Sets l h = absurd (true≢false (sym h))
+  profile_in Sets l h = profile_of_winner l h

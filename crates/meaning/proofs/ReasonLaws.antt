@@ -1,5 +1,5 @@
 -- Where known literals falsify a clause of a study, its origin is a reason that refutes them.
-use Rattle.std.proofs.Common.{◌&&◌, ◌++◌, ◌<◌, Bool, List, None, Option, Some, ap, ap₂, arith, cond, eq-eqb, eqb-true, false, filter, inl, inr, le-ltb, ltb-true, map, not, refl, subst, sym, true, true≢false, ℕ, ◌∙◌, ◌∷◌, ◌≡◌, ◌≢◌, ◌⊎◌, ◌||◌, []}
+use Rattle.std.proofs.Common.{◌&&◌, ◌++◌, ◌<◌, Bool, List, None, Option, Some, ap, ap₂, arith, cond, eq-eqb, eqb-true, false, filter, inl, inr, le-ltb, ltb-true, map, not, refl, subst, sym, true, true≢false, ℕ, ◌∙◌, ◌∷◌, ◌≡◌, ◌⊎◌, ◌||◌, []}
 use Rattle.std.proofs.lemmas.Bool.{and_from, and_parts, both_ways, false_from_ne_true, not-true, or_cases, or_left, or_right}
 use Rattle.std.proofs.lemmas.List.Folds.{list_all-map}
 use Rattle.std.specs.Cmp.Lexicographic.{pointwise}
@@ -7,7 +7,7 @@ use Rattle.std.specs.List.{AllByRecursion, flat_map, list_all, list_any}
 use Rattle.std.specs.Prelude.{◌==◌, IsTrue, nat_lt, slice_get}
 use Rattle.vocab.specs.Limits.{bases_of, instance_count}
 use Rattle.vocab.specs.Literal.{has, opposite_of, profile_of, same_literal}
-use Rattle.vocab.specs.Size.{HasOutcomes, Extent, outcome_count, sort_count}
+use Rattle.vocab.specs.Size.{Extent, outcome_count, sort_count}
 use Rattle.vocab.specs.Sorted.{is_sorted}
 use Rattle.vocab.specs.Study.{is_sentence}
 use Rattle.vocab.specs.Titled.{Titled}
@@ -27,7 +27,7 @@ use Rattle.meaning.specs.Space.{below, digits_of}
 use Rattle.meaning.specs.Stories.{are_false, is_false, is_instance_false, is_outcome_excluded}
 use Rattle.meaning.specs.declared.clauses.Origin.{Origin}
 use Rattle.meaning.specs.declared.clauses.Origin.TheVariants.{Frame, Instance}
-use Rattle.meaning.specs.StudyClauses.{no_circle, not_both, Sourced, clauses_of, firsts, frame_of, from_axiom, from_frame, from_instance, instance_of, sorted, sorted_in, study_clauses}
+use Rattle.meaning.specs.StudyClauses.{no_circle, not_both, some_winner, Sourced, clauses_of, firsts, frame_of, from_axiom, from_frame, from_instance, instance_of, sorted, sorted_in, study_clauses}
 use Rattle.meaning.specs.Truth.{holds_of}
 use Rattle.meaning.specs.Variables.{lit_of, pairs, triples}
 use Rattle.meaning.specs.Written.{And, Fact, Iff, Known, Neg, Or, Written}
@@ -36,7 +36,7 @@ use Rattle.meaning.specs.declared.three.Three.TheVariants.{False, True, Unknown}
 use Rattle.meaning.proofs.ClauseLaws.{clauses_decide}
 use Rattle.meaning.proofs.DigitLaws.{are_one_to_one}
 use Rattle.meaning.proofs.FrameLaws.{is_frame}
-use Rattle.meaning.proofs.LiteralLaws.{choice_literal, is_literal-opposite, profile_of-opposite, ranking_literal, same_literal-equal, unequal}
+use Rattle.meaning.proofs.LiteralLaws.{winner_literal, is_literal-opposite, profile_of-opposite, ranking_literal, same_literal-equal, unequal}
 use Rattle.meaning.proofs.PairLaws.{pairs-from, triples-from}
 use Rattle.meaning.proofs.RankingLaws.{All-append, All-flat_map}
 use Rattle.meaning.proofs.SpaceLaws.{all_from, any_at}
@@ -137,15 +137,18 @@ module _ (size : Extent) (p : ℕ) (in_p : p < sort_count size Profile) where
   abbrev pub is_here : Kind → Literal → Bool
   is_here k l = is_literal_of size k l && (profile_of l == p)
 
+  winner_here : (x : ℕ) → x < size.alternatives → (nat_lt x size.alternatives && nat_lt p (sort_count size Profile) && (p == p)) ≡ true
+  winner_here x lt = and_from _ _ (winner_literal size x p lt in_p) (eq-eqb p p refl)
+
+  winners_here : list_all (is_here Choice) (some_winner size p) ≡ true
+  winners_here =
+      list_all-map (is_here Choice) (λ (x : ℕ). Wins x p) (below size.alternatives) ∙ all_from (λ x. is_here Choice (Wins x p)) size.alternatives 0 (λ x low high. let in_x : x < size.alternatives = omega arith in winner_here x in_x)
+
   pub frame_here : (k : Kind) → list_all (list_all (is_here k)) (frame_of size k p) ≡ true
   frame_here Choice =
-      and_from _ _
-      (list_all-map (is_here Choice) (λ (x : ℕ). Wins x p) (below size.alternatives) ∙ all_from (λ x. is_here Choice (Wins x p)) size.alternatives 0 (λ x low high. let in_x : x < size.alternatives = omega arith in here x in_x))
+      and_from _ _ winners_here
       (list_all-map (list_all (is_here Choice)) (not_both p) (pairs size.alternatives)
-      ∙ pairs-from size.alternatives (λ t. list_all (is_here Choice) (not_both p t)) (λ x y lt l. let in_x : x < size.alternatives = omega arith in and_from _ _ (here x in_x) (and_from _ _ (here y l) refl)))
-    where
-      here : (x : ℕ) → x < size.alternatives → (nat_lt x size.alternatives && nat_lt p (sort_count size Profile) && (p == p)) ≡ true
-      here x lt = and_from _ _ (choice_literal size x p lt in_p) (eq-eqb p p refl)
+      ∙ pairs-from size.alternatives (λ t. list_all (is_here Choice) (not_both p t)) (λ x y lt l. let in_x : x < size.alternatives = omega arith in and_from _ _ (winner_here x in_x) (and_from _ _ (winner_here y l) refl)))
   frame_here Ranking =
       list_all-flat_map (list_all (is_here Ranking)) (no_circle p) (triples size.alternatives)
       ∙ triples-from size.alternatives (λ (t : ℕ × ℕ × ℕ). list_all (list_all (is_here Ranking)) (no_circle p t)) (λ x y z lt lt' l.
@@ -161,7 +164,7 @@ module _ (size : Extent) (p : ℕ) (in_p : p < sort_count size Profile) where
     where
       here : (x y : ℕ) → x < size.alternatives → y < size.alternatives → (x == y) ≡ false → is_here Ranking (Above x y p) ≡ true
       here x y in_x in_y ne = and_from _ _ (ranking_literal size x y p in_x in_y ne in_p) (eq-eqb p p refl)
-  frame_here Sets = refl
+  frame_here Sets = and_from _ _ winners_here refl
 
   pub right_here : (rows : List Disjunction) → list_all (list_all (is_here size.kind)) rows ≡ true → list_all (list_all (is_literal size)) rows ≡ true
   right_here [] h = refl
@@ -205,11 +208,11 @@ module _ (size : Extent) (p : ℕ) (in_p : p < sort_count size Profile) where
         | inr g ↦ rows_fail o known rows h e.1 g f.1
       ]
 
-  excluded : HasOutcomes size.kind → (known : List Literal) → some_false known (frame_of size size.kind p) ≡ true → is_outcome_excluded size known p ≡ true
-  excluded n known k = ap not (false_from_ne_true _ (λ t.
+  excluded : (known : List Literal) → some_false known (frame_of size size.kind p) ≡ true → is_outcome_excluded size known p ≡ true
+  excluded known k = ap not (false_from_ne_true _ (λ t.
       let r = any_at (λ o. list_all (holds_of size o) (filter (λ l. profile_of l == p) known)) (outcome_count size.kind size.alternatives) 0 t in
       let in_o : r.0 < outcome_count size.kind size.alternatives = omega (arith, r.2) in
-      rows_fail r.0 known (frame_of size size.kind p) r.3 (frame_here size.kind) k ((is_frame size n p in_p).each r.0 in_o)))
+      rows_fail r.0 known (frame_of size size.kind p) r.3 (frame_here size.kind) k ((is_frame size p in_p).each r.0 in_o)))
 
 -- ---- the clauses of a study
 
@@ -218,14 +221,14 @@ All-firsts P seen [] h = tt
 All-firsts P seen (s ∷ ss) h =
     elim (list_any (pointwise same_lit s.clause) seen) as (λ b. AllByRecursion P (cond b (firsts seen ss) (s ∷ firsts (s.clause ∷ seen) ss))) [ true ↦ All-firsts P seen ss h.1 | false ↦ (h.0, All-firsts P (s.clause ∷ seen) ss h.1) ]
 
-module _ (size : Extent) (known_kind : HasOutcomes size.kind) (axioms : List Titled) (sentences : list_all (is_sentence size) axioms ≡ true) (chosen : List ℕ) (known : List Literal) (all_known : list_all (is_literal size) known ≡ true) (no_pair : HasNoPair known) where
+module _ (size : Extent) (axioms : List Titled) (sentences : list_all (is_sentence size) axioms ≡ true) (chosen : List ℕ) (known : List Literal) (all_known : list_all (is_literal size) known ≡ true) (no_pair : HasNoPair known) where
   abbrev Told : Sourced → Type 0
   Told s = is_falsified (map (lit_of size) known) s.clause ≡ true → RefuteOrigin size axioms chosen known s.origin
 
   frame_told : (p : ℕ) → p < sort_count size Profile → AllByRecursion Told (from_frame size p)
   frame_told p in_p =
       each_clause size known all_known (is_outcome_excluded size known p ≡ true) (λ c. record { clause = c; origin = Frame p }) (λ c. refl) (RefuteOrigin size axioms chosen known) (λ c e. e)
-      (frame_of size size.kind p) (right_here size p in_p (frame_of size size.kind p) (frame_here size p in_p size.kind)) (excluded size p in_p known_kind known)
+      (frame_of size size.kind p) (right_here size p in_p (frame_of size size.kind p) (frame_here size p in_p size.kind)) (excluded size p in_p known)
 
   false_from : (t : Three) → t ≡ False → is_false t ≡ true
   false_from t e = ap is_false e
@@ -234,7 +237,7 @@ module _ (size : Extent) (known_kind : HasOutcomes size.kind) (axioms : List Tit
   instance_told k i a is sorted lt inside =
       let values = digits_of (bases_of size a.sentence) i in
       let digits = (are_one_to_one (bases_of size a.sentence)).digits i lt in
-      let facts = instance_literals size known_kind a.sentence sorted i lt in
+      let facts = instance_literals size a.sentence sorted i lt in
       each_clause size known all_known (is_instance_false size known (Some a) values ≡ true) (λ c. record { clause = c; origin = Instance k i }) (λ c. refl) (RefuteOrigin size axioms chosen known)
       (λ c e. subst (λ o. IfAxiom o (λ x. (i < instance_count size x.sentence) × IsTrue (list_any (λ d. d == k) chosen && is_instance_false size known o (instance_values size x.sentence i)))) (sym is) (lt, and_from _ _ inside e))
       (plus (instance_of size a.sentence i)) (rows_right size (instance_of size a.sentence i) facts).0
@@ -257,7 +260,7 @@ module _ (size : Extent) (known_kind : HasOutcomes size.kind) (axioms : List Tit
       (All-flat_map Told (from_frame size) (below (sort_count size Profile)) (all_numbers _ (sort_count size Profile) 0 (λ p lt. frame_told p (omega (arith, lt)))))
       (All-flat_map Told (λ (k : ℕ). from_axiom size k (slice_get axioms k)) chosen (everywhere_told chosen (λ k h. h)))
 
-pub have_reasons : (size : Extent) → HasOutcomes size.kind → (axioms : List Titled) → list_all (is_sentence size) axioms ≡ true → (chosen : List ℕ) →
+pub have_reasons : (size : Extent) → (axioms : List Titled) → list_all (is_sentence size) axioms ≡ true → (chosen : List ℕ) →
     (known : List Literal) → list_all (is_literal size) known ≡ true → HasNoPair known →
     AllByRecursion (λ (s : Sourced). is_falsified (map (lit_of size) known) s.clause ≡ true → RefuteOrigin size axioms chosen known s.origin) (study_clauses size axioms chosen)
-have_reasons size n axioms sentences chosen known all_known no_pair = study_told size n axioms sentences chosen known all_known no_pair
+have_reasons size axioms sentences chosen known all_known no_pair = study_told size axioms sentences chosen known all_known no_pair

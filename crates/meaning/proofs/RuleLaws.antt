@@ -9,7 +9,7 @@ use Rattle.std.specs.Prelude.{◌==◌, IsTrue, nat_le, nat_lt, slice_get, slice
 use Rattle.vocab.specs.Formula.{quantifier_depth}
 use Rattle.vocab.specs.Limits.{instance_count}
 use Rattle.vocab.specs.Literal.{profile_of}
-use Rattle.vocab.specs.Size.{HasOutcomes, Extent, outcome_count, sort_count}
+use Rattle.vocab.specs.Size.{Extent, outcome_count, sort_count}
 use Rattle.vocab.specs.Sorted.{is_sorted}
 use Rattle.vocab.specs.Study.{is_sentence}
 use Rattle.vocab.specs.Titled.{Titled}
@@ -21,16 +21,16 @@ use Rattle.vocab.specs.declared.literals.Literal.{Literal}
 use Rattle.vocab.specs.declared.literals.Literal.TheVariants.{Above, Loses, Wins}
 use Rattle.cnf.specs.Sat.{is_satisfied}
 use Rattle.meaning.specs.Laws.{AllFacts, AreBitsOf, AreOf, are_instances_true, clauses_for, is_frame_true, literal_under}
-use Rattle.meaning.specs.Literals.{is_literal, is_literal_of}
+use Rattle.meaning.specs.Literals.{is_literal, is_literal_of, is_of_winner}
 use Rattle.meaning.specs.Space.{below}
-use Rattle.meaning.specs.StudyClauses.{no_circle, not_both, frame_of, instance_of}
+use Rattle.meaning.specs.StudyClauses.{no_circle, not_both, some_winner, frame_of, instance_of}
 use Rattle.meaning.specs.Truth.{holds, holds_of, is_axiom_true, is_rule, is_true_at, satisfies}
 use Rattle.meaning.specs.Variables.{bits_of, pairs, triples}
 use Rattle.meaning.specs.Written.{And, Fact, Iff, Known, Neg, Or, Written, evaluate}
 use Rattle.meaning.proofs.BitLaws.{HasValues, bits_from_values, values_from_bits}
 use Rattle.meaning.proofs.FrameLaws.{is_frame, is_circle_free}
 use Rattle.meaning.proofs.InstanceLaws.{are_instances}
-use Rattle.meaning.proofs.LiteralLaws.{choice_literal, profile_in, ranking_literal, unequal}
+use Rattle.meaning.proofs.LiteralLaws.{winner_literal, profile_in, ranking_literal, unequal}
 use Rattle.meaning.proofs.PairLaws.{pairs-same, triples-same}
 use Rattle.meaning.proofs.SpaceLaws.{all_at, all_from}
 use Rattle.meaning.proofs.StoryLaws.{outcome_in_range}
@@ -39,11 +39,16 @@ use Rattle.meaning.proofs.StudyLaws.{AllFacts-map, satisfy_study, literal_under-
 use Rattle.meaning.proofs.TestLaws.{all-agree, any-agree, list_all-flat_map, list_any-map}
 
 module _ (size : Extent) (p : ℕ) (in_p : p < sort_count size Profile) (v u : Literal → Bool) where
+  winners-same : ((l : Literal) → is_of_winner size l ≡ true → profile_of l ≡ p → v l ≡ u l) → list_any v (some_winner size p) ≡ list_any u (some_winner size p)
+  winners-same h =
+      list_any-map v (λ (x : ℕ). Wins x p) (below size.alternatives)
+      ∙ any-agree (λ x. v (Wins x p)) (λ x. u (Wins x p)) size.alternatives 0 (λ x lt. h (Wins x p) (winner_literal size x p (omega arith) in_p) refl)
+      ∙ sym (list_any-map u (λ (x : ℕ). Wins x p) (below size.alternatives))
+
   -- truth values that agree on the literals at a profile agree on its frame
   pub frame-same : (k : Kind) → ((l : Literal) → is_literal_of size k l ≡ true → profile_of l ≡ p → v l ≡ u l) → list_all (list_any v) (frame_of size k p) ≡ list_all (list_any u) (frame_of size k p)
   frame-same Choice h =
-      ap₂ (λ a b. a && b)
-      (list_any-map v (λ (x : ℕ). Wins x p) (below size.alternatives) ∙ any-agree (λ x. v (Wins x p)) (λ x. u (Wins x p)) size.alternatives 0 (λ x lt. h (Wins x p) (in_range x (omega arith)) refl) ∙ sym (list_any-map u (λ (x : ℕ). Wins x p) (below size.alternatives)))
+      ap₂ (λ a b. a && b) (winners-same h)
       (list_all-map (list_any v) (not_both p) (pairs size.alternatives)
       ∙ pairs-same size.alternatives (λ t. list_any v (not_both p t)) (λ t. list_any u (not_both p t)) (λ x y lt l.
       let in_x : x < size.alternatives = omega arith in
@@ -51,7 +56,7 @@ module _ (size : Extent) (p : ℕ) (in_p : p < sort_count size Profile) (v u : L
       ∙ sym (list_all-map (list_any u) (not_both p) (pairs size.alternatives)))
     where
       in_range : (x : ℕ) → x < size.alternatives → (nat_lt x size.alternatives && nat_lt p (sort_count size Profile)) ≡ true
-      in_range x lt = choice_literal size x p lt in_p
+      in_range x lt = winner_literal size x p lt in_p
   frame-same Ranking h =
       list_all-flat_map (list_any v) (no_circle p) (triples size.alternatives)
       ∙ triples-same size.alternatives (is_circle_free v p) (is_circle_free u p) (λ x y z lt lt' l.
@@ -69,7 +74,7 @@ module _ (size : Extent) (p : ℕ) (in_p : p < sort_count size Profile) (v u : L
     where
       agree : (x y : ℕ) → x < size.alternatives → y < size.alternatives → (x == y) ≡ false → v (Above x y p) ≡ u (Above x y p)
       agree x y in_x in_y ne = h (Above x y p) (ranking_literal size x y p in_x in_y ne in_p) refl
-  frame-same Sets h = refl
+  frame-same Sets h = ap (λ a. a && true) (winners-same h)
 
 -- ---- a list of what there is at each number
 
@@ -92,13 +97,13 @@ evaluate-same v u (And a b) h = ap₂ (λ x y. x && y) (evaluate-same v u a h.0)
 evaluate-same v u (Or a b) h = ap₂ (λ x y. x || y) (evaluate-same v u a h.0) (evaluate-same v u b h.1)
 evaluate-same v u (Iff a b) h = ap₂ beq (evaluate-same v u a h.0) (evaluate-same v u b h.1)
 
-module _ (size : Extent) (known_kind : HasOutcomes size.kind) (v : ℕ → Bool) where
+module _ (size : Extent) (v : ℕ → Bool) where
   -- ---- one axiom
 
   instances-same : (table : List ℕ) → HasValues size table v → (sentence : Tree) → is_sorted size [] sentence ≡ true → list_all (λ k. evaluate (literal_under size v) (instance_of size sentence k)) (below (instance_count size sentence)) ≡ is_true_at size table sentence []
   instances-same table bits sentence sorted =
       all-agree _ _ (instance_count size sentence) 0 (λ k lt.
-      let facts = instance_literals size known_kind sentence sorted k (omega (arith, lt)) in
+      let facts = instance_literals size sentence sorted k (omega (arith, lt)) in
       evaluate-same (literal_under size v) (holds size table) (instance_of size sentence k) (AllFacts-map (λ l. is_literal size l ≡ true) (λ l. literal_under size v l ≡ holds size table l) (instance_of size sentence k) bits facts))
       ∙ sym (are_instances size table sentence)
 
@@ -124,7 +129,7 @@ module _ (size : Extent) (known_kind : HasOutcomes size.kind) (v : ℕ → Bool)
   rule_from frames =
       let found = listed Fits (sort_count size Profile) 0 (λ p low high.
       let in_p : p < sort_count size Profile = omega arith in
-      let one = (is_frame size known_kind p in_p).some (literal_under size v) (literal_under-opposite size v size.kind) (all_at (λ q. list_all (list_any (literal_under size v)) (frame_of size size.kind q)) (sort_count size Profile) 0 p frames low high) in
+      let one = (is_frame size p in_p).some (literal_under size v) (literal_under-opposite size v size.kind) (all_at (λ q. list_all (list_any (literal_under size v)) (frame_of size size.kind q)) (sort_count size Profile) 0 p frames low high) in
       (one.0, (one.1, one.2))) in
       (found.0, rule found.0 found.1 found.2, bits found.0 found.2)
     where
@@ -142,35 +147,35 @@ module _ (size : Extent) (known_kind : HasOutcomes size.kind) (v : ℕ → Bool)
       all_from (λ p. list_all (list_any (literal_under size v)) (frame_of size size.kind p)) (sort_count size Profile) 0 (λ p low high.
       let in_p : p < sort_count size Profile = omega arith in
       frame-same size p in_p (literal_under size v) (holds_of size (slice_index table p)) size.kind (λ l in_l here. bits l in_l ∙ ap (λ (q : ℕ). holds_of size (slice_index table q) l) here)
-      ∙ (is_frame size known_kind p in_p).each (slice_index table p) (outcome_in_range size table rule (let some : 0 < sort_count size Profile = omega arith in some) p))
+      ∙ (is_frame size p in_p).each (slice_index table p) (outcome_in_range size table rule (let some : 0 < sort_count size Profile = omega arith in some) p))
 
   both_ways_of : (axioms : List Titled) → list_all (is_sentence size) axioms ≡ true → (chosen : List ℕ) → list_all (λ k. nat_lt k (length axioms)) chosen ≡ true →
       (is_satisfied v (clauses_for size axioms chosen) ≡ true) ↔ ((table : List ℕ) × (satisfies size axioms chosen table ≡ true) × HasValues size table v)
   both_ways_of axioms h chosen in_range = (
     λ sat.
-        let e = and_parts (is_frame_true size v) (list_all (λ k. are_instances_true size v (slice_get axioms k)) chosen) (sym (satisfy_study size known_kind axioms h chosen v) ∙ sat) in
+        let e = and_parts (is_frame_true size v) (list_all (λ k. are_instances_true size v (slice_get axioms k)) chosen) (sym (satisfy_study size axioms h chosen v) ∙ sat) in
         let r = rule_from e.0 in
         (r.0, and_from _ _ r.1 (sym (axioms-same r.0 r.2 axioms h chosen in_range) ∙ e.1), r.2),
     λ r.
         let e = and_parts (is_rule size r.0) (list_all (λ k. is_axiom_true size r.0 (slice_get axioms k)) chosen) r.1 in
-        satisfy_study size known_kind axioms h chosen v ∙ and_from _ _ (frames_from r.0 e.0 r.2) (axioms-same r.0 r.2 axioms h chosen in_range ∙ e.1),
+        satisfy_study size axioms h chosen v ∙ and_from _ _ (frames_from r.0 e.0 r.2) (axioms-same r.0 r.2 axioms h chosen in_range ∙ e.1),
   )
 
-pub are_rules : (size : Extent) → HasOutcomes size.kind → (axioms : List Titled) → list_all (is_sentence size) axioms ≡ true →
+pub are_rules : (size : Extent) → (axioms : List Titled) → list_all (is_sentence size) axioms ≡ true →
     (chosen : List ℕ) → list_all (λ k. nat_lt k (length axioms)) chosen ≡ true → (v : ℕ → Bool) →
     IsTrue (is_satisfied v (clauses_for size axioms chosen)) ↔ ((table : List ℕ) × IsTrue (satisfies size axioms chosen table) × AreBitsOf size table v)
-are_rules size n axioms h chosen in_range v =
-    let ways = both_ways_of size n v axioms h chosen in_range in (
-      λ sat. let r = ways.0 sat in (r.0, r.1, bits_from_values size n r.0 v r.2),
+are_rules size axioms h chosen in_range v =
+    let ways = both_ways_of size v axioms h chosen in_range in (
+      λ sat. let r = ways.0 sat in (r.0, r.1, bits_from_values size r.0 v r.2),
       λ r.
           let rule : is_rule size r.0 ≡ true = (and_parts _ _ r.1).0 in
-          ways.1 (r.0, r.1, values_from_bits size r.0 rule n v r.2),
+          ways.1 (r.0, r.1, values_from_bits size r.0 rule v r.2),
     )
 
-pub are_satisfiable : (size : Extent) → HasOutcomes size.kind → (axioms : List Titled) → list_all (is_sentence size) axioms ≡ true →
+pub are_satisfiable : (size : Extent) → (axioms : List Titled) → list_all (is_sentence size) axioms ≡ true →
     (chosen : List ℕ) → list_all (λ k. nat_lt k (length axioms)) chosen ≡ true →
     ((v : ℕ → Bool) × IsTrue (is_satisfied v (clauses_for size axioms chosen))) ↔ ((table : List ℕ) × IsTrue (satisfies size axioms chosen table))
-are_satisfiable size n axioms h chosen in_range = (
-  λ a. let r = (are_rules size n axioms h chosen in_range a.0).0 a.1 in (r.0, r.1),
-  λ r. (bits_of size r.0, (are_rules size n axioms h chosen in_range (bits_of size r.0)).1 (r.0, r.1, λ i low high. refl)),
+are_satisfiable size axioms h chosen in_range = (
+  λ a. let r = (are_rules size axioms h chosen in_range a.0).0 a.1 in (r.0, r.1),
+  λ r. (bits_of size r.0, (are_rules size axioms h chosen in_range (bits_of size r.0)).1 (r.0, r.1, λ i low high. refl)),
 )

@@ -1,5 +1,5 @@
 -- The instances of well-sorted sentences have literals of the size.
-use Rattle.std.proofs.Common.{◌≡◌, refl, sym, subst, ℕ, zero, suc, ◌<◌, ◌≢◌, true, List, [], ◌∷◌, ◌++◌, map, Option, Some, None, true≢false, append_assoc, append-nil}
+use Rattle.std.proofs.Common.{◌≡◌, refl, sym, subst, ℕ, zero, suc, ◌<◌, true, List, [], ◌∷◌, ◌++◌, map, Option, Some, None, true≢false, append_assoc, append-nil}
 use Rattle.std.specs.List.{list_all}
 use Rattle.std.specs.Cmp.Lexicographic.{pointwise}
 use Rattle.std.specs.Prelude.{nat_lt, nat_le, slice_get}
@@ -7,7 +7,7 @@ use Rattle.std.proofs.lemmas.Bool.{and_parts, and_from}
 use Rattle.vocab.specs.declared.kinds.Sort.{Sort}
 use Rattle.vocab.specs.Formula.{prefix_of, body_of, quantifier_depth}
 use Rattle.vocab.specs.Limits.{bases_of, instance_count}
-use Rattle.vocab.specs.Size.{HasOutcomes, Extent, sort_count}
+use Rattle.vocab.specs.Size.{Extent, sort_count}
 use Rattle.vocab.specs.Sorted.{is_sorted, are_of_sorts}
 use Rattle.vocab.specs.Study.{is_sentence}
 use Rattle.vocab.specs.Titled.{Titled}
@@ -46,8 +46,8 @@ module _ (size : Extent) where
   sorted_at (a ∷ axioms) (suc k) h = sorted_at axioms k (and_parts (is_sentence size a) (list_all (is_sentence size) axioms) h).1
 
   -- the literals of an instance are literals of the size
-  pub instance_literals : HasOutcomes size.kind → (sentence : Tree) → is_sorted size [] sentence ≡ true → (k : ℕ) → k < instance_count size sentence → AllFacts (λ l. is_literal size l ≡ true) (instance_of size sentence k)
-  instance_literals n sentence h k lt =
+  pub instance_literals : (sentence : Tree) → is_sorted size [] sentence ≡ true → (k : ℕ) → k < instance_count size sentence → AllFacts (λ l. is_literal size l ≡ true) (instance_of size sentence k)
+  instance_literals sentence h k lt =
       let values = digits_of (bases_of size sentence) k in
       let suited = suited_from (prefix_of sentence) values ((are_one_to_one (bases_of size sentence)).digits k lt) in
-      have_literals size n (prefix_of sentence) values suited (body_of sentence) (body_sorted sentence [] h)
+      have_literals size (prefix_of sentence) values suited (body_of sentence) (body_sorted sentence [] h)

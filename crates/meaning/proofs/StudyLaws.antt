@@ -1,5 +1,5 @@
 -- An assignment satisfies the clauses of a study exactly where it satisfies the frames and makes each instance of the chosen axioms true.
-use Rattle.std.proofs.Common.{◌&&◌, ◌<◌, Bool, List, None, Option, Some, ap, ap₂, arith, cond, false, filter, inl, inr, map, not, refl, sym, true, true≢false, ℕ, ◌∙◌, ◌∷◌, ◌≡◌, ◌≢◌, ◌||◌, []}
+use Rattle.std.proofs.Common.{◌&&◌, ◌<◌, Bool, List, None, Option, Some, ap, ap₂, arith, cond, false, filter, inl, inr, map, not, refl, sym, true, true≢false, ℕ, ◌∙◌, ◌∷◌, ◌≡◌, ◌||◌, []}
 use Rattle.std.proofs.lemmas.Bool.{and_from, and_parts, or_cases}
 use Rattle.std.proofs.lemmas.List.Folds.{list_all-append, list_all-map}
 use Rattle.std.specs.Cmp.Lexicographic.{pointwise}
@@ -7,7 +7,7 @@ use Rattle.std.specs.List.{flat_map, list_all, list_any}
 use Rattle.std.specs.Prelude.{nat_lt, slice_get}
 use Rattle.vocab.specs.Limits.{instance_count}
 use Rattle.vocab.specs.Literal.{opposite_of}
-use Rattle.vocab.specs.Size.{HasOutcomes, Extent, sort_count}
+use Rattle.vocab.specs.Size.{Extent, sort_count}
 use Rattle.vocab.specs.Sorted.{is_sorted}
 use Rattle.vocab.specs.Study.{is_sentence}
 use Rattle.vocab.specs.Titled.{Titled}
@@ -118,36 +118,35 @@ module _ (size : Extent) (v : ℕ → Bool) where
   proper : (w : Written) → AllFacts (λ l. is_literal size l ≡ true) w → IsProper (literal_under size v) w
   proper w h = AllFacts-map _ _ w (literal_under-opposite size.kind) h
 
-  module _ (known_kind : HasOutcomes size.kind) where
-    true-instance : (sentence : Tree) → is_sorted size [] sentence ≡ true → (k : ℕ) → k < instance_count size sentence → is_satisfied v (clauses_of size (plus (instance_of size sentence k))) ≡ evaluate (literal_under size v) (instance_of size sentence k)
-    true-instance sentence h k lt =
-        let facts = instance_literals size known_kind sentence h k lt in
-        true-clauses_of (plus (instance_of size sentence k)) ∙ (clauses_true (literal_under size v) (instance_of size sentence k) (proper (instance_of size sentence k) facts)).0
+  true-instance : (sentence : Tree) → is_sorted size [] sentence ≡ true → (k : ℕ) → k < instance_count size sentence → is_satisfied v (clauses_of size (plus (instance_of size sentence k))) ≡ evaluate (literal_under size v) (instance_of size sentence k)
+  true-instance sentence h k lt =
+      let facts = instance_literals size sentence h k lt in
+      true-clauses_of (plus (instance_of size sentence k)) ∙ (clauses_true (literal_under size v) (instance_of size sentence k) (proper (instance_of size sentence k) facts)).0
 
-    true-axiom : (a : ℕ) (o : Option Titled) → IfSorted size o → list_all (λ (s : Sourced). is_clause_true v s.clause) (from_axiom size a o) ≡ are_instances_true size v o
-    true-axiom a None h = refl
-    true-axiom a (Some x) h =
-        true-firsts v [] (flat_map (from_instance size a x.sentence) (below (instance_count size x.sentence))) refl
-        ∙ list_all-flat_map (λ (s : Sourced). is_clause_true v s.clause) (from_instance size a x.sentence) (below (instance_count size x.sentence))
-        ∙ all-agree _ _ (instance_count size x.sentence) 0 (λ k lt.
-        list_all-map (λ (s : Sourced). is_clause_true v s.clause) (λ (c : Clause). record { clause = c; origin = Instance a k }) (clauses_of size (plus (instance_of size x.sentence k)))
-        ∙ true-instance x.sentence h k (omega arith))
+  true-axiom : (a : ℕ) (o : Option Titled) → IfSorted size o → list_all (λ (s : Sourced). is_clause_true v s.clause) (from_axiom size a o) ≡ are_instances_true size v o
+  true-axiom a None h = refl
+  true-axiom a (Some x) h =
+      true-firsts v [] (flat_map (from_instance size a x.sentence) (below (instance_count size x.sentence))) refl
+      ∙ list_all-flat_map (λ (s : Sourced). is_clause_true v s.clause) (from_instance size a x.sentence) (below (instance_count size x.sentence))
+      ∙ all-agree _ _ (instance_count size x.sentence) 0 (λ k lt.
+      list_all-map (λ (s : Sourced). is_clause_true v s.clause) (λ (c : Clause). record { clause = c; origin = Instance a k }) (clauses_of size (plus (instance_of size x.sentence k)))
+      ∙ true-instance x.sentence h k (omega arith))
 
-    true-frames : list_all (λ (s : Sourced). is_clause_true v s.clause) (flat_map (from_frame size) (below (sort_count size Profile))) ≡ is_frame_true size v
-    true-frames =
-        list_all-flat_map (λ (s : Sourced). is_clause_true v s.clause) (from_frame size) (below (sort_count size Profile))
-        ∙ list_all-ext _ _ (below (sort_count size Profile)) (λ p.
-        list_all-map (λ (s : Sourced). is_clause_true v s.clause) (λ (c : Clause). record { clause = c; origin = Frame p }) (clauses_of size (frame_of size size.kind p))
-        ∙ true-clauses_of (frame_of size size.kind p))
+  true-frames : list_all (λ (s : Sourced). is_clause_true v s.clause) (flat_map (from_frame size) (below (sort_count size Profile))) ≡ is_frame_true size v
+  true-frames =
+      list_all-flat_map (λ (s : Sourced). is_clause_true v s.clause) (from_frame size) (below (sort_count size Profile))
+      ∙ list_all-ext _ _ (below (sort_count size Profile)) (λ p.
+      list_all-map (λ (s : Sourced). is_clause_true v s.clause) (λ (c : Clause). record { clause = c; origin = Frame p }) (clauses_of size (frame_of size size.kind p))
+      ∙ true-clauses_of (frame_of size size.kind p))
 
-    true-study : (axioms : List Titled) → list_all (is_sentence size) axioms ≡ true → (chosen : List ℕ) → is_satisfied v (clauses_for size axioms chosen) ≡ (is_frame_true size v && list_all (λ k. are_instances_true size v (slice_get axioms k)) chosen)
-    true-study axioms h chosen =
-        list_all-map (is_clause_true v) (λ (s : Sourced). s.clause) (study_clauses size axioms chosen)
-        ∙ list_all-append (λ (s : Sourced). is_clause_true v s.clause) (flat_map (from_frame size) (below (sort_count size Profile))) (flat_map (λ a. from_axiom size a (slice_get axioms a)) chosen)
-        ∙ ap₂ (λ a b. a && b) true-frames
-        (list_all-flat_map (λ (s : Sourced). is_clause_true v s.clause) (λ a. from_axiom size a (slice_get axioms a)) chosen
-        ∙ list_all-ext _ _ chosen (λ a. true-axiom a (slice_get axioms a) (sorted_at size axioms a h)))
+  true-study : (axioms : List Titled) → list_all (is_sentence size) axioms ≡ true → (chosen : List ℕ) → is_satisfied v (clauses_for size axioms chosen) ≡ (is_frame_true size v && list_all (λ k. are_instances_true size v (slice_get axioms k)) chosen)
+  true-study axioms h chosen =
+      list_all-map (is_clause_true v) (λ (s : Sourced). s.clause) (study_clauses size axioms chosen)
+      ∙ list_all-append (λ (s : Sourced). is_clause_true v s.clause) (flat_map (from_frame size) (below (sort_count size Profile))) (flat_map (λ a. from_axiom size a (slice_get axioms a)) chosen)
+      ∙ ap₂ (λ a b. a && b) true-frames
+      (list_all-flat_map (λ (s : Sourced). is_clause_true v s.clause) (λ a. from_axiom size a (slice_get axioms a)) chosen
+      ∙ list_all-ext _ _ chosen (λ a. true-axiom a (slice_get axioms a) (sorted_at size axioms a h)))
 
-pub satisfy_study : (size : Extent) → HasOutcomes size.kind → (axioms : List Titled) → list_all (is_sentence size) axioms ≡ true → (chosen : List ℕ) (v : ℕ → Bool) →
+pub satisfy_study : (size : Extent) → (axioms : List Titled) → list_all (is_sentence size) axioms ≡ true → (chosen : List ℕ) (v : ℕ → Bool) →
     is_satisfied v (clauses_for size axioms chosen) ≡ (is_frame_true size v && list_all (λ k. are_instances_true size v (slice_get axioms k)) chosen)
-satisfy_study size known_kind axioms h chosen v = true-study size v known_kind axioms h chosen
+satisfy_study size axioms h chosen v = true-study size v axioms h chosen

@@ -1,12 +1,12 @@
 -- Literals of a size and the variables of its studies are one to one.
-use Rattle.std.proofs.Common.{◌%◌, ◌&&◌, ◌*◌, ◌+◌, ◌-◌, ◌/◌, ◌<◌, Bool, List, add-mul, ap, ap₂, arith, cond, eq-eqb, eqb-true, false, inl, inr, le-ltb, length, lt-ltb, map, mul_comm, not, refl, subst, sym, true, true≢false, ℕ, ◌∙◌, ◌∷◌, ◌≡◌, ◌≢◌, ◌≤◌, []}
+use Rattle.std.proofs.Common.{◌%◌, ◌&&◌, ◌*◌, ◌+◌, ◌-◌, ◌/◌, ◌<◌, Bool, List, add-mul, ap, ap₂, arith, cond, eq-eqb, eqb-true, false, inl, inr, le-ltb, length, lt-ltb, map, mul_comm, not, refl, subst, sym, true, true≢false, ℕ, ◌∙◌, ◌∷◌, ◌≡◌, ◌≤◌, []}
 use Rattle.std.proofs.Math.Nat.{div-add-mod'}
 use Rattle.std.proofs.lemmas.Bool.{and_parts, both_ways, cases_order, or_cases, or_left, or_right}
 use Rattle.std.proofs.lemmas.Nat.{div-mul-add, div_below, mod-mul-add, mod_below, mul-add-lt}
 use Rattle.std.specs.List.{list_all}
 use Rattle.std.specs.Prelude.{nat_lt}
 use Rattle.vocab.specs.Literal.{has, opposite_of, profile_of, same_literal}
-use Rattle.vocab.specs.Size.{HasOutcomes, Extent, sort_count}
+use Rattle.vocab.specs.Size.{Extent, sort_count}
 use Rattle.vocab.specs.declared.kinds.Kind.{Kind}
 use Rattle.vocab.specs.declared.kinds.Kind.TheVariants.{Choice, Ranking, Sets}
 use Rattle.vocab.specs.declared.kinds.Sort.TheVariants.{Profile}
@@ -16,10 +16,10 @@ use Rattle.cnf.proofs.LitLaws.{same_lit-equal}
 use Rattle.cnf.specs.Sat.{has_lit, opposite_lit, same_lit}
 use Rattle.cnf.specs.Signed.{Signed}
 use Rattle.meaning.specs.Laws.{AreVariables}
-use Rattle.meaning.specs.Literals.{is_literal, is_literal_of}
-use Rattle.meaning.specs.Variables.{bits, lit_of, literal_at, literal_of, pair_place, pairs}
+use Rattle.meaning.specs.Literals.{is_literal, is_literal_of, is_of_winner}
+use Rattle.meaning.specs.Variables.{bits, lit_of, literal_at, literal_of, pair_place, pairs, winner_at}
 use Rattle.meaning.proofs.DigitLaws.{positive_right}
-use Rattle.meaning.proofs.LiteralLaws.{choice_in, choice_literal, ranking_in, ranking_literal, same_literal-refl, unequal}
+use Rattle.meaning.proofs.LiteralLaws.{winner_in, winner_literal, ranking_in, ranking_literal, same_literal-refl, unequal}
 use Rattle.meaning.proofs.PairLaws.{pair_at, pair_found, pair_rises, place_of_pair}
 
 -- the profile of a variable, and its place there
@@ -63,16 +63,19 @@ module _ (size : Extent) where
 
   -- ---- from literals to variables
 
-  in_choice : (x p : ℕ) → (nat_lt x size.alternatives && nat_lt p (sort_count size Profile)) ≡ true → (1 ≤ p * size.alternatives + x + 1) × (p * size.alternatives + x + 1 ≤ sort_count size Profile * size.alternatives)
-  in_choice x p h =
-      let e = choice_in size x p h in
+  in_winner : (x p : ℕ) → (nat_lt x size.alternatives && nat_lt p (sort_count size Profile)) ≡ true → (1 ≤ p * size.alternatives + x + 1) × (p * size.alternatives + x + 1 ≤ sort_count size Profile * size.alternatives)
+  in_winner x p h =
+      let e = winner_in size x p h in
       (omega arith, omega (arith, mul-add-lt p size.alternatives x (sort_count size Profile) e.1 e.0, mul_comm size.alternatives (sort_count size Profile)))
+
+  winner-in : (l : Literal) → is_of_winner size l ≡ true → (1 ≤ (lit_of size l).variable) × ((lit_of size l).variable ≤ sort_count size Profile * size.alternatives)
+  winner-in (Wins x p) h = in_winner x p h
+  winner-in (Loses x p) h = in_winner x p h
+  winner-in (Above x y p) h = absurd (true≢false (sym h))
 
   -- the variable of a literal of the size is one of the study
   lit-in : (k : Kind) (l : Literal) → is_literal_of size k l ≡ true → (1 ≤ (lit_of size l).variable) × ((lit_of size l).variable ≤ sort_count size Profile * bits k size.alternatives)
-  lit-in Choice (Wins x p) h = in_choice x p h
-  lit-in Choice (Loses x p) h = in_choice x p h
-  lit-in Choice (Above x y p) h = absurd (true≢false (sym h))
+  lit-in Choice l h = winner-in l h
   lit-in Ranking (Wins x p) h = absurd (true≢false (sym h))
   lit-in Ranking (Loses x p) h = absurd (true≢false (sym h))
   lit-in Ranking (Above x y p) h =
@@ -90,10 +93,10 @@ module _ (size : Extent) where
           let c = length (pairs size.alternatives) in
           let f : pair_place size.alternatives a b < c = (pair_found size.alternatives a b lt in_b).0 in
           (omega arith, omega (arith, mul-add-lt p c (pair_place size.alternatives a b) (sort_count size Profile) lp f, mul_comm c (sort_count size Profile)))
-  lit-in Sets l h = absurd (true≢false (sym h))
+  lit-in Sets l h = winner-in l h
 
-  literal-choice : (x p : ℕ) (sign : Bool) → x < size.alternatives → literal_at size Choice (p * size.alternatives + x + 1 - 1) sign ≡ cond sign (Wins x p) (Loses x p)
-  literal-choice x p sign lt =
+  literal-winner : (x p : ℕ) (sign : Bool) → x < size.alternatives → winner_at size (p * size.alternatives + x + 1 - 1) sign ≡ cond sign (Wins x p) (Loses x p)
+  literal-winner x p sign lt =
       let e = split_at p size.alternatives x (p * size.alternatives + x + 1 - 1) lt (omega arith) in
       ap₂ (λ (a b : ℕ). cond sign (Wins a b) (Loses a b)) e.1 e.0
 
@@ -106,10 +109,13 @@ module _ (size : Extent) where
       ap₂ (λ (q k : ℕ). cond sign (Above (pair_at size.alternatives k).0 (pair_at size.alternatives k).1 q) (Above (pair_at size.alternatives k).1 (pair_at size.alternatives k).0 q)) e.0 e.1
       ∙ ap₂ (λ (x y : ℕ). cond sign (Above x y p) (Above y x p)) (eqb-true _ _ pair.0) (eqb-true _ _ pair.1)
 
+  winner-lit_of : (l : Literal) → is_of_winner size l ≡ true → winner_at size ((lit_of size l).variable - 1) (lit_of size l).positive ≡ l
+  winner-lit_of (Wins x p) h = literal-winner x p true (winner_in size x p h).0
+  winner-lit_of (Loses x p) h = literal-winner x p false (winner_in size x p h).0
+  winner-lit_of (Above x y p) h = absurd (true≢false (sym h))
+
   pub literal-lit_of : (k : Kind) (l : Literal) → is_literal_of size k l ≡ true → literal_at size k ((lit_of size l).variable - 1) (lit_of size l).positive ≡ l
-  literal-lit_of Choice (Wins x p) h = literal-choice x p true (choice_in size x p h).0
-  literal-lit_of Choice (Loses x p) h = literal-choice x p false (choice_in size x p h).0
-  literal-lit_of Choice (Above x y p) h = absurd (true≢false (sym h))
+  literal-lit_of Choice l h = winner-lit_of l h
   literal-lit_of Ranking (Wins x p) h = absurd (true≢false (sym h))
   literal-lit_of Ranking (Loses x p) h = absurd (true≢false (sym h))
   literal-lit_of Ranking (Above x y p) h =
@@ -121,7 +127,7 @@ module _ (size : Extent) where
           | inr gt ↦ ap (λ (s : Signed). literal_at size Ranking (s.variable - 1) s.positive) (lit_down x y p gt) ∙ literal-ranking y x p false gt r.0
         ]
       ]
-  literal-lit_of Sets l h = absurd (true≢false (sym h))
+  literal-lit_of Sets l h = winner-lit_of l h
 
   -- literals of one variable and sign are one
   pub lit_of-equal : (a b : Literal) → is_literal size a ≡ true → is_literal size b ≡ true → same_lit (lit_of size a) (lit_of size b) ≡ true → a ≡ b
@@ -139,13 +145,16 @@ module _ (size : Extent) where
 
   -- ---- from variables to literals
 
-  literal_right : (k : Kind) → HasOutcomes k → (v : ℕ) (sign : Bool) → v < sort_count size Profile * bits k size.alternatives → is_literal_of size k (literal_at size k v sign) ≡ true
-  literal_right Choice n v sign lt =
+  winner_right : (v : ℕ) (sign : Bool) → v < sort_count size Profile * size.alternatives → is_of_winner size (winner_at size v sign) ≡ true
+  winner_right v sign lt =
       let m = size.alternatives in
       let positive : 0 < m = positive_right _ m v lt in
-      let h : (nat_lt (v % m) m && nat_lt (v / m) (sort_count size Profile)) ≡ true = choice_literal size (v % m) (v / m) (mod_below v m positive) (div_below v m _ positive lt) in
-      elim sign as (λ s. is_literal_of size Choice (literal_at size Choice v s) ≡ true) [ true ↦ h | false ↦ h ]
-  literal_right Ranking n v sign lt =
+      let h : (nat_lt (v % m) m && nat_lt (v / m) (sort_count size Profile)) ≡ true = winner_literal size (v % m) (v / m) (mod_below v m positive) (div_below v m _ positive lt) in
+      elim sign as (λ s. is_of_winner size (winner_at size v s) ≡ true) [ true ↦ h | false ↦ h ]
+
+  literal_right : (k : Kind) (v : ℕ) (sign : Bool) → v < sort_count size Profile * bits k size.alternatives → is_literal_of size k (literal_at size k v sign) ≡ true
+  literal_right Choice v sign lt = winner_right v sign lt
+  literal_right Ranking v sign lt =
       let m = size.alternatives in
       let c = length (pairs m) in
       let positive : 0 < c = positive_right _ c v lt in
@@ -159,17 +168,20 @@ module _ (size : Extent) where
         | true ↦ ranking_literal size x y (v / c) in_x r.1 d.0 in_p
         | false ↦ ranking_literal size y x (v / c) r.1 in_x d.1 in_p
       ]
-  literal_right Sets n v sign lt = absurd (n refl)
+  literal_right Sets v sign lt = winner_right v sign lt
 
-  lit_of_literal : (k : Kind) → HasOutcomes k → (v : ℕ) (sign : Bool) → v < sort_count size Profile * bits k size.alternatives → lit_of size (literal_at size k v sign) ≡ record { variable = v + 1; positive = sign }
-  lit_of_literal Choice n v sign lt =
+  lit_of_winner : (v : ℕ) (sign : Bool) → lit_of size (winner_at size v sign) ≡ record { variable = v + 1; positive = sign }
+  lit_of_winner v sign =
       let m = size.alternatives in
       let e : v / m * m + v % m + 1 ≡ v + 1 = ap (λ (x : ℕ). x + 1) (div-add-mod' v m) in
-      elim sign as (λ s. lit_of size (literal_at size Choice v s) ≡ record { variable = v + 1; positive = s }) [
+      elim sign as (λ s. lit_of size (winner_at size v s) ≡ record { variable = v + 1; positive = s }) [
         | true ↦ ap (λ (x : ℕ). let l : Signed = record { variable = x; positive = true } in l) e
         | false ↦ ap (λ (x : ℕ). let l : Signed = record { variable = x; positive = false } in l) e
       ]
-  lit_of_literal Ranking n v sign lt =
+
+  lit_of_literal : (k : Kind) (v : ℕ) (sign : Bool) → v < sort_count size Profile * bits k size.alternatives → lit_of size (literal_at size k v sign) ≡ record { variable = v + 1; positive = sign }
+  lit_of_literal Choice v sign lt = lit_of_winner v sign
+  lit_of_literal Ranking v sign lt =
       let m = size.alternatives in
       let c = length (pairs m) in
       let positive : 0 < c = positive_right _ c v lt in
@@ -182,14 +194,17 @@ module _ (size : Extent) where
         | true ↦ lit_up x y (v / c) r.0 ∙ ap (λ (z : ℕ). let l : Signed = record { variable = z; positive = true } in l) e
         | false ↦ lit_down y x (v / c) r.0 ∙ ap (λ (z : ℕ). let l : Signed = record { variable = z; positive = false } in l) e
       ]
-  lit_of_literal Sets n v sign lt = absurd (n refl)
+  lit_of_literal Sets v sign lt = lit_of_winner v sign
 
   -- ---- the variables of a profile
 
+  winner-at : (l : Literal) → is_of_winner size l ≡ true → (profile_of l * size.alternatives + 1 ≤ (lit_of size l).variable) × ((lit_of size l).variable ≤ (profile_of l + 1) * size.alternatives)
+  winner-at (Wins x p) h = let e = winner_in size x p h in (omega arith, omega (arith, add-mul p 1 size.alternatives))
+  winner-at (Loses x p) h = let e = winner_in size x p h in (omega arith, omega (arith, add-mul p 1 size.alternatives))
+  winner-at (Above x y p) h = absurd (true≢false (sym h))
+
   pub lit-at : (k : Kind) (l : Literal) → is_literal_of size k l ≡ true → (profile_of l * bits k size.alternatives + 1 ≤ (lit_of size l).variable) × ((lit_of size l).variable ≤ (profile_of l + 1) * bits k size.alternatives)
-  lit-at Choice (Wins x p) h = let e = choice_in size x p h in (omega arith, omega (arith, add-mul p 1 size.alternatives))
-  lit-at Choice (Loses x p) h = let e = choice_in size x p h in (omega arith, omega (arith, add-mul p 1 size.alternatives))
-  lit-at Choice (Above x y p) h = absurd (true≢false (sym h))
+  lit-at Choice l h = winner-at l h
   lit-at Ranking (Wins x p) h = absurd (true≢false (sym h))
   lit-at Ranking (Loses x p) h = absurd (true≢false (sym h))
   lit-at Ranking (Above x y p) h =
@@ -207,21 +222,23 @@ module _ (size : Extent) where
           let c = length (pairs size.alternatives) in
           let f : pair_place size.alternatives a b < c = (pair_found size.alternatives a b lt in_b).0 in
           (omega arith, omega (arith, add-mul p 1 c))
-  lit-at Sets l h = absurd (true≢false (sym h))
+  lit-at Sets l h = winner-at l h
+
+  profile_at_winner : (p v : ℕ) (sign : Bool) → p * size.alternatives ≤ v → v < (p + 1) * size.alternatives → profile_of (winner_at size v sign) ≡ p
+  profile_at_winner p v sign low high =
+      let e = quotient p size.alternatives v low high in elim sign as (λ s. profile_of (winner_at size v s) ≡ p) [ true ↦ e | false ↦ e ]
 
   profile_at : (k : Kind) (p v : ℕ) (sign : Bool) → p * bits k size.alternatives ≤ v → v < (p + 1) * bits k size.alternatives → profile_of (literal_at size k v sign) ≡ p
-  profile_at Choice p v sign low high =
-      let e = quotient p size.alternatives v low high in elim sign as (λ s. profile_of (literal_at size Choice v s) ≡ p) [ true ↦ e | false ↦ e ]
+  profile_at Choice p v sign low high = profile_at_winner p v sign low high
   profile_at Ranking p v sign low high =
       let e = quotient p (length (pairs size.alternatives)) v low high in elim sign as (λ s. profile_of (literal_at size Ranking v s) ≡ p) [ true ↦ e | false ↦ e ]
-  profile_at Sets p v sign low high =
-      let e = quotient p size.alternatives v low high in elim sign as (λ s. profile_of (literal_at size Sets v s) ≡ p) [ true ↦ e | false ↦ e ]
+  profile_at Sets p v sign low high = profile_at_winner p v sign low high
 
-pub are_variables : (size : Extent) → HasOutcomes size.kind → AreVariables size
-are_variables size n = record {
+pub are_variables : (size : Extent) → AreVariables size
+are_variables size = record {
   in_range = lit-in size size.kind;
-  literal = λ s low high. literal_right size size.kind n (s.variable - 1) s.positive (omega (arith, low, high));
-  of_literal = λ s low high. lit_of_literal size size.kind n (s.variable - 1) s.positive (omega (arith, low, high)) ∙ ap (λ (z : ℕ). let l : Signed = record { variable = z; positive = s.positive } in l) (omega (arith, low));
+  literal = λ s low high. literal_right size size.kind (s.variable - 1) s.positive (omega (arith, low, high));
+  of_literal = λ s low high. lit_of_literal size size.kind (s.variable - 1) s.positive (omega (arith, low, high)) ∙ ap (λ (z : ℕ). let l : Signed = record { variable = z; positive = s.positive } in l) (omega (arith, low));
   of_variable = literal-lit_of size size.kind;
   opposite = lit_of-opposite size size.kind;
   from_profile = lit-at size size.kind;

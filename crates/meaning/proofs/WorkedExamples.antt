@@ -1,7 +1,7 @@
 -- Worked examples, as the definitions compute them.
 use Rattle.std.proofs.Common.{◌≡◌, ◌∙◌, ap, min, refl, ℕ, List, [], ◌∷◌, true, false, length, map, Option, Some, None}
 use Rattle.std.specs.Prelude.{codes}
-use Rattle.vocab.specs.declared.kinds.Kind.TheVariants.{Choice, Ranking}
+use Rattle.vocab.specs.declared.kinds.Kind.TheVariants.{Choice, Ranking, Sets}
 use Rattle.vocab.specs.declared.kinds.Sort.TheVariants.{Voter, Alt, Ballot, Profile}
 use Rattle.vocab.specs.declared.literals.Literal.{Literal}
 use Rattle.vocab.specs.declared.literals.Literal.TheVariants.{Wins, Loses}
@@ -24,11 +24,12 @@ use Rattle.meaning.specs.Cores.{is_core_right}
 use Rattle.meaning.specs.Instances.{is_instance_true}
 use Rattle.meaning.specs.declared.clauses.Counts.{Counts}
 use Rattle.meaning.specs.Measure.{largest, measure_of, plus_counts}
-use Rattle.meaning.specs.Space.{rankings, casts_of, majority, prefers}
+use Rattle.meaning.specs.Space.{below, rankings, casts_of, majority, prefers}
 use Rattle.meaning.specs.Stories.{is_story}
 use Rattle.meaning.specs.StoryFaults.{story_refusal}
 use Rattle.meaning.specs.StudyClauses.{from_frame, study_clauses}
-use Rattle.meaning.specs.Texts.{profile_text}
+use Rattle.meaning.specs.Subsets.{elements}
+use Rattle.meaning.specs.Texts.{outcome_text, profile_text}
 use Rattle.meaning.specs.Tidy.{is_tidy}
 use Rattle.meaning.specs.Truth.{is_true_at}
 use Rattle.meaning.specs.Written.{Written, write_out}
@@ -40,6 +41,10 @@ choice n m = full_size Choice n m
 
 abbrev pub ranked : ℕ → ℕ → Extent
 ranked n m = full_size Ranking n m
+
+-- and rules that give sets
+abbrev pub set_valued : ℕ → ℕ → Extent
+set_valued n m = full_size Sets n m
 
 -- an axiom; its name plays no part
 abbrev axiom_of : Tree → Titled
@@ -139,6 +144,17 @@ frames_of_two_voters_and_three_alternatives_have_144_clauses = refl
 -- variables 1, 2, 3 say that a stands above b, a above c, b above c
 frame_of_a_profile_forbids_circles : map (λ s. s.clause) (from_frame (ranked 1 3) 0) ≡ (negated 1 ∷ plain 2 ∷ negated 3 ∷ []) ∷ (plain 1 ∷ negated 2 ∷ plain 3 ∷ []) ∷ []
 frame_of_a_profile_forbids_circles = refl
+
+-- ---- sets
+
+seven_codes_are_the_nonempty_sets_of_three : map (elements 3) (below 7) ≡ (0 ∷ []) ∷ (1 ∷ []) ∷ (0 ∷ 1 ∷ []) ∷ (2 ∷ []) ∷ (0 ∷ 2 ∷ []) ∷ (1 ∷ 2 ∷ []) ∷ (0 ∷ 1 ∷ 2 ∷ []) ∷ []
+seven_codes_are_the_nonempty_sets_of_three = refl
+
+code_4_is_ac : outcome_text (set_valued 1 3) 4 ≡ codes "ac"
+code_4_is_ac = refl
+
+frame_of_a_set_asks_for_an_element : map (λ s. s.clause) (from_frame (set_valued 1 2) 1) ≡ (plain 3 ∷ plain 4 ∷ []) ∷ []
+frame_of_a_set_asks_for_an_element = refl
 
 -- all x: alt. all y: alt. all p: profile. (wins(x, p) | wins(y, p))
 abbrev either_wins : Tree

@@ -7,7 +7,7 @@ use Rattle.vocab.specs.declared.kinds.Sort.TheVariants.{Profile}
 use Rattle.vocab.specs.declared.literals.Literal.{Literal}
 use Rattle.vocab.specs.Limits.{instance_count}
 use Rattle.vocab.specs.Literal.{opposite_of, profile_of, has}
-use Rattle.vocab.specs.Size.{HasOutcomes, Extent, IsSize, sort_count, outcome_count}
+use Rattle.vocab.specs.Size.{Extent, IsSize, sort_count, outcome_count}
 use Rattle.vocab.specs.Sorted.{is_of_sort, is_sorted, are_of_sorts}
 use Rattle.vocab.specs.Study.{is_sentence}
 use Rattle.vocab.specs.Titled.{Titled}
@@ -60,7 +60,7 @@ AllFacts P (Iff a b) = AllFacts P a × AllFacts P b
 
 -- the literals of a well-sorted formula are literals of the size
 abbrev pub FormulasHaveLiterals : Type 0
-FormulasHaveLiterals = (size : Extent) → HasOutcomes size.kind → (sorts : List Sort) (env : List ℕ) → IsTrue (are_of_sorts size sorts env) →
+FormulasHaveLiterals = (size : Extent) → (sorts : List Sort) (env : List ℕ) → IsTrue (are_of_sorts size sorts env) →
     (f : Tree) → IsTrue (is_sorted size sorts f) → AllFacts (λ l. IsTrue (is_literal size l)) (write_out size f env)
 
 -- of an outcome in range exactly one of a literal of the size and its opposite holds
@@ -137,9 +137,9 @@ pub record AreVariables (size : Extent) : Type 0 where
   pub to_profile : (p : ℕ) (s : Signed) → p * bits size.kind size.alternatives + 1 ≤ s.variable → s.variable ≤ (p + 1) * bits size.kind size.alternatives →
       profile_of (literal_of size s) ≡ p
 
--- of each size of a kind that has literals
+-- of each size
 abbrev pub LiteralsAreVariables : Type 0
-LiteralsAreVariables = (size : Extent) → HasOutcomes size.kind → AreVariables size
+LiteralsAreVariables = (size : Extent) → AreVariables size
 
 -- the truth value of a literal, where each variable has one
 abbrev pub literal_under : Extent → (ℕ → Bool) → Literal → Bool
@@ -147,7 +147,7 @@ literal_under size v l = is_lit_true v (lit_of size l)
 
 -- the bits of a rule give each literal of the size the truth value that it has of the rule
 abbrev pub RulesHaveBits : Type 0
-RulesHaveBits = (size : Extent) → HasOutcomes size.kind → (table : List ℕ) → IsTrue (is_rule size table) →
+RulesHaveBits = (size : Extent) → (table : List ℕ) → IsTrue (is_rule size table) →
     (l : Literal) → IsTrue (is_literal size l) → literal_under size (bits_of size table) l ≡ holds size table l
 
 -- ---- frames
@@ -170,7 +170,7 @@ pub record IsFrame (size : Extent) (p : ℕ) : Type 0 where
 
 -- of each profile of a size
 abbrev pub FramesSayOutcome : Type 0
-FramesSayOutcome = (size : Extent) → HasOutcomes size.kind → (p : ℕ) → p < sort_count size Profile → IsFrame size p
+FramesSayOutcome = (size : Extent) → (p : ℕ) → p < sort_count size Profile → IsFrame size p
 
 -- ---- the clauses of a study
 
@@ -189,7 +189,7 @@ are_instances_true size v (Some a) = list_all (λ k. evaluate (literal_under siz
 
 -- an assignment satisfies the clauses of a study exactly where it satisfies the frames and makes each instance of the chosen axioms true
 abbrev pub ClausesSayStudy : Type 0
-ClausesSayStudy = (size : Extent) → HasOutcomes size.kind → (axioms : List Titled) → IsTrue (list_all (is_sentence size) axioms) → (chosen : List ℕ) (v : ℕ → Bool) →
+ClausesSayStudy = (size : Extent) → (axioms : List Titled) → IsTrue (list_all (is_sentence size) axioms) → (chosen : List ℕ) (v : ℕ → Bool) →
     is_satisfied v (clauses_for size axioms chosen) ≡ (is_frame_true size v && list_all (λ k. are_instances_true size v (slice_get axioms k)) chosen)
 
 -- the assignment is the bits of a rule, on the variables of the study
@@ -198,13 +198,13 @@ AreBitsOf size table v = (i : ℕ) → 1 ≤ i → i ≤ variable_count size →
 
 -- an assignment satisfies the clauses of a study exactly where it is the bits of a rule that satisfies the chosen axioms
 abbrev pub AssignmentsAreRules : Type 0
-AssignmentsAreRules = (size : Extent) → HasOutcomes size.kind → (axioms : List Titled) → IsTrue (list_all (is_sentence size) axioms) →
+AssignmentsAreRules = (size : Extent) → (axioms : List Titled) → IsTrue (list_all (is_sentence size) axioms) →
     (chosen : List ℕ) → IsTrue (list_all (λ k. nat_lt k (length axioms)) chosen) → (v : ℕ → Bool) →
     IsTrue (is_satisfied v (clauses_for size axioms chosen)) ↔ ((table : List ℕ) × IsTrue (satisfies size axioms chosen table) × AreBitsOf size table v)
 
 -- the clauses of a study are satisfiable exactly where some rule satisfies the chosen axioms
 abbrev pub ClausesAreSatisfiable : Type 0
-ClausesAreSatisfiable = (size : Extent) → HasOutcomes size.kind → (axioms : List Titled) → IsTrue (list_all (is_sentence size) axioms) →
+ClausesAreSatisfiable = (size : Extent) → (axioms : List Titled) → IsTrue (list_all (is_sentence size) axioms) →
     (chosen : List ℕ) → IsTrue (list_all (λ k. nat_lt k (length axioms)) chosen) →
     ((v : ℕ → Bool) × IsTrue (is_satisfied v (clauses_for size axioms chosen))) ↔ ((table : List ℕ) × IsTrue (satisfies size axioms chosen table))
 
@@ -221,6 +221,6 @@ RefuteOrigin size axioms chosen known (Instance place k) = IfAxiom (slice_get ax
 
 -- where known literals of the size, of which no two are opposites, falsify a clause of a study, its origin is a reason that refutes them
 abbrev pub ClausesHaveReasons : Type 0
-ClausesHaveReasons = (size : Extent) → HasOutcomes size.kind → (axioms : List Titled) → IsTrue (list_all (is_sentence size) axioms) → (chosen : List ℕ) →
+ClausesHaveReasons = (size : Extent) → (axioms : List Titled) → IsTrue (list_all (is_sentence size) axioms) → (chosen : List ℕ) →
     (known : List Literal) → IsTrue (list_all (is_literal size) known) → HasNoPair known →
     AllByRecursion (λ (s : Sourced). IsTrue (is_falsified (map (lit_of size) known) s.clause) → RefuteOrigin size axioms chosen known s.origin) (study_clauses size axioms chosen)

@@ -2,6 +2,7 @@
 pub mod Space
 pub mod Rankings
 pub mod Digits
+pub mod Subsets
 pub mod Truth
 pub mod Tarski
 pub mod Instances

@@ -54,11 +54,15 @@ abbrev pub no_circle : ℕ → ℕ × ℕ × ℕ → List Disjunction
 no_circle p = λ (x, y, z). (Above y x p ∷ Above z y p ∷ Above x z p ∷ []) ∷ (Above z x p ∷ Above y z p ∷ Above x y p ∷ []) ∷ []
 
 module _ (size : Extent) where
-  -- the frame of a profile: some alternative wins and no two do; or no three stand in a circle
+  -- some alternative wins at a profile
+  abbrev pub some_winner : ℕ → Disjunction
+  some_winner p = map (λ x. Wins x p) (below size.alternatives)
+
+  -- the frame of a profile: some alternative wins and no two do; no three stand in a circle; or some alternative wins
   abbrev pub frame_of : Kind → ℕ → List Disjunction
-  frame_of Choice p = map (λ x. Wins x p) (below size.alternatives) ∷ map (not_both p) (pairs size.alternatives)
+  frame_of Choice p = some_winner p ∷ map (not_both p) (pairs size.alternatives)
   frame_of Ranking p = flat_map (no_circle p) (triples size.alternatives)
-  frame_of Sets p = []
+  frame_of Sets p = some_winner p ∷ []
 
   -- the numbered clauses of some disjunctions, tautologies left out
   abbrev pub clauses_of : List Disjunction → List Clause

@@ -2,11 +2,11 @@
 use Rattle.std.specs.Prelude.{ℕ, Bool, true, false, ◌&&◌, ◌==◌, ◌+◌, ◌-◌, ◌*◌, ◌/◌, ◌%◌, nat_lt, List, map, filter, length, get_or, if◌then◌else◌}
 use Rattle.std.specs.List.{flat_map, position_or_len}
 use Rattle.vocab.specs.declared.kinds.Kind.{Kind}
-use Rattle.vocab.specs.declared.kinds.Kind.TheVariants.{Choice, Ranking, Sets}
 use Rattle.vocab.specs.declared.kinds.Sort.TheVariants.{Profile}
 use Rattle.vocab.specs.declared.literals.Literal.{Literal}
 use Rattle.vocab.specs.declared.literals.Literal.TheVariants.{Wins, Loses, Above}
 use Rattle.vocab.specs.Size.{Extent, sort_count}
+use Rattle.vocab.specs.Sorted.{has_winners}
 use Rattle.cnf.specs.Signed.{Signed}
 use Rattle.meaning.specs.Space.{below}
 use Rattle.meaning.specs.Truth.{holds}
@@ -29,9 +29,7 @@ pair_place m x y = position_or_len (λ (v, w). v == x && w == y) (pairs m)
 
 -- how many variables a profile has: one for each alternative, or for each pair of alternatives
 abbrev pub bits : Kind → ℕ → ℕ
-bits Choice m = m
-bits Ranking m = length (pairs m)
-bits Sets m = m
+bits kind m = if has_winners kind then m else length (pairs m)
 
 module _ (size : Extent) where
   -- how many variables a study has
@@ -47,13 +45,20 @@ module _ (size : Extent) where
       let first : ℕ = p * length (pairs m) + 1 in
       if nat_lt x y then record { variable = first + pair_place m x y; positive = true } else record { variable = first + pair_place m y x; positive = false }
 
-  -- the literal of variable v + 1, by its sign
-  abbrev pub literal_at : Kind → ℕ → Bool → Literal
-  literal_at Ranking v sign =
+  -- the literal of variable v + 1, by its sign, where the variables are those of alternatives
+  abbrev pub winner_at : ℕ → Bool → Literal
+  winner_at v sign = if sign then Wins (v % size.alternatives) (v / size.alternatives) else Loses (v % size.alternatives) (v / size.alternatives)
+
+  -- and where they are those of pairs
+  abbrev pub comparison_at : ℕ → Bool → Literal
+  comparison_at v sign =
       let n = length (pairs size.alternatives) in
       let pair : ℕ × ℕ = get_or (pairs size.alternatives) (v % n) (0, 0) in
       if sign then Above pair.0 pair.1 (v / n) else Above pair.1 pair.0 (v / n)
-  literal_at _ v sign = if sign then Wins (v % size.alternatives) (v / size.alternatives) else Loses (v % size.alternatives) (v / size.alternatives)
+
+  -- the literal of variable v + 1, by its sign
+  abbrev pub literal_at : Kind → ℕ → Bool → Literal
+  literal_at kind v sign = if has_winners kind then winner_at v sign else comparison_at v sign
 
   -- the literal that a variable and a sign stand for
   abbrev pub literal_of : Signed → Literal
