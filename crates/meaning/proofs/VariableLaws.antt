@@ -95,7 +95,7 @@ module _ (size : Extent) where
           (omega arith, omega (arith, mul-add-lt p c (pair_place size.alternatives a b) (sort_count size Profile) lp f, mul_comm c (sort_count size Profile)))
   lit-in Sets l h = winner-in l h
 
-  literal-winner : (x p : ℕ) (sign : Bool) → x < size.alternatives → winner_at size (p * size.alternatives + x + 1 - 1) sign ≡ cond sign (Wins x p) (Loses x p)
+  literal-winner : (x p : ℕ) (sign : Bool) → x < size.alternatives → winner_at size.alternatives (p * size.alternatives + x + 1 - 1) sign ≡ cond sign (Wins x p) (Loses x p)
   literal-winner x p sign lt =
       let e = split_at p size.alternatives x (p * size.alternatives + x + 1 - 1) lt (omega arith) in
       ap₂ (λ (a b : ℕ). cond sign (Wins a b) (Loses a b)) e.1 e.0
@@ -109,7 +109,7 @@ module _ (size : Extent) where
       ap₂ (λ (q k : ℕ). cond sign (Above (pair_at size.alternatives k).0 (pair_at size.alternatives k).1 q) (Above (pair_at size.alternatives k).1 (pair_at size.alternatives k).0 q)) e.0 e.1
       ∙ ap₂ (λ (x y : ℕ). cond sign (Above x y p) (Above y x p)) (eqb-true _ _ pair.0) (eqb-true _ _ pair.1)
 
-  winner-lit_of : (l : Literal) → is_of_winner size l ≡ true → winner_at size ((lit_of size l).variable - 1) (lit_of size l).positive ≡ l
+  winner-lit_of : (l : Literal) → is_of_winner size l ≡ true → winner_at size.alternatives ((lit_of size l).variable - 1) (lit_of size l).positive ≡ l
   winner-lit_of (Wins x p) h = literal-winner x p true (winner_in size x p h).0
   winner-lit_of (Loses x p) h = literal-winner x p false (winner_in size x p h).0
   winner-lit_of (Above x y p) h = absurd (true≢false (sym h))
@@ -145,12 +145,12 @@ module _ (size : Extent) where
 
   -- ---- from variables to literals
 
-  winner_right : (v : ℕ) (sign : Bool) → v < sort_count size Profile * size.alternatives → is_of_winner size (winner_at size v sign) ≡ true
+  winner_right : (v : ℕ) (sign : Bool) → v < sort_count size Profile * size.alternatives → is_of_winner size (winner_at size.alternatives v sign) ≡ true
   winner_right v sign lt =
       let m = size.alternatives in
       let positive : 0 < m = positive_right _ m v lt in
       let h : (nat_lt (v % m) m && nat_lt (v / m) (sort_count size Profile)) ≡ true = winner_literal size (v % m) (v / m) (mod_below v m positive) (div_below v m _ positive lt) in
-      elim sign as (λ s. is_of_winner size (winner_at size v s) ≡ true) [ true ↦ h | false ↦ h ]
+      elim sign as (λ s. is_of_winner size (winner_at size.alternatives v s) ≡ true) [ true ↦ h | false ↦ h ]
 
   literal_right : (k : Kind) (v : ℕ) (sign : Bool) → v < sort_count size Profile * bits k size.alternatives → is_literal_of size k (literal_at size k v sign) ≡ true
   literal_right Choice v sign lt = winner_right v sign lt
@@ -170,11 +170,11 @@ module _ (size : Extent) where
       ]
   literal_right Sets v sign lt = winner_right v sign lt
 
-  lit_of_winner : (v : ℕ) (sign : Bool) → lit_of size (winner_at size v sign) ≡ record { variable = v + 1; positive = sign }
+  lit_of_winner : (v : ℕ) (sign : Bool) → lit_of size (winner_at size.alternatives v sign) ≡ record { variable = v + 1; positive = sign }
   lit_of_winner v sign =
       let m = size.alternatives in
       let e : v / m * m + v % m + 1 ≡ v + 1 = ap (λ (x : ℕ). x + 1) (div-add-mod' v m) in
-      elim sign as (λ s. lit_of size (winner_at size v s) ≡ record { variable = v + 1; positive = s }) [
+      elim sign as (λ s. lit_of size (winner_at size.alternatives v s) ≡ record { variable = v + 1; positive = s }) [
         | true ↦ ap (λ (x : ℕ). let l : Signed = record { variable = x; positive = true } in l) e
         | false ↦ ap (λ (x : ℕ). let l : Signed = record { variable = x; positive = false } in l) e
       ]
@@ -224,9 +224,9 @@ module _ (size : Extent) where
           (omega arith, omega (arith, add-mul p 1 c))
   lit-at Sets l h = winner-at l h
 
-  profile_at_winner : (p v : ℕ) (sign : Bool) → p * size.alternatives ≤ v → v < (p + 1) * size.alternatives → profile_of (winner_at size v sign) ≡ p
+  profile_at_winner : (p v : ℕ) (sign : Bool) → p * size.alternatives ≤ v → v < (p + 1) * size.alternatives → profile_of (winner_at size.alternatives v sign) ≡ p
   profile_at_winner p v sign low high =
-      let e = quotient p size.alternatives v low high in elim sign as (λ s. profile_of (winner_at size v s) ≡ p) [ true ↦ e | false ↦ e ]
+      let e = quotient p size.alternatives v low high in elim sign as (λ s. profile_of (winner_at size.alternatives v s) ≡ p) [ true ↦ e | false ↦ e ]
 
   profile_at : (k : Kind) (p v : ℕ) (sign : Bool) → p * bits k size.alternatives ≤ v → v < (p + 1) * bits k size.alternatives → profile_of (literal_at size k v sign) ≡ p
   profile_at Choice p v sign low high = profile_at_winner p v sign low high

@@ -31,6 +31,17 @@ pair_place m x y = position_or_len (λ (v, w). v == x && w == y) (pairs m)
 abbrev pub bits : Kind → ℕ → ℕ
 bits kind m = if has_winners kind then m else length (pairs m)
 
+-- the literal of variable v + 1, by its sign, where a profile has a variable for each alternative
+abbrev pub winner_at : ℕ → ℕ → Bool → Literal
+winner_at m v sign = if sign then Wins (v % m) (v / m) else Loses (v % m) (v / m)
+
+-- and where it has one for each pair
+abbrev pub comparison_at : ℕ → ℕ → Bool → Literal
+comparison_at m v sign =
+    let n = length (pairs m) in
+    let pair : ℕ × ℕ = get_or (pairs m) (v % n) (0, 0) in
+    if sign then Above pair.0 pair.1 (v / n) else Above pair.1 pair.0 (v / n)
+
 module _ (size : Extent) where
   -- how many variables a study has
   abbrev pub variable_count : ℕ
@@ -45,20 +56,9 @@ module _ (size : Extent) where
       let first : ℕ = p * length (pairs m) + 1 in
       if nat_lt x y then record { variable = first + pair_place m x y; positive = true } else record { variable = first + pair_place m y x; positive = false }
 
-  -- the literal of variable v + 1, by its sign, where the variables are those of alternatives
-  abbrev pub winner_at : ℕ → Bool → Literal
-  winner_at v sign = if sign then Wins (v % size.alternatives) (v / size.alternatives) else Loses (v % size.alternatives) (v / size.alternatives)
-
-  -- and where they are those of pairs
-  abbrev pub comparison_at : ℕ → Bool → Literal
-  comparison_at v sign =
-      let n = length (pairs size.alternatives) in
-      let pair : ℕ × ℕ = get_or (pairs size.alternatives) (v % n) (0, 0) in
-      if sign then Above pair.0 pair.1 (v / n) else Above pair.1 pair.0 (v / n)
-
   -- the literal of variable v + 1, by its sign
   abbrev pub literal_at : Kind → ℕ → Bool → Literal
-  literal_at kind v sign = if has_winners kind then winner_at v sign else comparison_at v sign
+  literal_at kind v sign = if has_winners kind then winner_at size.alternatives v sign else comparison_at size.alternatives v sign
 
   -- the literal that a variable and a sign stand for
   abbrev pub literal_of : Signed → Literal

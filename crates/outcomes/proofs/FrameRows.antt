@@ -6,20 +6,20 @@ use Rattle.std.specs.List.{flat_map, list_all, list_any}
 use Rattle.std.proofs.lemmas.List.Concat.{flat_map_single}
 use Rattle.std.proofs.lemmas.Bool.{and_parts, and_from, or_from, or_parts}
 use Rattle.vocab.specs.Size.{Extent}
-use Rattle.vocab.specs.declared.kinds.Kind.TheVariants.{Choice, Ranking}
+use Rattle.vocab.specs.declared.kinds.Kind.TheVariants.{Choice, Ranking, Sets}
 use Rattle.vocab.specs.declared.literals.Literal.TheVariants.{Wins, Above}
 use Rattle.cnf.specs.Sat.{Clause, has_lit, is_tautology, opposite_lit, same_lit}
 use Rattle.cnf.specs.Signed.{Signed}
 use Rattle.meaning.specs.Clauses.{Disjunction}
 use Rattle.meaning.specs.Space.{below, up_from}
-use Rattle.meaning.specs.StudyClauses.{clauses_of, frame_of, no_circle, not_both, sorted, sorted_in}
+use Rattle.meaning.specs.StudyClauses.{clauses_of, frame_of, no_circle, not_both, some_winner, sorted, sorted_in}
 use Rattle.meaning.specs.Variables.{lit_of, pair_place, pairs, triples}
 use Rattle.meaning.proofs.LiteralLaws.{unequal}
 use Rattle.meaning.proofs.PairLaws.{pairs-from}
 use Rattle.meaning.proofs.SpaceLaws.{all_at}
 use Rattle.outcomes.specs.Frames.{frame_clauses}
 use Rattle.outcomes.specs.Places.{winner_lit, pair_lit}
-use Rattle.outcomes.specs.Rows.{some_wins, one_loses, no_round, choice_rows, ranking_rows}
+use Rattle.outcomes.specs.Rows.{some_wins, one_loses, no_round, choice_rows, set_rows, ranking_rows}
 
 -- ---- clauses whose variables rise
 
@@ -122,13 +122,20 @@ module _ (size : Extent) where
       row_kept (p * m) (not_both p t) (map (not_both p) ts) (one_loses m p t) (sorted-rising (p * m) (one_loses m p t) rises) rises
       ∙ ap (λ (cs : List Clause). one_loses m p t ∷ cs) (losers_kept p ts e.1)
 
+  winners_kept : (p : ℕ) (rows : List Disjunction) → clauses_of size (some_winner size p ∷ rows) ≡ some_wins size.alternatives p ∷ clauses_of size rows
+  winners_kept p rows =
+      let m = size.alternatives in
+      let rises = winners_rise p 0 m in
+      row_kept (p * m + 0) (some_winner size p) rows (some_wins m p) (ap sorted (winners-lits p (below m)) ∙ sorted-rising (p * m + 0) (some_wins m p) rises) rises
+
   pub choice_frame : (p : ℕ) → clauses_of size (frame_of size Choice p) ≡ choice_rows size.alternatives p
   choice_frame p =
       let m = size.alternatives in
-      let rises = winners_rise p 0 m in
-      row_kept (p * m + 0) (map (λ (x : ℕ). Wins x p) (below m)) (map (not_both p) (pairs m)) (some_wins m p)
-      (ap sorted (winners-lits p (below m)) ∙ sorted-rising (p * m + 0) (some_wins m p) rises) rises
+      winners_kept p (map (not_both p) (pairs m))
       ∙ ap (λ (cs : List Clause). some_wins m p ∷ cs) (losers_kept p (pairs m) (pairs-from m (λ (t : ℕ × ℕ). nat_lt t.0 t.1) (λ x y lt l. lt-ltb x y lt)))
+
+  pub set_frame : (p : ℕ) → clauses_of size (frame_of size Sets p) ≡ set_rows size.alternatives p
+  set_frame p = winners_kept p []
 
   -- ---- rankings
 
@@ -205,6 +212,10 @@ choice_rows-each m p = ap (λ (cs : List Clause). some_wins m p ∷ cs) (flat_ma
 pub choice_clauses : (size : Extent) → size.kind ≡ Choice → (p m : ℕ) → m ≡ size.alternatives → choice_rows m p ≡ frame_clauses size p
 choice_clauses size chooses p m same =
     ap (λ (n : ℕ). choice_rows n p) same ∙ sym (choice_frame size p) ∙ ap (λ k. clauses_of size (frame_of size k p)) (sym chooses)
+
+pub set_clauses : (size : Extent) → size.kind ≡ Sets → (p m : ℕ) → m ≡ size.alternatives → set_rows m p ≡ frame_clauses size p
+set_clauses size sets p m same =
+    ap (λ (n : ℕ). set_rows n p) same ∙ sym (set_frame size p) ∙ ap (λ k. clauses_of size (frame_of size k p)) (sym sets)
 
 pub ranking_clauses : (size : Extent) → size.kind ≡ Ranking → size.alternatives ≤ 5 → (p m : ℕ) → m ≡ size.alternatives → ranking_rows m p ≡ frame_clauses size p
 ranking_clauses size ranks few p m same =

@@ -6,7 +6,7 @@ use Rattle.std.proofs.lemmas.Bool.{and_from}
 use Rattle.std.proofs.lemmas.List.Folds.{list_all-map}
 use Rattle.vocab.specs.declared.kinds.Kind.{Kind}
 use Rattle.vocab.specs.declared.kinds.Kind.TheVariants.{Choice, Ranking, Sets}
-use Rattle.vocab.specs.Size.{HasOutcomes, Extent}
+use Rattle.vocab.specs.Size.{Extent, IsSize}
 use Rattle.cnf.specs.Sat.{Clause}
 use Rattle.cnf.specs.Signed.{Signed}
 use Rattle.meaning.specs.Space.{below}
@@ -15,10 +15,10 @@ use Rattle.meaning.specs.Variables.{bits, pairs, triples, pair_place}
 use Rattle.meaning.proofs.PairLaws.{pair_found, pairs-from, triples-from}
 use Rattle.meaning.proofs.SpaceLaws.{all_from}
 use Rattle.meaning.proofs.TestLaws.{list_all-flat_map}
-use Rattle.outcomes.specs.Laws.{AreFramesSmall, IsSizeWithLiterals}
+use Rattle.outcomes.specs.Laws.{AreFramesSmall}
 use Rattle.outcomes.specs.Places.{winner_lit, pair_lit}
-use Rattle.outcomes.specs.Rows.{one_loses, no_round, choice_rows, ranking_rows}
-use Rattle.outcomes.proofs.FrameRows.{choice_frame, ranking_frame}
+use Rattle.outcomes.specs.Rows.{some_wins, one_loses, no_round, choice_rows, set_rows, ranking_rows}
+use Rattle.outcomes.proofs.FrameRows.{choice_frame, set_frame, ranking_frame}
 use Rattle.outcomes.proofs.PlaceTables.{pairs_few}
 
 -- ---- how many there are
@@ -34,6 +34,15 @@ choices_small (suc (suc (suc zero))) p h = (lit≤ tt, lit≤ tt)
 choices_small (suc (suc (suc (suc zero)))) p h = (lit≤ tt, lit≤ tt)
 choices_small (suc (suc (suc (suc (suc zero))))) p h = (lit≤ tt, lit≤ tt)
 choices_small (suc (suc (suc (suc (suc (suc m)))))) p h = absurd (omega (arith, h))
+
+sets_small : (m p : ℕ) → m ≤ 5 → IsSmall (set_rows m p)
+sets_small zero p h = (lit≤ tt, lit≤ tt)
+sets_small (suc zero) p h = (lit≤ tt, lit≤ tt)
+sets_small (suc (suc zero)) p h = (lit≤ tt, lit≤ tt)
+sets_small (suc (suc (suc zero))) p h = (lit≤ tt, lit≤ tt)
+sets_small (suc (suc (suc (suc zero)))) p h = (lit≤ tt, lit≤ tt)
+sets_small (suc (suc (suc (suc (suc zero))))) p h = (lit≤ tt, lit≤ tt)
+sets_small (suc (suc (suc (suc (suc (suc m)))))) p h = absurd (omega (arith, h))
 
 rankings_small : (m p : ℕ) → m ≤ 5 → IsSmall (ranking_rows m p)
 rankings_small zero p h = (lit≤ tt, lit≤ tt)
@@ -60,10 +69,12 @@ module _ (m p : ℕ) where
   winner_at : (s : Bool) (x : ℕ) → x < m → is_at p m (winner_lit m p s x) ≡ true
   winner_at s x lt = at_from p m x (winner_lit m p s x) (omega arith) lt
 
+  winners_at : list_all (is_at p m) (some_wins m p) ≡ true
+  winners_at = list_all-map (is_at p m) (winner_lit m p true) (below m) ∙ all_from (λ x. is_at p m (winner_lit m p true x)) m 0 (λ x low high. winner_at true x (omega arith))
+
   choices_at : list_all (list_all (is_at p m)) (choice_rows m p) ≡ true
   choices_at =
-      and_from _ _
-      (list_all-map (is_at p m) (winner_lit m p true) (below m) ∙ all_from (λ x. is_at p m (winner_lit m p true x)) m 0 (λ x low high. winner_at true x (omega arith)))
+      and_from _ _ winners_at
       (list_all-map (list_all (is_at p m)) (one_loses m p) (pairs m)
       ∙ pairs-from m (λ (t : ℕ × ℕ). list_all (is_at p m) (one_loses m p t)) (λ x y lt l. and_from _ _ (winner_at false x (omega arith)) (and_from _ _ (winner_at false y l) refl)))
 
@@ -85,28 +96,31 @@ module _ (size : Extent) where
   IsSmallFrame k p =
       IsSmall (clauses_of size (frame_of size k p)) × (list_all (list_all (is_at p (bits k size.alternatives))) (clauses_of size (frame_of size k p)) ≡ true)
 
-  small_frame : (k : Kind) → HasOutcomes k → size.alternatives ≤ 5 → (p : ℕ) → IsSmallFrame k p
-  small_frame Choice n few p =
+  small_frame : (k : Kind) → size.alternatives ≤ 5 → (p : ℕ) → IsSmallFrame k p
+  small_frame Choice few p =
       let m = size.alternatives in
       let Small : List Clause → Type 0 = λ rows. IsSmall rows × (list_all (list_all (is_at p m)) rows ≡ true) in
       subst Small (sym (choice_frame size p)) (choices_small m p few, choices_at m p)
-  small_frame Ranking n few p =
+  small_frame Ranking few p =
       let m = size.alternatives in
       let Small : List Clause → Type 0 = λ rows. IsSmall rows × (list_all (list_all (is_at p (length (pairs m)))) rows ≡ true) in
       subst Small (sym (ranking_frame size p few)) (rankings_small m p few, rankings_at m p)
-  small_frame Sets n few p = absurd (n refl)
+  small_frame Sets few p =
+      let m = size.alternatives in
+      let Small : List Clause → Type 0 = λ rows. IsSmall rows × (list_all (list_all (is_at p m)) rows ≡ true) in
+      subst Small (sym (set_frame size p)) (sets_small m p few, and_from _ _ (winners_at m p) refl)
 
 pub few_bits : (k : Kind) (m : ℕ) → m ≤ 5 → bits k m ≤ 10
 few_bits Choice m few = omega (arith, few)
 few_bits Ranking m few = pairs_few m few
 few_bits Sets m few = omega (arith, few)
 
-pub frames_small : (size : Extent) → IsSizeWithLiterals size → AreFramesSmall size
+pub frames_small : (size : Extent) → IsSize size → AreFramesSmall size
 frames_small size h =
-    let few = h.is_size.few_alternatives in
+    let few = h.few_alternatives in
     record {
       few_bits = few_bits size.kind size.alternatives few;
-      own_variables = λ p. (small_frame size size.kind h.has_outcomes few p).1;
-      few_clauses = λ p. (small_frame size size.kind h.has_outcomes few p).0.0;
-      few_literals = λ p. (small_frame size size.kind h.has_outcomes few p).0.1;
+      own_variables = λ p. (small_frame size size.kind few p).1;
+      few_clauses = λ p. (small_frame size size.kind few p).0.0;
+      few_literals = λ p. (small_frame size size.kind few p).0.1;
     }

@@ -5,7 +5,7 @@ use Rattle.vocab.specs.declared.kinds.Sort.TheVariants.{Profile}
 use Rattle.vocab.specs.declared.literals.Literal.{Literal}
 use Rattle.vocab.specs.Literal.{profile_of}
 use Rattle.vocab.specs.Name.{is_lower}
-use Rattle.vocab.specs.Size.{HasOutcomes, Extent, IsSize, sort_count, outcome_count}
+use Rattle.vocab.specs.Size.{Extent, sort_count, outcome_count}
 use Rattle.cnf.specs.Sat.{is_lit_true, is_satisfied}
 use Rattle.meaning.specs.Literals.{is_literal}
 use Rattle.meaning.specs.Texts.{outcome_text}
@@ -13,11 +13,6 @@ use Rattle.meaning.specs.Truth.{holds_of}
 use Rattle.meaning.specs.Variables.{bits, lit_of}
 use Rattle.outcomes.specs.Frames.{frame_clauses}
 use Rattle.outcomes.specs.OutcomeBits.{AreBitsAt, is_lit_at}
-
--- the size is one that the bench takes, of a kind that has literals
-pub record IsSizeWithLiterals (size : Extent) : Type 0 where
-  pub is_size : IsSize size
-  pub has_outcomes : HasOutcomes size.kind
 
 -- the clauses of a profile's frame say that its bits are those of exactly one outcome
 pub record SaysOneOutcome (size : Extent) (p : ℕ) : Type 0 where

@@ -24,6 +24,10 @@ no_round m p t =
 abbrev pub choice_rows : ℕ → ℕ → List Clause
 choice_rows m p = some_wins m p ∷ map (one_loses m p) (pairs m)
 
+-- the frame of sets
+abbrev pub set_rows : ℕ → ℕ → List Clause
+set_rows m p = some_wins m p ∷ []
+
 -- the frame of rankings
 abbrev pub ranking_rows : ℕ → ℕ → List Clause
 ranking_rows m p = flat_map (no_round m p) (triples m)

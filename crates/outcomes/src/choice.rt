@@ -6,6 +6,7 @@ ghost use Rattle.vocab.specs.Size.{IsSize};
 
 use crate::frames;
 use crate::kind::OutcomeKind;
+use crate::winners::{winner_lit, winner_of};
 use cnf::{Clauses, Lit, PushFault};
 use profiles::{Space, laws};
 use vocab::{Literal, Name};
@@ -55,22 +56,14 @@ impl OutcomeKind for ChoiceKind {
     fn lit(&self, literal: &Literal) -> Lit {
         let alternatives = self.space.size().alternatives();
         match *literal {
-            Literal::Wins(x, p) => frames::winner_lit(alternatives, p, true, x),
-            Literal::Loses(x, p) => frames::winner_lit(alternatives, p, false, x),
+            Literal::Wins(x, p) => winner_lit(alternatives, p, true, x),
+            Literal::Loses(x, p) => winner_lit(alternatives, p, false, x),
             Literal::Above(_, _, _) => unreachable!(),
         }
     }
 
     fn literal(&self, lit: Lit) -> Literal {
-        let alternatives = u32::from(self.space.size().alternatives());
-        let variable = lit.variable() - 1;
-        let x = (variable % alternatives) as u8;
-        let p = variable / alternatives;
-        if lit.positive() {
-            Literal::Wins(x, p)
-        } else {
-            Literal::Loses(x, p)
-        }
+        winner_of(self.space.size().alternatives(), lit)
     }
 
     fn frame(&self, p: u32, out: &mut Clauses) -> Result<(), PushFault> {
@@ -95,8 +88,6 @@ impl OutcomeKind for ChoiceKind {
             None
         }
     }
-
-    ghost has_outcomes = { λ k e. let same : k.space.kind ≡ Choice = k.chooses in Prim.cc };
 
     ghost is_size = { λ k. k.whole };
 }

@@ -3,20 +3,12 @@
 ghost use Rattle.std.specs.Prelude.{◌≡◌, ◌+◌, ◌*◌, ◌<◌, ◌≤◌, [], ◌∷◌, true, false, length, Err, OnOk};
 ghost use Rattle.meaning.specs.Variables.{pairs, triples, pair_place};
 ghost use Rattle.outcomes.specs.Frames.{with_clauses, IsFullForAll};
-ghost use Rattle.outcomes.specs.Places.{winner_lit, pair_lit, pair_at, triple_at};
+ghost use Rattle.outcomes.specs.Places.{pair_lit, pair_at, triple_at};
 ghost use Rattle.outcomes.specs.Rows.{some_wins, one_loses, no_round, choice_rows, ranking_rows};
 
 use crate::places;
+use crate::winners::{push_some_wins, winner_lit};
 use cnf::{Clauses, Lit, PushFault};
-
-/// The variable of an alternative at a profile, with a sign.
-pub(crate) fn winner_lit(alternatives: u8, p: u32, positive: bool, x: u8) -> Lit
-    requires few { alternatives ≤ 5 }
-    requires profile { p ≤ 20000 }
-    ensures { result ≡ winner_lit alternatives p positive x }
-{
-    Lit::new(p * u32::from(alternatives) + u32::from(x) + 1, positive)
-}
 
 /// The variable of a pair at a profile, with a sign.
 pub(crate) fn pair_lit(alternatives: u8, p: u32, positive: bool, x: u8, y: u8) -> Lit
@@ -28,23 +20,6 @@ pub(crate) fn pair_lit(alternatives: u8, p: u32, positive: bool, x: u8, y: u8) -
 {
     let first = p * places::pair_count(alternatives) + 1;
     Lit::new(first + places::place_of(alternatives, x, y), positive)
-}
-
-/// Appends the clause that some alternative wins.
-fn push_some_wins(alternatives: u8, p: u32, out: &mut Clauses) -> Result<(), PushFault>
-    requires few { alternatives ≤ 5 }
-    requires profile { p ≤ 20000 }
-    ensures ok { OnOk result (out.new ≡ with_clauses out.old (some_wins alternatives p ∷ []) p) }
-    ensures full { result ≡ Err PushFault.Full → IsFullForAll out.old (some_wins alternatives p ∷ []) }
-{
-    let wins = [
-        winner_lit(alternatives, p, true, 0),
-        winner_lit(alternatives, p, true, 1),
-        winner_lit(alternatives, p, true, 2),
-        winner_lit(alternatives, p, true, 3),
-        winner_lit(alternatives, p, true, 4),
-    ];
-    out.push(&wins[..alternatives as usize], u64::from(p))
 }
 
 /// Appends the clause that one of a pair does not win.

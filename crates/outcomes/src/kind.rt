@@ -2,7 +2,7 @@
 
 ghost use Rattle.std.specs.Prelude.{◌≡◌, ◌≢◌, ℕ, ◌+◌, ◌*◌, ◌<◌, ◌≤◌, length, Err, OnOk, IsTrue, IfSome, IfNone};
 ghost use Rattle.vocab.specs.declared.kinds.Sort.TheVariants.{Profile};
-ghost use Rattle.vocab.specs.Size.{HasOutcomes, Extent, IsSize, sort_count, outcome_count};
+ghost use Rattle.vocab.specs.Size.{Extent, IsSize, sort_count, outcome_count};
 ghost use Rattle.cnf.specs.Assignment.{value_of};
 ghost use Rattle.cnf.specs.Sat.{is_satisfied};
 ghost use Rattle.meaning.specs.Literals.{is_literal};
@@ -75,9 +75,6 @@ pub trait OutcomeKind: Sync {
         ensures none { IfNone result ((o : ℕ) →
             o < outcome_count (size self.now).kind (size self.now).alternatives →
             text.now ≢ outcome_text (size self.now) o) };
-
-    /// The kind has literals.
-    ghost has_outcomes: { (k : Self) → HasOutcomes (size k).kind };
 
     /// The size is one that the bench takes.
     ghost is_size: { (k : Self) → IsSize (size k) };

@@ -1,13 +1,14 @@
 //! What holds of every kind of outcomes. Each law is the contract of a function that does nothing.
 
 ghost use Rattle.meaning.specs.Laws.{AreVariables};
-ghost use Rattle.outcomes.specs.Laws.{IsSizeWithLiterals, FramesSayOneOutcome, BitsSayLiterals, AreFramesSmall, HaveTextsOfLetters};
+ghost use Rattle.vocab.specs.Size.{IsSize};
+ghost use Rattle.outcomes.specs.Laws.{FramesSayOneOutcome, BitsSayLiterals, AreFramesSmall, HaveTextsOfLetters};
 
 use crate::kind::OutcomeKind;
 
-/// A kind is over a size that the bench takes, and has literals.
+/// A kind is over a size that the bench takes.
 pub fn kinds_have_sizes<K: OutcomeKind>(_kind: &K)
-    ensures { IsSizeWithLiterals (K.size _kind.now) }
+    ensures { IsSize (K.size _kind.now) }
 {}
 
 /// The literals of a kind and the variables with signs are one to one, opposites are opposites, and the

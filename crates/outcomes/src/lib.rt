@@ -9,6 +9,7 @@ pub mod laws;
 mod places;
 mod ranking;
 mod setting;
+pub mod winners;
 
 pub use choice::ChoiceKind;
 pub use kind::OutcomeKind;

@@ -94,7 +94,5 @@ impl OutcomeKind for RankingKind {
         place_of(self.space.size().alternatives(), text)
     }
 
-    ghost has_outcomes = { λ k e. let same : k.space.kind ≡ Ranking = k.ranks in Prim.cc };
-
     ghost is_size = { λ k. k.whole };
 }

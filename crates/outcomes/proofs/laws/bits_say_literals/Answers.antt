@@ -2,4 +2,4 @@ use Rattle.outcomes.proofs.BitLaws.{say_literals}
 use Rattle.outcomes.proofs.laws.bits_say_literals.Goals as goal
 
 pub returns : goal.returns
-returns g c = say_literals (g.K.OutcomeKind.size c.args.kind.now) c.kinds_have_sizes.ensures.has_outcomes
+returns g c = say_literals (g.K.OutcomeKind.size c.args.kind.now)

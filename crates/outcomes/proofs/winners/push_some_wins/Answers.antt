@@ -3,7 +3,7 @@ use Rattle.cnf.specs.ClauseList.{with_clause}
 use Rattle.cnf.specs.Sat.{Clause}
 use Rattle.outcomes.specs.Rows.{some_wins}
 use Rattle.outcomes.proofs.FrameRows.{winners_of}
-use Rattle.outcomes.proofs.frames.push_some_wins.Goals as goal
+use Rattle.outcomes.proofs.winners.push_some_wins.Goals as goal
 
 pub returns-clause-ok : goal.returns-clause-ok
 returns-clause-ok c =
