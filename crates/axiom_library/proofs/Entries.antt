@@ -11,7 +11,7 @@ use Rattle.syntax.specs.declared.faults.SyntaxFault.{SyntaxFault}
 use Rattle.syntax.specs.declared.faults.SyntaxFault.TheVariants as fault
 use Rattle.syntax.specs.Sentence.{IsSentence, IsFault}
 use Rattle.syntax.proofs.OneAnswer.{one_answer}
-use Rattle.axiom_library.specs.Library.{Entry, choice, ranking, library, text_among, text_under}
+use Rattle.axiom_library.specs.Library.{Entry, choice, ranking, sets, library, text_among, text_under}
 use Rattle.axiom_library.specs.Laws.{IsReadable}
 use Rattle.axiom_library.proofs.Reading as reading
 
@@ -43,10 +43,14 @@ ranking_readable : AllByRecursion (λ e. IsReadable e.name e.text) ranking
 unfolding ranking
 ranking_readable = (reading.pareto_of_rankings, (reading.independence_of_rankings, (reading.non_dictatorship_of_rankings, (reading.anonymity_of_rankings, (reading.neutrality_of_rankings, tt)))))
 
+sets_readable : AllByRecursion (λ e. IsReadable e.name e.text) sets
+unfolding sets
+sets_readable = (reading.pareto, (reading.anonymity, (reading.neutrality, (reading.condorcet_of_sets, (reading.resolute, (reading.strategyproof_of_sets, tt))))))
+
 pub all_readable : (kind : Kind) → AllByRecursion (λ e. IsReadable e.name e.text) (library kind)
 all_readable Choice = choice_readable
 all_readable Ranking = ranking_readable
-all_readable Sets = tt
+all_readable Sets = sets_readable
 
 -- each text under a name is readable
 pub text_readable : (kind : Kind) (name text : List ℕ) → text_under kind name ≡ Some text → IsReadable name text
@@ -64,11 +68,15 @@ ranking_found : AllByRecursion (λ e. text_under Ranking e.name ≡ Some e.text)
 unfolding ranking
 ranking_found = (refl, (refl, (refl, (refl, (refl, tt)))))
 
+sets_found : AllByRecursion (λ e. text_under Sets e.name ≡ Some e.text) sets
+unfolding sets
+sets_found = (refl, (refl, (refl, (refl, (refl, (refl, tt))))))
+
 -- each entry is found under its name
 pub entry_found : (kind : Kind) (place : ℕ) (e : Entry) → slice_get (library kind) place ≡ Some e → text_under kind e.name ≡ Some e.text
 entry_found Choice place e at = at_place (λ e. text_under Choice e.name ≡ Some e.text) choice choice_found place e at
 entry_found Ranking place e at = at_place (λ e. text_under Ranking e.name ≡ Some e.text) ranking ranking_found place e at
-entry_found Sets place e at = absurd cc
+entry_found Sets place e at = at_place (λ e. text_under Sets e.name ≡ Some e.text) sets sets_found place e at
 
 -- the name that was found at a place is one
 pub name_at_place : (kind : Kind) (place : ℕ) (bytes : List ℕ) → Some bytes ≡ option_map (λ e. e.name) (slice_get (library kind) place) → IsTrue (is_name bytes)

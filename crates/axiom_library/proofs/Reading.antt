@@ -45,6 +45,15 @@ neutrality = readable _ _ trees.neutrality refl refl refl (lit≤ tt) (lit≤ tt
 pub participation : IsReadable (codes "participation") (codes "all p: profile. all i: voter. all b: ballot. all x: alt. all y: alt. ((!some c: ballot. casts(i, c, p) & (wins(x, p) & wins(y, with(p, i, b)))) -> !better(b, x, y))")
 participation = readable _ _ trees.participation refl refl refl (lit≤ tt) (lit≤ tt) (lit≤ tt)
 
+pub condorcet_of_sets : IsReadable (codes "condorcet") (codes "all p: profile. all x: alt. all z: alt. (all y: alt. (x = y | majority(x, y, p)) -> (wins(z, p) <-> x = z))")
+condorcet_of_sets = readable _ _ trees.condorcet_of_sets refl refl refl (lit≤ tt) (lit≤ tt) (lit≤ tt)
+
+pub resolute : IsReadable (codes "resolute") (codes "all p: profile. all x: alt. all y: alt. ((wins(x, p) & wins(y, p)) -> x = y)")
+resolute = readable _ _ trees.resolute refl refl refl (lit≤ tt) (lit≤ tt) (lit≤ tt)
+
+pub strategyproof_of_sets : IsReadable (codes "strategyproof") (codes "all p: profile. all i: voter. all b: ballot. all z: alt. (all x: alt. all y: alt. ((wins(x, p) & wins(y, with(p, i, b))) -> (x = y | prefers(i, y, x, p))) -> (wins(z, p) <-> wins(z, with(p, i, b))))")
+strategyproof_of_sets = readable _ _ trees.strategyproof_of_sets refl refl refl (lit≤ tt) (lit≤ tt) (lit≤ tt)
+
 pub pareto_of_rankings : IsReadable (codes "pareto") (codes "all p: profile. all x: alt. all y: alt. (all i: voter. prefers(i, x, y, p) -> ranks(x, y, p))")
 pareto_of_rankings = readable _ _ trees.pareto_of_rankings refl refl refl (lit≤ tt) (lit≤ tt) (lit≤ tt)
 

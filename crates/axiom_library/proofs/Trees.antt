@@ -55,6 +55,22 @@ participation =
     let b = tree.Var (codes "b") in let c = tree.Var (codes "c") in let i = tree.Var (codes "i") in let p = tree.Var (codes "p") in let x = tree.Var (codes "x") in let y = tree.Var (codes "y") in
     tree.All (codes "p") Profile (tree.All (codes "i") Voter (tree.All (codes "b") Ballot (tree.All (codes "x") Alt (tree.All (codes "y") Alt (tree.Implies (tree.Both (tree.Not (tree.Exists (codes "c") Ballot (tree.Pred (codes "casts") (arguments_of (i ∷ c ∷ p ∷ []))))) (tree.Both (tree.Pred (codes "wins") (arguments_of (x ∷ p ∷ []))) (tree.Pred (codes "wins") (arguments_of (y ∷ (tree.Call (codes "with") (arguments_of (p ∷ i ∷ b ∷ []))) ∷ []))))) (tree.Not (tree.Pred (codes "better") (arguments_of (b ∷ x ∷ y ∷ [])))))))))
 
+abbrev pub condorcet_of_sets : NamedTree
+condorcet_of_sets =
+    let p = tree.Var (codes "p") in let x = tree.Var (codes "x") in let y = tree.Var (codes "y") in let z = tree.Var (codes "z") in
+    tree.All (codes "p") Profile (tree.All (codes "x") Alt (tree.All (codes "z") Alt (tree.Implies (tree.All (codes "y") Alt (tree.Either (tree.Equal x y) (tree.Pred (codes "majority") (arguments_of (x ∷ y ∷ p ∷ []))))) (tree.Same (tree.Pred (codes "wins") (arguments_of (z ∷ p ∷ []))) (tree.Equal x z)))))
+
+abbrev pub resolute : NamedTree
+resolute =
+    let p = tree.Var (codes "p") in let x = tree.Var (codes "x") in let y = tree.Var (codes "y") in
+    tree.All (codes "p") Profile (tree.All (codes "x") Alt (tree.All (codes "y") Alt (tree.Implies (tree.Both (tree.Pred (codes "wins") (arguments_of (x ∷ p ∷ []))) (tree.Pred (codes "wins") (arguments_of (y ∷ p ∷ [])))) (tree.Equal x y))))
+
+abbrev pub strategyproof_of_sets : NamedTree
+strategyproof_of_sets =
+    let b = tree.Var (codes "b") in let i = tree.Var (codes "i") in let p = tree.Var (codes "p") in let x = tree.Var (codes "x") in let y = tree.Var (codes "y") in let z = tree.Var (codes "z") in
+    let changed = tree.Call (codes "with") (arguments_of (p ∷ i ∷ b ∷ [])) in
+    tree.All (codes "p") Profile (tree.All (codes "i") Voter (tree.All (codes "b") Ballot (tree.All (codes "z") Alt (tree.Implies (tree.All (codes "x") Alt (tree.All (codes "y") Alt (tree.Implies (tree.Both (tree.Pred (codes "wins") (arguments_of (x ∷ p ∷ []))) (tree.Pred (codes "wins") (arguments_of (y ∷ changed ∷ [])))) (tree.Either (tree.Equal x y) (tree.Pred (codes "prefers") (arguments_of (i ∷ y ∷ x ∷ p ∷ []))))))) (tree.Same (tree.Pred (codes "wins") (arguments_of (z ∷ p ∷ []))) (tree.Pred (codes "wins") (arguments_of (z ∷ changed ∷ []))))))))
+
 abbrev pub pareto_of_rankings : NamedTree
 pareto_of_rankings =
     let i = tree.Var (codes "i") in let p = tree.Var (codes "p") in let x = tree.Var (codes "x") in let y = tree.Var (codes "y") in

@@ -35,11 +35,24 @@ ranking =
     record { name = codes "neutrality"; text = codes "all p: profile. all x: alt. all y: alt. all z: alt. all w: alt. (ranks(z, w, p) <-> ranks(swap(x, y, z), swap(x, y, w), swap_alts(p, x, y)))" } ∷
     []
 
+-- axioms of rules that give a set. `condorcet` says that an alternative which beats each other one is the only winner, and
+-- `strategyproof` that no voter gains a set of which each element is above each of the set in its place, or the same:
+-- Kelly, "Strategy-proofness and social choice functions without singlevaluedness" (1977)
+unfoldable pub sets : List Entry
+sets =
+    record { name = codes "pareto"; text = codes "all p: profile. all x: alt. all y: alt. (all i: voter. prefers(i, x, y, p) -> !wins(y, p))" } ∷
+    record { name = codes "anonymity"; text = codes "all p: profile. all i: voter. all j: voter. all x: alt. (wins(x, p) <-> wins(x, swap_voters(p, i, j)))" } ∷
+    record { name = codes "neutrality"; text = codes "all p: profile. all x: alt. all y: alt. all z: alt. (wins(z, p) <-> wins(swap(x, y, z), swap_alts(p, x, y)))" } ∷
+    record { name = codes "condorcet"; text = codes "all p: profile. all x: alt. all z: alt. (all y: alt. (x = y | majority(x, y, p)) -> (wins(z, p) <-> x = z))" } ∷
+    record { name = codes "resolute"; text = codes "all p: profile. all x: alt. all y: alt. ((wins(x, p) & wins(y, p)) -> x = y)" } ∷
+    record { name = codes "strategyproof"; text = codes "all p: profile. all i: voter. all b: ballot. all z: alt. (all x: alt. all y: alt. ((wins(x, p) & wins(y, with(p, i, b))) -> (x = y | prefers(i, y, x, p))) -> (wins(z, p) <-> wins(z, with(p, i, b))))" } ∷
+    []
+
 -- the library of a kind
 abbrev pub library : Kind → List Entry
 library Choice = choice
 library Ranking = ranking
-library Sets = []
+library Sets = sets
 
 -- the text that stands first under a name
 abbrev pub text_among : List Entry → List ℕ → Option (List ℕ)

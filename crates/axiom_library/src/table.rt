@@ -1,7 +1,7 @@
 //! The tables of the library: names and texts by their places.
 
 ghost use Rattle.std.specs.Prelude.{◌≡◌, length, slice_get, option_map};
-ghost use Rattle.axiom_library.specs.Library.{choice, ranking, library};
+ghost use Rattle.axiom_library.specs.Library.{choice, ranking, sets, library};
 
 use vocab::Kind;
 
@@ -105,15 +105,55 @@ fn ranking_text(place: u32) -> Option<&'static [u8]>
     }
 }
 
+/// The name at a place of the library of rules that give a set.
+#[tactic(auto, unfolding(crate::specs::Library::sets))]
+fn set_name(place: u32) -> Option<&'static [u8]>
+    ensures { option_map (λ name. name.now) result ≡ option_map (λ e. e.name) (slice_get sets place) }
+{
+    match place {
+        0 => Some(b"pareto"),
+        1 => Some(b"anonymity"),
+        2 => Some(b"neutrality"),
+        3 => Some(b"condorcet"),
+        4 => Some(b"resolute"),
+        5 => Some(b"strategyproof"),
+        _ => None,
+    }
+}
+
+/// The text at a place of the library of rules that give a set: the first three are those of rules that
+/// choose. The last, `strategyproof`, says that no voter
+/// gains by another ballot a set of which each element is one of the set in its place, or above it in the
+/// voter's own ballot, for all elements of the two (Kelly, "Strategy-proofness and social choice functions
+/// without singlevaluedness", 1977).
+#[tactic(auto, unfolding(crate::specs::Library::choice, crate::specs::Library::sets))]
+fn set_text(place: u32) -> Option<&'static [u8]>
+    ensures { option_map (λ text. text.now) result ≡ option_map (λ e. e.text) (slice_get sets place) }
+{
+    match place {
+        0 => choice_text(1),
+        1 => choice_text(7),
+        2 => choice_text(8),
+        3 => Some(
+            b"all p: profile. all x: alt. all z: alt. (all y: alt. (x = y | majority(x, y, p)) -> (wins(z, p) <-> x = z))",
+        ),
+        4 => Some(b"all p: profile. all x: alt. all y: alt. ((wins(x, p) & wins(y, p)) -> x = y)"),
+        5 => Some(
+            b"all p: profile. all i: voter. all b: ballot. all z: alt. (all x: alt. all y: alt. ((wins(x, p) & wins(y, with(p, i, b))) -> (x = y | prefers(i, y, x, p))) -> (wins(z, p) <-> wins(z, with(p, i, b))))",
+        ),
+        _ => None,
+    }
+}
+
 /// How many axioms the library of a kind has.
-#[tactic(auto, unfolding(crate::specs::Library::choice, crate::specs::Library::ranking))]
+#[tactic(auto, unfolding(crate::specs::Library::choice, crate::specs::Library::ranking, crate::specs::Library::sets))]
 pub fn count(kind: Kind) -> u32
     ensures { result ≡ length (library kind) }
 {
     match kind {
         Kind::Choice => 10,
         Kind::Ranking => 5,
-        Kind::Sets => 0,
+        Kind::Sets => 6,
     }
 }
 
@@ -125,7 +165,7 @@ pub(crate) fn name_bytes(kind: Kind, place: u32) -> Option<&'static [u8]>
     match kind {
         Kind::Choice => choice_name(place),
         Kind::Ranking => ranking_name(place),
-        Kind::Sets => None,
+        Kind::Sets => set_name(place),
     }
 }
 
@@ -137,6 +177,6 @@ pub fn text_at(kind: Kind, place: u32) -> Option<&'static [u8]>
     match kind {
         Kind::Choice => choice_text(place),
         Kind::Ranking => ranking_text(place),
-        Kind::Sets => None,
+        Kind::Sets => set_text(place),
     }
 }
