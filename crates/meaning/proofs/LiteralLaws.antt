@@ -1,15 +1,16 @@
 -- Literals, and literals of a size.
-use Rattle.std.proofs.Common.{◌&&◌, ◌<◌, ap, ap₂, arith, eq-eqb, eqb-true, false, lt-ltb, ltb-true, not, refl, sym, true, true≢false, ℕ, ◌≡◌}
+use Rattle.std.proofs.Common.{◌&&◌, ◌<◌, ap, ap₂, arith, cond, ◌∙◌, eq-eqb, eqb-true, false, lt-ltb, ltb-true, not, refl, sym, true, true≢false, ℕ, ◌≡◌}
 use Rattle.std.proofs.lemmas.Bool.{and_from, and_parts, both_ways, false_from_ne_true, not-true}
 use Rattle.std.specs.Prelude.{◌==◌, nat_lt}
 use Rattle.vocab.specs.Literal.{opposite_of, profile_of, same_literal}
 use Rattle.vocab.specs.Size.{Extent, sort_count}
+use Rattle.vocab.specs.Sorted.{has_winners}
 use Rattle.vocab.specs.declared.kinds.Kind.{Kind}
 use Rattle.vocab.specs.declared.kinds.Kind.TheVariants.{Choice, Ranking, Sets}
 use Rattle.vocab.specs.declared.kinds.Sort.TheVariants.{Profile}
 use Rattle.vocab.specs.declared.literals.Literal.{Literal}
 use Rattle.vocab.specs.declared.literals.Literal.TheVariants.{Above, Loses, Wins}
-use Rattle.meaning.specs.Literals.{is_literal_of, is_of_winner}
+use Rattle.meaning.specs.Literals.{is_literal_of, is_of_winner, is_comparison}
 
 -- ---- numbers that differ
 
@@ -72,6 +73,13 @@ module _ (size : Extent) where
 
   pub ranking_literal : (x y p : ℕ) → x < size.alternatives → y < size.alternatives → (x == y) ≡ false → p < sort_count size Profile → is_literal_of size Ranking (Above x y p) ≡ true
   ranking_literal x y p in_x in_y ne in_p = and_from _ _ (and_from _ _ (and_from _ _ (lt-ltb x _ in_x) (lt-ltb y _ in_y)) (ap not ne)) (lt-ltb p _ in_p)
+
+  -- literals of a kind: whether an alternative wins, where the outcome has winners, and comparisons, where it has none
+  pub of_winner : (k : Kind) (l : Literal) → has_winners k ≡ true → is_of_winner size l ≡ true → is_literal_of size k l ≡ true
+  of_winner k l some h = ap (λ b. cond b (is_of_winner size l) (is_comparison size l)) some ∙ h
+
+  pub of_comparison : (k : Kind) (l : Literal) → not (has_winners k) ≡ true → is_comparison size l ≡ true → is_literal_of size k l ≡ true
+  of_comparison k l none h = ap (λ b. cond b (is_of_winner size l) (is_comparison size l)) (not-true _ none) ∙ h
 
   winner-opposite : (l : Literal) → is_of_winner size l ≡ true → is_of_winner size (opposite_of l) ≡ true
   winner-opposite (Wins x p) h = h

@@ -4,3 +4,4 @@ pub mod FrameRows
 pub mod BitLaws
 pub mod SmallFrames
 pub mod OutcomeTexts
+pub mod OutcomeCounts

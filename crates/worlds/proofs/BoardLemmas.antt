@@ -12,9 +12,9 @@ use Rattle.vocab.specs.declared.literals.Literal.{Literal}
 use Rattle.vocab.specs.declared.literals.Literal.TheVariants.{Wins, Loses, Above}
 use Rattle.vocab.specs.Literal.{same_literal, has}
 use Rattle.vocab.specs.Size.{Extent, IsSize, sort_count}
-use Rattle.meaning.specs.Literals.{is_literal, is_literal_of}
+use Rattle.meaning.specs.Literals.{is_literal, is_literal_of, is_of_winner}
 use Rattle.meaning.proofs.TestLaws.{or-false}
-use Rattle.meaning.proofs.LiteralLaws.{same_literal-equal, same_literal-refl, choice_in, ranking_in}
+use Rattle.meaning.proofs.LiteralLaws.{same_literal-equal, same_literal-refl, winner_in, ranking_in}
 use Rattle.worlds.specs.Boards.{without, are_distinct, mark_of, free, IsBoard}
 
 -- ---- lists of literals
@@ -178,17 +178,20 @@ module _ (size : Extent) (valid : IsSize size) where
   below_five : (x : ℕ) → x < size.alternatives → x < 5
   below_five x lt = omega (arith, valid.few_alternatives)
 
-  mark_of_kind : (k : Kind) (l : Literal) → is_literal_of size k l ≡ true → mark_of l < sort_count size Profile * 25
-  mark_of_kind Choice (Wins x p) h =
-      let e = choice_in size x p h in
+  mark_of_winner : (l : Literal) → is_of_winner size l ≡ true → mark_of l < sort_count size Profile * 25
+  mark_of_winner (Wins x p) h =
+      let e = winner_in size x p h in
       let bound : p * 25 + x * 5 + 0 < sort_count size Profile * 25 = mark_bound x 0 p size.alternatives (sort_count size Profile) e.0 valid.few_alternatives (omega arith) e.1 in
       omega arith
-  mark_of_kind Choice (Loses x p) h = let e = choice_in size x p h in mark_bound x 1 p size.alternatives (sort_count size Profile) e.0 valid.few_alternatives (omega arith) e.1
-  mark_of_kind Choice (Above x y p) h = absurd (true≢false (sym h))
+  mark_of_winner (Loses x p) h = let e = winner_in size x p h in mark_bound x 1 p size.alternatives (sort_count size Profile) e.0 valid.few_alternatives (omega arith) e.1
+  mark_of_winner (Above x y p) h = absurd (true≢false (sym h))
+
+  mark_of_kind : (k : Kind) (l : Literal) → is_literal_of size k l ≡ true → mark_of l < sort_count size Profile * 25
+  mark_of_kind Choice l h = mark_of_winner l h
   mark_of_kind Ranking (Wins x p) h = absurd (true≢false (sym h))
   mark_of_kind Ranking (Loses x p) h = absurd (true≢false (sym h))
   mark_of_kind Ranking (Above x y p) h = let e = ranking_in size x y p h in mark_bound x y p size.alternatives (sort_count size Profile) e.0 valid.few_alternatives (below_five y e.1) e.3
-  mark_of_kind Sets l h = absurd (true≢false (sym h))
+  mark_of_kind Sets l h = mark_of_winner l h
 
   pub mark_below : (l : Literal) → is_literal size l ≡ true → mark_of l < sort_count size Profile * 25
   mark_below l h = mark_of_kind size.kind l h
@@ -196,22 +199,25 @@ module _ (size : Extent) (valid : IsSize size) where
   wins_mark : (x p y q a b : ℕ) → x < 5 → y < 5 → a < 5 → b < 5 → p * 25 + x * 5 + a ≡ q * 25 + y * 5 + b → (x ≡ y) × (p ≡ q) × (a ≡ b)
   wins_mark x p y q a b hx hy ha hb e = let n = one_mark x a p y b q hx ha hy hb e in (n.1, n.0, n.2)
 
-  of_one_mark : (k : Kind) (a b : Literal) → is_literal_of size k a ≡ true → is_literal_of size k b ≡ true → mark_of a ≡ mark_of b → a ≡ b
-  of_one_mark Choice (Wins x p) (Wins y q) h g e =
-      let n = wins_mark x p y q 0 0 (below_five x (choice_in size x p h).0) (below_five y (choice_in size y q g).0) (omega arith) (omega arith) (omega arith) in
+  winners_of_one_mark : (a b : Literal) → is_of_winner size a ≡ true → is_of_winner size b ≡ true → mark_of a ≡ mark_of b → a ≡ b
+  winners_of_one_mark (Wins x p) (Wins y q) h g e =
+      let n = wins_mark x p y q 0 0 (below_five x (winner_in size x p h).0) (below_five y (winner_in size y q g).0) (omega arith) (omega arith) (omega arith) in
       ap₂ Wins n.0 n.1
-  of_one_mark Choice (Loses x p) (Loses y q) h g e =
-      let n = wins_mark x p y q 1 1 (below_five x (choice_in size x p h).0) (below_five y (choice_in size y q g).0) (omega arith) (omega arith) e in
+  winners_of_one_mark (Loses x p) (Loses y q) h g e =
+      let n = wins_mark x p y q 1 1 (below_five x (winner_in size x p h).0) (below_five y (winner_in size y q g).0) (omega arith) (omega arith) e in
       ap₂ Loses n.0 n.1
-  of_one_mark Choice (Wins x p) (Loses y q) h g e =
-      let n = wins_mark x p y q 0 1 (below_five x (choice_in size x p h).0) (below_five y (choice_in size y q g).0) (omega arith) (omega arith) (omega arith) in
+  winners_of_one_mark (Wins x p) (Loses y q) h g e =
+      let n = wins_mark x p y q 0 1 (below_five x (winner_in size x p h).0) (below_five y (winner_in size y q g).0) (omega arith) (omega arith) (omega arith) in
       absurd (let no : 0 ≡ 1 = n.2 in omega arith)
-  of_one_mark Choice (Loses x p) (Wins y q) h g e =
-      let n = wins_mark x p y q 1 0 (below_five x (choice_in size x p h).0) (below_five y (choice_in size y q g).0) (omega arith) (omega arith) (omega arith) in
+  winners_of_one_mark (Loses x p) (Wins y q) h g e =
+      let n = wins_mark x p y q 1 0 (below_five x (winner_in size x p h).0) (below_five y (winner_in size y q g).0) (omega arith) (omega arith) (omega arith) in
       absurd (let no : 1 ≡ 0 = n.2 in omega arith)
-  of_one_mark Choice (Above x y p) b h g e = absurd (true≢false (sym h))
-  of_one_mark Choice (Wins x p) (Above v w q) h g e = absurd (true≢false (sym g))
-  of_one_mark Choice (Loses x p) (Above v w q) h g e = absurd (true≢false (sym g))
+  winners_of_one_mark (Above x y p) b h g e = absurd (true≢false (sym h))
+  winners_of_one_mark (Wins x p) (Above v w q) h g e = absurd (true≢false (sym g))
+  winners_of_one_mark (Loses x p) (Above v w q) h g e = absurd (true≢false (sym g))
+
+  of_one_mark : (k : Kind) (a b : Literal) → is_literal_of size k a ≡ true → is_literal_of size k b ≡ true → mark_of a ≡ mark_of b → a ≡ b
+  of_one_mark Choice a b h g e = winners_of_one_mark a b h g e
   of_one_mark Ranking (Above x y p) (Above v w q) h g e =
       let i = ranking_in size x y p h in
       let j = ranking_in size v w q g in
@@ -221,7 +227,7 @@ module _ (size : Extent) (valid : IsSize size) where
   of_one_mark Ranking (Loses x p) b h g e = absurd (true≢false (sym h))
   of_one_mark Ranking (Above x y p) (Wins v q) h g e = absurd (true≢false (sym g))
   of_one_mark Ranking (Above x y p) (Loses v q) h g e = absurd (true≢false (sym g))
-  of_one_mark Sets a b h g e = absurd (true≢false (sym h))
+  of_one_mark Sets a b h g e = winners_of_one_mark a b h g e
 
   -- another literal has another mark
   other_mark : (a b : Literal) → is_literal size a ≡ true → is_literal size b ≡ true → same_literal a b ≡ false → mark_of a ≢ mark_of b

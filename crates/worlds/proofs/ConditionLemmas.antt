@@ -1,21 +1,20 @@
 -- The parts of what can be evaluated can be evaluated.
-use Rattle.std.proofs.Common.{◌≡◌, ◌≢◌, refl, ap, ◌∙◌, sym, subst, ℕ, zero, suc, inl, inr, ◌+◌, ◌<◌, ◌≤◌, true, false, max, List, [], ◌∷◌, ◌++◌, length, arith, length-append, true≢false, lt-ltb, eqb-true, leb-true}
+use Rattle.std.proofs.Common.{◌≡◌, ap, ◌∙◌, sym, ℕ, zero, suc, inl, inr, ◌+◌, ◌<◌, ◌≤◌, true, false, max, List, [], ◌∷◌, ◌++◌, length, arith, length-append, true≢false, lt-ltb, eqb-true, leb-true}
 use Rattle.std.specs.Prelude.{◌&&◌, ◌==◌, not, nat_lt, nat_le, slice_get}
 use Rattle.std.specs.List.{list_any}
 use Rattle.std.proofs.lemmas.Bool.{and_parts, and_from, or_cases, false_from_ne_true}
-use Rattle.vocab.specs.declared.kinds.Kind.{Kind}
-use Rattle.vocab.specs.declared.kinds.Kind.TheVariants.{Choice, Ranking, Sets}
 use Rattle.vocab.specs.declared.kinds.Sort.{Sort}
 use Rattle.vocab.specs.declared.kinds.Sort.TheVariants.{Voter, Alt, Ballot, Profile}
 use Rattle.vocab.specs.declared.literals.Literal.TheVariants.{Wins, Above}
 use Rattle.vocab.specs.Formula.{quantifier_depth}
-use Rattle.vocab.specs.Size.{HasOutcomes, has_all_ballots, Extent, sort_count}
+use Rattle.vocab.specs.Size.{has_all_ballots, Extent, sort_count}
 use Rattle.vocab.specs.Sorted.{same_sort, all_sorts, is_option_sort, has_winners, is_of_sort, is_sorted, are_of_sorts}
 use Rattle.vocab.specs.Study.{is_sentence}
 use Rattle.vocab.specs.Titled.{Titled}
 use Rattle.vocab.specs.Tree.{TermTree, Tree, Var, With, SwapVoters, SwapAlts, Swap, Equal, Prefers, Better, Casts, Majority, WinsAt, Ranks, Leaf, Not, Both, Either, Implies, Same, All, Exists}
-use Rattle.meaning.specs.Literals.{is_literal, is_literal_of}
+use Rattle.meaning.specs.Literals.{is_literal}
 use Rattle.meaning.specs.Truth.{value, is_rule}
+use Rattle.meaning.proofs.LiteralLaws.{of_comparison, of_winner}
 use Rattle.meaning.proofs.RangeLaws.{have_values}
 use Rattle.worlds.specs.Conditions.{IsTermAt, HasSort, IsAtomAt, IsFormulaAt, IsEvaluable}
 
@@ -144,25 +143,14 @@ module _ (size : Extent) where
 
   -- ---- literals
 
-  -- rules whose outcome has winners choose, where sets are left out, and the others rank
-  choice_kind : (k : Kind) → HasOutcomes k → has_winners k ≡ true → k ≡ Choice
-  choice_kind Choice ne h = refl
-  choice_kind Ranking ne h = absurd (true≢false (sym h))
-  choice_kind Sets ne h = absurd (ne refl)
-
-  ranking_kind : (k : Kind) → not (has_winners k) ≡ true → k ≡ Ranking
-  ranking_kind Choice h = absurd (true≢false (sym h))
-  ranking_kind Ranking h = refl
-  ranking_kind Sets h = absurd (true≢false (sym h))
-
   -- an atom on winners is a literal of the size
-  pub wins_literal : (x y : TermTree) (env : List ℕ) → HasOutcomes size.kind → IsAtomAt size (WinsAt x y) env → is_literal size (Wins (value size env x) (value size env y)) ≡ true
-  wins_literal x p env ne h =
+  pub wins_literal : (x y : TermTree) (env : List ℕ) → IsAtomAt size (WinsAt x y) env → is_literal size (Wins (value size env x) (value size env y)) ≡ true
+  wins_literal x p env h =
       let r = h.sorts in
       let parts = wins_parts x p env h in
       let one = and_parts _ (is_of_sort size r Profile p) h.sorted in
       let two = and_parts (has_winners size.kind) (is_of_sort size r Alt x) one.0 in
-      subst (λ k. is_literal_of size k (Wins (value size env x) (value size env p)) ≡ true) (sym (choice_kind size.kind ne two.0))
+      of_winner size size.kind (Wins (value size env x) (value size env p)) two.0
       (and_from _ _ (lt-ltb _ _ (value_in_range Alt x env parts.0)) (lt-ltb _ _ (value_in_range Profile p env parts.1)))
 
   -- and so is one on ranks of two different alternatives
@@ -173,12 +161,12 @@ module _ (size : Extent) where
       let one = and_parts _ (is_of_sort size r Profile p) h.sorted in
       let two = and_parts _ (is_of_sort size r Alt y) one.0 in
       let three = and_parts (not (has_winners size.kind)) (is_of_sort size r Alt x) two.0 in
-      subst (λ k. is_literal_of size k (Above (value size env x) (value size env y) (value size env p)) ≡ true) (sym (ranking_kind size.kind three.0))
+      of_comparison size size.kind (Above (value size env x) (value size env y) (value size env p)) three.0
       (and_from _ _ (and_from _ _ (and_from _ _ (lt-ltb _ _ (value_in_range Alt x env parts.0)) (lt-ltb _ _ (value_in_range Alt y env parts.1))) (ap not ne)) (lt-ltb _ _ (value_in_range Profile p env parts.2)))
 
   -- a literal that is made of the values of the terms
-  pub wins_taken : (x p : TermTree) (env : List ℕ) (a q : ℕ) → a ≡ value size env x → q ≡ value size env p → HasOutcomes size.kind → IsAtomAt size (WinsAt x p) env → is_literal size (Wins a q) ≡ true
-  wins_taken x p env a q ea eq ne h = rw (ea, eq) (wins_literal x p env ne h)
+  pub wins_taken : (x p : TermTree) (env : List ℕ) (a q : ℕ) → a ≡ value size env x → q ≡ value size env p → IsAtomAt size (WinsAt x p) env → is_literal size (Wins a q) ≡ true
+  wins_taken x p env a q ea eq h = rw (ea, eq) (wins_literal x p env h)
 
   pub ranks_taken : (x y p : TermTree) (env : List ℕ) (a b q : ℕ) → a ≡ value size env x → b ≡ value size env y → q ≡ value size env p → IsAtomAt size (Ranks x y p) env → (a ≡ b → ⊥) → is_literal size (Above a b q) ≡ true
   ranks_taken x y p env a b q ea eb eq h ne = rw (ea, eb, eq) (ranks_literal x y p env h (false_from_ne_true _ (λ e. ne (ea ∙ eqb-true (value size env x) (value size env y) e ∙ sym eb))))

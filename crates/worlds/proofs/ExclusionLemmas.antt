@@ -1,22 +1,20 @@
 -- Known literals at a profile, by the variables of the profile.
-use Rattle.std.proofs.Common.{◌≡◌, ◌≢◌, refl, sym, ap, subst, ℕ, ◌+◌, ◌*◌, ◌<◌, ◌≤◌, Bool, true, false, not, cond, ◌&&◌, ◌⊎◌, inl, inr, List, [], ◌∷◌, filter, arith, true≢false, eqb-true, eq-eqb, eq-or-lt_of_le, mul-le-mul, mul-le-mul_right}
+use Rattle.std.proofs.Common.{◌≡◌, refl, sym, ap, subst, ℕ, ◌+◌, ◌*◌, ◌<◌, ◌≤◌, Bool, true, false, not, cond, ◌&&◌, ◌⊎◌, inl, inr, List, [], ◌∷◌, filter, arith, true≢false, eqb-true, eq-eqb, eq-or-lt_of_le, mul-le-mul, mul-le-mul_right}
 use Rattle.std.specs.Prelude.{◌==◌}
 use Rattle.std.specs.List.{list_all}
 use Rattle.std.proofs.lemmas.Bool.{and_parts, and_from, or_cases, or_left, or_right, both_ways, false_from_ne_true, not-true}
-use Rattle.vocab.specs.declared.kinds.Kind.{Kind}
-use Rattle.vocab.specs.declared.kinds.Kind.TheVariants.{Choice, Ranking, Sets}
 use Rattle.vocab.specs.declared.kinds.Sort.TheVariants.{Profile}
 use Rattle.vocab.specs.declared.literals.Literal.{Literal}
 use Rattle.vocab.specs.Literal.{same_literal, has, profile_of}
-use Rattle.vocab.specs.Size.{HasOutcomes, Extent, IsSize, sort_count, outcome_count}
+use Rattle.vocab.specs.Size.{Extent, IsSize, sort_count, outcome_count}
 use Rattle.cnf.specs.Signed.{Signed}
 use Rattle.meaning.specs.Literals.{is_literal}
 use Rattle.meaning.specs.Stories.{is_outcome_excluded}
 use Rattle.meaning.specs.Truth.{holds_of}
 use Rattle.meaning.specs.Variables.{bits, lit_of, literal_of}
 use Rattle.meaning.proofs.LiteralLaws.{same_literal-equal, same_literal-refl, profile_in}
-use Rattle.meaning.proofs.SpaceLaws.{factorial_pos}
 use Rattle.meaning.proofs.ValueLoops.{any_holds}
+use Rattle.meaning.proofs.SpaceLaws.{some_outcome}
 use Rattle.meaning.proofs.VariableLaws.{are_variables}
 use Rattle.worlds.proofs.BoardLemmas.{all_has}
 
@@ -60,11 +58,6 @@ module _ (t q : Literal → Bool) where
       ]
 
 -- ---- outcomes and variables
-
-some_outcome : (k : Kind) (m : ℕ) → HasOutcomes k → 1 ≤ m → 0 < outcome_count k m
-some_outcome Choice m ne h = h
-some_outcome Ranking m ne h = factorial_pos m
-some_outcome Sets m ne h = absurd (ne refl)
 
 -- the variables of a profile are among all
 pub variable_within : (p n count place : ℕ) → p < count → place < n → p * n + place + 1 ≤ count * n
@@ -110,32 +103,31 @@ module _ (size : Extent) (known : List Literal) (outcome p : ℕ) where
       signs w true e = subst (λ u. is_failing (record { variable = u; positive = true }) ≡ false) (sym e) upright
       signs w false e = subst (λ u. is_failing (record { variable = u; positive = false }) ≡ false) (sym e) turned
 
-  module _ (ne : HasOutcomes size.kind) where
-    pub checked_all : list_all (is_literal size) known ≡ true → AreChecked (p * bits size.kind size.alternatives + bits size.kind size.alternatives) →
-        list_all (holds_of size outcome) (filter (λ l. profile_of l == p) known) ≡ true
-    checked_all ours all = all_kept (holds_of size outcome) (λ l. profile_of l == p) known (λ l m here.
-        let laws = are_variables size ne in
-        let own : is_literal size l ≡ true = all_has (is_literal size) known l ours m in
-        let at_p : profile_of l ≡ p = eqb-true (profile_of l) p here in
-        let range = laws.from_profile l own in
-        let n = bits size.kind size.alternatives in
-        let low : p * n + 1 ≤ (lit_of size l).variable = subst (λ q. q * n + 1 ≤ (lit_of size l).variable) at_p range.0 in
-        let high : (lit_of size l).variable ≤ (p + 1) * n = subst (λ q. (lit_of size l).variable ≤ (q + 1) * n) at_p range.1 in
-        let is : literal_of size (lit_of size l) ≡ l = laws.of_variable l own in
-        subst (λ k. holds_of size outcome k ≡ true) is (all (lit_of size l) low (omega (arith, high)) (subst (λ k. has known k ≡ true) (sym is) m)))
+  pub checked_all : list_all (is_literal size) known ≡ true → AreChecked (p * bits size.kind size.alternatives + bits size.kind size.alternatives) →
+      list_all (holds_of size outcome) (filter (λ l. profile_of l == p) known) ≡ true
+  checked_all ours all = all_kept (holds_of size outcome) (λ l. profile_of l == p) known (λ l m here.
+      let laws = are_variables size in
+      let own : is_literal size l ≡ true = all_has (is_literal size) known l ours m in
+      let at_p : profile_of l ≡ p = eqb-true (profile_of l) p here in
+      let range = laws.from_profile l own in
+      let n = bits size.kind size.alternatives in
+      let low : p * n + 1 ≤ (lit_of size l).variable = subst (λ q. q * n + 1 ≤ (lit_of size l).variable) at_p range.0 in
+      let high : (lit_of size l).variable ≤ (p + 1) * n = subst (λ q. (lit_of size l).variable ≤ (q + 1) * n) at_p range.1 in
+      let is : literal_of size (lit_of size l) ≡ l = laws.of_variable l own in
+      subst (λ k. holds_of size outcome k ≡ true) is (all (lit_of size l) low (omega (arith, high)) (subst (λ k. has known k ≡ true) (sym is) m)))
 
-    pub fails_there : (s : Signed) → p * bits size.kind size.alternatives + 1 ≤ s.variable → s.variable ≤ (p + 1) * bits size.kind size.alternatives → is_failing s ≡ true →
-        list_all (holds_of size outcome) (filter (λ l. profile_of l == p) known) ≡ false
-    fails_there s low high fails =
-        let laws = are_variables size ne in
-        let parts = and_parts (has known (literal_of size s)) (not (holds_of size outcome (literal_of size s))) fails in
-        let at_p : (profile_of (literal_of size s) == p) ≡ true = eq-eqb (profile_of (literal_of size s)) p (laws.to_profile p s low high) in
-        false_from_ne_true _ (λ e. both_ways _ (not-true _ parts.1) (of_kept (holds_of size outcome) (λ l. profile_of l == p) known (literal_of size s) e parts.0 at_p))
+  pub fails_there : (s : Signed) → p * bits size.kind size.alternatives + 1 ≤ s.variable → s.variable ≤ (p + 1) * bits size.kind size.alternatives → is_failing s ≡ true →
+      list_all (holds_of size outcome) (filter (λ l. profile_of l == p) known) ≡ false
+  fails_there s low high fails =
+      let laws = are_variables size in
+      let parts = and_parts (has known (literal_of size s)) (not (holds_of size outcome (literal_of size s))) fails in
+      let at_p : (profile_of (literal_of size s) == p) ≡ true = eq-eqb (profile_of (literal_of size s)) p (laws.to_profile p s low high) in
+      false_from_ne_true _ (λ e. both_ways _ (not-true _ parts.1) (of_kept (holds_of size outcome) (λ l. profile_of l == p) known (literal_of size s) e parts.0 at_p))
 
 -- at a profile that there is not no literal is known, and so no outcome is excluded
-pub excluded_nowhere : (size : Extent) → IsSize size → HasOutcomes size.kind → (known : List Literal) (p : ℕ) → list_all (is_literal size) known ≡ true → sort_count size Profile ≤ p → is_outcome_excluded size known p ≡ false
-excluded_nowhere size valid ne known p ours far =
-    let some = some_outcome size.kind size.alternatives ne valid.some_alternative in
+pub excluded_nowhere : (size : Extent) → IsSize size → (known : List Literal) (p : ℕ) → list_all (is_literal size) known ≡ true → sort_count size Profile ≤ p → is_outcome_excluded size known p ≡ false
+excluded_nowhere size valid known p ours far =
+    let some = some_outcome size.kind size.alternatives valid.some_alternative in
     ap not (any_holds (λ o. list_all (holds_of size o) (filter (λ l. profile_of l == p) known)) (outcome_count size.kind size.alternatives) 0 some
     (all_kept (holds_of size 0) (λ l. profile_of l == p) known (λ l m here.
     let own : is_literal size l ≡ true = all_has (is_literal size) known l ours m in

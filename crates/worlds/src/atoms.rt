@@ -9,7 +9,6 @@ ghost use Rattle.meaning.specs.Truth.{value};
 ghost use Rattle.meaning.specs.Written.{write_atom};
 ghost use Rattle.worlds.specs.Conditions.{IsAtomAt};
 ghost use Rattle.worlds.specs.Meanings.{SameMeaning};
-ghost use Rattle.vocab.specs.Size.{HasOutcomes};
 
 use crate::algebra::Algebra;
 use crate::terms::value;
@@ -23,7 +22,6 @@ pub(crate) fn eval_atom<A: Algebra>(
     env: &Env,
     algebra: &mut A,
 ) -> Result<A::V, A::Stop>
-    requires kind { HasOutcomes space.now.kind }
     requires fits { IsAtomAt space.now (atom_tree atom.now) env.now }
     requires takes { (l : Literal) → IsTrue (is_literal space.now l) → A.takes algebra.old l }
     ensures ok { IfOk result (λ v. A.stands algebra.old v
@@ -104,7 +102,6 @@ fn has_majority(space: &Space, x: &Term, y: &Term, p: &Term, env: &Env) -> bool
 
 /// The literal that an alternative wins at a profile.
 fn wins(space: &Space, x: &Term, p: &Term, env: &Env) -> Literal
-    requires kind { HasOutcomes space.now.kind }
     requires fits { IsAtomAt space.now (WinsAt (term_tree x.now) (term_tree p.now)) env.now }
     ensures value { result ≡ Literal.Wins (value space.now env.now (term_tree x.now))
         (value space.now env.now (term_tree p.now)) }
@@ -126,7 +123,6 @@ fn eval_ranks<A: Algebra>(
     env: &Env,
     algebra: &mut A,
 ) -> Result<A::V, A::Stop>
-    requires kind { HasOutcomes space.now.kind }
     requires fits { IsAtomAt space.now (Ranks (term_tree x.now) (term_tree y.now) (term_tree p.now)) env.now }
     requires takes { (l : Literal) → IsTrue (is_literal space.now l) → A.takes algebra.old l }
     ensures ok { IfOk result (λ v. A.stands algebra.old v

@@ -2,7 +2,7 @@
 
 ghost use Rattle.std.specs.Prelude.{◌≡◌, ◌+◌, ◌≤◌, IsTrue, IfOk, IfErr};
 ghost use Rattle.vocab.specs.declared.literals.Literal.{Literal};
-ghost use Rattle.vocab.specs.Size.{HasOutcomes, IsSize, sort_count};
+ghost use Rattle.vocab.specs.Size.{IsSize, sort_count};
 ghost use Rattle.vocab.specs.Tree.{tree_of};
 ghost use Rattle.meaning.specs.Literals.{is_literal};
 ghost use Rattle.meaning.specs.Written.{write_out};
@@ -24,7 +24,6 @@ pub fn eval<A: Algebra>(
     env: &Env,
     algebra: &mut A,
 ) -> Result<A::V, A::Stop>
-    requires kind { HasOutcomes space.now.kind }
     requires fits { IsFormulaAt space.now (tree_of formula.now) env.now }
     requires takes { (l : Literal) → IsTrue (is_literal space.now l) → A.takes algebra.old l }
     ensures ok { IfOk result (λ v. A.stands algebra.old v
@@ -45,7 +44,6 @@ pub(crate) fn eval_formula<A: Algebra>(
     env: &Env,
     algebra: &mut A,
 ) -> Result<A::V, A::Stop>
-    requires kind { HasOutcomes space.now.kind }
     requires fits { IsEvaluable space.now (tree_of formula.now) env.now }
     requires takes { (l : Literal) → IsTrue (is_literal space.now l) → A.takes algebra.old l }
     ensures ok { IfOk result (λ v. A.stands algebra.old v
@@ -75,7 +73,6 @@ fn eval_not<A: Algebra>(
     algebra: &mut A,
 ) -> Result<A::V, A::Stop>
     requires shape { IsTrue (is_negation (tree_of formula.now)) }
-    requires kind { HasOutcomes space.now.kind }
     requires fits { IsEvaluable space.now (tree_of formula.now) env.now }
     requires takes { (l : Literal) → IsTrue (is_literal space.now l) → A.takes algebra.old l }
     ensures ok { IfOk result (λ v. A.stands algebra.old v
@@ -102,7 +99,6 @@ fn eval_both<A: Algebra>(
     algebra: &mut A,
 ) -> Result<A::V, A::Stop>
     requires shape { IsTrue (is_conjunction (tree_of formula.now)) }
-    requires kind { HasOutcomes space.now.kind }
     requires fits { IsEvaluable space.now (tree_of formula.now) env.now }
     requires takes { (l : Literal) → IsTrue (is_literal space.now l) → A.takes algebra.old l }
     ensures ok { IfOk result (λ v. A.stands algebra.old v
@@ -133,7 +129,6 @@ fn eval_either<A: Algebra>(
     algebra: &mut A,
 ) -> Result<A::V, A::Stop>
     requires shape { IsTrue (is_disjunction (tree_of formula.now)) }
-    requires kind { HasOutcomes space.now.kind }
     requires fits { IsEvaluable space.now (tree_of formula.now) env.now }
     requires takes { (l : Literal) → IsTrue (is_literal space.now l) → A.takes algebra.old l }
     ensures ok { IfOk result (λ v. A.stands algebra.old v
@@ -164,7 +159,6 @@ fn eval_implies<A: Algebra>(
     algebra: &mut A,
 ) -> Result<A::V, A::Stop>
     requires shape { IsTrue (is_implication (tree_of formula.now)) }
-    requires kind { HasOutcomes space.now.kind }
     requires fits { IsEvaluable space.now (tree_of formula.now) env.now }
     requires takes { (l : Literal) → IsTrue (is_literal space.now l) → A.takes algebra.old l }
     ensures ok { IfOk result (λ v. A.stands algebra.old v
@@ -196,7 +190,6 @@ fn eval_same<A: Algebra>(
     algebra: &mut A,
 ) -> Result<A::V, A::Stop>
     requires shape { IsTrue (is_equivalence (tree_of formula.now)) }
-    requires kind { HasOutcomes space.now.kind }
     requires fits { IsEvaluable space.now (tree_of formula.now) env.now }
     requires takes { (l : Literal) → IsTrue (is_literal space.now l) → A.takes algebra.old l }
     ensures ok { IfOk result (λ v. A.stands algebra.old v
@@ -225,7 +218,6 @@ fn eval_all<A: Algebra>(
     algebra: &mut A,
 ) -> Result<A::V, A::Stop>
     requires shape { IsTrue (is_universal (tree_of formula.now)) }
-    requires kind { HasOutcomes space.now.kind }
     requires fits { IsEvaluable space.now (tree_of formula.now) env.now }
     requires takes { (l : Literal) → IsTrue (is_literal space.now l) → A.takes algebra.old l }
     ensures ok { IfOk result (λ v. A.stands algebra.old v
@@ -261,7 +253,6 @@ fn eval_exists<A: Algebra>(
     algebra: &mut A,
 ) -> Result<A::V, A::Stop>
     requires shape { IsTrue (is_existential (tree_of formula.now)) }
-    requires kind { HasOutcomes space.now.kind }
     requires fits { IsEvaluable space.now (tree_of formula.now) env.now }
     requires takes { (l : Literal) → IsTrue (is_literal space.now l) → A.takes algebra.old l }
     ensures ok { IfOk result (λ v. A.stands algebra.old v

@@ -17,4 +17,4 @@ overflow_cast-result c =
     omega (arith, c.alternatives-few.type_inv)
 
 pub returns-clause-literal : goal.returns-clause-literal
-returns-clause-literal c = wins_taken c.args.space.now (term_tree c.args.x.now) (term_tree c.args.p.now) c.args.env.now _ _ c.value-alternative.ensures.value c.value-profile.ensures.value c.requires.kind c.requires.fits
+returns-clause-literal c = wins_taken c.args.space.now (term_tree c.args.x.now) (term_tree c.args.p.now) c.args.env.now _ _ c.value-alternative.ensures.value c.value-profile.ensures.value c.requires.fits

@@ -11,7 +11,7 @@ use Rattle.worlds.proofs.exclusion.allows.Goals as goal
 pub variable_at-variable-requires : goal.variable_at-variable-requires
 variable_at-variable-requires g c =
     let size : Extent = g.K.OutcomeKind.size c.args.kind.now in
-    let fit : c.args.p * c.bits-bits.result ≤ 200000 = numbers_fit c.args.p c.bits-bits.result (sort_count size Profile) c.requires.profile c.kinds_have_sizes.ensures.is_size.few_profiles c.bits-bits.ensures.few in
+    let fit : c.args.p * c.bits-bits.result ≤ 200000 = numbers_fit c.args.p c.bits-bits.result (sort_count size Profile) c.requires.profile c.kinds_have_sizes.ensures.few_profiles c.bits-bits.ensures.few in
     omega (arith, fit, c.bits-bits.ensures.few, c.loop-place-test.true)
 
 pub returns-then-is_broken : goal.returns-then-is_broken
@@ -21,7 +21,7 @@ returns-then-is_broken g c =
     let v : c.new.result.variable ≡ c.args.p * n + c.loop-place.place + 1 =
     ap (λ (s : Signed). s.variable) c.new.ensures ∙ c.variable_at-variable.ensures.value ∙ ap (λ (b : ℕ). c.args.p * b + c.loop-place.place + 1) c.bits-bits.ensures.value in
     let small : c.loop-place.place < n = subst (λ (b : ℕ). c.loop-place.place < b) c.bits-bits.ensures.value c.loop-place-test.true in
-    sym (fails_there size c.args.board.now.literals c.args.outcome c.args.p c.kinds_have_sizes.ensures.has_outcomes c.new.result (omega (arith, v)) (omega (arith, v, small)) (sym c.is_broken.ensures ∙ c.if-is_broken.true))
+    sym (fails_there size c.args.board.now.literals c.args.outcome c.args.p c.new.result (omega (arith, v)) (omega (arith, v, small)) (sym c.is_broken.ensures ∙ c.if-is_broken.true))
 
 pub returns-then-is_broken-2 : goal.returns-then-is_broken-2
 returns-then-is_broken-2 g c =
@@ -30,7 +30,7 @@ returns-then-is_broken-2 g c =
     let v : c.new-in-loop-place.result.variable ≡ c.args.p * n + c.loop-place.place + 1 =
     ap (λ (s : Signed). s.variable) c.new-in-loop-place.ensures ∙ c.variable_at-variable.ensures.value ∙ ap (λ (b : ℕ). c.args.p * b + c.loop-place.place + 1) c.bits-bits.ensures.value in
     let small : c.loop-place.place < n = subst (λ (b : ℕ). c.loop-place.place < b) c.bits-bits.ensures.value c.loop-place-test.true in
-    sym (fails_there size c.args.board.now.literals c.args.outcome c.args.p c.kinds_have_sizes.ensures.has_outcomes c.new-in-loop-place.result (omega (arith, v)) (omega (arith, v, small)) (sym c.is_broken-in-loop-place.ensures ∙ c.if-is_broken-2.true))
+    sym (fails_there size c.args.board.now.literals c.args.outcome c.args.p c.new-in-loop-place.result (omega (arith, v)) (omega (arith, v, small)) (sym c.is_broken-in-loop-place.ensures ∙ c.if-is_broken-2.true))
 
 pub loop-place-preserved : goal.loop-place-preserved
 loop-place-preserved g c =
@@ -51,4 +51,4 @@ returns g c =
     let n : ℕ = bits size.kind size.alternatives in
     let ours : list_all (is_literal size) c.args.board.now.literals ≡ true = subst (λ (e : Extent). list_all (is_literal e) c.args.board.now.literals ≡ true) c.requires.size c.as_slice-known.ensures.ours in
     let done : n ≤ c.loop-place.place = subst (λ (b : ℕ). b ≤ c.loop-place.place) c.bits-bits.ensures.value c.loop-place-test.false in
-    sym (checked_all size c.args.board.now.literals c.args.outcome c.args.p c.kinds_have_sizes.ensures.has_outcomes ours (λ s low high m. c.loop-place.invariant s low (omega (arith, high, done)) m))
+    sym (checked_all size c.args.board.now.literals c.args.outcome c.args.p ours (λ s low high m. c.loop-place.invariant s low (omega (arith, high, done)) m))

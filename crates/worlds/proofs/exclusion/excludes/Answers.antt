@@ -14,7 +14,7 @@ pub returns-then-p-count : goal.returns-then-p-count
 returns-then-p-count g c =
     let size : Extent = g.K.OutcomeKind.size c.args.kind.now in
     let ours : list_all (is_literal size) c.args.board.now.literals ≡ true = subst (λ (e : Extent). list_all (is_literal e) c.args.board.now.literals ≡ true) c.requires c.as_slice-known.ensures.ours in
-    sym (excluded_nowhere size c.kinds_have_sizes.ensures.is_size c.kinds_have_sizes.ensures.has_outcomes c.args.board.now.literals c.args.p ours (subst (λ (k : ℕ). k ≤ c.args.p) (c.count.ensures.value ∙ ap (λ (e : Extent). sort_count e Profile) c.space.ensures) c.if-p-count.true))
+    sym (excluded_nowhere size c.kinds_have_sizes.ensures c.args.board.now.literals c.args.p ours (subst (λ (k : ℕ). k ≤ c.args.p) (c.count.ensures.value ∙ ap (λ (e : Extent). sort_count e Profile) c.space.ensures) c.if-p-count.true))
 
 pub returns-then-allows : goal.returns-then-allows
 returns-then-allows g c =
