@@ -7,7 +7,7 @@ pub mod StudySizes
 pub mod Resolved
 pub mod Counting
 pub mod Whole
-pub mod StudyKinds
+pub mod AnswerSizes
 pub mod StudyBallots
 pub mod SoundAxioms
 pub mod NamedAxioms

@@ -16,7 +16,7 @@ use Rattle.study.specs.Listing.{limit_of, few_of, listed, once, listing_of}
 use Rattle.study.specs.Reading.{IsAnswered, listing_in}
 use Rattle.study.specs.Refusing.{refused_as}
 use Rattle.study.proofs.Listings.{came_from, known, ok_once}
-use Rattle.study.proofs.StudyKinds.{answer_size, some_value}
+use Rattle.study.proofs.AnswerSizes.{answer_size, some_value}
 use Rattle.study.proofs.StudySizes.{all_places, listed_places, sized_by}
 
 -- a head says what the two keys say

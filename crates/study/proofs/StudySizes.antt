@@ -13,7 +13,7 @@ use Rattle.study.specs.declared.faults.StudyFault.TheVariants as fault
 use Rattle.study.specs.Ballots.{alternatives_of, ballots_in, is_listed, listed_digits, own_rankings, sized}
 use Rattle.study.specs.Refusing.{refused_as}
 use Rattle.study.proofs.Listings.{came_from, known, ok_once}
-use Rattle.study.proofs.ListedBallots.{digits_set}
+use Rattle.vocab.proofs.DigitNumbers.{digits_set}
 
 between : (low : ℕ) (z : ℤ) (high : ℕ) → is_between low z high ≡ true → (low ≤ nat_abs z) × (nat_abs z ≤ high)
 between low (pos n) high within = let (from, to) = and_parts (nat_le low n) (nat_le n high) within in (leb-true low n from, leb-true n high to)

@@ -5,7 +5,7 @@ use Rattle.std.specs.Str.{bytes_eq, is_utf8}
 use Rattle.toml.specs.Data.{Data, string, integer, boolean, array, table, Items, no_items, item, Members, no_members, member, get_member, as_str}
 use Rattle.toml.specs.Parse.{parse_document}
 use Rattle.vocab.specs.declared.kinds.Kind.{Kind}
-use Rattle.vocab.specs.declared.kinds.Kind.TheVariants.{Choice, Ranking}
+use Rattle.vocab.specs.declared.kinds.Kind.TheVariants.{Choice, Ranking, Sets}
 use Rattle.vocab.specs.Name.{is_name}
 use Rattle.axiom_library.specs.Library.{Entry}
 use Rattle.study.specs.declared.drafts.Draft.{Draft}
@@ -16,9 +16,9 @@ use Rattle.study.specs.Refusing.{◌>>=◌}
 abbrev pub document_of : List ℕ → Option Members
 document_of bytes = if is_utf8 bytes then parse_document bytes else None
 
--- `kind`: the string `choice` or `ranking`
+-- `kind`: the string `choice`, `ranking` or `sets`
 abbrev pub kind_of : Option Data → Option Kind
-kind_of (Some (string text)) = if bytes_eq text (codes "choice") then Some Choice else if bytes_eq text (codes "ranking") then Some Ranking else None
+kind_of (Some (string text)) = if bytes_eq text (codes "choice") then Some Choice else if bytes_eq text (codes "ranking") then Some Ranking else if bytes_eq text (codes "sets") then Some Sets else None
 kind_of _ = None
 
 -- `voters`, `alternatives`: an integer

@@ -4,7 +4,7 @@ use Rattle.std.specs.List.{list_all}
 use Rattle.toml.specs.Data.{Members, get_member}
 use Rattle.vocab.specs.Name.{is_name}
 use Rattle.vocab.specs.Range.{below}
-use Rattle.vocab.specs.Size.{Extent, HasOutcomes, IsSize, all_ballots, ballot_places, factorial}
+use Rattle.vocab.specs.Size.{Extent, IsSize, all_ballots, ballot_places, factorial}
 use Rattle.vocab.specs.SizeFault.{size_of}
 use Rattle.vocab.specs.Study.{Question, IsStudy, HasFewAxioms}
 use Rattle.study.specs.declared.drafts.Head.{Head}
@@ -18,10 +18,6 @@ use Rattle.study.specs.Refusing.{refused_as}
 -- two answers of the same bytes are the same
 abbrev pub HaveOneAnswer : Type 0
 HaveOneAnswer = (bytes : List ℕ) (a b : Result Question StudyFault) → IsStudyOf bytes a → IsStudyOf bytes b → a ≡ b
-
--- each study that bytes give is of rules that choose, or of rules that rank
-abbrev pub HaveKinds : Type 0
-HaveKinds = (bytes : List ℕ) (study : Question) → IsStudyOf bytes (Ok study) → HasOutcomes study.size.kind
 
 -- each study that bytes give is one that the bench takes, at a size, and its axioms have names and are few
 abbrev pub AreWhole : Type 0

@@ -40,6 +40,7 @@ fn kind_of(value: Option<&Value>) -> Option<Kind>
     match value {
         Some(Value::String(text)) if text.as_str() == "choice" => Some(Kind::Choice),
         Some(Value::String(text)) if text.as_str() == "ranking" => Some(Kind::Ranking),
+        Some(Value::String(text)) if text.as_str() == "sets" => Some(Kind::Sets),
         _ => None,
     }
 }

@@ -1,16 +1,11 @@
 //! What holds of all bytes.
 
-ghost use Rattle.study.specs.Laws.{ArePlain, AreWhole, HaveBallots, HaveKinds, HaveOneAnswer};
+ghost use Rattle.study.specs.Laws.{ArePlain, AreWhole, HaveBallots, HaveOneAnswer};
 
 /// Bytes have at most one answer, want of memory aside. So each refusal comes exactly where it is the first
 /// that holds.
 pub fn studies_have_one_answer()
     ensures { HaveOneAnswer }
-{}
-
-/// Each study that bytes give is of rules that choose an alternative, or of rules that rank them.
-pub fn studies_have_kinds()
-    ensures { HaveKinds }
 {}
 
 /// Each study that bytes give is one that the bench takes, at a size; its axioms have names, at most 40.

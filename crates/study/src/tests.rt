@@ -17,7 +17,7 @@ const CASES: &[(&str, &str, &str)] = &[
     ("'choice'", "", "toml"),
     ("voters = 2", "voters = 2\nvoters = 2", "toml"),
     (PLAIN, "# nothing", "key kind"),
-    ("'choice'", "'sets'", "key kind"),
+    ("'choice'", "'set'", "key kind"),
     ("'choice'", "1", "key kind"),
     ("'choice'", "'ranking'", "2 3 100000 pareto"),
     ("voters = 2\n", "", "key voters"),
