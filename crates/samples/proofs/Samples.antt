@@ -19,7 +19,7 @@ use Rattle.axiom_library.proofs.Trees as trees
 use Rattle.axiom_library.proofs.Writing.{is_writable, writable_by_test}
 use Rattle.study.proofs.Fitting.{Fits, is_fit, fits_by, AreFit, none_fit, more_fit, study_given}
 use Rattle.study.proofs.OneAnswer.{one_of_listing}
-use Rattle.study.proofs.StudyKinds.{answer_size}
+use Rattle.study.proofs.AnswerSizes.{answer_size}
 use Rattle.samples.specs.Sample.{sample_kind, sample_entries, entries_by, sample_listing, IsSampleStudy, SamplesAreStudies}
 
 -- ---- the axioms of numbers, at each of their sizes
