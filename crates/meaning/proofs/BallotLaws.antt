@@ -16,7 +16,7 @@ use Rattle.meaning.proofs.RankingLaws.{are_rankings, first_place, any_number}
 abbrev kept : (ℕ → Bool) → ℕ → ℕ → List ℕ
 kept t a n = filter t (up_from a n)
 
-kept_short : (t : ℕ → Bool) (n a : ℕ) → length (kept t a n) ≤ n
+pub kept_short : (t : ℕ → Bool) (n a : ℕ) → length (kept t a n) ≤ n
 kept_short t zero a = omega arith
 kept_short t (suc n) a = cases (kept_short t n (suc a)) (t a)
   where

@@ -15,7 +15,7 @@ use Rattle.vocab.specs.declared.kinds.Sort.TheVariants.{Profile}
 use Rattle.vocab.specs.declared.literals.Literal.{Literal}
 use Rattle.vocab.specs.Literal.{opposite_of}
 use Rattle.vocab.specs.Name.{is_name}
-use Rattle.vocab.specs.Size.{Extent, HasOutcomes, ballot_places, factorial, is_digit_set, is_full, sort_count, outcome_count}
+use Rattle.vocab.specs.Size.{Extent, ballot_places, factorial, is_digit_set, is_full, sort_count, outcome_count}
 use Rattle.vocab.specs.Study.{Question}
 use Rattle.vocab.specs.Titled.{Titled}
 use Rattle.meaning.specs.declared.stories.Reason.{Reason}
@@ -67,11 +67,6 @@ same_self : (k : Kind) → same_kind k k ≡ true
 same_self Choice = refl
 same_self Ranking = refl
 same_self Sets = refl
-
-plain_kind : (k : Kind) → HasOutcomes k → is_plain (KindIs k) ≡ true
-plain_kind Choice h = refl
-plain_kind Ranking h = refl
-plain_kind Sets h = absurd (h refl)
 
 names_self : (ns : List (List ℕ)) → pointwise bytes_eq ns ns ≡ true
 names_self [] = refl
@@ -265,7 +260,7 @@ module _ (study : Question) (is : IsReportable study) (strict : Bool) where
       (λ t. so_none _ refusal.StudyDiffers (known.1 t)),
       (
         tt,
-        plain_kind study.size.kind is.kind,
+        refl,
         (λ _. so_none _ refusal.StudyDiffers (same_self study.size.kind)),
         (
           tt,

@@ -15,11 +15,11 @@ use Rattle.vocab.specs.Name.{is_name}
 use Rattle.vocab.specs.Size.{Extent, factorial, sort_count, outcome_count}
 use Rattle.vocab.specs.Study.{Question}
 use Rattle.meaning.specs.Space.{below}
-use Rattle.meaning.specs.Literals.{is_literal, is_literal_of}
+use Rattle.meaning.specs.Literals.{is_literal, is_literal_of, is_of_winner}
 use Rattle.meaning.specs.declared.stories.Reason.{Reason}
 use Rattle.meaning.specs.declared.stories.Reason.TheVariants.{Axiom as ByAxiom, Outcome as ByOutcome, Lemma as ByLemma}
 use Rattle.verdicts.specs.Numbers.{number_text, read_number}
-use Rattle.verdicts.specs.Texts.{read_kind, value_text, literal_text, literals, literals_at, read_profile, read_outcome, read_value, read_literal}
+use Rattle.verdicts.specs.Texts.{read_kind, value_text, literal_text, literals, literals_at, winners_at, read_profile, read_outcome, read_value, read_literal}
 use Rattle.meaning.specs.Texts.{profile_text, outcome_text, ranking_text}
 use Rattle.verdicts.specs.Lines.{Line, Title, KindIs, VotersAre, AlternativesAre, BallotsAre, AbsentIs, AxiomsAre, SaysPossible, SaysImpossible, SaysUndecided, LimitIs, RuleOf, Row, CoreIs, LemmasAre, Heading, Suppose, So, Clash, WithRule, WithOpen, End, name_at, sorts_of}
 use Rattle.verdicts.specs.Reading.{read_axiom, read_positive, read_version, read_place, read_places, read_absent, keyed, one_word, names, read_values, read_cited, read_reason, read_so, read_suppose, read_step, read_row, verdict_word, read_witness, read_heading}
@@ -78,21 +78,24 @@ module _ (size : Extent) where
       subst (λ k. is_literal_of size Ranking k ≡ true) e (and_from _ _ (and_from _ _ (and_from _ _ (lt-ltb x _ a) (lt-ltb y _ b)) (ap not d)) (lt-ltb p _ c))
   above_in x y p false l d a b c (inr i) = absurd i
 
-  literal_at : (k : Kind) (p : ℕ) (l : Literal) → p < P → IsIn (literals_at size k p) l → is_literal_of size k l ≡ true
-  literal_at Choice p l b i =
+  winner_at : (p : ℕ) (l : Literal) → p < P → IsIn (winners_at size p) l → is_of_winner size l ≡ true
+  winner_at p l b i =
       let f = in_flat_map (λ x. Wins x p ∷ Loses x p ∷ []) (below size.alternatives) l i in
       let x = from_below size.alternatives f.0 f.1 in
       one_of f.0 x f.2
     where
-      one_of : (x : ℕ) → x < size.alternatives → IsIn (Wins x p ∷ Loses x p ∷ []) l → is_literal_of size Choice l ≡ true
-      one_of x a (inl e) = subst (λ k. is_literal_of size Choice k ≡ true) e (and_from _ _ (lt-ltb x _ a) (lt-ltb p _ b))
-      one_of x a (inr (inl e)) = subst (λ k. is_literal_of size Choice k ≡ true) e (and_from _ _ (lt-ltb x _ a) (lt-ltb p _ b))
+      one_of : (x : ℕ) → x < size.alternatives → IsIn (Wins x p ∷ Loses x p ∷ []) l → is_of_winner size l ≡ true
+      one_of x a (inl e) = subst (λ k. is_of_winner size k ≡ true) e (and_from _ _ (lt-ltb x _ a) (lt-ltb p _ b))
+      one_of x a (inr (inl e)) = subst (λ k. is_of_winner size k ≡ true) e (and_from _ _ (lt-ltb x _ a) (lt-ltb p _ b))
       one_of x a (inr (inr i)) = absurd i
+
+  literal_at : (k : Kind) (p : ℕ) (l : Literal) → p < P → IsIn (literals_at size k p) l → is_literal_of size k l ≡ true
+  literal_at Choice p l b i = winner_at p l b i
   literal_at Ranking p l b i =
       let f = in_flat_map (λ x. flat_map (λ y. cond (x == y) [] (Above x y p ∷ [])) (below size.alternatives)) (below size.alternatives) l i in
       let g = in_flat_map (λ y. cond (f.0 == y) [] (Above f.0 y p ∷ [])) (below size.alternatives) l f.2 in
       above_in f.0 g.0 p (f.0 == g.0) l refl (from_below size.alternatives f.0 f.1) (from_below size.alternatives g.0 g.1) b g.2
-  literal_at Sets p l b i = absurd i
+  literal_at Sets p l b i = winner_at p l b i
 
   pub literal_in : (l : Literal) → IsIn (literals size) l → is_literal size l ≡ true
   literal_in l i =

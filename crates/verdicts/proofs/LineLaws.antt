@@ -4,7 +4,6 @@ use Rattle.std.specs.Prelude.{codes, nat_lt, slice_get}
 use Rattle.std.specs.List.{list_all}
 use Rattle.std.specs.Str.{bytes_eq}
 use Rattle.std.proofs.lemmas.Slice.Eq.{bytes_eq-Decides}
-use Rattle.vocab.specs.declared.kinds.Kind.TheVariants.{Choice, Ranking}
 use Rattle.vocab.specs.declared.kinds.Sort.{Sort}
 use Rattle.vocab.specs.Name.{is_name}
 use Rattle.vocab.specs.Size.{factorial, sort_count}
@@ -14,7 +13,7 @@ use Rattle.meaning.specs.declared.stories.Reason.{Reason}
 use Rattle.meaning.specs.declared.stories.Reason.TheVariants.{Axiom as ByAxiom, Outcome as ByOutcome, Lemma as ByLemma}
 use Rattle.verdicts.specs.Numbers.{number_text, read_number}
 use Rattle.meaning.specs.Texts.{kind_text, profile_text, outcome_text, ranking_text}
-use Rattle.verdicts.specs.Texts.{read_kind, value_text, literal_text, literals, read_profile, read_outcome, read_value, read_literal}
+use Rattle.verdicts.specs.Texts.{kinds, read_kind, value_text, literal_text, literals, read_profile, read_outcome, read_value, read_literal}
 use Rattle.verdicts.specs.Lines.{Line, Title, KindIs, VotersAre, AlternativesAre, BallotsAre, AbsentIs, AxiomsAre, SaysPossible, SaysImpossible, SaysUndecided, LimitIs, RuleOf, Row, CoreIs, LemmasAre, Heading, Suppose, So, Clash, WithRule, WithOpen, End, name_at, sorts_of, value_words, reason_words, line_words}
 use Rattle.verdicts.specs.Reading.{read_axiom, read_positive, read_version, read_place, read_places, read_absent, keyed, one_word, no_word, names, read_values, read_cited, read_reason, read_so, read_suppose, read_step, read_row, verdict_word, read_verdict, read_named, read_witness, read_heading}
 use Rattle.std.specs.Option.{option_or}
@@ -268,7 +267,7 @@ module _ (study : Question) where
   -- what the grammar wants at a place has the words of the line
   pub wanted_read : (place : Place) (number : ℕ) (words : List (List ℕ)) (l : Line) → wanted study place number words ≡ Some l → words ≡ line_words study l
   wanted_read AtTitle number words l e = title_read number words l e
-  wanted_read AtKind number words l e = keyed_one (line_words study) (codes "kind") kind_text read_kind KindIs (text_named kind_text (Choice ∷ Ranking ∷ [])) (λ a. refl) words l e
+  wanted_read AtKind number words l e = keyed_one (line_words study) (codes "kind") kind_text read_kind KindIs (text_named kind_text kinds) (λ a. refl) words l e
   wanted_read AtVoters number words l e = text_number VotersAre (codes "voters") (λ n. refl) words l e
   wanted_read AtAlternatives number words l e = text_number AlternativesAre (codes "alternatives") (λ n. refl) words l e
   wanted_read AtBallots number words l e = ballots_read number words l e

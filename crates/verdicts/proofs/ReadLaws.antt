@@ -17,11 +17,11 @@ use Rattle.vocab.specs.Size.{Extent, IsSize, factorial, sort_count, outcome_coun
 use Rattle.vocab.specs.Study.{Question}
 use Rattle.vocab.specs.Titled.{Titled}
 use Rattle.meaning.specs.Space.{below, ranking}
-use Rattle.meaning.specs.Literals.{is_literal, is_literal_of}
+use Rattle.meaning.specs.Literals.{is_literal, is_literal_of, is_of_winner}
 use Rattle.meaning.specs.declared.stories.Reason.{Reason}
 use Rattle.meaning.specs.declared.stories.Reason.TheVariants.{Axiom as ByAxiom, Outcome as ByOutcome, Lemma as ByLemma}
 use Rattle.verdicts.specs.Numbers.{number_text}
-use Rattle.verdicts.specs.Texts.{words_of, joined, named_by, value_text, literal_text, literals, literals_at, read_profile, read_outcome, read_value, read_literal}
+use Rattle.verdicts.specs.Texts.{words_of, joined, value_text, literal_text, literals, literals_at, read_kind, winners_at, read_profile, read_outcome, read_value, read_literal}
 use Rattle.meaning.specs.Texts.{kind_text, profile_text, outcome_text, ranking_text}
 use Rattle.verdicts.specs.Lines.{Line, Title, KindIs, VotersAre, AlternativesAre, BallotsAre, AbsentIs, AxiomsAre, SaysPossible, SaysImpossible, SaysUndecided, LimitIs, RuleOf, Row, CoreIs, LemmasAre, Heading, Suppose, So, Clash, WithRule, WithOpen, End, name_at, sorts_of, value_words, reason_words, line_words, line_text}
 use Rattle.verdicts.specs.Reading.{read_axiom, read_positive, read_version, read_place, read_places, read_absent, keyed, names, read_values, read_cited, read_reason, read_step}
@@ -56,13 +56,17 @@ or_first : {A : Type 0} (o p : Option A) (a : A) → o ≡ Some a → option_or 
 or_first o p a e = ap (λ q. option_or q p) e
 
 module _ (size : Extent) where
-  in_literals_at : (k : Kind) (l : Literal) → is_literal_of size k l ≡ true → IsIn (literals_at size k (profile_of l)) l × (profile_of l < sort_count size Profile)
-  in_literals_at Choice (Wins x p) e =
+  in_winners_at : (l : Literal) → is_of_winner size l ≡ true → IsIn (winners_at size (profile_of l)) l × (profile_of l < sort_count size Profile)
+  in_winners_at (Wins x p) e =
       let q = and_parts (nat_lt x size.alternatives) (nat_lt p (sort_count size Profile)) e in
       (in_flat (λ x. Wins x p ∷ Loses x p ∷ []) (below size.alternatives) x (Wins x p) (in_below _ x (ltb-true x _ q.0)) (inl refl), ltb-true p _ q.1)
-  in_literals_at Choice (Loses x p) e =
+  in_winners_at (Loses x p) e =
       let q = and_parts (nat_lt x size.alternatives) (nat_lt p (sort_count size Profile)) e in
       (in_flat (λ x. Wins x p ∷ Loses x p ∷ []) (below size.alternatives) x (Loses x p) (in_below _ x (ltb-true x _ q.0)) (inr (inl refl)), ltb-true p _ q.1)
+  in_winners_at (Above x y p) e = absurd (true≢false (sym e))
+
+  in_literals_at : (k : Kind) (l : Literal) → is_literal_of size k l ≡ true → IsIn (literals_at size k (profile_of l)) l × (profile_of l < sort_count size Profile)
+  in_literals_at Choice l e = in_winners_at l e
   in_literals_at Ranking (Above x y p) e =
       let q = and_parts (nat_lt x size.alternatives && nat_lt y size.alternatives && not (x == y)) (nat_lt p (sort_count size Profile)) e in
       let r = and_parts (nat_lt x size.alternatives && nat_lt y size.alternatives) (not (x == y)) q.0 in
@@ -72,10 +76,9 @@ module _ (size : Extent) where
             (in_flat (λ y. cond (x == y) [] (Above x y p ∷ [])) (below size.alternatives) y (Above x y p) (in_below _ y (ltb-true y _ s.1)) here),
         ltb-true p _ q.1,
       )
-  in_literals_at Choice (Above x y p) e = absurd (true≢false (sym e))
   in_literals_at Ranking (Wins x p) e = absurd (true≢false (sym e))
   in_literals_at Ranking (Loses x p) e = absurd (true≢false (sym e))
-  in_literals_at Sets l e = absurd (true≢false (sym e))
+  in_literals_at Sets l e = in_winners_at l e
 
   pub in_literals : (l : Literal) → is_literal size l ≡ true → IsIn (literals size) l × (profile_of l < sort_count size Profile)
   in_literals l e =
@@ -89,7 +92,6 @@ module _ (size : Extent) where
 
 -- names that are names
 abbrev pub is_plain : Line → Bool
-is_plain (KindIs Sets) = false
 is_plain (AxiomsAre ns) = list_all is_name ns
 is_plain (CoreIs ns) = list_all is_name ns
 is_plain (WithRule name n) = is_name name
@@ -101,7 +103,7 @@ module _ (study : Question) (is : IsReportable study) where
   profile_read p h = named_below (profile_text study.size) _ p (λ q l e. profiles_same study.size is.size q p l h e) h
 
   outcome_read : (o : ℕ) → o < outcome_count study.size.kind study.size.alternatives → read_outcome study.size (outcome_text study.size o) ≡ Some o
-  outcome_read o h = named_below (outcome_text study.size) _ o (λ q l e. outcomes_same study.size is.size is.kind q o l h e) h
+  outcome_read o h = named_below (outcome_text study.size) _ o (λ q l e. outcomes_same study.size is.size q o l h e) h
 
   values_read : (sorts : List Sort) (values : List ℕ) → pointwise nat_lt values (map (sort_count study.size) sorts) ≡ true → read_values study sorts (value_words study sorts values) ≡ Some values
   values_read [] [] h = refl
@@ -146,10 +148,10 @@ module _ (study : Question) (is : IsReportable study) where
   row_read : (p o : ℕ) → p < sort_count study.size Profile → o < outcome_count study.size.kind study.size.alternatives → option_and_then (λ p. option_map (Row p) (read_outcome study.size (outcome_text study.size o))) (read_profile study.size (profile_text study.size p)) ≡ Some (Row p o)
   row_read p o h k = ap (option_and_then (λ p. option_map (Row p) (read_outcome study.size (outcome_text study.size o)))) (profile_read p h) ∙ ap (option_map (Row p)) (outcome_read o k)
 
-  kind_read : (k : Kind) → is_plain (KindIs k) ≡ true → named_by kind_text (Choice ∷ Ranking ∷ []) (kind_text k) ≡ Some k
-  kind_read Choice h = refl
-  kind_read Ranking h = refl
-  kind_read Sets h = absurd (true≢false (sym h))
+  kind_read : (k : Kind) → read_kind (kind_text k) ≡ Some k
+  kind_read Choice = refl
+  kind_read Ranking = refl
+  kind_read Sets = refl
 
   version_read : (version : ℕ) → IsIn versions version → read_version (number_text version) ≡ Some version
   version_read version i =
@@ -184,7 +186,7 @@ module _ (study : Question) (is : IsReportable study) where
 
   pub wanted_is : (place : Place) (number : ℕ) (l : Line) → Fits study place number l → is_plain l ≡ true → wanted study place number (line_words study l) ≡ Some l
   wanted_is AtTitle number (Title version) f h = ap (option_map Title) (version_read version f)
-  wanted_is AtKind number (KindIs k) f h = ap (option_map KindIs) (kind_read k h)
+  wanted_is AtKind number (KindIs k) f h = ap (option_map KindIs) (kind_read k)
   wanted_is AtVoters number (VotersAre n) f h = ap (option_map VotersAre) (read_text n)
   wanted_is AtAlternatives number (AlternativesAre n) f h = ap (option_map AlternativesAre) (read_text n)
   wanted_is AtBallots number (BallotsAre places) f h = ap (option_map BallotsAre) (places_read places f)

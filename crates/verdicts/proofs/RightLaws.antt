@@ -5,12 +5,10 @@ use Rattle.std.specs.List.{list_all, list_any}
 use Rattle.std.specs.Cmp.Lexicographic.{pointwise}
 use Rattle.std.proofs.lemmas.Bool.{and_parts, and_from, cases_lt}
 use Rattle.std.proofs.lemmas.Option.{slice_get_past}
-use Rattle.vocab.specs.declared.kinds.Kind.{Kind}
-use Rattle.vocab.specs.declared.kinds.Kind.TheVariants.{Choice, Ranking, Sets}
 use Rattle.vocab.specs.declared.kinds.Sort.TheVariants.{Profile}
 use Rattle.vocab.specs.declared.literals.Literal.{Literal}
 use Rattle.vocab.specs.Literal.{opposite_of, profile_of}
-use Rattle.vocab.specs.Size.{HasOutcomes, sort_count, outcome_count}
+use Rattle.vocab.specs.Size.{sort_count, outcome_count}
 use Rattle.vocab.specs.Study.{Question}
 use Rattle.vocab.specs.Titled.{Titled}
 use Rattle.meaning.specs.declared.cores.Witness.{Witness}
@@ -25,7 +23,7 @@ use Rattle.meaning.specs.Literals.{is_literal}
 use Rattle.meaning.specs.Stories.{is_claim_false, is_instance_false, is_outcome_excluded, refutes, is_decided, are_new, has_literals, are_forced, is_lemma, is_story_from, is_story}
 use Rattle.meaning.specs.Cores.{is_core_from, is_witness}
 use Rattle.meaning.proofs.LiteralLaws.{is_literal-opposite, profile_in}
-use Rattle.meaning.proofs.SpaceLaws.{any_from, factorial_pos}
+use Rattle.meaning.proofs.SpaceLaws.{any_from, some_outcome}
 use Rattle.verdicts.specs.declared.verdicts.Verdict.{Verdict}
 use Rattle.verdicts.specs.declared.verdicts.Verdict.TheVariants.{Possible, Impossible, Undecided}
 use Rattle.verdicts.specs.Lines.{sorts_of}
@@ -54,11 +52,6 @@ module _ (study : Question) (is : IsReportable study) where
 
   abbrev pub is_sound_lemma : ℕ → Lemma → Bool
   is_sound_lemma n lemma = list_all (is_literal study.size) lemma.suppose && list_all (is_sound_step n) lemma.steps && is_sound_reason n lemma.last
-
-  some_outcome : (k : Kind) → HasOutcomes k → 0 < outcome_count k study.size.alternatives
-  some_outcome Choice h = omega (arith, is.size.some_alternative)
-  some_outcome Ranking h = factorial_pos study.size.alternatives
-  some_outcome Sets h = absurd (h refl)
 
   -- ---- reasons that refute
 
@@ -92,7 +85,7 @@ module _ (study : Question) (is : IsReportable study) where
       some_holds : sort_count study.size Profile ≤ p → list_any (λ o. list_all (holds_of study.size o) (filter (λ l. profile_of l == p) known)) (below (outcome_count study.size.kind study.size.alternatives)) ≡ true
       some_holds le =
           any_from (λ o. list_all (holds_of study.size o) (filter (λ l. profile_of l == p) known)) (outcome_count study.size.kind study.size.alternatives) 0 0
-          (ap (list_all (holds_of study.size 0)) (none_there p known le h)) (omega arith) (omega (arith, some_outcome study.size.kind is.kind))
+          (ap (list_all (holds_of study.size 0)) (none_there p known le h)) (omega arith) (omega (arith, some_outcome study.size.kind study.size.alternatives is.size.some_alternative))
 
   lemma_in_range : (known : List Literal) (earlier : List Lemma) (j : ℕ) → is_claim_false known (slice_get earlier j) ≡ true → j < length earlier
   lemma_in_range known earlier j h = elim (cases_lt j (length earlier)) [

@@ -22,8 +22,9 @@ use Rattle.vocab.specs.Study.{Question, is_sentence, HasFewAxioms}
 use Rattle.vocab.specs.Titled.{Titled}
 use Rattle.vocab.proofs.PrefixLemmas.{prefix_within_depth}
 use Rattle.meaning.specs.Space.{rankings, ranking, ranking_at, casts_of, cast_bases}
+use Rattle.meaning.specs.Subsets.{elements, is_element}
 use Rattle.meaning.specs.Texts.{ballot_text, cast_text, letters_or_dash, profile_text, ranking_text, outcome_text_of, outcome_text, letter}
-use Rattle.meaning.proofs.BallotLaws.{ballots_within}
+use Rattle.meaning.proofs.BallotLaws.{ballots_within, kept_short}
 use Rattle.meaning.proofs.RankingLaws.{are_rankings}
 use Rattle.meaning.proofs.SpaceLaws.{length-rankings}
 use Rattle.verdicts.specs.Numbers.{number_text}
@@ -129,7 +130,7 @@ module _ (size : Extent) (is : IsSize size) where
   outcome_within_of : (k : Kind) (o : ℕ) → length (outcome_text_of size k o) ≤ 52
   outcome_within_of Choice o = omega arith
   outcome_within_of Ranking o = omega (arith, ranking_text_within o)
-  outcome_within_of Sets o = omega arith
+  outcome_within_of Sets o = omega (arith, length-map (elements m o) letter, kept_short (is_element o) m 0, is.few_alternatives)
 
   value_within : (s : Sort) (v : ℕ) → v < sort_count size s → length (value_text size s v) ≤ 52
   value_within Voter v h = omega (arith, number_within (v + 1) (omega (arith, h, is.few_voters)))

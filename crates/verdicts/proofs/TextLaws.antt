@@ -14,7 +14,7 @@ use Rattle.vocab.specs.declared.literals.Literal.TheVariants.{Wins, Loses, Above
 use Rattle.vocab.specs.Name.{is_digit, is_lower, is_name_byte, is_name}
 use Rattle.vocab.specs.Literal.{profile_of}
 use Rattle.std.proofs.lemmas.List.{get_or-map, length-replicate, length-map}
-use Rattle.vocab.specs.Size.{HasOutcomes, Extent, IsSize, ballot_count, ballot_places, cast_count, factorial, sort_count, outcome_count}
+use Rattle.vocab.specs.Size.{Extent, IsSize, ballot_count, ballot_places, cast_count, factorial, sort_count, outcome_count}
 use Rattle.vocab.specs.Study.{have_own_names}
 use Rattle.vocab.specs.Titled.{Titled}
 use Rattle.vocab.specs.Limits.{product}
@@ -24,6 +24,8 @@ use Rattle.meaning.proofs.RankingLaws.{are_rankings}
 use Rattle.meaning.proofs.BallotLaws.{numbered_place, place_below, place_of_ballot, ranking_of_ballot}
 use Rattle.meaning.proofs.DigitLaws.{are_one_to_one, are_profiles, lists_within}
 use Rattle.std.proofs.lemmas.Option.{slice_get_past}
+use Rattle.meaning.specs.Subsets.{elements}
+use Rattle.meaning.proofs.TextLaws.{letters_same, set_texts_same}
 use Rattle.verdicts.specs.Numbers.{number_text, value_after}
 use Rattle.meaning.specs.Texts.{letter, ballot_text, cast_text, letters_or_dash, profile_text, ranking_text, outcome_text_of, outcome_text}
 use Rattle.verdicts.specs.Texts.{value_text, literal_text}
@@ -45,14 +47,6 @@ joins_same : (ws vs : List (List ℕ)) → list_all (lacks 124) ws ≡ true → 
 joins_same [] vs a b h k e = absurd (omega (arith, h))
 joins_same (w ∷ ws) [] a b h k e = absurd (omega (arith, k))
 joins_same (w ∷ ws) (v ∷ vs) a b h k e = sym (split_joined 124 w ws a) ∙ ap (slice_split (λ b. b == 124)) e ∙ split_joined 124 v vs b
-
-letters_same : (xs ys : List ℕ) → map letter xs ≡ map letter ys → xs ≡ ys
-letters_same [] [] e = refl
-letters_same [] (y ∷ ys) e = absurd (cc)
-letters_same (x ∷ xs) [] e = absurd (cc)
-letters_same (x ∷ xs) (y ∷ ys) e =
-    let h : x ≡ y = omega (arith, head_same (letter x) (letter y) (map letter xs) (map letter ys) e) in
-    ap₂ (λ a b. a ∷ b) h (letters_same xs ys (tail_same (letter x) (letter y) (map letter xs) (map letter ys) e))
 
 pub numbers_same : (m n : ℕ) → number_text m ≡ number_text n → m ≡ n
 numbers_same m n e = sym (value_of_text m) ∙ ap (value_after 0) e ∙ value_of_text n
@@ -207,18 +201,18 @@ module _ (size : Extent) (is : IsSize size) where
       some_cast : (k : ℕ) → 0 < length (map (cast_text size) (casts_of size k))
       some_cast k = omega (arith, length_digits (cast_bases size) k, length-map (casts_of size k) (cast_text size), length-replicate size.voters (cast_count size), is.some_voter)
 
-  outcomes_same_of : (k : Kind) (o u : ℕ) → HasOutcomes k → o < outcome_count k m → u < outcome_count k m → outcome_text_of size k o ≡ outcome_text_of size k u → o ≡ u
-  outcomes_same_of Choice o u n h k e = omega (arith, head_same (letter o) (letter u) [] [] e)
-  outcomes_same_of Ranking o u n h k e = rankings_same o u h k e
-  outcomes_same_of Sets o u n h k e = absurd (n refl)
+  outcomes_same_of : (k : Kind) (o u : ℕ) → o < outcome_count k m → u < outcome_count k m → outcome_text_of size k o ≡ outcome_text_of size k u → o ≡ u
+  outcomes_same_of Choice o u h k e = omega (arith, head_same (letter o) (letter u) [] [] e)
+  outcomes_same_of Ranking o u h k e = rankings_same o u h k e
+  outcomes_same_of Sets o u h k e = set_texts_same m o u h k e
 
   pub outcome_word_of : (k : Kind) (o : ℕ) → is_word (outcome_text_of size k o) ≡ true
   outcome_word_of Choice o = letters_word (o ∷ [])
   outcome_word_of Ranking o = letters_word (ranking m o)
-  outcome_word_of Sets o = refl
+  outcome_word_of Sets o = letters_word (elements m o)
 
-  pub outcomes_same : HasOutcomes size.kind → (o u : ℕ) → o < outcome_count size.kind m → u < outcome_count size.kind m → outcome_text size o ≡ outcome_text size u → o ≡ u
-  outcomes_same n o u h k e = outcomes_same_of size.kind o u n h k e
+  pub outcomes_same : (o u : ℕ) → o < outcome_count size.kind m → u < outcome_count size.kind m → outcome_text size o ≡ outcome_text size u → o ≡ u
+  outcomes_same o u h k e = outcomes_same_of size.kind o u h k e
 
   pub values_same : (s : Sort) (v w : ℕ) → v < sort_count size s → w < sort_count size s → value_text size s v ≡ value_text size s w → v ≡ w
   values_same Voter v w h k e = omega (arith, numbers_same (v + 1) (w + 1) e)

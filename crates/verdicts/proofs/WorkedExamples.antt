@@ -289,12 +289,12 @@ core_without_a_name_fails_in_the_story = refl
 core_without_a_name_forces_nothing : answer symmetric (text_of (take 6 no_symmetric_rule_report ++ codes "core" ∷ codes "lemmas 1" ∷ codes "lemma 1" ∷ codes "clash by outcome ab|ba" ∷ codes "end" ∷ [])) ≡ Faulty 10 refusal.NotForced
 core_without_a_name_forces_nothing = refl
 
-other_head_is_study : map (λ (n, line). with_line n line) ((2, codes "kind ranking") ∷ (3, codes "voters 3") ∷ (3, codes "voters 99999999999999999999") ∷ (4, codes "alternatives 1") ∷ (5, codes "axioms anonymity") ∷ (5, codes "axioms neutrality anonymity") ∷ (5, codes "axioms all some") ∷ []) ≡
-    Faulty 2 refusal.StudyDiffers ∷ Faulty 3 refusal.StudyDiffers ∷ Faulty 3 refusal.StudyDiffers ∷ Faulty 4 refusal.StudyDiffers ∷ replicate 3 (Faulty 5 refusal.StudyDiffers)
+other_head_is_study : map (λ (n, line). with_line n line) ((2, codes "kind ranking") ∷ (2, codes "kind sets") ∷ (3, codes "voters 3") ∷ (3, codes "voters 99999999999999999999") ∷ (4, codes "alternatives 1") ∷ (5, codes "axioms anonymity") ∷ (5, codes "axioms neutrality anonymity") ∷ (5, codes "axioms all some") ∷ []) ≡
+    Faulty 2 refusal.StudyDiffers ∷ Faulty 2 refusal.StudyDiffers ∷ Faulty 3 refusal.StudyDiffers ∷ Faulty 3 refusal.StudyDiffers ∷ Faulty 4 refusal.StudyDiffers ∷ replicate 3 (Faulty 5 refusal.StudyDiffers)
 other_head_is_study = refl
 
 -- a kind that no study file names, signs, leading zeros, and names of another shape
-malformed_head_is_form : map (λ (n, line). with_line n line) ((2, codes "kind sets") ∷ (3, codes "voters 02") ∷ (3, codes "voters +2") ∷ (3, codes "voters") ∷ (4, codes "alternatives 2 2") ∷ (5, codes "axioms anonymity Neutrality") ∷ (5, codes "axioms 1st") ∷ []) ≡
+malformed_head_is_form : map (λ (n, line). with_line n line) ((2, codes "kind set") ∷ (3, codes "voters 02") ∷ (3, codes "voters +2") ∷ (3, codes "voters") ∷ (4, codes "alternatives 2 2") ∷ (5, codes "axioms anonymity Neutrality") ∷ (5, codes "axioms 1st") ∷ []) ≡
     Faulty 2 refusal.Form ∷ Faulty 3 refusal.Form ∷ Faulty 3 refusal.Form ∷ Faulty 3 refusal.Form ∷ Faulty 4 refusal.Form ∷ replicate 2 (Faulty 5 refusal.Form)
 malformed_head_is_form = refl
 

@@ -3,7 +3,7 @@ use Rattle.std.specs.Prelude.{◌≡◌, ◌≢◌, ℕ, ◌<◌, ◌≤◌, ◌
 use Rattle.std.specs.List.{list_all, list_any}
 use Rattle.vocab.specs.Limits.{instance_count}
 use Rattle.vocab.specs.Name.{is_name}
-use Rattle.vocab.specs.Size.{HasOutcomes, IsSize}
+use Rattle.vocab.specs.Size.{IsSize}
 use Rattle.vocab.specs.Study.{Question, IsStudy, HasFewAxioms}
 use Rattle.vocab.specs.Titled.{Titled}
 use Rattle.meaning.specs.declared.cores.Witness.{Witness}
@@ -23,11 +23,10 @@ use Rattle.verdicts.specs.Places.{Standing}
 use Rattle.verdicts.specs.Faults.{is_version, table_fault}
 use Rattle.verdicts.specs.Judge.{Good, Refused, line_fault, judge, has_no_end, ended, Confirmed, Faulty, conclude, answer, answer_within, pieces}
 
--- what the laws ask of a study: the bench takes it, at a size of a kind whose outcomes have texts, and its axioms have names
+-- what the laws ask of a study: the bench takes it, at a size, and its axioms have names
 pub record IsReportable (study : Question) : Type 0 where
   pub taken : IsStudy study
   pub size : IsSize study.size
-  pub kind : HasOutcomes study.size.kind
   pub names : IsTrue (list_all (λ a. is_name a.name) study.axioms)
 
 -- ---- texts of verdicts

@@ -9,6 +9,7 @@ use Rattle.vocab.specs.declared.kinds.Sort.TheVariants.{Voter, Alt, Ballot, Prof
 use Rattle.vocab.specs.declared.literals.Literal.{Literal}
 use Rattle.vocab.specs.declared.literals.Literal.TheVariants.{Wins, Loses, Above}
 use Rattle.vocab.specs.Size.{Extent, sort_count, outcome_count}
+use Rattle.vocab.specs.Sorted.{has_winners}
 use Rattle.meaning.specs.Space.{below}
 use Rattle.meaning.specs.Texts.{kind_text, letter, ballot_text, profile_text, outcome_text}
 use Rattle.verdicts.specs.Numbers.{number_text}
@@ -26,9 +27,13 @@ abbrev pub named_by : {A : Type 0} → (A → List ℕ) → List A → List ℕ 
 named_by text_of [] text = None
 named_by text_of (a ∷ items) text = if bytes_eq (text_of a) text then Some a else named_by text_of items text
 
--- a kind that a study file can name
+-- the kinds that a study file can name
+abbrev pub kinds : List Kind
+kinds = Choice ∷ Ranking ∷ Sets ∷ []
+
+-- the kind of a word
 abbrev pub read_kind : List ℕ → Option Kind
-read_kind text = named_by kind_text (Choice ∷ Ranking ∷ []) text
+read_kind text = named_by kind_text kinds text
 
 module _ (size : Extent) where
   -- a value of a sort: a voter is a number from 1, an alternative its letter
@@ -44,11 +49,16 @@ module _ (size : Extent) where
   literal_text (Loses x p) = 33 ∷ letter x ∷ 64 ∷ profile_text size p
   literal_text (Above x y p) = letter x ∷ 62 ∷ letter y ∷ 64 ∷ profile_text size p
 
+  -- the literals that say whether an alternative wins at a profile, and those that compare two
+  abbrev pub winners_at : ℕ → List Literal
+  winners_at p = flat_map (λ x. Wins x p ∷ Loses x p ∷ []) (below size.alternatives)
+
+  abbrev pub comparisons_at : ℕ → List Literal
+  comparisons_at p = flat_map (λ x. flat_map (λ y. if x == y then [] else Above x y p ∷ []) (below size.alternatives)) (below size.alternatives)
+
   -- the literals of a kind at a profile
   abbrev pub literals_at : Kind → ℕ → List Literal
-  literals_at Choice p = flat_map (λ x. Wins x p ∷ Loses x p ∷ []) (below size.alternatives)
-  literals_at Ranking p = flat_map (λ x. flat_map (λ y. if x == y then [] else Above x y p ∷ []) (below size.alternatives)) (below size.alternatives)
-  literals_at Sets p = []
+  literals_at kind p = if has_winners kind then winners_at p else comparisons_at p
 
   -- the literals of the size
   abbrev pub literals : List Literal
