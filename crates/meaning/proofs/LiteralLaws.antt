@@ -76,10 +76,14 @@ module _ (size : Extent) where
 
   -- literals of a kind: whether an alternative wins, where the outcome has winners, and comparisons, where it has none
   pub of_winner : (k : Kind) (l : Literal) → has_winners k ≡ true → is_of_winner size l ≡ true → is_literal_of size k l ≡ true
-  of_winner k l some h = ap (λ b. cond b (is_of_winner size l) (is_comparison size l)) some ∙ h
+  of_winner Choice l some h = h
+  of_winner Ranking l some h = absurd (true≢false (sym some))
+  of_winner Sets l some h = h
 
   pub of_comparison : (k : Kind) (l : Literal) → not (has_winners k) ≡ true → is_comparison size l ≡ true → is_literal_of size k l ≡ true
-  of_comparison k l none h = ap (λ b. cond b (is_of_winner size l) (is_comparison size l)) (not-true _ none) ∙ h
+  of_comparison Choice l none h = absurd (true≢false (sym none))
+  of_comparison Ranking l none h = h
+  of_comparison Sets l none h = absurd (true≢false (sym none))
 
   winner-opposite : (l : Literal) → is_of_winner size l ≡ true → is_of_winner size (opposite_of l) ≡ true
   winner-opposite (Wins x p) h = h

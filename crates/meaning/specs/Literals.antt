@@ -1,11 +1,11 @@
 -- Literals of a size.
-use Rattle.std.specs.Prelude.{Bool, false, not, ◌&&◌, ◌==◌, nat_lt, if◌then◌else◌}
+use Rattle.std.specs.Prelude.{Bool, false, not, ◌&&◌, ◌==◌, nat_lt}
 use Rattle.vocab.specs.declared.kinds.Kind.{Kind}
+use Rattle.vocab.specs.declared.kinds.Kind.TheVariants.{Choice, Ranking, Sets}
 use Rattle.vocab.specs.declared.kinds.Sort.TheVariants.{Profile}
 use Rattle.vocab.specs.declared.literals.Literal.{Literal}
 use Rattle.vocab.specs.declared.literals.Literal.TheVariants.{Wins, Loses, Above}
 use Rattle.vocab.specs.Size.{Extent, sort_count}
-use Rattle.vocab.specs.Sorted.{has_winners}
 
 module _ (size : Extent) where
   -- a literal says whether an alternative wins at a profile, both in range
@@ -22,7 +22,9 @@ module _ (size : Extent) where
 
   -- a literal is one of the kind, with its alternatives and its profile in range
   abbrev pub is_literal_of : Kind → Literal → Bool
-  is_literal_of kind l = if has_winners kind then is_of_winner l else is_comparison l
+  is_literal_of Choice l = is_of_winner l
+  is_literal_of Ranking l = is_comparison l
+  is_literal_of Sets l = is_of_winner l
 
   -- a literal is one of the size
   abbrev pub is_literal : Literal → Bool

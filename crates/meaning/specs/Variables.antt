@@ -2,11 +2,11 @@
 use Rattle.std.specs.Prelude.{ℕ, Bool, true, false, ◌&&◌, ◌==◌, ◌+◌, ◌-◌, ◌*◌, ◌/◌, ◌%◌, nat_lt, List, map, filter, length, get_or, if◌then◌else◌}
 use Rattle.std.specs.List.{flat_map, position_or_len}
 use Rattle.vocab.specs.declared.kinds.Kind.{Kind}
+use Rattle.vocab.specs.declared.kinds.Kind.TheVariants.{Choice, Ranking, Sets}
 use Rattle.vocab.specs.declared.kinds.Sort.TheVariants.{Profile}
 use Rattle.vocab.specs.declared.literals.Literal.{Literal}
 use Rattle.vocab.specs.declared.literals.Literal.TheVariants.{Wins, Loses, Above}
 use Rattle.vocab.specs.Size.{Extent, sort_count}
-use Rattle.vocab.specs.Sorted.{has_winners}
 use Rattle.cnf.specs.Signed.{Signed}
 use Rattle.meaning.specs.Space.{below}
 use Rattle.meaning.specs.Truth.{holds}
@@ -29,7 +29,9 @@ pair_place m x y = position_or_len (λ (v, w). v == x && w == y) (pairs m)
 
 -- how many variables a profile has: one for each alternative, or for each pair of alternatives
 abbrev pub bits : Kind → ℕ → ℕ
-bits kind m = if has_winners kind then m else length (pairs m)
+bits Choice m = m
+bits Ranking m = length (pairs m)
+bits Sets m = m
 
 -- the literal of variable v + 1, by its sign, where a profile has a variable for each alternative
 abbrev pub winner_at : ℕ → ℕ → Bool → Literal
@@ -58,7 +60,9 @@ module _ (size : Extent) where
 
   -- the literal of variable v + 1, by its sign
   abbrev pub literal_at : Kind → ℕ → Bool → Literal
-  literal_at kind v sign = if has_winners kind then winner_at size.alternatives v sign else comparison_at size.alternatives v sign
+  literal_at Choice v sign = winner_at size.alternatives v sign
+  literal_at Ranking v sign = comparison_at size.alternatives v sign
+  literal_at Sets v sign = winner_at size.alternatives v sign
 
   -- the literal that a variable and a sign stand for
   abbrev pub literal_of : Signed → Literal

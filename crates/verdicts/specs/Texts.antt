@@ -9,7 +9,6 @@ use Rattle.vocab.specs.declared.kinds.Sort.TheVariants.{Voter, Alt, Ballot, Prof
 use Rattle.vocab.specs.declared.literals.Literal.{Literal}
 use Rattle.vocab.specs.declared.literals.Literal.TheVariants.{Wins, Loses, Above}
 use Rattle.vocab.specs.Size.{Extent, sort_count, outcome_count}
-use Rattle.vocab.specs.Sorted.{has_winners}
 use Rattle.meaning.specs.Space.{below}
 use Rattle.meaning.specs.Texts.{kind_text, letter, ballot_text, profile_text, outcome_text}
 use Rattle.verdicts.specs.Numbers.{number_text}
@@ -58,7 +57,9 @@ module _ (size : Extent) where
 
   -- the literals of a kind at a profile
   abbrev pub literals_at : Kind → ℕ → List Literal
-  literals_at kind p = if has_winners kind then winners_at p else comparisons_at p
+  literals_at Choice p = winners_at p
+  literals_at Ranking p = comparisons_at p
+  literals_at Sets p = winners_at p
 
   -- the literals of the size
   abbrev pub literals : List Literal
