@@ -36,6 +36,7 @@ odd = record {
   one_word_less = refl;
   one_word_more = refl;
   sets = refl;
+  other_kind = refl;
   study_alone = refl;
   workers_of_decide = refl;
   workers_of_lrat = refl;

@@ -1,6 +1,7 @@
 -- Which words are which request, where it can be told at a glance.
 use Rattle.std.specs.Prelude.{◌≡◌, ◌==◌, Bool, false, [], ◌∷◌, ◌++◌, codes, None, Some, option_map}
 use Rattle.clap.specs.Words.{Text}
+use Rattle.vocab.specs.declared.kinds.Kind.TheVariants.{Sets}
 use Rattle.words.specs.Values.{number_within, kind_named}
 use Rattle.words.specs.Words.{Decide, Check, Export, Proof, Lrat, Axioms, Sample, Adopt, request_of}
 
@@ -64,7 +65,8 @@ pub record OddWords : Type 0 where
   pub workers_of_axioms : request_of (codes "axioms" ∷ codes "choice" ∷ codes "--workers" ∷ codes "4" ∷ []) ≡ None
   pub one_word_less : request_of (codes "check" ∷ codes "s" ∷ []) ≡ None
   pub one_word_more : request_of (codes "check" ∷ codes "s" ∷ codes "r" ∷ codes "t" ∷ []) ≡ None
-  pub sets : request_of (codes "axioms" ∷ codes "sets" ∷ []) ≡ None
+  pub sets : request_of (codes "axioms" ∷ codes "sets" ∷ []) ≡ Some (Axioms Sets)
+  pub other_kind : request_of (codes "axioms" ∷ codes "set" ∷ []) ≡ None
   pub study_alone : request_of (codes "decide" ∷ []) ≡ None
   pub workers_of_decide : request_of (codes "decide" ∷ codes "--workers=16" ∷ codes "s" ∷ []) ≡ Some (Decide (codes "s") 16)
   pub workers_of_lrat : request_of (codes "lrat" ∷ codes "c" ∷ codes "p" ∷ codes "--workers" ∷ codes "4" ∷ []) ≡ None

@@ -22,6 +22,7 @@ fn kind_named(word: &str) -> Option<Kind>
     match word {
         "choice" => Some(Kind::Choice),
         "ranking" => Some(Kind::Ranking),
+        "sets" => Some(Kind::Sets),
         _ => None,
     }
 }

@@ -82,6 +82,7 @@ fn commands(rt: HostRuntime) -> Result<(), Fail> {
     )?;
     same(&rt, rt.alloc(), "axioms choice", "axioms Choice")?;
     same(&rt, rt.alloc(), "axioms -- ranking", "axioms Ranking")?;
+    same(&rt, rt.alloc(), "axioms sets", "axioms Sets")?;
     same(&rt, rt.alloc(), "decide s", "decide [s] 1")?;
     same(&rt, rt.alloc(), "decide --workers 3 s", "decide [s] 3")?;
     same(&rt, rt.alloc(), "export s --workers=2", "export [s] 2")?;
@@ -139,7 +140,7 @@ fn words_that_are_none(rt: HostRuntime) -> Result<(), Fail> {
     same(&rt, rt.alloc(), "check s", "none")?;
     same(&rt, rt.alloc(), "check s r t", "none")?;
     same(&rt, rt.alloc(), "axioms", "none")?;
-    same(&rt, rt.alloc(), "axioms sets", "none")?;
+    same(&rt, rt.alloc(), "axioms set", "none")?;
     same(&rt, rt.alloc(), "axioms Choice", "none")?;
     same(&rt, rt.alloc(), "axioms choice ranking", "none")?;
     same(&rt, rt.alloc(), "decide", "none")?;
