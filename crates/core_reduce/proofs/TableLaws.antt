@@ -9,7 +9,7 @@ use Rattle.std.proofs.lemmas.List.Folds.{list_all-map, list_all-append}
 use Rattle.vocab.specs.declared.kinds.Kind.{Kind}
 use Rattle.vocab.specs.declared.kinds.Kind.TheVariants.{Choice, Ranking, Sets}
 use Rattle.vocab.specs.declared.kinds.Sort.TheVariants.{Profile}
-use Rattle.vocab.specs.Size.{HasOutcomes, Extent, sort_count, outcome_count}
+use Rattle.vocab.specs.Size.{Extent, sort_count, outcome_count}
 use Rattle.vocab.specs.Study.{is_sentence}
 use Rattle.vocab.specs.Titled.{Titled}
 use Rattle.cnf.specs.Sat.{Clause, is_clause_true, is_satisfied}
@@ -31,11 +31,6 @@ use Rattle.outcomes.proofs.BitLaws.{variable_in, says_one_outcome}
 use Rattle.profiles.proofs.TableLemmas.{factorial_small}
 use Rattle.core_reduce.specs.Tables.{IsTableOf}
 
-pub few_outcomes : (kind : Kind) (m : ℕ) → m ≤ 5 → outcome_count kind m ≤ 120
-few_outcomes Choice m h = omega arith
-few_outcomes Ranking m h = factorial_small m h
-few_outcomes Sets m h = omega arith
-
 -- the variables of a profile are among all
 pub variables_in : (p count n : ℕ) → p < count → (p + 1) * n ≤ count * n
 variables_in p count n h = let next : p + 1 ≤ count = omega (arith, h) in mul-le-mul_right n next
@@ -53,24 +48,24 @@ module _ (size : Extent) (axioms : List Titled) (chosen : List ℕ) (v : ℕ →
       sym (list_all-map t (λ (c : Clause). record { clause = c; origin = Frame p }) (clauses_of size (frame_of size size.kind p)))
       ∙ all_at (λ q. list_all t (from_frame size q)) (sort_count size Profile) 0 p each (omega arith) (omega (arith, lt))
 
-module _ (size : Extent) (known_kind : HasOutcomes size.kind) (v : ℕ → Bool) where
+module _ (size : Extent) (v : ℕ → Bool) where
   -- the bits of a rule at a profile are those of its outcome
   bits_at : (table : List ℕ) → AreBitsOf size table v → (p : ℕ) → p < sort_count size Profile → AreBitsAt size p (slice_index table p) v
   bits_at table same p lt i low high =
       let s : Signed = record { variable = i; positive = true } in
       let some : 1 ≤ i = omega (arith, low) in
       let all : i ≤ variable_count size = variable_in p (sort_count size Profile) (bits size.kind size.alternatives) i lt high in
-      same i some all ∙ ap (λ (q : ℕ). holds_of size (slice_index table q) (literal_of size s)) ((are_variables size known_kind).to_profile p s low high)
+      same i some all ∙ ap (λ (q : ℕ). holds_of size (slice_index table q) (literal_of size s)) ((are_variables size).to_profile p s low high)
 
   pub table_satisfies : (axioms : List Titled) → list_all (is_sentence size) axioms ≡ true → (chosen : List ℕ) → list_all (λ k. nat_lt k (length axioms)) chosen ≡ true →
       is_satisfied v (clauses_for size axioms chosen) ≡ true → (table : List ℕ) → IsTableOf size v (sort_count size Profile) table → satisfies size axioms chosen table ≡ true
   table_satisfies axioms h chosen in_range sat table of =
-      let found = (are_rules size known_kind axioms h chosen in_range v).0 sat in
+      let found = (are_rules size axioms h chosen in_range v).0 sat in
       let rule : is_rule size found.0 ≡ true = (and_parts (is_rule size found.0) (list_all (λ k. is_axiom_true size found.0 (slice_get axioms k)) chosen) found.1).0 in
       let count : length found.0 ≡ sort_count size Profile = eqb-true (length found.0) (sort_count size Profile) (and_parts (length found.0 == sort_count size Profile) (list_all (λ o. nat_lt o (outcome_count size.kind size.alternatives)) found.0) rule).0 in
       let same : table ≡ found.0 = ext_get_or 0 table found.0 (of.count ∙ sym count) (λ p lt.
       let in_p : p < sort_count size Profile = omega (arith, lt, of.count) in
-      (says_one_outcome size known_kind p in_p).one v (slice_index table p) (slice_index found.0 p) (of.in_range p in_p) (outcome_in_range size found.0 rule (let some : 0 < sort_count size Profile = omega (arith, in_p) in some) p) (of.bits p in_p) (bits_at found.0 found.2 p in_p)) in
+      (says_one_outcome size p in_p).one v (slice_index table p) (slice_index found.0 p) (of.in_range p in_p) (outcome_in_range size found.0 rule (let some : 0 < sort_count size Profile = omega (arith, in_p) in some) p) (of.bits p in_p) (bits_at found.0 found.2 p in_p)) in
       subst (λ (t : List ℕ). satisfies size axioms chosen t ≡ true) (sym same) found.1
 
 -- one profile more

@@ -2,7 +2,6 @@
 
 ghost use Rattle.std.specs.Prelude.{◌≡◌, ◌<◌, ◌≤◌, ◌-◌, ◌^◌, length, IfOk, IsTrue};
 ghost use Rattle.std.specs.List.{AllByRecursion};
-ghost use Rattle.vocab.specs.Size.{HasOutcomes};
 ghost use Rattle.cnf.specs.Derived.{IsAccepted};
 ghost use Rattle.cnf.specs.Fresh.{AreOver, IsSpent};
 ghost use Rattle.cdcl.specs.Answer.{Answers};
@@ -165,7 +164,6 @@ impl Reduction {
     pub fn finish(self, alloc: Global, study: &Study) -> Result<Reduced, NoMemory>
         requires reducing { IsReducing study.now self }
         requires whole { length self.core ≤ length self.witnesses.items }
-        requires known { HasOutcomes study.now.size.kind }
         ensures refutation { IfOk result (λ r. IsRefutation study.now r.logs r.refutation) }
         ensures logs { IfOk result (λ r. AllByRecursion (IsSpentLog study.now) r.logs) }
         ensures core { IfOk result (λ r. r.refutation.core ≡ self.core) }

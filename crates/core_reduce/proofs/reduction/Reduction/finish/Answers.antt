@@ -27,6 +27,6 @@ returns-clause-refutation c =
       accepted = accepted;
       over = h.over;
       few = h.few;
-      no_rule = no_rule_satisfies s.size c.requires.known s.axioms c.axioms-axioms.ensures.study.sentences r.core h.core r.proof accepted;
+      no_rule = no_rule_satisfies s.size s.axioms c.axioms-axioms.ensures.study.sentences r.core h.core r.proof accepted;
       logged = subst (HaveEvidence s r.logs r.core r.core) (sym c.in_ok-list.ensures) (marked_evidence s r.logs r.core r.core r.witnesses.items h.marked);
     }
