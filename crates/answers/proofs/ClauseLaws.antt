@@ -13,7 +13,6 @@ use Rattle.cnf.proofs.TrimmedLaws.{trimmed_accepted}
 use Rattle.meaning.specs.Space.{below}
 use Rattle.meaning.proofs.RuleLaws.{are_satisfiable}
 use Rattle.meaning.proofs.SpaceLaws.{all_from}
-use Rattle.study.proofs.StudyKinds.{kinds_known}
 use Rattle.study.proofs.WholeStudies.{studies_whole}
 use Rattle.clause_text.specs.declared.faults.LratFault.{LratFault}
 use Rattle.clause_text.specs.ReadDimacs.{Formula}
@@ -38,7 +37,7 @@ places_below n = all_from (λ k. nat_lt k n) n 0 (λ k low high. lt-ltb k n (ome
 pub clauses_mean : (files : Files) (name : List ℕ) (study : Question) → GivesStudy files name study
     → ((v : ℕ → Bool) × IsTrue (is_satisfied v (all_clauses study))) ↔ ((table : List ℕ) × IsRuleFor study table)
 clauses_mean files name study g =
-    are_satisfiable study.size (kinds_known g.bytes study g.read) study.axioms (studies_whole g.bytes study g.read).0.sentences (all_places study) (places_below (length study.axioms))
+    are_satisfiable study.size study.axioms (studies_whole g.bytes study g.read).0.sentences (all_places study) (places_below (length study.axioms))
 
 pub exported_says : ExportedSaysStudy
 exported_says files name run text study row g zero_is = record {

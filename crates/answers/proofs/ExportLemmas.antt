@@ -22,7 +22,6 @@ use Rattle.clause_text.specs.Dimacs.{literal_text, clause_text, size_text, dimac
 use Rattle.clause_text.specs.ReadDimacs.{read_dimacs}
 use Rattle.clause_text.proofs.RoundLemmas.{plain_line, number_plain, written_is_read}
 use Rattle.search_logs.specs.Spent.{all_places}
-use Rattle.study.proofs.StudyKinds.{kinds_known}
 use Rattle.study.proofs.WholeStudies.{studies_whole}
 use Rattle.answers.specs.Studies.{GivesStudy}
 use Rattle.answers.specs.Grounding.{all_clauses, fault_of}
@@ -161,10 +160,9 @@ pub record IsReadAgain (study : Question) : Type 0 where
 pub export_read : (files : Files) (name : List ℕ) (study : Question) → GivesStudy files name study → fault_of study ≡ None → IsReadAgain study
 export_read files name study g none =
     let size : IsSize study.size = (studies_whole g.bytes study g.read).1 in
-    let kind = kinds_known g.bytes study g.read in
-    let few = clauses_few study size kind none in
-    let variables = variables_few study.size size kind in
-    let over = clauses_over study.size kind study.axioms (studies_whole g.bytes study g.read).0.sentences (all_places study) in
+    let few = clauses_few study size none in
+    let variables = variables_few study.size size in
+    let over = clauses_over study.size study.axioms (studies_whole g.bytes study g.read).0.sentences (all_places study) in
     record {
       fits = text_short (size_text study.size) (variable_count study.size) (all_clauses study) (size_short study.size size) variables few over;
       read = written_is_read (size_text study.size) (variable_count study.size) (all_clauses study) (size_line study.size) (omega (arith, variables)) few.short few.light over;

@@ -8,7 +8,7 @@ use Rattle.std.proofs.lemmas.List.{map-append}
 use Rattle.std.proofs.lemmas.List.Sums.{sum_by-append}
 use Rattle.std.proofs.lemmas.Nat.{mul-le}
 use Rattle.vocab.specs.declared.kinds.Sort.TheVariants.{Profile}
-use Rattle.vocab.specs.Size.{HasOutcomes, Extent, IsSize, sort_count}
+use Rattle.vocab.specs.Size.{Extent, IsSize, sort_count}
 use Rattle.vocab.specs.Study.{Question}
 use Rattle.vocab.specs.Titled.{Titled}
 use Rattle.cnf.specs.Sat.{Clause}
@@ -92,14 +92,14 @@ second_none None second h = h
 second_none (Some fault) second h = absurd (cc)
 
 -- clauses that are not refused are within the limits of a list
-pub clauses_few : (study : Question) → IsSize study.size → HasOutcomes study.size.kind → fault_of study ≡ None → AreFew (all_clauses study)
-clauses_few study size known none =
-    let small = frames_small study.size (record { is_size = size; has_outcomes = known }) in
+pub clauses_few : (study : Question) → IsSize study.size → fault_of study ≡ None → AreFew (all_clauses study)
+clauses_few study size none =
+    let small = frames_small study.size size in
     full_nowhere study.size study.axioms [] (all_places study) (all_frames study.size small study.axioms size.few_profiles)
     (second_none (first_wide study.size study.axioms (all_places study)) (first_full study.size study.axioms [] (all_places study)) none)
 
 -- there are few variables
-pub variables_few : (size : Extent) → IsSize size → HasOutcomes size.kind → variable_count size ≤ 200000
-variables_few size is known =
-    let small = frames_small size (record { is_size = is; has_outcomes = known }) in
+pub variables_few : (size : Extent) → IsSize size → variable_count size ≤ 200000
+variables_few size is =
+    let small = frames_small size is in
     mul-le (sort_count size Profile) (bits size.kind size.alternatives) 20000 10 is.few_profiles small.few_bits

@@ -11,7 +11,6 @@ use Rattle.verdicts.specs.Report.{IsConfirmed, IsReport}
 use Rattle.verdicts.proofs.ClaimLaws.{claims_hold, within_limit}
 use Rattle.verdicts.proofs.JudgeLaws.{judge_sound}
 use Rattle.verdicts.proofs.ReportLaws.{printed_is_report}
-use Rattle.study.proofs.StudyKinds.{kinds_known}
 use Rattle.study.proofs.WholeStudies.{studies_whole}
 use Rattle.words.specs.Words.{Check}
 use Rattle.answers.specs.declared.runs.Run.{Run}
@@ -30,7 +29,7 @@ use Rattle.answers.proofs.RowLemmas.{some_same, row_of, over_study, granted}
 pub reportable : (files : Files) (name : List ℕ) (study : Question) → GivesStudy files name study → IsReportable study
 reportable files name study g =
     let whole = studies_whole g.bytes study g.read in
-    record { taken = whole.0; size = whole.1; kind = kinds_known g.bytes study g.read; names = whole.2 }
+    record { taken = whole.0; size = whole.1; names = whole.2 }
 
 -- and it has at most 40 axioms
 pub listed : (files : Files) (name : List ℕ) (study : Question) → GivesStudy files name study → HasFewAxioms study

@@ -6,14 +6,14 @@ use Rattle.std.specs.Str.{bytes_eq}
 use Rattle.std.proofs.lemmas.List.Splits.{join_with_byte-slice_split}
 use Rattle.std.proofs.lemmas.Slice.Eq.{bytes_eq-Decides}
 use Rattle.vocab.specs.declared.kinds.Kind.{Kind}
-use Rattle.vocab.specs.declared.kinds.Kind.TheVariants.{Choice, Ranking}
+use Rattle.vocab.specs.declared.kinds.Kind.TheVariants.{Choice, Ranking, Sets}
 use Rattle.vocab.specs.declared.literals.Literal.{Literal}
 use Rattle.meaning.specs.Texts.{kind_text}
 use Rattle.vocab.specs.Name.{is_name}
 use Rattle.vocab.specs.Study.{Question}
 use Rattle.meaning.specs.declared.stories.Reason.{Reason}
 use Rattle.verdicts.specs.Numbers.{number_text, read_number}
-use Rattle.verdicts.specs.Texts.{joined, words_of, named_by, read_kind, read_literal}
+use Rattle.verdicts.specs.Texts.{joined, words_of, kinds, named_by, read_kind, read_literal}
 use Rattle.verdicts.specs.Lines.{Line, Title, KindIs, AbsentIs, SaysPossible, SaysImpossible, SaysUndecided, Heading, So, Clash, WithRule, WithOpen, End}
 use Rattle.verdicts.specs.Reading.{keyed, one_word, no_word, read_version, read_absent, verdict_word, read_heading, read_named, read_witness, read_reason, read_so}
 use Rattle.verdicts.proofs.WordLaws.{IsIn, named_in, text_named}
@@ -101,13 +101,17 @@ module _ {B : Type 0} (h : Line → B) (word : List ℕ) where
   pub is_ranking : bytes_eq word (codes "ranking") ≡ true → Some (h (KindIs Ranking)) ≡ option_map h (kind_line word)
   is_ranking e = ap (λ w. option_map h (kind_line w)) (sym ((bytes_eq-Decides word (codes "ranking")).0 e))
 
-  pub is_no_kind : bytes_eq word (codes "choice") ≡ false → bytes_eq word (codes "ranking") ≡ false → None ≡ option_map h (kind_line word)
-  is_no_kind a b = ap (λ o. option_map h (option_map KindIs o)) (sym (named_nothing kind_text (Choice ∷ Ranking ∷ []) word each))
+  pub is_sets : bytes_eq word (codes "sets") ≡ true → Some (h (KindIs Sets)) ≡ option_map h (kind_line word)
+  is_sets e = ap (λ w. option_map h (kind_line w)) (sym ((bytes_eq-Decides word (codes "sets")).0 e))
+
+  pub is_no_kind : bytes_eq word (codes "choice") ≡ false → bytes_eq word (codes "ranking") ≡ false → bytes_eq word (codes "sets") ≡ false → None ≡ option_map h (kind_line word)
+  is_no_kind a b c = ap (λ o. option_map h (option_map KindIs o)) (sym (named_nothing kind_text kinds word each))
     where
-      each : (k : Kind) → IsIn (Choice ∷ Ranking ∷ []) k → word ≢ kind_text k
+      each : (k : Kind) → IsIn kinds k → word ≢ kind_text k
       each k (inl e) same = differs word (codes "choice") a (same ∙ ap kind_text (sym e))
       each k (inr (inl e)) same = differs word (codes "ranking") b (same ∙ ap kind_text (sym e))
-      each k (inr (inr i)) same = i
+      each k (inr (inr (inl e))) same = differs word (codes "sets") c (same ∙ ap kind_text (sym e))
+      each k (inr (inr (inr i))) same = i
 
 -- ---- whether voters may be absent
 

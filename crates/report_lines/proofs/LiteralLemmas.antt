@@ -78,6 +78,3 @@ module _ (size : Extent) where
     pub literal_is : IsSize size → (k : Kind) → k ≡ size.kind → (r : Option Literal) → MatchOption r (IsNone k) (IsOne k) → r ≡ read_literal size word
     literal_is is k e None none = sym (named_nothing (literal_text size) (literals size) word (λ l i same. none l (subst (λ j. IsTrue (is_literal_of size j l)) (sym e) (literal_in size l i)) same))
     literal_is is k e (Some l) one = sym (ap (read_literal size) one.1 ∙ literal_read size is l (subst (λ j. IsTrue (is_literal_of size j l)) e one.0))
-
-    pub no_literal : IsSize size → Sets ≡ size.kind → None ≡ read_literal size word
-    no_literal is e = literal_is is Sets e None (λ l h same. true≢false (sym h))

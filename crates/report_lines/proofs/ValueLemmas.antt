@@ -3,7 +3,7 @@ use Rattle.std.proofs.Common.{length, get_or, ◌⊎◌, inl, inr, ◌≡◌, �
 use Rattle.vocab.specs.declared.kinds.Kind.{Kind}
 use Rattle.vocab.specs.declared.kinds.Kind.TheVariants.{Choice, Ranking, Sets}
 use Rattle.vocab.specs.declared.kinds.Sort.TheVariants.{Voter, Alt, Ballot, Profile}
-use Rattle.vocab.specs.Size.{HasOutcomes, Extent, IsSize, ballot_count, factorial, sort_count, outcome_count}
+use Rattle.vocab.specs.Size.{Extent, IsSize, ballot_count, factorial, sort_count, outcome_count}
 use Rattle.meaning.specs.Space.{below}
 use Rattle.meaning.specs.Texts.{letter, ballot_text, profile_text, ranking_text, outcome_text}
 use Rattle.profiles.proofs.TableLemmas.{factorial_small}
@@ -26,11 +26,6 @@ found text_of n v text own l e = sym (ap (named_by text_of (below n)) e ∙ name
 -- the text of no number
 missing : (text_of : ℕ → List ℕ) (n : ℕ) (text : List ℕ) → ((v : ℕ) → v < n → text ≢ text_of v) → None ≡ named_by text_of (below n) text
 missing text_of n text h = sym (named_nothing text_of (below n) text (λ v i. h v (from_below n v i)))
-
-pub few_outcomes : (kind : Kind) (m : ℕ) → m ≤ 5 → outcome_count kind m ≤ 120
-few_outcomes Choice m h = omega arith
-few_outcomes Ranking m h = factorial_small m h
-few_outcomes Sets m h = omega arith
 
 -- a text of one byte is that byte
 pub one_byte : (text : List ℕ) → length text ≡ 1 → text ≡ get_or text 0 0 ∷ []
@@ -62,8 +57,8 @@ module _ (size : Extent) (is : IsSize size) (text : List ℕ) where
   ballot_is (Some b) h k = found (ballot_text size) (ballot_count size) b text (ballots_same size is) h.0 h.1
   ballot_is None h k = missing (ballot_text size) (ballot_count size) text k
 
-  pub outcome_found : HasOutcomes size.kind → (o : ℕ) → (o < outcome_count size.kind size.alternatives) × (text ≡ outcome_text size o) → Some o ≡ read_outcome size text
-  outcome_found n o h = found (outcome_text size) (outcome_count size.kind size.alternatives) o text (outcomes_same size is n) h.0 h.1
+  pub outcome_found : (o : ℕ) → (o < outcome_count size.kind size.alternatives) × (text ≡ outcome_text size o) → Some o ≡ read_outcome size text
+  outcome_found o h = found (outcome_text size) (outcome_count size.kind size.alternatives) o text (outcomes_same size is) h.0 h.1
 
   pub outcome_missing : ((o : ℕ) → o < outcome_count size.kind size.alternatives → text ≢ outcome_text size o) → None ≡ read_outcome size text
   outcome_missing h = missing (outcome_text size) (outcome_count size.kind size.alternatives) text h

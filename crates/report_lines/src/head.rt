@@ -43,6 +43,8 @@ pub(crate) fn read_kind(text: &[u8]) -> Option<Line>
         Some(Line::KindIs(Kind::Choice))
     } else if is_same(word, b"ranking") {
         Some(Line::KindIs(Kind::Ranking))
+    } else if is_same(word, b"sets") {
+        Some(Line::KindIs(Kind::Sets))
     } else {
         None
     }

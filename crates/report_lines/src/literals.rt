@@ -1,11 +1,10 @@
 //! Literals by their texts.
 
 ghost use Rattle.std.specs.Prelude.{◌≡◌, ◌≢◌, ℕ, ◌<◌, List, ◌∷◌, MatchOption, IsTrue};
-ghost use Rattle.vocab.specs.declared.kinds.Kind.TheVariants.{Choice, Ranking};
 ghost use Rattle.vocab.specs.declared.kinds.Sort.TheVariants.{Profile};
 ghost use Rattle.vocab.specs.declared.literals.Literal.{Literal};
 ghost use Rattle.vocab.specs.Size.{sort_count};
-ghost use Rattle.meaning.specs.Literals.{is_literal_of};
+ghost use Rattle.meaning.specs.Literals.{is_comparison, is_of_winner};
 ghost use Rattle.meaning.specs.Texts.{letter, profile_text};
 ghost use Rattle.verdicts.specs.Texts.{literal_text, read_literal};
 
@@ -61,11 +60,11 @@ fn read_winner(space: &Space, word: &[u8]) -> Option<(u8, u32)>
     }
 }
 
-/// A literal of choices: `x@PROFILE` where x wins, and `!x@PROFILE` where it does not.
-fn read_choice(space: &Space, word: &[u8]) -> Option<Literal>
+/// A literal of a kind with winners: `x@PROFILE` where x wins, and `!x@PROFILE` where it does not.
+fn read_winning(space: &Space, word: &[u8]) -> Option<Literal>
     ensures { MatchOption result
-        ((l : Literal) → IsTrue (is_literal_of space.now Choice l) → word.now ≢ literal_text space.now l)
-        (λ l. IsTrue (is_literal_of space.now Choice l) × (word.now ≡ literal_text space.now l)) }
+        ((l : Literal) → IsTrue (is_of_winner space.now l) → word.now ≢ literal_text space.now l)
+        (λ l. IsTrue (is_of_winner space.now l) × (word.now ≡ literal_text space.now l)) }
 {
     if let Some(text) = cut_not(word) {
         let Some((alternative, profile)) = read_winner(space, text) else {
@@ -82,8 +81,8 @@ fn read_choice(space: &Space, word: &[u8]) -> Option<Literal>
 /// A literal of rankings: `x>y@PROFILE` where x stands above y.
 fn read_ranking(space: &Space, word: &[u8]) -> Option<Literal>
     ensures { MatchOption result
-        ((l : Literal) → IsTrue (is_literal_of space.now Ranking l) → word.now ≢ literal_text space.now l)
-        (λ l. IsTrue (is_literal_of space.now Ranking l) × (word.now ≡ literal_text space.now l)) }
+        ((l : Literal) → IsTrue (is_comparison space.now l) → word.now ≢ literal_text space.now l)
+        (λ l. IsTrue (is_comparison space.now l) × (word.now ≡ literal_text space.now l)) }
 {
     let Some((byte, text)) = cut_mark(word, b'>') else {
         return None;
@@ -107,8 +106,8 @@ pub(crate) fn read_literal(space: &Space, word: &[u8]) -> Option<Literal>
 {
     profiles::laws::spaces_have_sizes(space);
     match space.size().kind() {
-        Kind::Choice => read_choice(space, word),
+        Kind::Choice => read_winning(space, word),
         Kind::Ranking => read_ranking(space, word),
-        Kind::Sets => None,
+        Kind::Sets => read_winning(space, word),
     }
 }

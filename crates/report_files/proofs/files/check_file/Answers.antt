@@ -23,7 +23,7 @@ returns-clause-all g c =
 
 pub returns-clause-holds : goal.returns-clause-holds
 returns-clause-holds g c =
-    let size : IsSize c.args.study.now.size = subst (λ (n : Extent). IsSize n) (sym c.requires.size) c.kinds_have_sizes.ensures.is_size in
+    let size : IsSize c.args.study.now.size = subst (λ (n : Extent). IsSize n) (sym c.requires.size) c.kinds_have_sizes.ensures in
     let same = c.in_ok-reader.ensures.study in
     subst (λ (q : Question). IfOk c.worth_of.result (WorthHolds q)) same
     (c.worth_of.ensures.holds (subst (λ (q : Question). IsSize q.size) (sym same) size))

@@ -21,5 +21,5 @@ returns-clause-all g c = text_all c.args.study.now c.args.text.now c.requires.li
 
 pub returns-clause-holds : goal.returns-clause-holds
 returns-clause-holds g c =
-    let size : IsSize c.args.study.now.size = subst (λ (n : Extent). IsSize n) (sym c.requires.size) c.kinds_have_sizes.ensures.is_size in
+    let size : IsSize c.args.study.now.size = subst (λ (n : Extent). IsSize n) (sym c.requires.size) c.kinds_have_sizes.ensures in
     true_if_right c.args.study.now c.args.text.now c.end.result size (returns-clause-right g c)

@@ -62,7 +62,7 @@ lemma_of_line-requires-clause-over g c = λ κs out.
     let over : list_all (λ (l : Line). is_over (variable_count size) (added_by l.step)) lines ≡ true =
     subst (λ ls. list_all (λ (l : Line). is_over (variable_count size) (added_by l.step)) ls ≡ true) (sym c.as_slice-lines.ensures) (subst (λ z. list_all (λ (l : Line). is_over (variable_count z) (added_by l.step)) c.args.proof.now ≡ true) c.requires.size c.requires.over) in
     let sentences : list_all (is_sentence size) axioms ≡ true = subst (λ z. list_all (is_sentence z) axioms ≡ true) c.requires.size c.axioms-axioms.ensures.study.sentences in
-    cited_pass (is_over (variable_count size)) sources lines c.loop-i.i (subst (λ ss. list_all (is_over (variable_count size)) (map (λ (s : Sourced). s.clause) ss) ≡ true) (sym made) (clauses_over size c.kinds_have_sizes.ensures.has_outcomes axioms sentences core)) over
+    cited_pass (is_over (variable_count size)) sources lines c.loop-i.i (subst (λ ss. list_all (is_over (variable_count size)) (map (λ (s : Sourced). s.clause) ss) ≡ true) (sym made) (clauses_over size axioms sentences core)) over
 
 pub lemma_of_line-requires-clause-plain : goal.lemma_of_line-requires-clause-plain
 lemma_of_line-requires-clause-plain g c = λ κs out.
@@ -124,7 +124,7 @@ returns-clause-accepted g c =
     let sentences : list_all (is_sentence size) axioms ≡ true = subst (λ z. list_all (is_sentence z) axioms ≡ true) c.requires.size c.axioms-axioms.ensures.study.sentences in
     let le : length lines ≤ c.loop-i.i = omega (arith, c.loop-i-test.false) in
     let told : c.loop-i.story ≡ story_of size axioms (study_clauses size axioms core) lines = lemmas_end size axioms sources lines c.loop-i.i c.loop-i.story c.loop-i.invariant.lemmas le ∙ ap (λ ss. story_of size axioms ss lines) made in
-    let right = are_retold size c.kinds_have_sizes.ensures.has_outcomes axioms sentences core lines trimmed over in
+    let right = are_retold size axioms sentences core lines trimmed over in
     subst (λ z. is_story z axioms core c.loop-i.story ≡ true) (sym c.requires.size) (subst (λ s. is_story size axioms core s ≡ true) (sym told) right.0)
 
 pub returns-clause-tidy : goal.returns-clause-tidy
@@ -142,5 +142,5 @@ returns-clause-tidy g c =
     let sentences : list_all (is_sentence size) axioms ≡ true = subst (λ z. list_all (is_sentence z) axioms ≡ true) c.requires.size c.axioms-axioms.ensures.study.sentences in
     let le : length lines ≤ c.loop-i.i = omega (arith, c.loop-i-test.false) in
     let told : c.loop-i.story ≡ story_of size axioms (study_clauses size axioms core) lines = lemmas_end size axioms sources lines c.loop-i.i c.loop-i.story c.loop-i.invariant.lemmas le ∙ ap (λ ss. story_of size axioms ss lines) made in
-    let right = are_retold size c.kinds_have_sizes.ensures.has_outcomes axioms sentences core lines trimmed over in
+    let right = are_retold size axioms sentences core lines trimmed over in
     subst (λ z. is_tidy z axioms core c.loop-i.story ≡ true) (sym c.requires.size) (subst (λ s. is_tidy size axioms core s ≡ true) (sym told) right.1)

@@ -16,5 +16,5 @@ returns-clause-all g c = λ lines h none.
 pub returns-clause-holds : goal.returns-clause-holds
 returns-clause-holds g c = λ lines h.
     let study = c.args.self.now.subject.setting.study.now in
-    let size : IsSize study.size = subst (λ (n : Extent). IsSize n) (sym c.args.self.now.subject.setting.same) c.kinds_have_sizes.ensures.is_size in
+    let size : IsSize study.size = subst (λ (n : Extent). IsSize n) (sym c.args.self.now.subject.setting.same) c.kinds_have_sizes.ensures in
     true_if_right study (ended lines) c.conclude.result size (lines_right study lines c.conclude.result (c.conclude.ensures.value lines h))
