@@ -3,24 +3,51 @@
 ghost use Rattle.std.specs.Prelude.{◌≡◌, ◌≤◌, Some, IfSome, IfOk, IsErrOf};
 ghost use Rattle.edge.specs.Faults.{Rose};
 ghost use Rattle.edge.specs.Shelf.{Files, OthersStay};
-ghost use Rattle.vocab.specs.declared.kinds.Kind.TheVariants.{Sets};
 ghost use Rattle.report_files.specs.Files.{IsWorthOf};
 ghost use Rattle.words.specs.Words.{Check};
 ghost use Rattle.answers.specs.Check.{IsJudged};
 ghost use Rattle.command_parts.specs.Answers.{HasText, run_of, status_of, text_of};
 ghost use Rattle.command_parts.specs.Answered.{Answers};
-ghost use Rattle.vocab.specs.Size.{HasOutcomes};
 ghost use Rattle.vocab.specs.Study.{HasFewAxioms};
 
+use choice_sets::SetsKind;
 use command_parts::{Answer, Opened, Stop, open_study};
 use crew::Crew;
 use edge::{Gate, Shelf};
-use outcomes::{ChoiceKind, RankingKind};
+use outcomes::{ChoiceKind, OutcomeKind, RankingKind};
 use profiles::Space;
 use report_files::{FileFault, Worth, check_file};
 use std::alloc::Global;
 use std::thread::Threads;
 use vocab::{Kind, Study};
+
+/// What a report is worth over a study, beside its kind.
+fn worth_over<R: Threads + Sync, S: Shelf, G: Gate, K: OutcomeKind>(
+    alloc: Global,
+    crew: &Crew<R, G>,
+    shelf: &mut S,
+    kind: &K,
+    study: &Study,
+    report: &str,
+) -> Result<Worth, FileFault>
+    requires size { study.now.size ≡ K.size kind.now }
+    requires listed { HasFewAxioms study.now }
+    ensures worth { IfSome (S.files shelf.old) (λ files. IfOk result (IsWorthOf study.now files report.now)) }
+    ensures failed { IsErrOf result FileFault.Failed →
+        Rose (S.faults shelf.old report.now) (S.faults shelf.new report.now) }
+    ensures others { OthersStay (S.left shelf.old) (S.left shelf.new) report.now }
+{
+    check_file(
+        crew.rt,
+        alloc,
+        crew.gate,
+        crew.workers,
+        kind,
+        study,
+        shelf,
+        report,
+    )
+}
 
 /// What a report is worth over a study, by the study's kind.
 fn check_by_kind<R: Threads + Sync, S: Shelf, G: Gate>(
@@ -30,7 +57,6 @@ fn check_by_kind<R: Threads + Sync, S: Shelf, G: Gate>(
     study: &Study,
     report: &str,
 ) -> Result<Worth, FileFault>
-    requires known { HasOutcomes study.now.size.kind }
     requires listed { HasFewAxioms study.now }
     ensures worth { IfSome (S.files shelf.old) (λ files. IfOk result (IsWorthOf study.now files report.now)) }
     ensures failed { IsErrOf result FileFault.Failed →
@@ -39,33 +65,9 @@ fn check_by_kind<R: Threads + Sync, S: Shelf, G: Gate>(
 {
     let space = Space::new(study.size());
     match study.size().kind() {
-        Kind::Choice => {
-            let kind = ChoiceKind::new(space);
-            check_file(
-                crew.rt,
-                alloc,
-                crew.gate,
-                crew.workers,
-                &kind,
-                study,
-                shelf,
-                report,
-            )
-        }
-        Kind::Ranking => {
-            let kind = RankingKind::new(space);
-            check_file(
-                crew.rt,
-                alloc,
-                crew.gate,
-                crew.workers,
-                &kind,
-                study,
-                shelf,
-                report,
-            )
-        }
-        Kind::Sets => unreachable!(),
+        Kind::Choice => worth_over(alloc, crew, shelf, &ChoiceKind::new(space), study, report),
+        Kind::Ranking => worth_over(alloc, crew, shelf, &RankingKind::new(space), study, report),
+        Kind::Sets => worth_over(alloc, crew, shelf, &SetsKind::new(space), study, report),
     }
 }
 
@@ -77,7 +79,6 @@ fn judge_report<R: Threads + Sync, S: Shelf, G: Gate>(
     study: &Study,
     report: &str,
 ) -> Result<Answer, Stop>
-    requires known { HasOutcomes study.now.size.kind }
     requires listed { HasFewAxioms study.now }
     ensures judged { IfOk result (λ answer. (files : Files) → S.files shelf.old ≡ Some files →
         IsJudged files report.now study.now (run_of answer) (text_of answer)) }

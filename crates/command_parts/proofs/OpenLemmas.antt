@@ -4,7 +4,6 @@ use Rattle.edge.specs.Shelf.{Files}
 use Rattle.study.specs.declared.faults.StudyFault.{StudyFault}
 use Rattle.vocab.specs.Study.{Question, HasFewAxioms}
 use Rattle.study.specs.Reading.{IsStudyOf}
-use Rattle.study.proofs.StudyKinds.{kinds_known}
 use Rattle.study.proofs.WholeStudies.{studies_whole}
 use Rattle.verdicts.specs.Laws.{IsReportable}
 use Rattle.answers.specs.FileLimits.{most_study_bytes}
@@ -25,7 +24,7 @@ refuses_bytes told name bytes text fault h fits bad t files e =
 pub reportable : (told : Option Files) (name : List ℕ) (study : Question) → IsRead told name study → IsReportable study
 reportable told name study read =
     let whole = studies_whole read.bytes study read.gives in
-    record { taken = whole.0; size = whole.1; kind = kinds_known read.bytes study read.gives; names = whole.2 }
+    record { taken = whole.0; size = whole.1; names = whole.2 }
 
 -- and it has at most 40 axioms
 pub listed : (told : Option Files) (name : List ℕ) (study : Question) → IsRead told name study → HasFewAxioms study

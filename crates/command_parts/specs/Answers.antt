@@ -24,7 +24,6 @@ use Rattle.command_parts.specs.declared.answer.Answer.{Answer}
 use Rattle.command_parts.specs.declared.answer.Answer.TheVariants as answer
 use Rattle.command_parts.specs.declared.answer.Stop.{Stop}
 use Rattle.command_parts.specs.declared.answer.Stop.TheVariants as stop
-use Rattle.vocab.specs.Size.{HasOutcomes}
 
 -- why there is no answer, where a report was not checked
 abbrev pub stop_of : FileFault → Stop
@@ -99,5 +98,5 @@ text_of (answer.Summary number study clauses verdict logs) = summary_text number
 
 -- the report of a verdict has a text where all that the verdict names is in range
 abbrev pub HasText : Answer → Type 0
-HasText (answer.Report study verdict logs) = (HasOutcomes study.size.kind) × IsTrue (has_text study verdict)
+HasText (answer.Report study verdict logs) = IsTrue (has_text study verdict)
 HasText a = Unit {0}

@@ -1,17 +1,16 @@
 //! Answers, a variant for each row of the table, and why there may be none.
 
 ghost use Rattle.std.specs.Prelude.{◌≡◌, Some, IsTrue};
-ghost use Rattle.vocab.specs.declared.kinds.Kind.TheVariants.{Sets};
 ghost use Rattle.verdicts.specs.Report.{has_text, report_text};
 ghost use Rattle.texts.specs.Page.{Pours};
 ghost use Rattle.command_parts.specs.Answers.{HasText, report_status, run_of, text_of, worth_status};
-ghost use Rattle.vocab.specs.Size.{HasOutcomes};
 
 use answer_text::{
     ClaimLine, CnfLine, GroundLine, LibraryLines, LratLine, ProofLine, StudyLine, SummaryLine,
     WorthLine,
 };
 use answers::Run;
+use choice_sets::SetsKind;
 use clause_form::{Ground, GroundFault};
 use clause_text::{CnfFault, DimacsText, LratFault, LratText, SizeText};
 use cnf::{Derivation, LineFault};
@@ -165,7 +164,6 @@ fn pour_report<O: Sink>(
     page: &mut Page,
     out: &mut O,
 ) -> Result<(), Failed>
-    requires known { HasOutcomes study.now.size.kind }
     requires has_text { IsTrue (has_text study.now verdict.now) }
     ensures { Pours (O.taken out.old) (O.taken out.new) page.old page.new
         (O.faults out.old) (O.faults out.new) result (report_text study.now verdict.now) }
@@ -174,7 +172,7 @@ fn pour_report<O: Sink>(
     match study.size().kind() {
         Kind::Choice => pour_verdict(&ChoiceKind::new(space), study, verdict, page, out),
         Kind::Ranking => pour_verdict(&RankingKind::new(space), study, verdict, page, out),
-        Kind::Sets => unreachable!(),
+        Kind::Sets => pour_verdict(&SetsKind::new(space), study, verdict, page, out),
     }
 }
 

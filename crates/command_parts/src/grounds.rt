@@ -1,13 +1,12 @@
 //! The clauses of all axioms of a study.
 
 ghost use Rattle.std.specs.Prelude.{◌≡◌, None, IfOk, IfErr};
-ghost use Rattle.vocab.specs.declared.kinds.Kind.TheVariants.{Sets};
 ghost use Rattle.clause_form.specs.Refusals.{IsRefused};
 ghost use Rattle.meaning.specs.StudyClauses.{study_clauses};
 ghost use Rattle.search_logs.specs.Spent.{all_places};
 ghost use Rattle.answers.specs.Grounding.{fault_of};
-ghost use Rattle.vocab.specs.Size.{HasOutcomes};
 
+use choice_sets::SetsKind;
 use clause_form::{Ground, GroundFault};
 use crew::Crew;
 use edge::Gate;
@@ -39,13 +38,12 @@ pub fn ground_all<R: Threads + Sync, K: OutcomeKind, G: Gate>(
     ground(alloc, crew, kind, study, &all)
 }
 
-/// The same of a study of a kind that has outcomes, over that kind.
+/// The same of a study, over its kind.
 pub fn ground_study<R: Threads + Sync, G: Gate>(
     alloc: Global,
     crew: &Crew<R, G>,
     study: &Study,
 ) -> Result<Ground, GroundFault>
-    requires known { HasOutcomes study.now.size.kind }
     ensures clauses { IfOk result (λ made. made ≡
         study_clauses study.now.size study.now.axioms (all_places study.now)) }
     ensures none { IfOk result (λ made. fault_of study.now ≡ None) }
@@ -55,6 +53,6 @@ pub fn ground_study<R: Threads + Sync, G: Gate>(
     match study.size().kind() {
         Kind::Choice => ground_all(alloc, crew, &ChoiceKind::new(space), study),
         Kind::Ranking => ground_all(alloc, crew, &RankingKind::new(space), study),
-        Kind::Sets => unreachable!(),
+        Kind::Sets => ground_all(alloc, crew, &SetsKind::new(space), study),
     }
 }

@@ -69,7 +69,7 @@ count_is study size variables same is = is ∙ ap (λ (s : Extent). variable_cou
 
 -- which are few enough for a proof to be read over them
 pub variables_short : (study : Question) → IsReportable study → (variables : ℕ) → variables ≡ variable_count study.size → variables ≤ 10000000
-variables_short study whole variables is = let few = variables_few study.size whole.size whole.kind in omega (arith, few, is)
+variables_short study whole variables is = let few = variables_few study.size whole.size in omega (arith, few, is)
 
 module _ (told : Option Files) (proof : List ℕ) (study : Question) (variables : ℕ) (count : variables ≡ variable_count study.size) where
   -- a derivation that was read is judged

@@ -41,7 +41,7 @@ right_verdict study logs Undecided v = refl
 
 pub reported_text : (study : Question) (logs : List SearchLog) (verdict : Verdict) → IsReportable study → IsVerdict study logs verdict
     → HasText (answer.Report study verdict logs)
-reported_text study logs verdict whole v = (whole.kind, right_has_text study whole verdict (right_verdict study logs verdict v))
+reported_text study logs verdict whole v = right_has_text study whole verdict (right_verdict study logs verdict v)
 
 -- `decide` is a command over a study
 abbrev IsRest : Question → Run → List ℕ → Type 0

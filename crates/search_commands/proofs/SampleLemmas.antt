@@ -3,10 +3,10 @@ use Rattle.std.proofs.Common.{◌≡◌, ◌≢◌, ◌∙◌, refl, ap, subst, 
 use Rattle.std.specs.Prelude.{◌==◌, ◌%◌}
 use Rattle.edge.specs.Shelf.{Files}
 use Rattle.vocab.specs.declared.kinds.Kind.TheVariants.{Choice, Ranking, Sets}
-use Rattle.vocab.specs.Size.{HasOutcomes, Extent}
+use Rattle.vocab.specs.Size.{Extent}
 use Rattle.vocab.specs.Study.{Question}
 use Rattle.samples.specs.Sample.{sample_listing, IsSampleStudy}
-use Rattle.study.proofs.StudyKinds.{answer_size}
+use Rattle.study.proofs.AnswerSizes.{answer_size}
 use Rattle.words.specs.Words.{Request, Sample}
 use Rattle.search_logs.specs.declared.logs.SearchLog.{SearchLog}
 use Rattle.search_logs.specs.Spent.{AreSpentLogs}
@@ -34,14 +34,6 @@ summed n clauses study logs verdict count v spent = record {
   decides = decided study logs verdict v spent;
   is = ap (λ (c : ℕ). summary_text n study c verdict) count;
 }
-
--- the study of a number is of rules that choose, or of rules that rank
-pub sample_known : (n : ℕ) (study : Question) → IsSampleStudy n study → HasOutcomes study.size.kind
-sample_known n study sample = λ sets. by_parity (n % 2 == 0) (sym (ap (λ (size : Extent). size.kind) (answer_size (sample_listing n) study sample)) ∙ sets)
-  where
-    by_parity : (b : Bool) → cond b Choice Ranking ≡ Sets → ⊥
-    by_parity true e = cc
-    by_parity false e = cc
 
 -- statuses of a sample
 sampled_low : (n : ℕ) (run : Run) (text : List ℕ) → IsSampled n run text → IsLow (Some (Sample n)) run.status

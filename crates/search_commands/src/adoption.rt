@@ -4,7 +4,6 @@ ghost use Rattle.std.specs.Prelude.{◌≡◌, ◌≢◌, ◌<◌, ◌≤◌, �
 ghost use Rattle.std.specs.List.{list_all};
 ghost use Rattle.edge.specs.Faults.{Rose};
 ghost use Rattle.edge.specs.Shelf.{Files, OthersStay};
-ghost use Rattle.vocab.specs.declared.kinds.Kind.TheVariants.{Sets};
 ghost use Rattle.cnf.specs.Fresh.{AreOver};
 ghost use Rattle.meaning.specs.StudyClauses.{study_clauses};
 ghost use Rattle.meaning.specs.Variables.{variable_count};
@@ -19,6 +18,7 @@ ghost use Rattle.command_parts.specs.Answered.{Answers};
 ghost use Rattle.search_commands.specs.Retold.{IsDerivationJudged};
 
 use adopt::{AdoptFault, Adopted};
+use choice_sets::SetsKind;
 use clause_form::{Ground, GroundFault};
 use cnf::Derivation;
 use command_parts::{Answer, GivenProof, Opened, Stop, ground_study, open_derivation, open_study};
@@ -136,7 +136,7 @@ fn judge_proof<S: Shelf>(
             clauses,
             proof,
         ),
-        Kind::Sets => unreachable!(),
+        Kind::Sets => judge_over(alloc, shelf, &SetsKind::new(space), study, clauses, proof),
     }
 }
 

@@ -10,6 +10,7 @@ ghost use Rattle.command_parts.specs.Answers.{HasText, run_of, text_of};
 ghost use Rattle.command_parts.specs.Answered.{Answers};
 ghost use Rattle.search_commands.specs.Found.{IsVerdict};
 
+use choice_sets::SetsKind;
 use clause_form::GroundFault;
 use command_parts::{Answer, Opened, Stop, ground_all, open_study};
 use core_reduce::{Decision, Finding, Refutation};
@@ -128,7 +129,7 @@ fn decide_study<R: Threads + Sync, G: Gate>(
     match study.size().kind() {
         Kind::Choice => decide_over(alloc, crew, &ChoiceKind::new(space), study),
         Kind::Ranking => decide_over(alloc, crew, &RankingKind::new(space), study),
-        Kind::Sets => unreachable!(),
+        Kind::Sets => decide_over(alloc, crew, &SetsKind::new(space), study),
     }
 }
 

@@ -1,14 +1,13 @@
 //! The command `export`: reads a study, and writes its clauses.
 
 ghost use Rattle.std.specs.Prelude.{◌≡◌, ◌≢◌, ◌≤◌, Some, Err, IfOk};
-ghost use Rattle.vocab.specs.declared.kinds.Kind.TheVariants.{Sets};
 ghost use Rattle.words.specs.Words.{Export};
 ghost use Rattle.answers.specs.Export.{IsWritten};
 ghost use Rattle.answers.specs.Grounding.{OverClauses};
 ghost use Rattle.command_parts.specs.Answers.{HasText, run_of, text_of};
 ghost use Rattle.command_parts.specs.Answered.{Answers};
-ghost use Rattle.vocab.specs.Size.{HasOutcomes};
 
+use choice_sets::SetsKind;
 use clause_form::GroundFault;
 use command_parts::{Answer, Opened, Stop, ground_all, open_study};
 use core_reduce::variables;
@@ -50,7 +49,6 @@ fn export_study<R: Threads + Sync, G: Gate>(
     crew: &Crew<R, G>,
     study: Study,
 ) -> Result<Answer, Stop>
-    requires known { HasOutcomes study.size.kind }
     ensures row { IfOk result (λ answer. OverClauses study (run_of answer) (text_of answer)
         (IsWritten study (run_of answer) (text_of answer))) }
     ensures has_text { IfOk result HasText }
@@ -60,7 +58,7 @@ fn export_study<R: Threads + Sync, G: Gate>(
     match study.size().kind() {
         Kind::Choice => export_over(alloc, crew, &ChoiceKind::new(space), study),
         Kind::Ranking => export_over(alloc, crew, &RankingKind::new(space), study),
-        Kind::Sets => unreachable!(),
+        Kind::Sets => export_over(alloc, crew, &SetsKind::new(space), study),
     }
 }
 

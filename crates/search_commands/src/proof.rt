@@ -1,15 +1,14 @@
 //! The command `proof`: reads a study, and searches for a refutation of its clauses.
 
 ghost use Rattle.std.specs.Prelude.{◌≡◌, ◌≢◌, ◌≤◌, Some, Err, IfOk};
-ghost use Rattle.vocab.specs.declared.kinds.Kind.TheVariants.{Sets};
 ghost use Rattle.core_reduce.specs.Proofs.{IsProved};
 ghost use Rattle.words.specs.Words.{Proof};
 ghost use Rattle.answers.specs.Proof.{Proves};
 ghost use Rattle.answers.specs.Grounding.{OverClauses};
 ghost use Rattle.command_parts.specs.Answers.{HasText, run_of, text_of};
 ghost use Rattle.command_parts.specs.Answered.{Answers};
-ghost use Rattle.vocab.specs.Size.{HasOutcomes};
 
+use choice_sets::SetsKind;
 use clause_form::GroundFault;
 use command_parts::{Answer, Opened, Stop, ground_all, open_study};
 use core_reduce::{Proved, Shown};
@@ -65,7 +64,6 @@ fn prove_study<R: Threads + Sync, G: Gate>(
     crew: &Crew<R, G>,
     study: Study,
 ) -> Result<Answer, Stop>
-    requires known { HasOutcomes study.size.kind }
     ensures row { IfOk result (λ answer. OverClauses study (run_of answer) (text_of answer)
         (Proves study (run_of answer) (text_of answer))) }
     ensures has_text { IfOk result HasText }
@@ -75,7 +73,7 @@ fn prove_study<R: Threads + Sync, G: Gate>(
     match study.size().kind() {
         Kind::Choice => prove_over(alloc, crew, &ChoiceKind::new(space), study),
         Kind::Ranking => prove_over(alloc, crew, &RankingKind::new(space), study),
-        Kind::Sets => unreachable!(),
+        Kind::Sets => prove_over(alloc, crew, &SetsKind::new(space), study),
     }
 }
 

@@ -1,14 +1,13 @@
 //! The command `sample`: decides the study of a number, and says so in one line.
 
 ghost use Rattle.std.specs.Prelude.{◌≡◌, ◌≢◌, Err, IfOk, length};
-ghost use Rattle.vocab.specs.declared.kinds.Kind.TheVariants.{Sets};
 ghost use Rattle.core_reduce.specs.Answers.{IsDecision};
 ghost use Rattle.answers.specs.Grounding.{OverClauses, all_clauses};
 ghost use Rattle.answers.specs.Sample.{IsSampled, IsSummed};
 ghost use Rattle.command_parts.specs.Answers.{HasText, run_of, text_of};
-ghost use Rattle.vocab.specs.Size.{HasOutcomes};
 
 use crate::decide::verdict_of;
+use choice_sets::SetsKind;
 use clause_form::GroundFault;
 use command_parts::{Answer, Stop, ground_all};
 use core_reduce::Decision;
@@ -82,7 +81,6 @@ fn sample_study<R: Threads + Sync, G: Gate>(
     number: u32,
     study: Study,
 ) -> Result<Answer, Stop>
-    requires known { HasOutcomes study.size.kind }
     ensures row { IfOk result (λ answer. OverClauses study (run_of answer) (text_of answer)
         (IsSummed number study (run_of answer) (text_of answer))) }
     ensures has_text { IfOk result HasText }
@@ -92,7 +90,7 @@ fn sample_study<R: Threads + Sync, G: Gate>(
     match study.size().kind() {
         Kind::Choice => sample_over(alloc, crew, &ChoiceKind::new(space), number, study),
         Kind::Ranking => sample_over(alloc, crew, &RankingKind::new(space), number, study),
-        Kind::Sets => unreachable!(),
+        Kind::Sets => sample_over(alloc, crew, &SetsKind::new(space), number, study),
     }
 }
 

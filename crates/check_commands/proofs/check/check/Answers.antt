@@ -1,12 +1,8 @@
-use Rattle.study.proofs.StudyKinds.{kinds_known}
 use Rattle.command_parts.specs.declared.studies.Opened.{Opened}
 use Rattle.command_parts.proofs.OpenLemmas.{listed}
 use Rattle.command_parts.proofs.PairLemmas.{second_judged, first_refused, first_stopped}
 use Rattle.check_commands.proofs.CheckLemmas.{check_command, study_taken, judged_rows, refused_row}
 use Rattle.check_commands.proofs.check.check.Goals as goal
-
-pub judge_report-requires-clause-known : goal.judge_report-requires-clause-known
-judge_report-requires-clause-known g c κs within = kinds_known (rw c.in-Ok-Study.field-0-is at c.in-Ok-Study.ensures.opened).bytes c.in-Ok-Study.question (rw c.in-Ok-Study.field-0-is at c.in-Ok-Study.ensures.opened).gives
 
 pub judge_report-requires-clause-listed : goal.judge_report-requires-clause-listed
 judge_report-requires-clause-listed g c κs within = listed _ _ _ (rw c.in-Ok-Study.field-0-is at c.in-Ok-Study.ensures.opened)

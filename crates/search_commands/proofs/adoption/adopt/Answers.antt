@@ -18,9 +18,6 @@ returns-in-Err g c =
     first_stopped _ c.args.study.now c.args.proof.now (adopt_command c.args.study.now c.args.proof.now c.args.workers) (g.S.Shelf.files c.args.shelf.now) _ _ _ _ c.open_study.ensures.others
     {T = Opened} c.in-Err.stop c.in-Err.ensures.fault
 
-pub ground_study-requires-clause-known : goal.ground_study-requires-clause-known
-ground_study-requires-clause-known g c κs within = (reportable _ _ _ (rw c.in-Ok-Study.field-0-is at c.in-Ok-Study.ensures.opened)).kind
-
 pub judge_proof-requires-clause-reportable : goal.judge_proof-requires-clause-reportable
 judge_proof-requires-clause-reportable g c = reportable _ _ _ (rw c.in-Ok-Study.field-0-is at c.in-Ok-Study.ensures.opened)
 

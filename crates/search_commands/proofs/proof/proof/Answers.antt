@@ -1,11 +1,6 @@
 use Rattle.command_parts.proofs.StudyLemmas.{study_answer, refused_study, stopped_study}
 use Rattle.search_commands.proofs.ProofLemmas.{proof_command}
-use Rattle.command_parts.proofs.OpenLemmas.{reportable}
 use Rattle.search_commands.proofs.proof.proof.Goals as goal
-
-pub prove_study-requires-clause-known : goal.prove_study-requires-clause-known
-prove_study-requires-clause-known g c κs within =
-    (reportable _ _ _ (rw c.in-Ok-Study.field-0-is at c.in-Ok-Study.ensures.opened)).kind
 
 pub returns-in-Ok-Study : goal.returns-in-Ok-Study
 returns-in-Ok-Study g c =
