@@ -10,10 +10,14 @@ use Rattle.axiom_library.specs.Laws.{IsReadable}
 use Rattle.axiom_library.proofs.Trees as trees
 use Rattle.axiom_library.proofs.Writing.{is_writable, writable_by_test}
 
+-- the canonical text of a tree within the limits reads as it
+reads_as : (text : List ℕ) (f : NamedTree) → text_of f ≡ text → is_writable f ≡ true → length (tree_lexemes f []) ≤ 600 → depth f ≤ 64 → quantifiers f ≤ 12 → IsSentence text f
+reads_as text f same writable few shallow few_variables = subst (λ t. IsSentence t f) same (writable_read f (writable_by_test f writable) few shallow few_variables)
+
 -- a text that is the canonical one of a tree within the limits
 readable : (name text : List ℕ) (f : NamedTree) → is_name name ≡ true → text_of f ≡ text → is_writable f ≡ true → length (tree_lexemes f []) ≤ 600 → depth f ≤ 64 → quantifiers f ≤ 12 → IsReadable name text
 readable name text f named same writable few shallow few_variables =
-    record { is_name = named; tree = f; reads = subst (λ t. IsSentence t f) same (writable_read f (writable_by_test f writable) few shallow few_variables); canonical = same }
+    record { is_name = named; tree = f; reads = reads_as text f same writable few shallow few_variables; canonical = same }
 
 pub unanimity : IsReadable (codes "unanimity") (codes "all p: profile. all x: alt. (all i: voter. all y: alt. (x = y | prefers(i, x, y, p)) -> wins(x, p))")
 unanimity = readable _ _ trees.unanimity refl refl refl (lit≤ tt) (lit≤ tt) (lit≤ tt)
@@ -53,6 +57,10 @@ resolute = readable _ _ trees.resolute refl refl refl (lit≤ tt) (lit≤ tt) (l
 
 pub strategyproof_of_sets : IsReadable (codes "strategyproof") (codes "all p: profile. all i: voter. all b: ballot. all z: alt. (all x: alt. all y: alt. ((wins(x, p) & wins(y, with(p, i, b))) -> (x = y | prefers(i, y, x, p))) -> (wins(z, p) <-> wins(z, with(p, i, b))))")
 strategyproof_of_sets = readable _ _ trees.strategyproof_of_sets refl refl refl (lit≤ tt) (lit≤ tt) (lit≤ tt)
+
+-- and that is the tree that it reads as
+pub strategyproof_of_sets_read : IsSentence (codes "all p: profile. all i: voter. all b: ballot. all z: alt. (all x: alt. all y: alt. ((wins(x, p) & wins(y, with(p, i, b))) -> (x = y | prefers(i, y, x, p))) -> (wins(z, p) <-> wins(z, with(p, i, b))))") trees.strategyproof_of_sets
+strategyproof_of_sets_read = reads_as _ trees.strategyproof_of_sets refl refl (lit≤ tt) (lit≤ tt) (lit≤ tt)
 
 pub pareto_of_rankings : IsReadable (codes "pareto") (codes "all p: profile. all x: alt. all y: alt. (all i: voter. prefers(i, x, y, p) -> ranks(x, y, p))")
 pareto_of_rankings = readable _ _ trees.pareto_of_rankings refl refl refl (lit≤ tt) (lit≤ tt) (lit≤ tt)

@@ -1,7 +1,7 @@
 -- The elements of sets, one alternative after another, and their names.
 use Rattle.std.proofs.Common.{◌≡◌, refl, ◌∙◌, ap, ℕ, ◌+◌, ◌-◌, ◌^◌, ◌<◌, ◌≤◌, true, false, cond, List, [], ◌∷◌, ◌++◌, map, filter, arith, append-nil, leb-true, subst}
 use Rattle.std.specs.List.{list_all}
-use Rattle.std.specs.Prelude.{nat_le}
+use Rattle.std.specs.Prelude.{nat_le, slice_get, Some}
 use Rattle.std.proofs.lemmas.List.{map-append}
 use Rattle.vocab.specs.declared.kinds.Kind.TheVariants.{Sets}
 use Rattle.vocab.specs.Name.{is_name}
@@ -10,7 +10,9 @@ use Rattle.vocab.proofs.Ranges.{kept-more}
 use Rattle.meaning.specs.Space.{below}
 use Rattle.meaning.specs.Subsets.{elements, is_element}
 use Rattle.meaning.specs.Texts.{letter}
+use Rattle.meaning.specs.Truth.{is_rule}
 use Rattle.meaning.proofs.SpaceLaws.{all_at}
+use Rattle.worlds.proofs.RuleLemmas.{rule_outcome}
 
 -- there are few sets
 pub few_sets : (m : ℕ) → m ≤ 5 → 2 ^ m - 1 ≤ 31
@@ -21,6 +23,10 @@ pub small_outcome : (size : Extent) → size.kind ≡ Sets → size.alternatives
 small_outcome size sets few o in_o =
     let within = subst (λ k. o < outcome_count k size.alternatives) sets in_o in
     omega (arith, within, few_sets size.alternatives few)
+
+-- an outcome of a rule is the code of a set
+pub rule_in_range : (size : Extent) → size.kind ≡ Sets → (table : List ℕ) → is_rule size table ≡ true → (p o : ℕ) → slice_get table p ≡ Some o → o < 2 ^ size.alternatives - 1
+rule_in_range size sets table rule p o at = subst (λ k. o < outcome_count k size.alternatives) sets (rule_outcome size table p o rule at)
 
 -- the text of a set is a name
 pub set_names : (m set : ℕ) → m ≤ 5 → set < 2 ^ m - 1 → is_name (map letter (elements m set)) ≡ true

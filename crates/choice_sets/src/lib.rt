@@ -3,6 +3,9 @@
 #![tactic(auto)]
 
 mod elements;
+mod gains;
 mod kind;
+pub mod laws;
 
+pub use gains::{Manipulation, gain};
 pub use kind::SetsKind;

@@ -1,0 +1,9 @@
+use Rattle.std.proofs.Common.{◌≡◌}
+use Rattle.choice_sets.specs.Gains.{gains, of_voter}
+use Rattle.choice_sets.proofs.FirstLemmas.{first_from}
+use Rattle.choice_sets.proofs.gains.gain_at.Given as goal
+
+abbrev pub invariant-loop-voter : goal.invariant-loop-voter
+invariant-loop-voter l =
+    let first = first_from (gains l.space l.table) (of_voter l.space l.profile) l.space.voters in
+    first l.voter ≡ first 0
