@@ -1,13 +1,13 @@
 //! Checks a report line by line.
 
-ghost use Rattle.std.specs.Prelude.{◌≡◌, ◌≢◌, ◌+◌, ◌≤◌, ◌<◌, List, ℕ, [], ◌∷◌, ◌++◌, length, Some, Err, IfOk, OnOk, MatchResult, IsTrue};
+ghost use Rattle.std.specs.Prelude.{◌≡◌, ◌≢◌, ◌+◌, ◌≤◌, ◌<◌, List, ℕ, [], ◌∷◌, ◌++◌, length, Some, option_map, Err, IfOk, OnOk, MatchResult, IsTrue};
 ghost use Rattle.std.specs.List.{list_all};
 ghost use Rattle.vocab.specs.Study.{HasFewAxioms};
 ghost use Rattle.verdicts.specs.declared.verdicts.Verdict.TheVariants.{Undecided};
-ghost use Rattle.verdicts.specs.Judge.{judge, conclude, at_end, has_no_end, ended};
+ghost use Rattle.verdicts.specs.Judge.{judge, conclude, rule_of, at_end, has_no_end, ended};
 ghost use Rattle.verdicts.specs.Places.{Place as WantedPlace, AtNothing};
 ghost use Rattle.report_lines.specs.Held.{held_place};
-ghost use Rattle.report.specs.Answers.{told_of, Concludes, ConfirmsRight, ConfirmsAll, ConfirmsTrue};
+ghost use Rattle.report.specs.Answers.{told_of, is_rule_end, IsReportedRule, TellsAll, Concludes, ConfirmsRight, ConfirmsAll, ConfirmsTrue};
 ghost use Rattle.report.specs.Stands.{StandsFor, IsReady};
 
 use crate::faults::ReportFault;
@@ -23,7 +23,7 @@ use report_lines::{IndexedStudy, Place};
 use std::alloc::Global;
 use std::thread::Threads;
 use verdicts::{Confirmed, Refusal};
-use vocab::Study;
+use vocab::{Study, Table};
 
 /// What is answered where no line is faulty, of a place and of what follows the last line end, with the
 /// number of the line that it would be.
@@ -38,6 +38,13 @@ fn end_of(place: Place, rest: &[u8], line: u32) -> Result<Confirmed, ReportFault
             refusal: Refusal::Form,
         }),
     }
+}
+
+/// Whether a confirmed report with a rule ends here.
+fn is_rule_end(place: Place) -> bool
+    ensures { result ≡ is_rule_end place }
+{
+    matches!(place, Place::AtNothing(Some(Confirmed::Possible)))
 }
 
 /// Checks a report line by line. It stands for the lines that it was given; after its first fault it answers
@@ -181,6 +188,34 @@ impl<'a, K: OutcomeKind> Checker<'a, K> {
         match self.progress.fault {
             Some(fault) => Err(fault),
             None => end_of(self.progress.judging.place, rest, self.progress.lines + 1),
+        }
+    }
+
+    /// The table of the rule, where these lines, each with its line end, are a confirmed report with one: None
+    /// exactly where they are not.
+    pub fn table(&self) -> Option<&Table>
+        requires room { self.now.progress.lines ≤ 4294967294 }
+        ensures value { (lines : List (List ℕ)) →
+            StandsFor self.now.subject.setting.study.now self.now.progress lines →
+            option_map (λ table. table.now) result ≡
+            rule_of (conclude (length lines + 1) [] (judge self.now.subject.setting.study.now lines)) }
+        ensures right { (lines : List (List ℕ)) →
+            StandsFor self.now.subject.setting.study.now self.now.progress lines →
+            IsReportedRule self.now.subject.setting.study.now (ended lines) (option_map (λ table. table.now) result) }
+        ensures all { (lines : List (List ℕ)) →
+            StandsFor self.now.subject.setting.study.now self.now.progress lines →
+            IsTrue (list_all has_no_end lines) →
+            TellsAll self.now.subject.setting.study.now (ended lines) (option_map (λ table. table.now) result) }
+    {
+        match self.progress.fault {
+            Some(_) => None,
+            None => {
+                if is_rule_end(self.progress.judging.place) {
+                    Some(&self.progress.judging.rows)
+                } else {
+                    None
+                }
+            }
         }
     }
 

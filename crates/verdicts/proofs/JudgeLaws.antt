@@ -99,8 +99,8 @@ module _ (study : Question) where
       let read = subst (λ p. Holds study p s × (printed study p s ≡ r.0)) place r.1.0 in
       let right = read.0 in
       record {
-        claims_some = right.2;
-        right = right.0;
+        claims_some = right.0.2;
+        right = right.0.0;
         version = s.version;
         allowed = subst (λ p. IsAllowed study p s) place r.1.1;
         is = ap ended r.2 ∙ ended_map study r.0 ∙ ap (flat_map (λ line. line_text study line ++ 10 ∷ [])) (sym read.1);

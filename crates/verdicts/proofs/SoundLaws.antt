@@ -210,6 +210,11 @@ module _ (study : Question) where
   abbrev pub IsJudgedRight : Verdict → Type 0
   IsJudgedRight v = (is_right study v ≡ true) × (has_text study v ≡ true) × (claims study v ≡ true)
 
+  -- the outcomes that are held are those of the rule, where the verdict has one
+  abbrev pub HasRowsOf : Verdict → List ℕ → Type 0
+  HasRowsOf (Possible table) rows = rows ≡ table
+  HasRowsOf _ rows = Unit {0}
+
   -- what holds of the parts at a place
   abbrev pub Holds : Place → Standing → Type 0
   Holds AtBallots s = IsIdle s × ((s.version == 2) ≡ true)
@@ -222,8 +227,8 @@ module _ (study : Question) where
   Holds AtStep s = IsInLemma s
   Holds AtWitness s = IsTold s × (s.rows ≡ []) × (k : ℕ) × (next_core s ≡ Some k)
   Holds AtWitnessRow s = IsTold s × AreRows s × (k : ℕ) × (next_core s ≡ Some k)
-  Holds (AtEnd v) s = IsJudgedRight v
-  Holds (AtNothing v) s = IsJudgedRight v
+  Holds (AtEnd v) s = IsJudgedRight v × HasRowsOf v s.rows
+  Holds (AtNothing v) s = IsJudgedRight v × HasRowsOf v s.rows
   Holds _ s = IsIdle s
 
   -- a reader that has read these lines, all of them right
@@ -280,7 +285,7 @@ module _ (study : Question) where
           let whole : (length (s.rows ++ o ∷ []) == P) ≡ true = ap (λ n. n == P) longer ∙ t in
           let none : table_fault study (s.rows ++ o ∷ []) (below (length study.axioms)) ≡ None = subst (λ b. cond b (table_fault study (s.rows ++ o ∷ []) (below (length study.axioms))) None ≡ None) t f in
           let rule = and_from _ _ whole inside in
-          subst (λ b. HasRead (cond b end after) (printed AtRow s ++ Row p o ∷ [])) (sym whole) ((and_from _ _ rule (satisfied (s.rows ++ o ∷ []) (below (length study.axioms)) none), rule, refl), lines)
+          subst (λ b. HasRead (cond b end after) (printed AtRow s ++ Row p o ∷ [])) (sym whole) (((and_from _ _ rule (satisfied (s.rows ++ o ∷ []) (below (length study.axioms)) none), rule, refl), refl), lines)
       by_test false t longer inside lines f =
           let part : (length (s.rows ++ o ∷ []) == P) ≡ false = ap (λ n. n == P) longer ∙ t in
           let less : length (s.rows ++ o ∷ []) < P = less_of (length (s.rows ++ o ∷ [])) P (omega (arith, longer, h.1 some)) part in
@@ -297,7 +302,7 @@ module _ (study : Question) where
           let places : list_all (λ k. nat_lt k (length study.axioms)) s.core ≡ true = core_places (length study.axioms) 0 s.core told.core in
           let right = and_from _ _ told.story (and_from _ _ told.core full.0) in
           let text = and_from _ _ (and_from _ _ (and_from _ _ (lt-ltb 0 (length s.earlier) told.some) told.texts) places) full.1 in (
-            (right, text, refl),
+            ((right, text, refl), tt),
             ap (λ n. head_lines study s.version ++ (told_lines n s ++ all_witness_lines study s.core s.witnesses))
                 told.all
                 ∙ assoc_head s (told_lines s.count s) (all_witness_lines study s.core s.witnesses) ∙ e,

@@ -155,3 +155,12 @@ beyond (Good s) = TooLong
 -- the answer to a text of which so many bytes are read: of a longer one the lines are judged that end within them
 abbrev pub answer_within : ℕ → Question → List ℕ → Judgement
 answer_within limit study text = if nat_lt limit (length text) then beyond (judge study (front (pieces (take limit text)))) else answer study text
+
+-- the rule of a verdict that has one, and that of a report that is confirmed
+abbrev pub rule_in : Verdict → Option (List ℕ)
+rule_in (Possible table) = Some table
+rule_in _ = None
+
+abbrev pub rule_of : Judgement → Option (List ℕ)
+rule_of (Confirmed verdict) = rule_in verdict
+rule_of _ = None
