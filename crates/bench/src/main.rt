@@ -50,6 +50,8 @@ mod lrat_tests;
 #[cfg(test)]
 mod report_tests;
 #[cfg(test)]
+mod set_tests;
+#[cfg(test)]
 mod tests;
 #[cfg(test)]
 mod worker_tests;

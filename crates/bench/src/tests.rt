@@ -467,7 +467,7 @@ fn words_that_are_no_command_get_the_usage_line(rt: HostRuntime) -> Result<(), F
         &["check", "a", "b", "--workers", "17"],
         &["axioms", "choice", "--workers", "2"],
         &["axioms"],
-        &["axioms", "sets"],
+        &["axioms", "set"],
         &["axioms", "choice", "ranking"],
         &["check"],
         &["check", "a"],
