@@ -98,7 +98,8 @@ fn stories_are_confirmed(rt: HostRuntime) -> Result<(), Fail> {
 fn changed_stories_are_refused(rt: HostRuntime) -> Result<(), Fail> {
     let cases = [
         (1, "bench report 3\n", "refused line 1: form"),
-        (2, "kind sets\n", "refused line 2: form"),
+        (2, "kind set\n", "refused line 2: form"),
+        (2, "kind sets\n", "refused line 2: study"),
         (2, "kind ranking\n", "refused line 2: study"),
         (3, "voters 3\n", "refused line 3: study"),
         (3, "voters 99999999999999999999\n", "refused line 3: study"),

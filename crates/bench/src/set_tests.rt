@@ -37,7 +37,7 @@ fn is_answered<R: Threads + Sync>(
 #[test]
 fn frames_of_sets_are_exported(rt: HostRuntime) -> Result<(), Fail> {
     let study = "kind = \"sets\"\nvoters = 1\nalternatives = 2\naxioms = [\"resolute\"]\n";
-    let text = "p cnf 4 4\n1 2 0\n3 4 0\n-1 -2 0\n-3 -4 0\n";
+    let text = "c bench export 1\nc kind sets voters 1 alternatives 2\np cnf 4 4\n1 2 0\n3 4 0\n-1 -2 0\n-3 -4 0\n";
     let words = ["export", "first"];
     let said = answered(&rt, rt.alloc(), &Open, &words, study.as_bytes(), b"", 1_000)?;
     assert!(rt; said.is(0, text.as_bytes()));
@@ -48,10 +48,10 @@ fn frames_of_sets_are_exported(rt: HostRuntime) -> Result<(), Fail> {
 fn tables_of_sets_are_checked(rt: HostRuntime) -> Result<(), Fail> {
     let cases = [
         ("ab|ab a\nab|ba ab\nba|ab ab\nba|ba b\nend\n", "confirmed possible\n"),
-        ("ab|ab a\nab|ba a\nba|ab a\nba|ba b\nend\n", "refused line 11: fails neutrality 4\n"),
-        ("ab|ab a\nab|ba ba\nba|ab ab\nba|ba b\nend\n", "refused line 9: row\n"),
-        ("ab|ab a\nab|ba \nba|ab ab\nba|ba b\nend\n", "refused line 9: row\n"),
-        ("ab|ab a\nab|ba c\nba|ab ab\nba|ba b\nend\n", "refused line 9: row\n"),
+        ("ab|ab a\nab|ba a\nba|ab a\nba|ba b\nend\n", "refused line 11: fails neutrality 10\n"),
+        ("ab|ab a\nab|ba ba\nba|ab ab\nba|ba b\nend\n", "refused line 9: form\n"),
+        ("ab|ab a\nab|ba \nba|ab ab\nba|ba b\nend\n", "refused line 9: form\n"),
+        ("ab|ab a\nab|ba c\nba|ab ab\nba|ba b\nend\n", "refused line 9: form\n"),
     ];
     for (table, text) in cases {
         let report = format!(in rt.alloc(); "{EVEN_HEAD}{table}")?;
