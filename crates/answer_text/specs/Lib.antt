@@ -1,4 +1,5 @@
 -- In reading order.
 pub mod Said
+pub mod Gains
 pub mod Laws
 pub mod Claims

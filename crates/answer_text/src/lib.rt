@@ -4,6 +4,7 @@
 
 mod claims;
 mod clause_faults;
+mod gains;
 pub mod laws;
 mod library;
 mod proof_faults;
@@ -14,6 +15,7 @@ mod worth;
 
 pub use claims::{ClaimLine, SummaryLine};
 pub use clause_faults::GroundLine;
+pub use gains::{GainLine, GainWords};
 pub use library::LibraryLines;
 pub use proof_faults::{CnfLine, LratLine, ProofLine};
 pub use study_faults::StudyLine;

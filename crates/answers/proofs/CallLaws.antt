@@ -10,7 +10,7 @@ use Rattle.vocab.specs.Study.{Question}
 use Rattle.verdicts.specs.Report.{IsConfirmed}
 use Rattle.clause_text.specs.ReadDimacs.{Formula}
 use Rattle.samples.specs.Sample.{IsSampleStudy}
-use Rattle.words.specs.Words.{Request, Decide, Check, Export, Proof, Lrat, Axioms, Sample, Adopt, request_of}
+use Rattle.words.specs.Words.{Request, Decide, Check, Export, Proof, Lrat, Axioms, Sample, Adopt, Gain, request_of}
 use Rattle.answers.specs.declared.runs.Run.{Run}
 use Rattle.answers.specs.FileLimits.{most_report_bytes}
 use Rattle.verdicts.specs.declared.verdicts.Verdict.{Verdict}
@@ -52,6 +52,7 @@ few_statuses (Some (Lrat cnf proof)) = refl
 few_statuses (Some (Axioms kind)) = refl
 few_statuses (Some (Sample number)) = refl
 few_statuses (Some (Adopt study proof workers)) = refl
+few_statuses (Some (Gain study report)) = refl
 
 -- each status is at most 7
 pub low_status : (words : List (List ℕ)) (d : Devices) (run : Run) → IsCall words d run → run.status ≤ 7

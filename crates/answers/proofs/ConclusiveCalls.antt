@@ -1,12 +1,9 @@
 -- No call spends a limit that is large enough.
-use Rattle.std.proofs.Common.{◌≡◌, ◌∙◌, sym, subst, ℕ, ◌≤◌, ◌⊎◌, inl, inr, List, Option, None, Some, arith}
+use Rattle.std.proofs.Common.{◌≡◌, ◌∙◌, sym, subst, ℕ, ◌≤◌, ◌⊎◌, inl, inr, List, None, Some, arith}
 use Rattle.std.proofs.lemmas.Bool.{cases_lt}
 use Rattle.edge.specs.Shelf.{Files}
-use Rattle.meaning.specs.declared.cores.Witness.{Witness}
-use Rattle.meaning.specs.declared.stories.Lemma.{Lemma}
-use Rattle.verdicts.specs.declared.verdicts.Verdict.{Verdict}
 use Rattle.verdicts.specs.declared.verdicts.Verdict.TheVariants.{Impossible}
-use Rattle.words.specs.Words.{Request, Decide, Check, Export, Proof, Lrat, Axioms, Sample, Adopt, request_of}
+use Rattle.words.specs.Words.{Request, Decide, Check, Export, Proof, Lrat, Axioms, Sample, Adopt, Gain, request_of}
 use Rattle.answers.specs.declared.runs.Run.{Run}
 use Rattle.answers.specs.Runs.{with_status}
 use Rattle.answers.specs.Lawful.{IsAnswer}
@@ -70,3 +67,4 @@ calls_conclusive words d run files (Export name' workers) name study call told a
 calls_conclusive words d run files (Lrat cnf proof) name study call told asked same g enough = absurd same
 calls_conclusive words d run files (Axioms kind) name study call told asked same g enough = absurd same
 calls_conclusive words d run files (Sample number) name study call told asked same g enough = absurd same
+calls_conclusive words d run files (Gain name' report) name study call told asked same g enough = absurd same

@@ -8,13 +8,14 @@ use Rattle.std.proofs.lemmas.Bool.{and_parts, cases_lt}
 use Rattle.edge.specs.Shelf.{Files, OthersStay}
 use Rattle.edge.specs.Told.{AppendsPrefix}
 use Rattle.vocab.specs.declared.kinds.Kind.{Kind}
+use Rattle.vocab.specs.declared.kinds.Kind.TheVariants.{Sets}
 use Rattle.vocab.specs.Study.{Question}
 use Rattle.clause_text.specs.ReadDimacs.{Formula}
 use Rattle.verdicts.specs.declared.verdicts.Verdict.{Verdict}
 use Rattle.verdicts.specs.Judge.{Judgement, Confirmed}
 use Rattle.verdicts.specs.Report.{IsReport}
 use Rattle.verdicts.specs.Words.{answer_text}
-use Rattle.words.specs.Words.{Request, Decide, Check, Export, Proof, Lrat, Axioms, Sample, Adopt, request_of}
+use Rattle.words.specs.Words.{Request, Decide, Check, Export, Proof, Lrat, Axioms, Sample, Adopt, Gain, request_of}
 use Rattle.answers.specs.declared.runs.Run.{Run}
 use Rattle.answers.specs.Runs.{with_status}
 use Rattle.answers.specs.FileLimits.{most_report_bytes}
@@ -24,6 +25,7 @@ use Rattle.answers.specs.Lrat.{GivesFormula, IsConfirmedBy, formula_refused, pro
 use Rattle.answers.specs.Usage.{usage_line}
 use Rattle.answers.specs.Check.{IsJudged, judgement, status_of}
 use Rattle.answers.specs.Axioms.{library_text}
+use Rattle.answers.specs.Gain.{Gains, other_kind, of_sets}
 use Rattle.answers.specs.Lawful.{IsAnswer}
 use Rattle.answers.specs.Devices.{Devices}
 use Rattle.answers.specs.Call.{IsCall, AreFiles, are_told, none_read, AreUntouched, HasReadCause, at_first, at_second, IsFirstTaken, files_of, statuses_of, touched_at}
@@ -74,6 +76,7 @@ no_command (Some (Lrat cnf proof)) e = absurd (true≢false (sym e))
 no_command (Some (Axioms kind)) e = absurd (true≢false (sym e))
 no_command (Some (Sample number)) e = absurd (true≢false (sym e))
 no_command (Some (Adopt study proof workers)) e = absurd (true≢false (sym e))
+no_command (Some (Gain study report)) e = absurd (true≢false (sym e))
 
 pub usage_exact : UsageIsExact
 usage_exact words d run call = record {
@@ -203,6 +206,10 @@ adopted_untaken : (study : Question) (run : Run) (text : List ℕ) (P : Type 0) 
 adopted_untaken study run text P faulty (clauses_refused fault e t bare) = bare.ends
 adopted_untaken study run text P faulty (clauses_made none p) = absurd (faulty none)
 
+gained_untaken : (files : Files) (report : List ℕ) (study : Question) (run : Run) (text : List ℕ) → (study.size.kind ≡ Sets → ⊥) → Gains files report study run text → run.status ≡ 3
+gained_untaken files report study run text other (other_kind ne t bare) = bare.ends
+gained_untaken files report study run text other (of_sets is said) = absurd (other is)
+
 confirmed_untaken : (files : Files) (name proof first : List ℕ) (run : Run) (text : List ℕ) → name ≡ first → (((formula : Formula) × GivesFormula files first formula) → ⊥)
     → IsConfirmedBy files name proof run text → run.status ≡ 3
 confirmed_untaken files name proof first run text same untaken (formula_refused r bare) = bare.ends
@@ -223,6 +230,8 @@ three_untaken (Some (Axioms kind)) files first second run text two untaken row =
 three_untaken (Some (Sample number)) files first second run text two untaken row = absurd (cc)
 three_untaken (Some (Adopt study proof workers)) files first second run text two untaken row =
     over_untaken files study first run text _ (first_same study first _ _ two) (λ s g p. adopted_untaken s run text _ (λ none. untaken (s, g, none)) p) row
+three_untaken (Some (Gain study report)) files first second run text two untaken row =
+    over_untaken files study first run text _ (first_same study first _ _ two) (λ s g p. gained_untaken files report s run text (λ is. untaken (s, g, is)) p) row
 
 module _ (words : List (List ℕ)) (d : Devices) (run : Run) (files : Files) (first second : List ℕ) (call : IsCall words d run) (told : d.told ≡ Some files)
     (two : files_of (request_of words) ≡ first ∷ second ∷ []) (untaken : IsFirstTaken (request_of words) files first → ⊥) where

@@ -13,3 +13,4 @@ mod ExportLemmas
 mod ConfirmedLaws
 mod AdoptLaws
 mod ConclusiveCalls
+mod GainRows

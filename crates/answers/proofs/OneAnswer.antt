@@ -4,7 +4,7 @@ use Rattle.edge.specs.Shelf.{Files}
 use Rattle.vocab.specs.Study.{Question}
 use Rattle.clause_text.specs.ReadDimacs.{Formula, read_dimacs}
 use Rattle.verdicts.specs.Words.{answer_text}
-use Rattle.words.specs.Words.{Request, Decide, Check, Export, Proof, Lrat, Axioms, Sample, Adopt, request_of}
+use Rattle.words.specs.Words.{Request, Decide, Check, Export, Proof, Lrat, Axioms, Sample, Adopt, Gain, request_of}
 use Rattle.answers.specs.declared.runs.Run.{Run}
 use Rattle.answers.specs.Runs.{IsBare}
 use Rattle.answers.specs.FileLimits.{Holds, HoldsTooMany, most_study_bytes, most_cnf_bytes}
@@ -14,6 +14,7 @@ use Rattle.answers.specs.Check.{IsJudged, judgement, status_of}
 use Rattle.answers.specs.Grounding.{fault_of, refusal_line, OverClauses, clauses_refused, clauses_made}
 use Rattle.answers.specs.Export.{IsExported}
 use Rattle.answers.specs.Lrat.{GivesFormula, RefusesFormula, too_long as long_cnf, no_formula, cnf_line, IsConfirmedBy, formula_refused, proof_judged, said_of}
+use Rattle.answers.specs.Gain.{Gains, other_kind, of_sets, said_of_gain}
 use Rattle.answers.specs.Lawful.{IsAnswer}
 use Rattle.answers.specs.Laws.{IsSettled, AnswersAreOne}
 use Rattle.answers.specs.RowLaws.{AreSame, RowsAreOne}
@@ -102,6 +103,16 @@ module _ (files : Files) (run run' : Run) (text text' : List ℕ) where
         j.is ∙ ap (λ b. answer_text (judgement study b)) same ∙ sym j'.is,
       )
 
+  one_gain : (report : List ℕ) (study : Question) → Gains files report study run text → Gains files report study run' text' → AreSame run run' text text'
+  one_gain report study (other_kind ne t b) (other_kind ne' t' b') = (one_run run run' 3 3 b b' refl, t ∙ sym t')
+  one_gain report study (other_kind ne t b) (of_sets is j) = absurd (ne is)
+  one_gain report study (of_sets is j) (other_kind ne t b) = absurd (ne is)
+  one_gain report study (of_sets is j) (of_sets is' j') =
+      let same : j.bytes ≡ j'.bytes = some_same (files report) j.bytes j'.bytes j.held j'.held in (
+        one_run run run' _ _ j.ends j'.ends (ap (λ b. status_of (judgement study b)) same),
+        j.is ∙ ap (λ b. said_of_gain study (judgement study b)) same ∙ sym j'.is,
+      )
+
   one_row : (request : Option Request) → IsSettled request → IsAnswer request files run text → IsAnswer request files run' text' → AreSame run run' text text'
   one_row None settled a a' = (one_run run run' 2 2 a.0 a'.0 refl, a.1 ∙ sym a'.1)
   one_row (Some (Decide study workers)) settled a a' = absurd settled
@@ -112,6 +123,7 @@ module _ (files : Files) (run run' : Run) (text text' : List ℕ) where
   one_row (Some (Axioms kind)) settled a a' = (one_run run run' 0 0 a.0 a'.0 refl, a.1 ∙ sym a'.1)
   one_row (Some (Sample number)) settled a a' = absurd settled
   one_row (Some (Adopt study proof workers)) settled a a' = absurd settled
+  one_row (Some (Gain study report)) settled a a' = one_over files study run run' text text' _ _ (one_gain report) a a'
 
 pub one_answer : AnswersAreOne
 one_answer words files run run' text text' settled a a' = one_row files run run' text text' (request_of words) settled a a'

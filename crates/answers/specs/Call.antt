@@ -7,9 +7,10 @@ use Rattle.std.specs.Io.KnownBytes.{Appends, Keeps}
 use Rattle.edge.specs.Shelf.{Files, OthersStay}
 use Rattle.edge.specs.Faults.{Rose}
 use Rattle.edge.specs.Told.{AppendsPrefix}
+use Rattle.vocab.specs.declared.kinds.Kind.TheVariants.{Sets}
 use Rattle.vocab.specs.Study.{Question}
 use Rattle.clause_text.specs.ReadDimacs.{Formula}
-use Rattle.words.specs.Words.{Request, Decide, Check, Export, Proof, Lrat, Axioms, Sample, Adopt, request_of}
+use Rattle.words.specs.Words.{Request, Decide, Check, Export, Proof, Lrat, Axioms, Sample, Adopt, Gain, request_of}
 use Rattle.answers.specs.declared.runs.Run.{Run}
 use Rattle.answers.specs.Runs.{with_status}
 use Rattle.answers.specs.Studies.{GivesStudy}
@@ -31,6 +32,7 @@ files_of (Some (Lrat cnf proof)) = cnf ∷ proof ∷ []
 files_of (Some (Axioms kind)) = []
 files_of (Some (Sample number)) = []
 files_of (Some (Adopt study proof workers)) = study ∷ proof ∷ []
+files_of (Some (Gain study report)) = study ∷ report ∷ []
 
 -- the statuses of a command
 abbrev pub statuses_of : Option Request → List ℕ
@@ -43,6 +45,7 @@ statuses_of (Some (Lrat cnf proof)) = 0 ∷ 1 ∷ 3 ∷ 5 ∷ 6 ∷ 7 ∷ []
 statuses_of (Some (Axioms kind)) = 0 ∷ 6 ∷ 7 ∷ []
 statuses_of (Some (Sample number)) = 0 ∷ 3 ∷ 4 ∷ 6 ∷ 7 ∷ []
 statuses_of (Some (Adopt study proof workers)) = 0 ∷ 1 ∷ 3 ∷ 5 ∷ 6 ∷ 7 ∷ []
+statuses_of (Some (Gain study report)) = 0 ∷ 1 ∷ 3 ∷ 5 ∷ 6 ∷ 7 ∷ []
 
 -- the files that a command may touch, by its status: at 3 its first file alone
 abbrev pub touched_at : ℕ → List (List ℕ) → List (List ℕ)
@@ -53,11 +56,14 @@ abbrev pub AreUntouched : ℕ → List (List ℕ) → (before now : Files) → T
 AreUntouched status names before now =
     (name : List ℕ) → IsFalse (list_any (bytes_eq name) (touched_at status names)) → now name ≡ before name
 
--- the first of two files is not refused, nor are the clauses that `adopt` makes of it
+-- the first of two files is not refused, nor are the clauses that `adopt` makes of it; and for `gain` its kind is
+-- that of sets
 abbrev pub IsFirstTaken : Option Request → Files → List ℕ → Type 0
 IsFirstTaken (Some (Lrat cnf proof)) files name = (formula : Formula) × GivesFormula files name formula
 IsFirstTaken (Some (Adopt study proof workers)) files name =
     (study : Question) × GivesStudy files name study × (fault_of study ≡ None)
+IsFirstTaken (Some (Gain study report)) files name =
+    (study : Question) × GivesStudy files name study × (study.size.kind ≡ Sets)
 IsFirstTaken request files name = (study : Question) × GivesStudy files name study
 
 -- ---- the promises

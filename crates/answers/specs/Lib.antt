@@ -14,8 +14,10 @@ pub mod Proof
 pub mod Lrat
 pub mod Sample
 pub mod Adopt
+pub mod Gain
 pub mod Lawful
 pub mod Devices
 pub mod Call
 pub mod Laws
 pub mod RowLaws
+pub mod GainLaws

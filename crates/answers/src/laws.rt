@@ -1,5 +1,6 @@
 //! What follows from the table of answers. Each law is the contract of a function that does nothing.
 
+ghost use Rattle.answers.specs.GainLaws.{NoneIsNoGain};
 ghost use Rattle.answers.specs.RowLaws.{AdoptedAreConfirmed, AdoptedHolds, AdoptsAsLrat, CallsAreConclusive, ConfirmedIsUnsatisfiable, DecidedAreConfirmed, DecidedHolds, EnoughAdopts, EnoughDecides, EnoughProves, ExportedSaysStudy, ProvedAreAdopted, ProvedAreConfirmed, ProvedHolds, RowsAreOne, SampledHolds, WrittenAdoptionsHold, WrittenDecisionsHold};
 ghost use Rattle.answers.specs.Laws.{CheckedAreRight, ConfirmedHolds, ChecksAreAnswered, AnswersAreOne, UsageIsExact, LibraryIsWritten, RefusedLeavesUnopened, OtherWordsTouchNone, CallsAreComplete, WrittenProofsAreAdopted, WrittenProofsAreConfirmed};
 
@@ -159,4 +160,9 @@ pub fn sampled_holds()
 /// Over some files `export` and `lrat` have one answer each.
 pub fn rows_are_one()
     ensures { RowsAreOne }
+{}
+
+/// Of the confirmed report of a rule `gain` says `none` exactly where no voter gains in the rule.
+pub fn none_is_no_gain()
+    ensures { NoneIsNoGain }
 {}

@@ -8,7 +8,7 @@ use Rattle.edge.specs.Shelf.{Files}
 use Rattle.edge.specs.Faults.{Rose}
 use Rattle.edge.specs.Told.{AppendsPrefix}
 use Rattle.vocab.specs.declared.kinds.Kind.{Kind}
-use Rattle.words.specs.Words.{Request, Decide, Check, Export, Proof, Lrat, Axioms, Sample, Adopt, request_of}
+use Rattle.words.specs.Words.{Request, Decide, Check, Export, Proof, Lrat, Axioms, Sample, Adopt, Gain, request_of}
 use Rattle.answers.specs.declared.runs.Run.{Run}
 use Rattle.answers.specs.Runs.{IsBare, with_status}
 use Rattle.answers.specs.Devices.{Devices}
@@ -34,6 +34,7 @@ may_be_cut (Some (Proof study workers)) = refl
 may_be_cut (Some (Lrat cnf proof)) = refl
 may_be_cut (Some (Sample number)) = refl
 may_be_cut (Some (Adopt study proof workers)) = refl
+may_be_cut (Some (Gain study report)) = refl
 
 module _ (request : Option Request) (told : Option Files) (left : Files) (faults : List ℕ → ℕ) where
   -- the library, for the words that ask for it

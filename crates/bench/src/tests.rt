@@ -475,7 +475,7 @@ fn words_that_are_no_command_get_the_usage_line(rt: HostRuntime) -> Result<(), F
         &["decide"],
     ];
     let line =
-        b"usage: bench decide STUDY | check STUDY REPORT | export STUDY | proof STUDY | lrat CNF PROOF | axioms KIND | sample N | adopt STUDY PROOF [--workers K]\n";
+        b"usage: bench decide STUDY | check STUDY REPORT | export STUDY | proof STUDY | lrat CNF PROOF | axioms KIND | sample N | adopt STUDY PROOF | gain STUDY REPORT [--workers K]\n";
     for words in cases {
         let said = answered(&rt, rt.alloc(), &Open, words, b"", b"", 1_000)?;
         let front = answered(&rt, rt.alloc(), &Open, words, b"", b"", 6)?;

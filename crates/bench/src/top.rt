@@ -7,6 +7,7 @@ ghost use Rattle.command_parts.specs.Answered.{Answers};
 
 use answers::{Run, laws};
 use check_commands::check::check;
+use check_commands::gain::gain;
 use check_commands::lrat::lrat;
 use command_parts::{Answer, Stop};
 use edge::{CalmShelf, CalmSink, Failed, Gate, Shelf, Sink};
@@ -62,6 +63,7 @@ fn answer<R: Threads + Sync, S: Shelf, G: Gate>(
                 },
             ),
         ) => adopt(rt, alloc, gate, workers, shelf, study, proof),
+        Ok(Some(Command::Gain { study, report })) => { gain(rt, alloc, gate, shelf, study, report) }
         Ok(None) => Ok(Answer::Usage),
         Err(_) => Err(Stop::NoMemory),
     }

@@ -1,3 +1,4 @@
 -- In proof order.
 mod CheckLemmas
 mod LratLemmas
+mod GainLemmas

@@ -1,5 +1,6 @@
-//! The commands that check what others wrote: `check` and `lrat`.
+//! The commands that check what others wrote: `check`, `lrat` and `gain`.
 #![tactic(auto)]
 
 pub mod check;
+pub mod gain;
 pub mod lrat;

@@ -13,6 +13,7 @@ use Rattle.clause_text.specs.Dimacs.{dimacs_text, size_text}
 use Rattle.clause_text.specs.Lrat.{lrat_text}
 use Rattle.answer_text.specs.Claims.{claim_line}
 use Rattle.answer_text.specs.Said.{worth_text}
+use Rattle.answer_text.specs.Gains.{words_text}
 use Rattle.answers.specs.declared.runs.Run.{Run}
 use Rattle.answers.specs.StudyLines.{study_line}
 use Rattle.answers.specs.Grounding.{refusal_line}
@@ -48,6 +49,10 @@ status_of (answer.NoStudy fault) = 3
 status_of (answer.NoClauses study fault) = 3
 status_of (answer.Report study verdict logs) = report_status verdict
 status_of (answer.Judged worth) = worth_status worth
+status_of answer.OtherKind = 3
+status_of answer.NoRule = 0
+status_of answer.NoGain = 0
+status_of (answer.Gain words) = 0
 status_of (answer.Clauses size variables clauses) = 0
 status_of (answer.Refutation lines) = 0
 status_of (answer.Claim verdict logs) = report_status verdict
@@ -84,6 +89,10 @@ text_of (answer.NoStudy fault) = study_line fault
 text_of (answer.NoClauses study fault) = refusal_line study fault
 text_of (answer.Report study verdict logs) = report_text study verdict
 text_of (answer.Judged worth) = worth_text worth
+text_of answer.OtherKind = codes "study: kind not sets\n"
+text_of answer.NoRule = codes "no rule\n"
+text_of answer.NoGain = codes "none\n"
+text_of (answer.Gain words) = words_text words
 text_of (answer.Clauses size variables clauses) = dimacs_text (size_text size) variables (clauses_in clauses)
 text_of (answer.Refutation lines) = lrat_text lines
 text_of (answer.Claim verdict logs) = claim_line verdict

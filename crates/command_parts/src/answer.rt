@@ -6,8 +6,8 @@ ghost use Rattle.texts.specs.Page.{Pours};
 ghost use Rattle.command_parts.specs.Answers.{HasText, report_status, run_of, text_of, worth_status};
 
 use answer_text::{
-    ClaimLine, CnfLine, GroundLine, LibraryLines, LratLine, ProofLine, StudyLine, SummaryLine,
-    WorthLine,
+    ClaimLine, CnfLine, GainLine, GainWords, GroundLine, LibraryLines, LratLine, ProofLine,
+    StudyLine, SummaryLine, WorthLine,
 };
 use answers::Run;
 use choice_sets::SetsKind;
@@ -29,7 +29,7 @@ use vocab::{Kind, Size, Study};
 
 /// What is said to words that are no command.
 const USAGE: &[u8] =
-    b"usage: bench decide STUDY | check STUDY REPORT | export STUDY | proof STUDY | lrat CNF PROOF | axioms KIND | sample N | adopt STUDY PROOF [--workers K]\n";
+    b"usage: bench decide STUDY | check STUDY REPORT | export STUDY | proof STUDY | lrat CNF PROOF | axioms KIND | sample N | adopt STUDY PROOF | gain STUDY REPORT [--workers K]\n";
 
 /// What is answered: a row of the table, with what its text names.
 #[derive(Drop)]
@@ -46,6 +46,14 @@ pub enum Answer {
     Report(Study, Verdict, Logs),
     /// The report was judged.
     Judged(Worth),
+    /// The study is not one of set-valued rules.
+    OtherKind,
+    /// The confirmed report has no rule.
+    NoRule,
+    /// No voter gains in the rule of the confirmed report.
+    NoGain,
+    /// A voter gains in it.
+    Gain(GainWords),
     /// The clauses of all axioms of a study of this size, over so many variables.
     Clauses {
         size: Size,
@@ -132,6 +140,10 @@ impl Answer {
             Answer::NoClauses(_, _) => Run::bare(alloc, 3),
             Answer::Report(_, verdict, logs) => found_run(verdict, logs),
             Answer::Judged(worth) => Run::bare(alloc, worth_status(&worth)),
+            Answer::OtherKind => Run::bare(alloc, 3),
+            Answer::NoRule => Run::bare(alloc, 0),
+            Answer::NoGain => Run::bare(alloc, 0),
+            Answer::Gain(_) => Run::bare(alloc, 0),
             Answer::Clauses {
                 size: _,
                 variables: _,
@@ -193,6 +205,10 @@ impl Text for Answer {
             .pour(page, out),
             Answer::Report(study, verdict, _) => pour_report(study, verdict, page, out),
             Answer::Judged(worth) => WorthLine(worth).pour(page, out),
+            Answer::OtherKind => page.put(out, b"study: kind not sets\n"),
+            Answer::NoRule => page.put(out, b"no rule\n"),
+            Answer::NoGain => page.put(out, b"none\n"),
+            Answer::Gain(words) => GainLine(words).pour(page, out),
             Answer::Clauses {
                 size,
                 variables,

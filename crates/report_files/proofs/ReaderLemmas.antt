@@ -1,11 +1,11 @@
 -- What a reader stands for after more bytes.
-use Rattle.std.proofs.Common.{◌≡◌, refl, sym, ap, ◌∙◌, subst, ℕ, zero, suc, ◌+◌, ◌≤◌, true, List, [], ◌∷◌, ◌++◌, length, take, arith, cond, append_assoc, None, inl, inr, lt-ltb, length-append, Result, Ok, Err}
+use Rattle.std.proofs.Common.{◌≡◌, false, true≢false, refl, sym, ap, ◌∙◌, subst, ℕ, zero, suc, ◌+◌, ◌≤◌, true, List, [], ◌∷◌, ◌++◌, length, take, arith, cond, append_assoc, None, inl, inr, lt-ltb, length-append, Result, Ok, Err}
 use Rattle.std.proofs.lemmas.Bool.{cases_lt}
-use Rattle.std.specs.Prelude.{nat_lt, OnOk}
+use Rattle.std.specs.Prelude.{◌==◌, nat_lt, OnOk}
 use Rattle.vocab.specs.Study.{Question}
 use Rattle.verdicts.specs.Texts.{words_of}
 use Rattle.verdicts.specs.Places.{Place, Standing, start, wanted}
-use Rattle.verdicts.specs.Judge.{Told, Good, Refused, read_line, settle, judge, pieces, front, final, at_end, conclude, answer}
+use Rattle.verdicts.specs.Judge.{Told, Good, Refused, read_line, settle, judge, pieces, front, final, at_end, conclude, answer, rule_of}
 use Rattle.verdicts.proofs.StepLaws.{told_more, judge_snoc}
 use Rattle.report.specs.declared.progress.Progress.{Progress}
 use Rattle.verdicts.specs.Judge.{has_no_end}
@@ -75,6 +75,15 @@ head_concludes study text held e =
     by_told : (told : Told) → conclude (length (pieces text)) (head_of (final (pieces text))) told ≡ conclude (length (pieces text)) (final (pieces text)) told
     by_told (Good s) = by_rest (length (pieces text)) (final (pieces text)) s.place
     by_told (Refused n word) = refl
+
+-- where a front is held, the text ends in no line end, and no rule is confirmed
+pub no_rule_held : (study : Question) (text held : List ℕ) → (length held == 0) ≡ false → held ≡ head_of (final (pieces text)) → None ≡ rule_of (answer study text)
+no_rule_held study text held some e = by_told (judge study (front (pieces text))) held some ∙ ap rule_of (head_concludes study text held e)
+  where
+    by_told : (told : Told) (rest : List ℕ) → (length rest == 0) ≡ false → None ≡ rule_of (conclude (length (front (pieces text)) + 1) rest told)
+    by_told (Refused n word) rest some = refl
+    by_told (Good s) [] some = absurd (true≢false some)
+    by_told (Good s) (x ∷ rest) some = refl
 
 -- a line that was held so far has ended
 pub end_stands : (study : Question) (p q : Progress) (lines : List (List ℕ)) (rest w held line : List ℕ)

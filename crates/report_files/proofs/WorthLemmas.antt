@@ -28,7 +28,7 @@ use Rattle.report_files.specs.declared.files.Worth.{Worth}
 use Rattle.report_files.specs.declared.files.Worth.TheVariants as worth
 use Rattle.report.specs.Answers.{Concludes, ConfirmsTrue}
 use Rattle.report.proofs.AnswerLemmas.{true_if_right}
-use Rattle.report_files.specs.Files.{IsEndedAt, IsWorth, IsWorthOf, IsClaimedIn, FileIsRight, FileIsConfirmed, WorthHolds, most_report_bytes}
+use Rattle.report_files.specs.Files.{IsEndedAt, IsWorth, IsWorthOf, IsClaimedIn, FileIsRight, FileIsConfirmed, HasReadWhole, WorthHolds, most_report_bytes}
 use Rattle.report.specs.Stands.{StandsAt}
 use Rattle.report_files.specs.Pieces.{ReaderState, StandsForText}
 use Rattle.report_files.proofs.PieceLemmas.{front_more}
@@ -184,11 +184,24 @@ file_worth (Some files) study name first w h s worth_of = by_held (files name) r
     by_held None same some = absurd (true≢false (sym some))
     by_held (Some held) same some = (held, same, worth_of held (s ∙ same))
 
+-- where only the whole of a file is worth this, the reader has read all of it
+pub read_whole : (told : Option Files) (r : ReaderState) (name : List ℕ) (first left : Option (List ℕ)) (e : Ending) (bytes : List ℕ) (w : Worth)
+    → IfSome told (λ files. first ≡ files name) → IsEndedAt e first left r.progress.fault bytes → StandsForText r bytes
+    → ((claim : Confirmed) → w ≡ worth.Confirmed claim → e ≡ ending.Whole) → IfSome told (λ files. HasReadWhole r files name w)
+read_whole None r name first left e bytes w s ended stands whole = tt
+read_whole (Some files) r name first left e bytes w s ended stands whole = λ claim held is k.
+    let parts = whole_is first left r.progress.fault bytes held (subst (λ x. IsEndedAt x first left r.progress.fault bytes) (whole claim is) ended) (s ∙ k) in
+    subst (StandsForText r) (sym parts.0) stands
+
 -- ---- what is worth what
 
 pub if_ok : {T E : Type 0} {P Q : T → Type 0} (result : Result T E) → IfOk result P → ((x : T) → P x → Q x) → IfOk result Q
 if_ok (Ok x) h f = f x h
 if_ok (Err e) h f = tt
+
+pub any_ok : {T E : Type 0} {P : T → Type 0} (result : Result T E) → ((x : T) → P x) → IfOk result P
+any_ok (Ok x) f = f x
+any_ok (Err e) f = tt
 
 pub if_some : {T : Type 0} {P Q : T → Type 0} (o : Option T) → IfSome o P → ((x : T) → P x → Q x) → IfSome o Q
 if_some None h f = tt
@@ -259,3 +272,10 @@ module _ (study : Question) (Stands : List ℕ → Type 0) {E : Type 0} where
       → IfOk result (λ w. (bytes : List ℕ) → IsSize study.size → Stands bytes → WorthHolds study w)
   refused_holds fault (Ok w) claimed = λ bytes size stands claim is. absurd (let wrong = claimed claim (ap Ok is) in cc)
   refused_holds fault (Err e) claimed = tt
+
+-- a refusal is confirmed of nothing that was read whole
+pub refused_whole : {E : Type 0} (fault : ReportFault) (e : Ending) (result : Result Worth E)
+    → ((claim : Confirmed) → result ≡ Ok (worth.Confirmed claim) → fails fault ≡ Ok claim)
+    → IfOk result (λ w. (claim : Confirmed) → w ≡ worth.Confirmed claim → e ≡ ending.Whole)
+refused_whole fault e (Ok w) claimed = λ claim is. absurd (let wrong = claimed claim (ap Ok is) in cc)
+refused_whole fault e (Err f) claimed = tt

@@ -16,6 +16,7 @@ use Rattle.report_files.specs.declared.files.FileFault.{FileFault}
 use Rattle.report_files.specs.declared.files.FileFault.TheVariants as fault
 use Rattle.report_files.specs.declared.files.Worth.{Worth}
 use Rattle.report_files.specs.declared.files.Worth.TheVariants as worth
+use Rattle.report_files.specs.Pieces.{ReaderState, StandsForText}
 
 -- the most bytes of a report
 abbrev pub most_report_bytes : ℕ
@@ -66,6 +67,11 @@ abbrev pub FileIsConfirmed : Question → Files → List ℕ → Result Worth Fi
 FileIsConfirmed study files name result =
     IsReportable study → (claim : Confirmed) → IsClaimedIn study files name claim →
     IfOk result (λ w. w ≡ worth.Confirmed claim)
+
+-- where the file is confirmed, the reader has read all of it
+abbrev pub HasReadWhole : ReaderState → Files → List ℕ → Worth → Type 0
+HasReadWhole r files name w = (claim : Confirmed) (held : List ℕ) → w ≡ worth.Confirmed claim → files name ≡ Some held →
+    StandsForText r held
 
 -- what is confirmed holds: some rule satisfies all axioms, or none satisfies those of some core
 abbrev pub WorthHolds : Question → Worth → Type 0

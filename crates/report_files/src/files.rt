@@ -7,7 +7,7 @@ ghost use Rattle.vocab.specs.Size.{IsSize};
 ghost use Rattle.vocab.specs.Study.{HasFewAxioms};
 ghost use Rattle.verdicts.specs.Judge.{Judgement, answer_within};
 ghost use Rattle.report.specs.Answers.{Concludes};
-ghost use Rattle.report_files.specs.Files.{IsEndedAt, IsWorth, IsWorthOf, FileIsRight, FileIsConfirmed, WorthHolds, most_report_bytes};
+ghost use Rattle.report_files.specs.Files.{IsEndedAt, IsWorth, IsWorthOf, FileIsRight, FileIsConfirmed, HasReadWhole, WorthHolds, most_report_bytes};
 ghost use Rattle.report_files.specs.Pieces.{StandsForText, HasTaken};
 
 use crate::reader::Reader;
@@ -152,6 +152,7 @@ fn worth_at<K: OutcomeKind>(reader: &Reader<K>, ending: Ending) -> Result<Worth,
         IsWorth (answer_within most_report_bytes reader.now.study held) worth) }
     ensures holds { IfOk result (λ worth. (bytes : List ℕ) → IsSize reader.now.study.size →
         StandsForText reader.now bytes → WorthHolds reader.now.study worth) }
+    ensures whole { IfOk result (λ worth. (claim : Confirmed) → worth ≡ Worth.Confirmed claim → ending ≡ Ending.Whole) }
 {
     match ending {
         Ending::Whole => Worth::of(reader.end()),
@@ -162,8 +163,9 @@ fn worth_at<K: OutcomeKind>(reader: &Reader<K>, ending: Ending) -> Result<Worth,
     }
 }
 
-/// What the report under the name is worth to a reader that has read nothing.
-fn worth_of<R: Threads + Sync, S: Shelf, K: OutcomeKind, G: Gate>(
+/// What the report under the name is worth to a reader that has read nothing. Where it is confirmed, the reader
+/// has then read all of it. It reads as far as `check_file` does.
+pub fn worth_of<R: Threads + Sync, S: Shelf, K: OutcomeKind, G: Gate>(
     crew: &Crew<R, G>,
     reader: &mut Reader<K>,
     shelf: &mut S,
@@ -173,6 +175,10 @@ fn worth_of<R: Threads + Sync, S: Shelf, K: OutcomeKind, G: Gate>(
     ensures worth { IfSome (S.files shelf.old) (λ files.
         IfOk result (IsWorthOf reader.old.study files name.now)) }
     ensures holds { IsSize reader.old.study.size → IfOk result (WorthHolds reader.old.study) }
+    ensures study { reader.new.study ≡ reader.old.study }
+    ensures lines { IfOk result (λ _. reader.new.progress.lines ≤ 268435456) }
+    ensures stands { IfOk result (λ _. (bytes : List ℕ) × StandsForText reader.new bytes) }
+    ensures whole { IfSome (S.files shelf.old) (λ files. IfOk result (HasReadWhole reader.new files name.now)) }
     ensures failed { IsErrOf result FileFault.Failed →
         Rose (S.faults shelf.old name.now) (S.faults shelf.new name.now) }
     ensures same { S.files shelf.new ≡ S.files shelf.old }

@@ -5,5 +5,5 @@ mod cutting;
 mod files;
 mod reader;
 
-pub use files::{FileFault, Worth, check_file};
+pub use files::{FileFault, Worth, check_file, worth_of};
 pub use reader::{Reader, check_report};

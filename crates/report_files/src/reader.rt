@@ -1,8 +1,10 @@
 //! Reads a report in pieces of its bytes.
 
-ghost use Rattle.std.specs.Prelude.{◌≡◌, ◌+◌, ◌≤◌, ◌<◌, List, ℕ, [], ◌∷◌, ◌++◌, length, is_some, Err, IfOk, OnOk, ◌⊎◌};
+ghost use Rattle.std.specs.Prelude.{◌≡◌, ◌+◌, ◌≤◌, ◌<◌, List, ℕ, [], ◌∷◌, ◌++◌, length, is_some, option_map, Err, IfOk, IfSome, IsTrue, OnOk, ◌⊎◌};
 ghost use Rattle.vocab.specs.Study.{HasFewAxioms};
-ghost use Rattle.verdicts.specs.Judge.{answer};
+ghost use Rattle.verdicts.specs.declared.verdicts.Verdict.TheVariants.{Possible};
+ghost use Rattle.verdicts.specs.Judge.{answer, rule_of};
+ghost use Rattle.verdicts.specs.Report.{is_right};
 ghost use Rattle.report.specs.Answers.{Concludes, ConfirmsRight, ConfirmsAll, ConfirmsTrue};
 ghost use Rattle.report.specs.Stands.{StandsFor};
 ghost use Rattle.report_files.specs.Pieces.{head_of, StandsForText, HasTaken};
@@ -18,7 +20,7 @@ use std::alloc::Global;
 use std::marker::Model;
 use std::thread::Threads;
 use verdicts::Confirmed;
-use vocab::Study;
+use vocab::{Study, Table};
 
 /// As many bytes of a line as tell that it is too long.
 const HELD: usize = 4097;
@@ -148,6 +150,21 @@ impl<'a, K: OutcomeKind> Reader<'a, K> {
             Concludes (answer self.now.study text) result }
     {
         self.checker.conclude(self.held.as_slice())
+    }
+
+    /// The table of the rule, where the text is a confirmed report with one.
+    pub fn table(&self) -> Option<&Table>
+        requires { self.now.progress.lines ≤ 4294967294 }
+        ensures value { (text : List ℕ) → StandsForText self.now text →
+            option_map (λ table. table.now) result ≡ rule_of (answer self.now.study text) }
+        ensures right { (text : List ℕ) → StandsForText self.now text →
+            IfSome result (λ table. IsTrue (is_right self.now.study (Possible table.now))) }
+    {
+        if self.held.is_empty() {
+            self.checker.table()
+        } else {
+            None
+        }
     }
 }
 

@@ -1,12 +1,7 @@
 -- `sample`, from what a search found to the line that says so.
-use Rattle.std.proofs.Common.{◌≡◌, ◌≢◌, ◌∙◌, refl, ap, subst, sym, ℕ, Bool, true, false, cond, List, length, Option, Some, Result, Ok, Err, IfOk, arith}
-use Rattle.std.specs.Prelude.{◌==◌, ◌%◌}
+use Rattle.std.proofs.Common.{◌≡◌, ◌≢◌, refl, ap, subst, sym, ℕ, List, length, Option, Some, Result, Ok, Err, IfOk, arith}
 use Rattle.edge.specs.Shelf.{Files}
-use Rattle.vocab.specs.declared.kinds.Kind.TheVariants.{Choice, Ranking, Sets}
-use Rattle.vocab.specs.Size.{Extent}
 use Rattle.vocab.specs.Study.{Question}
-use Rattle.samples.specs.Sample.{sample_listing, IsSampleStudy}
-use Rattle.study.proofs.AnswerSizes.{answer_size}
 use Rattle.words.specs.Words.{Request, Sample}
 use Rattle.search_logs.specs.declared.logs.SearchLog.{SearchLog}
 use Rattle.search_logs.specs.Spent.{AreSpentLogs}

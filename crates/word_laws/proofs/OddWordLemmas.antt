@@ -46,4 +46,5 @@ odd = record {
   above_greatest = refl;
   workers_of_adopt = refl;
   proof_alone = refl;
+  workers_of_gain = refl;
 }

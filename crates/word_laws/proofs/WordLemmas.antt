@@ -3,7 +3,7 @@ use Rattle.std.proofs.Common.{◌≡◌, refl, [], ◌∷◌, ◌++◌, codes, S
 use Rattle.clap.specs.Words.{Text}
 use Rattle.clap.proofs.OnLiterals.{clap_on_literals}
 use Rattle.words.specs.Values.{number_within, kind_named}
-use Rattle.words.specs.Words.{Decide, Check, Export, Proof, Lrat, Axioms, Sample, Adopt, request_of}
+use Rattle.words.specs.Words.{Decide, Check, Export, Proof, Lrat, Axioms, Sample, Adopt, Gain, request_of}
 use Rattle.word_laws.specs.Laws.{IsPlain, PlainWords, WorkersWords}
 
 decide_read : (word : Text) → IsPlain word → request_of (codes "decide" ∷ word ∷ []) ≡ Some (Decide word 1)
@@ -52,6 +52,13 @@ adopt_read [] (d ∷ ds) e f = rw (f, f) refl
 adopt_read (c ∷ cs) [] e f = rw (e, e) refl
 adopt_read (c ∷ cs) (d ∷ ds) e f = rw (e, e, f, f) refl
 
+gain_read : (a b : Text) → IsPlain a → IsPlain b → request_of (codes "gain" ∷ a ∷ b ∷ []) ≡ Some (Gain a b)
+unfolding clap_on_literals request_of
+gain_read [] [] e f = refl
+gain_read [] (d ∷ ds) e f = rw (f, f) refl
+gain_read (c ∷ cs) [] e f = rw (e, e) refl
+gain_read (c ∷ cs) (d ∷ ds) e f = rw (e, e, f, f) refl
+
 before_read : (a b : Text) → IsPlain a → IsPlain b → request_of (codes "check" ∷ codes "--workers" ∷ b ∷ codes "s" ∷ a ∷ []) ≡ option_map (Check (codes "s") a) (number_within 1 16 b)
 unfolding clap_on_literals request_of
 before_read [] [] e f = refl
@@ -90,6 +97,7 @@ plain = record {
   axioms = axioms_read;
   sample = sample_read;
   adopt = adopt_read;
+  gain = gain_read;
 }
 
 pub workers : WorkersWords

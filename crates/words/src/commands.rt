@@ -45,4 +45,9 @@ pub enum Command<'a> {
         proof: &'a str,
         workers: u8,
     },
+    /// `gain STUDY REPORT`.
+    Gain {
+        study: &'a str,
+        report: &'a str,
+    },
 }

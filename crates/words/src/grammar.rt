@@ -2,7 +2,7 @@
 
 ghost use Rattle.std.specs.Prelude.{◌≡◌, IfOk, false};
 ghost use Rattle.clap.specs.Words.{App, Shape, app_of, rule_of, with_subcommand};
-ghost use Rattle.words.specs.Words.{place, workers_option, IsLeaf, study_shape, check_shape, lrat_shape, axioms_shape, sample_shape, adopt_shape, top_shape, bench_app};
+ghost use Rattle.words.specs.Words.{place, workers_option, IsLeaf, study_shape, check_shape, lrat_shape, axioms_shape, sample_shape, adopt_shape, gain_shape, top_shape, bench_app};
 
 use clap::{Arg, Command};
 use std::alloc::{AllocError, Global};
@@ -73,6 +73,14 @@ fn adopt_command<'a>(alloc: Global) -> Result<Command<'a>, AllocError>
     command.arg(workers_option(alloc))
 }
 
+/// `gain STUDY REPORT`.
+fn gain_command<'a>(alloc: Global) -> Result<Command<'a>, AllocError>
+    ensures { IfOk result (IsLeaf gain_shape) }
+{
+    let command = Command::new(alloc, "gain").arg(place(alloc, "study"))?;
+    command.arg(place(alloc, "report"))
+}
+
 /// The program before its commands: one of them is wanted.
 fn top_command<'a>(alloc: Global) -> Command<'a>
     ensures { IsLeaf top_shape result }
@@ -106,5 +114,6 @@ pub(crate) fn bench_command<'a>(alloc: Global) -> Result<Command<'a>, AllocError
     let command = add_command(command, lrat_command(alloc));
     let command = add_command(command, axioms_command(alloc));
     let command = add_command(command, sample_command(alloc));
-    add_command(command, adopt_command(alloc))
+    let command = add_command(command, adopt_command(alloc));
+    add_command(command, gain_command(alloc))
 }

@@ -4,7 +4,7 @@ ghost use Rattle.std.specs.Prelude.{◌≡◌, ℕ, IfOk, IfSome, option_map};
 ghost use Rattle.clap.specs.Words.{Text, first_of, found_of, rows_of, subcommand_rows_of};
 ghost use Rattle.words.specs.Values.{kind_named, number_within, workers_in, kind_in, number_in};
 ghost use Rattle.words.specs.Words.{Request, Decide, Check, Export, Proof, Axioms, Sample, HasWorkers};
-ghost use Rattle.words.specs.Words.{texts, asked, over_study, check_in, lrat_in, adopt_in, request_under, request_in, request_of};
+ghost use Rattle.words.specs.Words.{texts, asked, over_study, check_in, lrat_in, adopt_in, gain_in, request_under, request_in, request_of};
 
 use crate::commands::Command;
 use crate::grammar::bench_command;
@@ -155,6 +155,17 @@ fn adopt_in<'a>(matches: &ArgMatches<'a>) -> Option<Command<'a>>
     })
 }
 
+/// `gain STUDY REPORT`.
+fn gain_in<'a>(matches: &ArgMatches<'a>) -> Option<Command<'a>>
+    ensures { option_map asked result ≡ gain_in (rows_of (found_of matches.now)) }
+{
+    let study = value_at(matches, "study")?;
+    Some(Command::Gain {
+        study,
+        report: value_at(matches, "report")?,
+    })
+}
+
 /// The command of a name, with the values that were found.
 fn command_under<'a>(name: &str, matches: &ArgMatches<'a>) -> Option<Command<'a>>
     ensures { option_map asked result ≡ request_under name.now (rows_of (found_of matches.now)) }
@@ -168,6 +179,7 @@ fn command_under<'a>(name: &str, matches: &ArgMatches<'a>) -> Option<Command<'a>
         "axioms" => axioms_in(matches),
         "sample" => sample_in(matches),
         "adopt" => adopt_in(matches),
+        "gain" => gain_in(matches),
         _ => None,
     }
 }

@@ -42,6 +42,9 @@ fn told(alloc: Global, line: &str) -> Result<String, Fail> {
                 },
             ),
         ) => Ok(format!(in alloc; "adopt [{study}] [{proof}] {workers}")?),
+        Ok(Some(Command::Gain { study, report })) => Ok(format!(in alloc;
+            "gain [{study}] [{report}]"
+        )?),
         Ok(None) => Ok(format!(in alloc; "none")?),
         Err(_) => Ok(format!(in alloc; "no memory")?),
     }
@@ -90,6 +93,7 @@ fn commands(rt: HostRuntime) -> Result<(), Fail> {
     same(&rt, rt.alloc(), "lrat c p", "lrat [c] [p]")?;
     same(&rt, rt.alloc(), "sample 0", "sample 0")?;
     same(&rt, rt.alloc(), "sample 4294967295", "sample 4294967295")?;
+    same(&rt, rt.alloc(), "gain s r", "gain [s] [r]")?;
     same(&rt, rt.alloc(), "adopt s p", "adopt [s] [p] 1")?;
     same(
         &rt,

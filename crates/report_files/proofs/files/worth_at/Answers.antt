@@ -1,6 +1,6 @@
 use Rattle.std.proofs.Common.{sym, ◌∙◌}
 use Rattle.report_files.specs.Pieces.{StandsForText}
-use Rattle.report_files.proofs.WorthLemmas.{if_ok, whole_worth, faulty_worth, long_worth, answered_holds, refused_holds}
+use Rattle.report_files.proofs.WorthLemmas.{if_ok, whole_worth, faulty_worth, long_worth, answered_holds, refused_holds, refused_whole, any_ok}
 use Rattle.report_files.proofs.files.worth_at.Goals as goal
 
 pub returns-in-Whole-clause-worth : goal.returns-in-Whole-clause-worth
@@ -27,3 +27,12 @@ returns-in-None-clause-holds g c = λ bytes size stands claim is. absurd (cc)
 pub returns-in-Some-clause-holds : goal.returns-in-Some-clause-holds
 returns-in-Some-clause-holds g c =
     refused_holds c.args.reader.now.study (StandsForText c.args.reader.now) c.in-Some.fault c.of-in-Some.result c.of-in-Some.ensures.claimed
+
+pub returns-in-Whole-clause-whole : goal.returns-in-Whole-clause-whole
+returns-in-Whole-clause-whole g c = any_ok c.of.result (λ w claim is. c.in-Whole.is)
+
+pub returns-in-None-clause-whole : goal.returns-in-None-clause-whole
+returns-in-None-clause-whole g c = λ claim is. absurd (cc)
+
+pub returns-in-Some-clause-whole : goal.returns-in-Some-clause-whole
+returns-in-Some-clause-whole g c = refused_whole c.in-Some.fault c.args.ending c.of-in-Some.result c.of-in-Some.ensures.claimed

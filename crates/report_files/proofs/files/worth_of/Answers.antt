@@ -3,7 +3,7 @@ use Rattle.vocab.specs.Size.{IsSize}
 use Rattle.vocab.specs.Study.{Question}
 use Rattle.verdicts.specs.Judge.{answer_within}
 use Rattle.report_files.specs.Files.{IsWorth, WorthHolds, most_report_bytes}
-use Rattle.report_files.proofs.WorthLemmas.{file_worth}
+use Rattle.report_files.proofs.WorthLemmas.{file_worth, read_whole}
 use Rattle.report_files.proofs.files.worth_of.Goals as goal
 
 pub read_pieces-requires-clause-lines : goal.read_pieces-requires-clause-lines
@@ -22,3 +22,14 @@ returns-clause-holds g c = λ size.
     let read = c.in_ok-ending.ensures.read in
     subst (λ (q : Question). WorthHolds q c.in_ok-worth.worth) c.read_pieces.ensures.study
     (c.in_ok-worth.ensures.holds read.0 (subst (λ (q : Question). IsSize q.size) (sym c.read_pieces.ensures.study) size) (read.2 [] c.requires.unread))
+
+pub returns-clause-whole : goal.returns-clause-whole
+returns-clause-whole g c =
+    let read = c.in_ok-ending.ensures.read in
+    read_whole (g.S.Shelf.files c.args.shelf.now) c.read_pieces.new.reader c.args.name.now (g.S.Shelf.left c.rewind.new.self c.args.name.now)
+    (g.S.Shelf.left c.read_pieces.new.shelf c.args.name.now) c.in_ok-ending.ending read.0 c.in_ok-worth.worth c.in_ok-rewind.ensures.start read.1 (read.2 [] c.requires.unread) c.in_ok-worth.ensures.whole
+
+pub returns-clause-stands : goal.returns-clause-stands
+returns-clause-stands g c =
+    let read = c.in_ok-ending.ensures.read in
+    (read.0, read.2 [] c.requires.unread)
