@@ -3,6 +3,7 @@
 use crate::calls::{Told, answered, answered_into, answered_over, shelf_of, with_files, words_of};
 use crate::lrat_tests::SQUARE;
 use crate::report_tests::{SYMMETRIC, SYMMETRIC_STORY};
+use crate::set_tests::{CONTRARY, TIED};
 use crate::tests::STUDY;
 use crate::top::bench_calmly;
 use crate::worker_tests::ARROW;
@@ -123,7 +124,7 @@ fn withstands<R: Threads + Sync>(
 fn commands_withstand_devices(rt: HostRuntime) -> Result<(), Fail> {
     // Each file that is read takes three calls of the shelf: a rewind, a read that gives its bytes, and one
     // that finds the end.
-    let cases: [(&[&str], &str, &str, u8, u32); 12] = [
+    let cases: [(&[&str], &str, &str, u8, u32); 14] = [
         (
             &["check", "first", "second"],
             SYMMETRIC,
@@ -161,6 +162,9 @@ fn commands_withstand_devices(rt: HostRuntime) -> Result<(), Fail> {
             3,
         ),
         (&["adopt", "first", "second"], "", "", 3, 2),
+        (&["gain", "first", "second"], TIED, CONTRARY, 0, 6),
+        // A study of another kind: the second file is not opened.
+        (&["gain", "first", "second"], STUDY, CONTRARY, 3, 3),
     ];
     for (words, first, second, status, calls) in cases {
         let (first, second) = (first.as_bytes(), second.as_bytes());
@@ -176,7 +180,7 @@ fn commands_withstand_devices(rt: HostRuntime) -> Result<(), Fail> {
 
 #[test]
 fn files_that_are_not_held_are_failed_reads(rt: HostRuntime) -> Result<(), Fail> {
-    let cases: [&[&str]; 7] = [
+    let cases: [&[&str]; 8] = [
         &["check", "first", "absent"],
         &["check", "absent", "second"],
         &["decide", "absent"],
@@ -184,6 +188,7 @@ fn files_that_are_not_held_are_failed_reads(rt: HostRuntime) -> Result<(), Fail>
         &["proof", "absent"],
         &["lrat", "absent", "second"],
         &["adopt", "absent", "second"],
+        &["gain", "absent", "second"],
     ];
     for words in cases {
         let study = STUDY.as_bytes();
