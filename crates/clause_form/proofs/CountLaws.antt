@@ -21,7 +21,7 @@ past (suc m) a (suc b) h =
     let right = mul-le-mul_left a some in
     omega (arith, left, right)
 
-min-product : (m a b : ℕ) → min (min a m * min b m) m ≡ min (a * b) m
+pub min-product : (m a b : ℕ) → min (min a m * min b m) m ≡ min (a * b) m
 min-product m a b = elim (cases_lt m a) [
   | inl big ↦ (let e : min a m ≡ m = omega arith in rw e (past m a b (omega arith)))
   | inr small ↦ (let e : min a m ≡ a = omega arith in elim (cases_lt m b) [
@@ -30,7 +30,7 @@ min-product m a b = elim (cases_lt m a) [
   ])
 ]
 
-min-sum : (m a b : ℕ) → min (min a m + min b m) m ≡ min (a + b) m
+pub min-sum : (m a b : ℕ) → min (min a m + min b m) m ≡ min (a + b) m
 min-sum m a b = omega arith
 
 -- ---- counts that end

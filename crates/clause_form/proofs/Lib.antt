@@ -9,3 +9,4 @@ pub mod WideLaws
 pub mod FactorLaws
 pub mod RowLaws
 pub mod FormLaws
+pub mod BoundLaws

@@ -1,13 +1,15 @@
 //! The measures of the instances of an axiom, in rounds of pieces.
 
-ghost use Rattle.std.specs.Prelude.{◌≤◌, ◌+◌, IfOk, IsTrue, length};
+ghost use Rattle.std.specs.Prelude.{ℕ, ◌≤◌, ◌+◌, IfOk, IsFalse, IsTrue, length};
 ghost use Rattle.vocab.specs.Limits.{instance_count};
 ghost use Rattle.vocab.specs.Study.{is_sentence};
 ghost use Rattle.crew.specs.Right.{AreRight};
-ghost use Rattle.grounding.specs.Pieces.{AreInstances, IsFirstWide, IsFirstWideOfPiece, end_of, start_of};
+ghost use Rattle.grounding.specs.Pieces.{AreInstances, IsFirstWide, IsFirstWideOfPiece, end_of, measure_at, start_of};
+ghost use Rattle.clause_form.specs.Wide.{is_wide};
 
 use crate::parts::{Measured, WideInstance, measure_all};
-use crate::pieces::{PIECE, ROUND, Round};
+use crate::pieces::{MOST_CLAUSES, MOST_LITERALS, PIECE, ROUND, Round};
+use clause_form::most_counts;
 use crew::{Crew, Job, Parts, map_pieces};
 use edge::Gate;
 use lists::NoMemory;
@@ -99,7 +101,18 @@ fn measure_round<R: Threads + Sync, K: OutcomeKind, G: Gate>(
     Ok(first_found(round, &parts))
 }
 
-/// The first instance of an axiom that is too wide, of round after round. Appends the sum of the measures of
+/// Whether the clauses of each round of instances are within the limits of a round, by the shape of the
+/// sentence alone. Then no instance is too wide.
+fn has_small_rounds<K: OutcomeKind>(kind: &K, named: &Axiom) -> bool
+    ensures { IsTrue result → (k : ℕ) → IsFalse (is_wide (measure_at (K.size kind.now) named.now.sentence k)) }
+{
+    let most = most_counts(kind.space(), named.sentence().body());
+    most.clauses <= MOST_CLAUSES / (PIECE * ROUND)
+        && most.literals <= MOST_LITERALS / (PIECE * ROUND)
+}
+
+/// The first instance of an axiom that is too wide, of round after round. Where the shape of the sentence
+/// tells that there is none and that all rounds are small, nothing is measured. Appends the sum of the measures of
 /// each piece, up to the round that has it.
 pub(crate) fn measure_axiom<R: Threads + Sync, K: OutcomeKind, G: Gate>(
     alloc: Global,
@@ -114,6 +127,9 @@ pub(crate) fn measure_axiom<R: Threads + Sync, K: OutcomeKind, G: Gate>(
         (λ found. IsFirstWide (K.size kind.now) named.now.sentence 0
         (instance_count (K.size kind.now) named.now.sentence) found) }
 {
+    if has_small_rounds(kind, named) {
+        return Ok(None);
+    }
     let count = instance_count(kind.space(), named.sentence());
     let mut from = 0;
     while from < count {

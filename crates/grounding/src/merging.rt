@@ -13,7 +13,7 @@ ghost use Rattle.grounding.specs.Pieces.{AreNarrow, AreNarrowInstances, IsPart, 
 
 use crate::distinct::{Seen, keep};
 use crate::parts::clauses_of_all;
-use crate::pieces::{PIECE, ROUND, Round};
+use crate::pieces::{MOST_CLAUSES, MOST_LITERALS, PIECE, ROUND, Round};
 use crate::sorting::Part;
 use clause_form::sum;
 use cnf::{Clauses, PushFault};
@@ -27,12 +27,6 @@ use std::alloc::Global;
 use std::thread::Threads;
 use vocab::Axiom;
 use worlds::instance_count;
-
-/// The most clauses of a round of several pieces, by their measures.
-const MOST_CLAUSES: u64 = 4_000_000;
-
-/// The most literals of a round of several pieces, by their measures.
-const MOST_LITERALS: u64 = 60_000_000;
 
 /// The pieces of the instances from `from` up to `to`, and how the clauses of a piece are made.
 #[derive(Drop)]

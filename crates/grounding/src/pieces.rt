@@ -8,6 +8,12 @@ pub(crate) const PIECE: u64 = 64;
 /// How many pieces a round has at most.
 pub(crate) const ROUND: u64 = 256;
 
+/// The most clauses of a round of several pieces, by their measures.
+pub(crate) const MOST_CLAUSES: u64 = 4_000_000;
+
+/// The most literals of a round of several pieces, by their measures.
+pub(crate) const MOST_LITERALS: u64 = 60_000_000;
+
 /// A round: the instances of an axiom from `from` up to `to`.
 #[derive(Drop)]
 pub(crate) struct Round<'a, K> {
