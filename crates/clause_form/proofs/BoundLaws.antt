@@ -163,9 +163,9 @@ pub iff_bound : (p m q n a b c d s t : Counts) (x y : Written) →
     IsBound (Open p m) x → IsBound (Open q n) y → IsBound (Open s t) (Iff x y)
 iff_bound p m q n a b c d s t x y f g u v both_plus both_minus h k = (
   truth_within (known_truth (Iff x y)) (joined (minus x) (plus y) ++ joined (plus x) (minus y)) s
-  (both_plus (joined (minus x) (plus y)) (joined (plus x) (minus y)) (f (minus x) (plus y) h.1 k.0) (g (plus x) (minus y) h.0 k.1)),
+      (both_plus (joined (minus x) (plus y)) (joined (plus x) (minus y)) (f (minus x) (plus y) h.1 k.0) (g (plus x) (minus y) h.0 k.1)),
   falsity_within (known_truth (Iff x y)) (joined (minus x) (minus y) ++ joined (plus x) (plus y)) t
-  (both_minus (joined (minus x) (minus y)) (joined (plus x) (plus y)) (u (minus x) (minus y) h.1 k.1) (v (plus x) (plus y) h.0 k.0)),
+      (both_minus (joined (minus x) (minus y)) (joined (plus x) (plus y)) (u (minus x) (minus y) h.1 k.1) (v (plus x) (plus y) h.0 k.0)),
 )
 
 -- ---- chains
