@@ -7,7 +7,7 @@ ghost use Rattle.grounding.specs.Pieces.{AreNarrow, IsFirstWide, origins_at, row
 
 use crate::instances::values_of;
 use crate::sorting::{Part, push_sorted};
-use clause_form::{ClauseList, FormFault, clauses, is_wide, measure, sum};
+use clause_form::{ClauseList, is_wide, measure, narrow_clauses, sum};
 use cnf::Store;
 use lists::NoMemory;
 use meaning::Counts;
@@ -89,11 +89,7 @@ pub(crate) fn clauses_of_all<K: OutcomeKind>(
     for number in from..to {
         let values = values_of(kind, named, number);
         let mut rows: ClauseList = Store::new(alloc);
-        match clauses(alloc, kind, named.sentence().body(), &values, &mut rows) {
-            Ok(()) => {}
-            Err(FormFault::NoMemory) => return Err(NoMemory),
-            Err(FormFault::Wide(_)) => unreachable!(),
-        }
+        narrow_clauses(alloc, kind, named.sentence().body(), &values, &mut rows)?;
         push_sorted(
             &rows,
             base + number,
