@@ -1,0 +1,81 @@
+-- Clauses that pass tests.
+use Rattle.std.proofs.Common.{subst, ◌≡◌, ◌∙◌, ℕ, ◌<◌, ◌≤◌, ◌&&◌, Bool, true, List, [], ◌∷◌, ◌++◌, length, get_or, sym, refl, leb-true, ◌||◌, false, Option, Some, None}
+use Rattle.std.specs.Prelude.{All, IfSome, nat_le}
+use Rattle.std.specs.List.{list_all}
+use Rattle.std.proofs.lemmas.Bool.{and_from, and_parts, le-leb}
+use Rattle.std.proofs.lemmas.List.Folds.{list_all-append, list_any_at}
+use Rattle.std.proofs.lemmas.List.Sums.{AllPass-from_list_all}
+use Rattle.cnf.specs.Signed.{Signed}
+use Rattle.cnf.specs.Sat.{Clause, contains, has_lit}
+use Rattle.cnf.specs.Trimmed.{is_empty_clause}
+use Rattle.cnf.proofs.LitLaws.{all_members}
+use Rattle.cnf.specs.Fresh.{AreOver, added_by, is_over}
+use Rattle.cnf.specs.declared.derivations.Line.{Line}
+use Rattle.propagate.specs.Values.{StaysWithin}
+use Rattle.propagate.specs.TrailState.{TrailState}
+use Rattle.simpler_proofs.specs.Made.{EachPasses, IsMade, IsPassing, is_part_of}
+
+or_true : (a : Bool) {b : Bool} → b ≡ true → (a || b) ≡ true
+or_true true e = refl
+or_true false e = e
+
+-- one more item
+pub all_more : {X : Type 0} (test : X → Bool) (xs : List X) (x : X) → list_all test xs ≡ true → test x ≡ true → list_all test (xs ++ x ∷ []) ≡ true
+all_more test xs x h e = list_all-append test xs (x ∷ []) ∙ and_from _ _ h (and_from _ _ e refl)
+
+-- one of the items
+pub all_at : {X : Type 0} (test : X → Bool) (xs : List X) (i : ℕ) (d : X) → list_all test xs ≡ true → i < length xs → test (get_or xs i d) ≡ true
+all_at test xs i d h lt = AllPass-from_list_all test xs h i d lt
+
+-- the variables of a clause that is over so many
+pub stays_within : (n : ℕ) (clause : Clause) → is_over n clause ≡ true → StaysWithin n clause
+stays_within n clause h i d lt = leb-true _ _ (and_parts _ _ (all_at (λ (l : Signed). nat_le 1 l.variable && nat_le l.variable n) clause i d h lt)).1
+
+-- a clause of one literal
+pub over_one : (n : ℕ) (l : Signed) → 1 ≤ l.variable → l.variable ≤ n → is_over n (l ∷ []) ≡ true
+over_one n l least most = and_from _ _ (and_from _ _ (le-leb 1 l.variable least) (le-leb l.variable n most)) refl
+
+-- propagation at level 0 adds at most the empty clause
+pub passing_settled : (test : Clause → Bool) (input : List Clause) (old new : TrailState) (marks before : List Bool) (lines more : List Line) → test [] ≡ true → IsPassing test input old before lines →
+    IsMade input new more → length marks ≡ new.variables → new.variables ≡ old.variables →
+    ((t : Clause → Bool) → t [] ≡ true → EachPasses t lines → EachPasses t more) → IsPassing test input new marks more
+passing_settled test input old new marks before lines more empty p made seen variables passes = record {
+  made = made;
+  seen = seen;
+  over = subst (λ (n : ℕ). AreOver n more) (sym variables) (passes (is_over old.variables) refl p.over);
+  passes = passes test empty p.passes;
+}
+
+-- a test of each clause is one of the clause at a place
+pub each_at : (test : Clause → Bool) (lines : List Line) (i : ℕ) (d : Line) → EachPasses test lines → i < length lines → test (added_by (get_or lines i d).step) ≡ true
+each_at test lines i d h lt = all_at (λ (l : Line). test (added_by l.step)) lines i d h lt
+
+-- a clause of which each literal is one of a given line's
+part_of : (given : List Line) (i : ℕ) (d : Line) (part : Clause) → i < length given →
+    ((pass : Signed → Bool) → list_all pass (added_by (get_or given i d).step) ≡ true → list_all pass part ≡ true) → is_part_of given part ≡ true
+part_of given i d part lt h =
+    let whole : Clause = added_by (get_or given i d).step in
+    let contained : contains whole part ≡ true = h (has_lit whole) (all_members (has_lit whole) whole (λ k e. e)) in
+    or_true (is_empty_clause part) (list_any_at (λ (g : Line). contains (added_by g.step) part) given i d lt contained)
+
+-- what is left of the clause of a given line is added
+pub passing_shortened : (given : List Line) (input : List Clause) (old new : TrailState) (marks before : List Bool) (lines more : List Line) (i : ℕ) (d : Line) → i < length given → AreOver old.variables given →
+    IsPassing (is_part_of given) input old before lines → IsMade input new more → length marks ≡ new.variables → new.variables ≡ old.variables →
+    ((t : Clause → Bool) → ((part : Clause) → ((pass : Signed → Bool) → list_all pass (added_by (get_or given i d).step) ≡ true → list_all pass part ≡ true) → t part ≡ true) →
+    EachPasses t lines → EachPasses t more) → IsPassing (is_part_of given) input new marks more
+passing_shortened given input old new marks before lines more i d lt over p made seen variables passes = record {
+  made = made;
+  seen = seen;
+  over = subst (λ (n : ℕ). AreOver n more) (sym variables)
+      (passes (is_over old.variables) (λ part h. h (λ (l : Signed). nat_le 1 l.variable && nat_le l.variable old.variables) (each_at (is_over old.variables) given i d over lt)) p.over);
+  passes = passes (is_part_of given) (λ part h. part_of given i d part lt h) p.passes;
+}
+
+-- a test that the trimmed derivation has from the one it was made of
+pub over_made : (o : Option (List Line)) (n : ℕ) (lines : List Line) → AreOver n lines → IfSome o (λ new. (t : Clause → Bool) → EachPasses t lines → EachPasses t new) → IfSome o (AreOver n)
+over_made None n lines h p = tt
+over_made (Some new) n lines h p = p (is_over n) h
+
+-- the variables of clauses that are over so many
+pub stay_within : (n : ℕ) (clauses : List Clause) → list_all (is_over n) clauses ≡ true → All (λ (clause : Clause). All (λ (l : Signed). l.variable ≤ n) clause) clauses
+stay_within n clauses h i d lt = stays_within n (get_or clauses i d) (all_at (is_over n) clauses i d h lt)

@@ -1,0 +1,11 @@
+use Rattle.std.proofs.Common.{◌≡◌, true}
+use Rattle.simpler_proofs.specs.Made.{IsPassing, is_single}
+use Rattle.simpler_proofs.proofs.failed_literals.rounds.Given as goal
+
+abbrev pub invariant-loop : goal.invariant-loop
+invariant-loop l = record {
+  passing : IsPassing is_single l.clauses.clauses l.trail l.seen.items l.lines;
+  level : l.trail.level ≡ 0;
+  settled : l.trail.settled ≡ true;
+  variables : l.trail.variables ≡ l.variables;
+}

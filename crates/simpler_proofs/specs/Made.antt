@@ -1,0 +1,47 @@
+-- Derivations that are made in place of a given one.
+use Rattle.std.specs.Prelude.{◌≡◌, ◌+◌, ◌-◌, ◌<◌, ◌≤◌, ◌^◌, nat_le, ◌||◌, Bool, List, length, IsTrue, ◌⊎◌}
+use Rattle.std.specs.List.{list_all, list_any}
+use Rattle.cnf.specs.Sat.{Clause, contains}
+use Rattle.cnf.specs.Derived.{IsAccepted}
+use Rattle.cnf.specs.Fresh.{added_by, AreOver}
+use Rattle.cnf.specs.Trimmed.{is_empty_clause, is_trimmed}
+use Rattle.cnf.specs.declared.derivations.Line.{Line}
+use Rattle.lrat_check.specs.Ranges.{has_next}
+use Rattle.propagate.specs.TrailState.{TrailState, IsTrail}
+
+-- each clause that the lines add passes a test
+abbrev pub EachPasses : (Clause → Bool) → List Line → Type 0
+EachPasses test lines = IsTrue (list_all (λ l. test (added_by l.step)) lines)
+
+-- a clause has at most one literal
+abbrev pub is_single : Clause → Bool
+is_single clause = nat_le (length clause) 1
+
+-- a clause is empty, or part of one that the given lines add
+abbrev pub is_part_of : List Line → Clause → Bool
+is_part_of given clause = is_empty_clause clause || list_any (λ g. contains (added_by g.step) clause) given
+
+-- each clause has at most one literal, or each is empty or part of one that the given lines add
+abbrev pub AreSimpler : List Line → List Line → Type 0
+AreSimpler given lines = EachPasses is_single lines ⊎ EachPasses (is_part_of given) lines
+
+-- a derivation that is being made: the trail is over the clauses and those of the lines
+pub record IsMade (input : List Clause) (t : TrailState) (lines : List Line) : Type 0 where
+  pub form : IsTrail t
+  pub clauses : length t.clauses ≡ length input + length lines
+  pub few : length lines ≤ 1000000
+  pub numbers : IsTrue (list_all has_next lines)
+
+-- a refutation of the clauses in which each line and each hint is needed
+pub record IsProof (input : List Clause) (lines : List Line) : Type 0 where
+  pub trimmed : IsTrue (is_trimmed input lines)
+  pub accepted : IsAccepted input lines
+  pub few : length lines < 2 ^ 32 - 1
+  pub numbers : IsTrue (list_all has_next lines)
+
+-- such a derivation, each clause of which passes a test and has variables of the trail, beside marks for these
+pub record IsPassing (test : Clause → Bool) (input : List Clause) (t : TrailState) (marks : List Bool) (lines : List Line) : Type 0 where
+  pub made : IsMade input t lines
+  pub seen : length marks ≡ t.variables
+  pub over : AreOver t.variables lines
+  pub passes : EachPasses test lines
