@@ -8,7 +8,7 @@ ghost use Rattle.adopt.specs.Told.{IsTold};
 use core_reduce::{Reduced, Refutation, Witnesses};
 use lists::NoMemory;
 use outcomes::OutcomeKind;
-use retell::retell;
+use retell::retell_simply;
 use search_logs::Logs;
 use std::alloc::Global;
 use story::Story;
@@ -44,7 +44,7 @@ pub fn tell<K: OutcomeKind>(
         proof,
         witnesses,
     } = refutation;
-    let story = retell(alloc, kind, study, &core, &clauses, &proof)?;
+    let story = retell_simply(alloc, kind, study, &core, &clauses, &proof)?;
     Ok(Adopted {
         core,
         story,

@@ -5,8 +5,10 @@ mod cited;
 pub mod laws;
 mod marks;
 mod stories;
+mod telling;
 
 pub use stories::retell;
+pub use telling::retell_simply;
 
 #[cfg(test)]
 mod tests;

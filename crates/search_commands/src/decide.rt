@@ -19,7 +19,7 @@ use edge::{Gate, Shelf};
 use lists::NoMemory;
 use outcomes::{ChoiceKind, OutcomeKind, RankingKind, Setting};
 use profiles::Space;
-use retell::retell;
+use retell::retell_simply;
 use search_logs::Logs;
 use std::alloc::Global;
 use std::thread::Threads;
@@ -43,7 +43,7 @@ fn impossible<K: OutcomeKind>(
         proof,
         witnesses,
     } = refutation;
-    let story = retell(alloc, setting.kind, setting.study, &core, &clauses, &proof)?;
+    let story = retell_simply(alloc, setting.kind, setting.study, &core, &clauses, &proof)?;
     Ok(Verdict::Impossible {
         core,
         story,
