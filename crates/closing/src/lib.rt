@@ -1,0 +1,12 @@
+//! Formulas closed by values.
+#![tactic(auto)]
+
+mod atoms;
+mod formulas;
+pub mod laws;
+mod terms;
+
+pub use formulas::close;
+
+#[cfg(test)]
+mod tests;
