@@ -1,5 +1,5 @@
 -- Instances of the axioms of a study, and those that a story cites.
-use Rattle.std.specs.Prelude.{ℕ, Bool, false, ◌&&◌, ◌==◌, not, List, [], ◌∷◌, ◌++◌, map, filter, length, slice_get, Option, Some, None}
+use Rattle.std.specs.Prelude.{ℕ, Bool, false, ◌&&◌, ◌==◌, nat_lt, not, List, [], ◌∷◌, ◌++◌, map, filter, length, slice_get, Option, Some, None}
 use Rattle.std.specs.List.{flat_map, list_any}
 use Rattle.std.specs.Option.{option_map_or}
 use Rattle.vocab.specs.Limits.{bases_of, instance_count}
@@ -42,6 +42,10 @@ module _ (study : Question) where
   -- how many instances the axiom at a place has
   abbrev pub count_at : ℕ → ℕ
   count_at k = option_map_or (λ (a : Titled). instance_count study.size a.sentence) (slice_get study.axioms k) 0
+
+  -- there is such an instance
+  abbrev pub is_present : Cited → Bool
+  is_present c = nat_lt c.«axiom» (length study.axioms) && nat_lt c.number (count_at c.«axiom»)
 
   -- the values that an instance gives the leading universals of its axiom
   abbrev pub values_at : Cited → List ℕ
