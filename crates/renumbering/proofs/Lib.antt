@@ -1,0 +1,4 @@
+pub mod RenumberedLaws
+pub mod PlaceLemmas
+pub mod IdLaws
+pub mod LineLemmas

@@ -1,0 +1,3 @@
+-- In reading order.
+pub mod Renumbered
+pub mod Laws

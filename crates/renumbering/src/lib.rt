@@ -1,0 +1,10 @@
+//! A derivation carried over to another list of clauses, in which each clause that its hints name stands
+//! too.
+#![tactic(auto)]
+
+mod citing;
+pub mod laws;
+mod lines;
+mod places;
+
+pub use lines::renumber;
