@@ -7,4 +7,5 @@ pub mod laws;
 mod lines;
 mod places;
 
+pub use citing::flags_of;
 pub use lines::renumber;

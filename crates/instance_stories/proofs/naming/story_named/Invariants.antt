@@ -1,0 +1,6 @@
+use Rattle.std.proofs.Common.{◌≡◌, map, take}
+use Rattle.instance_stories.specs.Named.{lemma_named}
+use Rattle.instance_stories.proofs.naming.story_named.Given as goal
+
+abbrev pub invariant-loop-lemma : goal.invariant-loop-lemma
+invariant-loop-lemma l = l.named ≡ map (lemma_named l.study l.derived) (take l.lemma-index l.lemma-items)

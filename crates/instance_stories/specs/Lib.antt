@@ -1,0 +1,4 @@
+-- In reading order.
+pub mod Codes
+pub mod Named
+pub mod Laws
