@@ -1,0 +1,213 @@
+-- The clauses of instances stand among those of the study of these instances.
+use Rattle.std.proofs.Common.{◌≡◌, refl, sym, ◌∙◌, ap, ap₂, subst, ℕ, zero, suc, ◌+◌, ◌<◌, Bool, true, false, ◌⊎◌, inl, inr, List, [], ◌∷◌, ◌++◌, map, length, arith, Option, Some, None}
+use Rattle.std.specs.Prelude.{if◌then◌else◌, slice_get}
+use Rattle.std.specs.Cmp.Lexicographic.{pointwise}
+use Rattle.std.specs.List.{flat_map, list_any}
+use Rattle.std.specs.Option.{option_map_or}
+use Rattle.std.proofs.lemmas.Bool.{and_parts, or_cases}
+use Rattle.std.proofs.lemmas.Option.{slice_get_within}
+use Rattle.vocab.specs.declared.kinds.Sort.TheVariants.{Profile}
+use Rattle.vocab.specs.Limits.{instance_count}
+use Rattle.vocab.specs.Size.{sort_count}
+use Rattle.vocab.specs.Study.{Question}
+use Rattle.vocab.specs.Titled.{Titled}
+use Rattle.vocab.specs.Tree.{Tree}
+use Rattle.cnf.specs.Signed.{Signed}
+use Rattle.cnf.specs.Sat.{Clause, same_lit}
+use Rattle.cnf.proofs.LitLaws.{same_lit-equal}
+use Rattle.meaning.specs.declared.clauses.Origin.TheVariants.{Instance}
+use Rattle.meaning.specs.Clauses.{plus}
+use Rattle.meaning.specs.Instances.{instance_values}
+use Rattle.meaning.specs.Space.{up_from, below}
+use Rattle.meaning.specs.StudyClauses.{Sourced, firsts, clauses_of, instance_of, from_frame, from_instance, from_axiom, study_clauses}
+use Rattle.closing.specs.Closed.{closed_body}
+use Rattle.closing.proofs.SentenceLaws.{is_instance}
+use Rattle.verdicts.proofs.WordLaws.{IsIn}
+use Rattle.sharp_verdicts.specs.declared.instances.Cited.{Cited}
+use Rattle.sharp_verdicts.specs.Derived.{closed_at, axiom_of, axioms_from, instance_name}
+use Rattle.sharp_verdicts.specs.Instances.{values_at}
+use Rattle.instance_grounds.specs.Laws.{IsCovered, derived_clauses}
+
+-- ---- what is in a list
+
+pub in_append : {A : Type 0} (xs ys : List A) (a : A) → IsIn (xs ++ ys) a → IsIn xs a ⊎ IsIn ys a
+in_append [] ys a i = inr i
+in_append (x ∷ xs) ys a (inl e) = inl (inl e)
+in_append (x ∷ xs) ys a (inr i) = elim (in_append xs ys a i) [ inl h ↦ inl (inr h) | inr h ↦ inr h ]
+
+pub in_left : {A : Type 0} (xs ys : List A) (a : A) → IsIn xs a → IsIn (xs ++ ys) a
+in_left [] ys a i = absurd i
+in_left (x ∷ xs) ys a (inl e) = inl e
+in_left (x ∷ xs) ys a (inr i) = inr (in_left xs ys a i)
+
+pub in_right : {A : Type 0} (xs ys : List A) (a : A) → IsIn ys a → IsIn (xs ++ ys) a
+in_right [] ys a i = i
+in_right (x ∷ xs) ys a i = inr (in_right xs ys a i)
+
+pub in_flat_map : {A B : Type 0} (f : A → List B) (xs : List A) (b : B) → IsIn (flat_map f xs) b → (a : A) × IsIn xs a × IsIn (f a) b
+in_flat_map f [] b i = absurd i
+in_flat_map f (x ∷ xs) b i = elim (in_append (f x) (flat_map f xs) b i) [
+  | inl h ↦ (x, inl refl, h)
+  | inr h ↦ let r = in_flat_map f xs b h in (r.0, inr r.1, r.2)
+]
+
+pub flat_map_in : {A B : Type 0} (f : A → List B) (xs : List A) (a : A) (b : B) → IsIn xs a → IsIn (f a) b → IsIn (flat_map f xs) b
+flat_map_in f [] a b i j = absurd i
+flat_map_in f (x ∷ xs) a b (inl e) j = in_left (f x) (flat_map f xs) b (subst (λ y. IsIn (f y) b) (sym e) j)
+flat_map_in f (x ∷ xs) a b (inr i) j = in_right (f x) (flat_map f xs) b (flat_map_in f xs a b i j)
+
+pub in_map : {A B : Type 0} (f : A → B) (xs : List A) (b : B) → IsIn (map f xs) b → (a : A) × IsIn xs a × (f a ≡ b)
+in_map f [] b i = absurd i
+in_map f (x ∷ xs) b (inl e) = (x, inl refl, e)
+in_map f (x ∷ xs) b (inr i) = let r = in_map f xs b i in (r.0, inr r.1, r.2)
+
+pub map_in : {A B : Type 0} (f : A → B) (xs : List A) (a : A) → IsIn xs a → IsIn (map f xs) (f a)
+map_in f [] a i = absurd i
+map_in f (x ∷ xs) a (inl e) = inl (ap f e)
+map_in f (x ∷ xs) a (inr i) = inr (map_in f xs a i)
+
+in_from : (a n k : ℕ) → k < n → IsIn (up_from a n) (a + k)
+in_from a zero k lt = absurd (omega arith)
+in_from a (suc n) zero lt = inl (omega arith)
+in_from a (suc n) (suc k) lt = let over : suc a + k ≡ a + suc k = omega arith in inr (subst (IsIn (up_from (suc a) n)) over (in_from (suc a) n k (omega (arith, lt))))
+
+pub in_below : (n k : ℕ) → k < n → IsIn (below n) k
+in_below n k lt = let same : 0 + k ≡ k = omega arith in subst (IsIn (below n)) same (in_from 0 n k lt)
+
+-- what stands at a place is in the list, and what is in it stands at one
+pub in_at : {A : Type 0} (xs : List A) (j : ℕ) (a : A) → slice_get xs j ≡ Some a → IsIn xs a
+in_at [] j a e = absurd cc
+in_at (x ∷ xs) zero a e = inl cc
+in_at (x ∷ xs) (suc j) a e = inr (in_at xs j a e)
+
+pub at_in : {A : Type 0} (xs : List A) (a : A) → IsIn xs a → (j : ℕ) × (slice_get xs j ≡ Some a)
+at_in [] a i = absurd i
+at_in (x ∷ xs) a (inl e) = (0, ap Some e)
+at_in (x ∷ xs) a (inr i) = let r = at_in xs a i in (suc r.0, r.1)
+
+-- ---- of equal clauses the first
+
+same_clauses : (c d : Clause) → pointwise same_lit c d ≡ true → c ≡ d
+same_clauses [] [] h = refl
+same_clauses [] (y ∷ d) h = absurd cc
+same_clauses (x ∷ c) [] h = absurd cc
+same_clauses (x ∷ c) (y ∷ d) h =
+    let e = and_parts (same_lit x y) (pointwise same_lit c d) h in ap₂ (λ (l : Signed) (ls : Clause). l ∷ ls) (same_lit-equal x y e.0) (same_clauses c d e.1)
+
+-- a kept clause that is equal to this one
+abbrev HasClause : List Sourced → Clause → Type 0
+HasClause kept c = (t : Sourced) × IsIn kept t × (t.clause ≡ c)
+
+first_kept : (seen : List Clause) (ss : List Sourced) (s : Sourced) → IsIn ss s → HasClause (firsts seen ss) s.clause ⊎ (list_any (pointwise same_lit s.clause) seen ≡ true)
+first_kept seen [] s i = absurd i
+first_kept seen (x ∷ ss) s i = by (list_any (pointwise same_lit x.clause) seen) refl i (first_kept seen ss s) (first_kept (x.clause ∷ seen) ss s)
+  where
+    later : HasClause (firsts (x.clause ∷ seen) ss) s.clause ⊎ (list_any (pointwise same_lit s.clause) (x.clause ∷ seen) ≡ true)
+        → HasClause (x ∷ firsts (x.clause ∷ seen) ss) s.clause ⊎ (list_any (pointwise same_lit s.clause) seen ≡ true)
+    later (inl h) = inl (h.0, inr h.1, h.2)
+    later (inr h) = elim (or_cases (pointwise same_lit s.clause x.clause) (list_any (pointwise same_lit s.clause) seen) h) [
+      | inl e ↦ inl (x, inl refl, sym (same_clauses s.clause x.clause e))
+      | inr e ↦ inr e
+    ]
+
+    by : (b : Bool) → list_any (pointwise same_lit x.clause) seen ≡ b → (x ≡ s) ⊎ IsIn ss s
+        → (IsIn ss s → HasClause (firsts seen ss) s.clause ⊎ (list_any (pointwise same_lit s.clause) seen ≡ true))
+        → (IsIn ss s → HasClause (firsts (x.clause ∷ seen) ss) s.clause ⊎ (list_any (pointwise same_lit s.clause) (x.clause ∷ seen) ≡ true))
+        → HasClause (if b then firsts seen ss else x ∷ firsts (x.clause ∷ seen) ss) s.clause ⊎ (list_any (pointwise same_lit s.clause) seen ≡ true)
+    by true e (inl same) f g = inr (subst (λ (y : Sourced). list_any (pointwise same_lit y.clause) seen ≡ true) same e)
+    by true e (inr i) f g = f i
+    by false e (inl same) f g = inl (x, inl refl, ap (λ (y : Sourced). y.clause) same)
+    by false e (inr i) f g = later (g i)
+
+kept_first : (ss : List Sourced) (s : Sourced) → IsIn ss s → HasClause (firsts [] ss) s.clause
+kept_first ss s i = elim (first_kept [] ss s i) [ inl h ↦ h | inr h ↦ absurd cc ]
+
+in_firsts : (seen : List Clause) (ss : List Sourced) (s : Sourced) → IsIn (firsts seen ss) s → IsIn ss s
+in_firsts seen [] s i = absurd i
+in_firsts seen (x ∷ ss) s i = by (list_any (pointwise same_lit x.clause) seen) i (in_firsts seen ss s) (in_firsts (x.clause ∷ seen) ss s)
+  where
+    by : (b : Bool) → IsIn (if b then firsts seen ss else x ∷ firsts (x.clause ∷ seen) ss) s → (IsIn (firsts seen ss) s → IsIn ss s) → (IsIn (firsts (x.clause ∷ seen) ss) s → IsIn ss s) → (x ≡ s) ⊎ IsIn ss s
+    by true i f g = inr (f i)
+    by false (inl e) f g = inl e
+    by false (inr i) f g = inr (g i)
+
+-- ---- the clauses of a study
+
+module _ (study : Question) where
+  abbrev frames : List Sourced
+  frames = flat_map (from_frame study.size) (below (sort_count study.size Profile))
+
+  -- a clause of an instance of the axiom at a place
+  abbrev IsOfInstance : Sourced → ℕ → Titled → ℕ → Type 0
+  IsOfInstance s place a k = (s.origin ≡ Instance place k) × IsIn (clauses_of study.size (plus (instance_of study.size a.sentence k))) s.clause
+
+  of_instance : (s : Sourced) (place : ℕ) (a : Titled) (k : ℕ) → IsIn (from_instance study.size place a.sentence k) s → IsOfInstance s place a k
+  of_instance s place a k i =
+      let r = in_map (λ (c : Clause). record { clause = c; origin = Instance place k }) (clauses_of study.size (plus (instance_of study.size a.sentence k))) s i in (
+        ap (λ (t : Sourced). t.origin) (sym r.2),
+        subst (IsIn (clauses_of study.size (plus (instance_of study.size a.sentence k)))) (ap (λ (t : Sourced). t.clause) r.2) r.1,
+      )
+
+  of_axiom : (s : Sourced) (place : ℕ) (o : Option Titled) → slice_get study.axioms place ≡ o → IsIn (from_axiom study.size place o) s → (a : Titled) × (k : ℕ) × (slice_get study.axioms place ≡ Some a) × IsOfInstance s place a k
+  of_axiom s place None e i = absurd i
+  of_axiom s place (Some a) e i =
+      let here = in_firsts [] (flat_map (from_instance study.size place a.sentence) (below (instance_count study.size a.sentence))) s i in
+      let r = in_flat_map (from_instance study.size place a.sentence) (below (instance_count study.size a.sentence)) s here in
+      (a, r.0, e, of_instance s place a r.0 r.2)
+
+  get_from : (place : ℕ) (cs : List Cited) (i : ℕ) (c : Cited) → slice_get cs i ≡ Some c → slice_get (axioms_from study place cs) i ≡ Some (axiom_of study (place + i) c)
+  get_from place [] i c e = absurd cc
+  get_from place (d ∷ cs) zero c e = let same : d ≡ c = cc in let p : place ≡ place + 0 = omega arith in ap₂ (λ (q : ℕ) (x : Cited). Some (axiom_of study q x)) p same
+  get_from place (d ∷ cs) (suc i) c e =
+      let over : (place + 1) + i ≡ place + suc i = omega arith in
+      get_from (place + 1) cs i c e ∙ ap (λ (q : ℕ). Some (axiom_of study q c)) over
+
+  pub derived_get : (cs : List Cited) (i : ℕ) (c : Cited) → slice_get cs i ≡ Some c → slice_get (axioms_from study 0 cs) i ≡ Some (axiom_of study i c)
+  derived_get cs i c e = let same : 0 + i ≡ i = omega arith in get_from 0 cs i c e ∙ ap (λ (q : ℕ). Some (axiom_of study q c)) same
+
+  module _ (derived : List Cited) where
+    abbrev daxioms : List Titled
+    daxioms = axioms_from study 0 derived
+
+    -- the closed body of an instance, by the axiom at its place
+    pub closed_is : (place k : ℕ) (a : Titled) → slice_get study.axioms place ≡ Some a → closed_at (slice_get study.axioms place) (values_at study (record { «axiom» = place; number = k })) ≡ closed_body a (instance_values study.size a.sentence k)
+    closed_is place k a e = ap (λ (o : Option Titled). closed_at o (option_map_or (λ (b : Titled). instance_values study.size b.sentence k) o [])) e
+
+    has_closed : (i k : ℕ) (a : Titled) (closed : Tree) (name : List ℕ) (c : Clause) → closed ≡ closed_body a (instance_values study.size a.sentence k) → IsIn (clauses_of study.size (plus (instance_of study.size a.sentence k))) c
+        → HasClause (from_axiom study.size i (Some (record { name = name; sentence = closed }))) c
+    has_closed i k a closed name c is in_c =
+        let values = instance_values study.size a.sentence k in
+        let one = is_instance study.size a k in
+        let clauses : clauses_of study.size (plus (instance_of study.size closed 0)) ≡ clauses_of study.size (plus (instance_of study.size a.sentence k)) = ap (λ (f : Tree). clauses_of study.size (plus (instance_of study.size f 0))) is ∙ one.clauses in
+        let count : instance_count study.size closed ≡ 1 = ap (instance_count study.size) is ∙ one.one in
+        let there : IsIn (from_instance study.size i closed 0) (record { clause = c; origin = Instance i 0 }) = map_in (λ (d : Clause). record { clause = d; origin = Instance i 0 }) (clauses_of study.size (plus (instance_of study.size closed 0))) c (subst (λ (ds : List Clause). IsIn ds c) (sym clauses) in_c) in
+        kept_first (flat_map (from_instance study.size i closed) (below (instance_count study.size closed))) (record { clause = c; origin = Instance i 0 })
+        (flat_map_in (from_instance study.size i closed) (below (instance_count study.size closed)) 0 (record { clause = c; origin = Instance i 0 }) (in_below (instance_count study.size closed) 0 (omega (arith, count))) there)
+
+    instance_stands : (s : Sourced) (place : ℕ) (a : Titled) (k : ℕ) → slice_get study.axioms place ≡ Some a → IsOfInstance s place a k → IsCovered derived s.origin
+        → HasClause (study_clauses study.size daxioms (below (length derived))) s.clause
+    instance_stands s place a k e of covered =
+        let c : Cited = record { «axiom» = place; number = k } in
+        let at = subst (IsCovered derived) of.0 covered in
+        let kept = has_closed at.0 k a (axiom_of study at.0 c).sentence (instance_name at.0) s.clause (closed_is place k a e) of.1 in
+        let here : IsIn (from_axiom study.size at.0 (slice_get daxioms at.0)) kept.0 = subst (λ (o : Option Titled). IsIn (from_axiom study.size at.0 o) kept.0) (sym (derived_get derived at.0 c at.1)) kept.1 in (
+          kept.0,
+          in_right frames _ kept.0 (flat_map_in (λ p. from_axiom study.size p (slice_get daxioms p)) (below (length derived)) at.0 kept.0 (in_below (length derived) at.0 (slice_get_within derived at.0 c at.1)) here),
+          kept.2,
+        )
+
+    source_stands : (core : List ℕ) (s : Sourced) → IsIn (study_clauses study.size study.axioms core) s → IsCovered derived s.origin → HasClause (study_clauses study.size daxioms (below (length derived))) s.clause
+    source_stands core s i covered = elim (in_append frames (flat_map (λ p. from_axiom study.size p (slice_get study.axioms p)) core) s i) [
+      | inl h ↦ (s, in_left frames _ s h, refl)
+      | inr h ↦
+          let r = in_flat_map (λ p. from_axiom study.size p (slice_get study.axioms p)) core s h in
+          let o = of_axiom s r.0 (slice_get study.axioms r.0) refl r.2 in
+          instance_stands s r.0 o.0 o.1 o.2 o.3 covered
+    ]
+
+pub clauses_stand : (study : Question) (core : List ℕ) (derived : List Cited) (j : ℕ) (s : Sourced) → slice_get (study_clauses study.size study.axioms core) j ≡ Some s → IsCovered derived s.origin
+    → (place : ℕ) × (slice_get (derived_clauses study derived) place ≡ Some s.clause)
+clauses_stand study core derived j s e covered =
+    let has = source_stands study derived core s (in_at (study_clauses study.size study.axioms core) j s e) covered in
+    at_in (derived_clauses study derived) s.clause
+    (subst (IsIn (derived_clauses study derived)) has.2 (map_in (λ (t : Sourced). t.clause) (study_clauses study.size (axioms_from study 0 derived) (below (length derived))) has.0 has.1))
