@@ -40,10 +40,11 @@ use Rattle.sharp_verdicts.specs.declared.instances.Cited.{Cited}
 use Rattle.sharp_verdicts.specs.Derived.{axiom_of, axioms_from, derived_study}
 use Rattle.sharp_verdicts.specs.Instances.{count_at, is_present, all_instances}
 use Rattle.instance_studies.proofs.StudyLaws.{all_get, length_from}
-use Rattle.instance_stories.specs.Codes.{code_of, AreRising}
-use Rattle.instance_stories.proofs.AllInstances.{cited_of, decoded, AreSmall, all_rise, all_small, all_have, counts_few, present_small, sum_within}
+use Rattle.instance_stories.specs.Codes.{code_of, AreRising, AreSmall}
+use Rattle.instance_stories.proofs.AllInstances.{cited_of, decoded, all_rise, all_small, all_have, counts_few, present_small, sum_within}
 use Rattle.instance_grounds.specs.Conditions.{counts_of_instance, IsWithinTotal}
-use Rattle.instance_grounds.proofs.StandLaws.{in_below, derived_get, closed_is}
+use Rattle.instance_stories.proofs.Members.{in_below}
+use Rattle.instance_grounds.proofs.StandLaws.{derived_get, closed_is}
 use Rattle.grounding.specs.Rising.{has}
 
 -- ---- nothing found

@@ -26,64 +26,8 @@ use Rattle.verdicts.proofs.WordLaws.{IsIn}
 use Rattle.sharp_verdicts.specs.declared.instances.Cited.{Cited}
 use Rattle.sharp_verdicts.specs.Derived.{closed_at, axiom_of, axioms_from, instance_name}
 use Rattle.sharp_verdicts.specs.Instances.{values_at}
+use Rattle.instance_stories.proofs.Members.{in_append, in_left, in_right, in_flat_map, flat_map_in, in_map, map_in, in_below, in_at, at_in}
 use Rattle.instance_grounds.specs.Laws.{IsCovered, derived_clauses}
-
--- ---- what is in a list
-
-pub in_append : {A : Type 0} (xs ys : List A) (a : A) → IsIn (xs ++ ys) a → IsIn xs a ⊎ IsIn ys a
-in_append [] ys a i = inr i
-in_append (x ∷ xs) ys a (inl e) = inl (inl e)
-in_append (x ∷ xs) ys a (inr i) = elim (in_append xs ys a i) [ inl h ↦ inl (inr h) | inr h ↦ inr h ]
-
-pub in_left : {A : Type 0} (xs ys : List A) (a : A) → IsIn xs a → IsIn (xs ++ ys) a
-in_left [] ys a i = absurd i
-in_left (x ∷ xs) ys a (inl e) = inl e
-in_left (x ∷ xs) ys a (inr i) = inr (in_left xs ys a i)
-
-pub in_right : {A : Type 0} (xs ys : List A) (a : A) → IsIn ys a → IsIn (xs ++ ys) a
-in_right [] ys a i = i
-in_right (x ∷ xs) ys a i = inr (in_right xs ys a i)
-
-pub in_flat_map : {A B : Type 0} (f : A → List B) (xs : List A) (b : B) → IsIn (flat_map f xs) b → (a : A) × IsIn xs a × IsIn (f a) b
-in_flat_map f [] b i = absurd i
-in_flat_map f (x ∷ xs) b i = elim (in_append (f x) (flat_map f xs) b i) [
-  | inl h ↦ (x, inl refl, h)
-  | inr h ↦ let r = in_flat_map f xs b h in (r.0, inr r.1, r.2)
-]
-
-pub flat_map_in : {A B : Type 0} (f : A → List B) (xs : List A) (a : A) (b : B) → IsIn xs a → IsIn (f a) b → IsIn (flat_map f xs) b
-flat_map_in f [] a b i j = absurd i
-flat_map_in f (x ∷ xs) a b (inl e) j = in_left (f x) (flat_map f xs) b (subst (λ y. IsIn (f y) b) (sym e) j)
-flat_map_in f (x ∷ xs) a b (inr i) j = in_right (f x) (flat_map f xs) b (flat_map_in f xs a b i j)
-
-pub in_map : {A B : Type 0} (f : A → B) (xs : List A) (b : B) → IsIn (map f xs) b → (a : A) × IsIn xs a × (f a ≡ b)
-in_map f [] b i = absurd i
-in_map f (x ∷ xs) b (inl e) = (x, inl refl, e)
-in_map f (x ∷ xs) b (inr i) = let r = in_map f xs b i in (r.0, inr r.1, r.2)
-
-pub map_in : {A B : Type 0} (f : A → B) (xs : List A) (a : A) → IsIn xs a → IsIn (map f xs) (f a)
-map_in f [] a i = absurd i
-map_in f (x ∷ xs) a (inl e) = inl (ap f e)
-map_in f (x ∷ xs) a (inr i) = inr (map_in f xs a i)
-
-in_from : (a n k : ℕ) → k < n → IsIn (up_from a n) (a + k)
-in_from a zero k lt = absurd (omega arith)
-in_from a (suc n) zero lt = inl (omega arith)
-in_from a (suc n) (suc k) lt = let over : suc a + k ≡ a + suc k = omega arith in inr (subst (IsIn (up_from (suc a) n)) over (in_from (suc a) n k (omega (arith, lt))))
-
-pub in_below : (n k : ℕ) → k < n → IsIn (below n) k
-in_below n k lt = let same : 0 + k ≡ k = omega arith in subst (IsIn (below n)) same (in_from 0 n k lt)
-
--- what stands at a place is in the list, and what is in it stands at one
-pub in_at : {A : Type 0} (xs : List A) (j : ℕ) (a : A) → slice_get xs j ≡ Some a → IsIn xs a
-in_at [] j a e = absurd cc
-in_at (x ∷ xs) zero a e = inl cc
-in_at (x ∷ xs) (suc j) a e = inr (in_at xs j a e)
-
-pub at_in : {A : Type 0} (xs : List A) (a : A) → IsIn xs a → (j : ℕ) × (slice_get xs j ≡ Some a)
-at_in [] a i = absurd i
-at_in (x ∷ xs) a (inl e) = (0, ap Some e)
-at_in (x ∷ xs) a (inr i) = let r = at_in xs a i in (suc r.0, r.1)
 
 -- ---- of equal clauses the first
 

@@ -16,7 +16,7 @@ use Rattle.grounding.proofs.RisingLaws.{above_not, first_there, rising_same}
 use Rattle.retell.proofs.CitedLaws.{limit_at}
 use Rattle.sharp_verdicts.specs.declared.instances.Cited.{Cited}
 use Rattle.sharp_verdicts.specs.Instances.{count_at, is_present, all_instances}
-use Rattle.instance_stories.specs.Codes.{code_of, AreRising}
+use Rattle.instance_stories.specs.Codes.{code_of, AreRising, AreSmall}
 
 -- ---- numbers and instances
 
@@ -31,11 +31,6 @@ decoded c lt =
     let r = mod-mul-add (c.«axiom» + 1) 4294967296 c.number lt in
     let k : code_of c / 4294967296 - 1 ≡ c.«axiom» = ap (λ (n : ℕ). n - 1) q ∙ omega arith in
     λ i. record { «axiom» = k i; number = r i }
-
--- each instance of a list is small
-abbrev pub AreSmall : List Cited → Type 0
-AreSmall [] = Unit {0}
-AreSmall (c ∷ cs) = (c.number < 4294967296) × AreSmall cs
 
 pub all_decoded : (cs : List Cited) → AreSmall cs → map cited_of (map code_of cs) ≡ cs
 all_decoded [] h = refl
@@ -99,7 +94,7 @@ block_small : (k from n : ℕ) → from + n ≤ 4294967296 → AreSmall (map (at
 block_small k from zero le = tt
 block_small k from (suc n) le = (omega (arith, le), block_small k (suc from) n (omega (arith, le)))
 
-small_join : (xs ys : List Cited) → AreSmall xs → AreSmall ys → AreSmall (xs ++ ys)
+pub small_join : (xs ys : List Cited) → AreSmall xs → AreSmall ys → AreSmall (xs ++ ys)
 small_join [] ys h k = k
 small_join (x ∷ xs) ys h k = (h.0, small_join xs ys h.1 k)
 

@@ -1,5 +1,5 @@
 -- Instances as numbers, by axiom and then by number: the numbers of their origins.
-use Rattle.std.specs.Prelude.{ℕ, ◌+◌, ◌*◌, ◌<◌, List, map}
+use Rattle.std.specs.Prelude.{ℕ, ◌+◌, ◌*◌, ◌<◌, List, [], ◌∷◌, map}
 use Rattle.sharp_verdicts.specs.declared.instances.Cited.{Cited}
 use Rattle.grounding.specs.Rising.{IsAbove}
 
@@ -11,6 +11,7 @@ code_of c = (c.«axiom» + 1) * 4294967296 + c.number
 abbrev pub AreRising : List Cited → Type 0
 AreRising instances = IsAbove 0 (map code_of instances)
 
--- an instance fits its number
-abbrev pub IsSmall : Cited → Type 0
-IsSmall c = (c.«axiom» < 4000000) × (c.number < 4294967296)
+-- the number of each instance leaves room for its axiom
+abbrev pub AreSmall : List Cited → Type 0
+AreSmall [] = Unit {0}
+AreSmall (c ∷ instances) = (c.number < 4294967296) × AreSmall instances

@@ -3,7 +3,7 @@
 ghost use Rattle.std.specs.Prelude.{◌≡◌, ◌<◌, ◌≤◌, ℕ, All, IfOk, map};
 ghost use Rattle.std.specs.List.Sorted.{IsNonDecreasing};
 ghost use Rattle.grounding.specs.Rising.{IsAbove, has};
-ghost use Rattle.instance_stories.specs.Codes.{code_of, AreRising};
+ghost use Rattle.instance_stories.specs.Codes.{code_of, AreRising, AreSmall};
 
 use lists::{Items, NoMemory};
 use sharp_verdicts::{Cited, Instances};
@@ -24,7 +24,8 @@ pub fn code_of(cited: Cited) -> u64
 /// The instance of a number.
 fn instance_of(code: u64) -> Cited
     requires { 4294967296 ≤ code }
-    ensures { code_of result ≡ code }
+    ensures code { code_of result ≡ code }
+    ensures small { result.number < 4294967296 }
 {
     Cited {
         axiom: (code / BLOCK - 1) as u32,
@@ -37,6 +38,7 @@ fn merged(alloc: Global, codes: &[u64]) -> Result<Instances, NoMemory>
     requires falls { IsNonDecreasing codes.now }
     requires some { All (λ n. 4294967296 ≤ n) codes.now }
     ensures rising { IfOk result AreRising }
+    ensures small { IfOk result AreSmall }
     ensures has { IfOk result
         (λ instances. (k : ℕ) → has (map code_of instances) k ≡ has codes.now k) }
 {
@@ -56,6 +58,7 @@ fn merged(alloc: Global, codes: &[u64]) -> Result<Instances, NoMemory>
 pub fn rising(alloc: Global, codes: &mut Vec<u64>) -> Result<Instances, NoMemory>
     requires some { All (λ n. 4294967296 ≤ n) codes.old.items }
     ensures rising { IfOk result AreRising }
+    ensures small { IfOk result AreSmall }
     ensures has { IfOk result
         (λ instances. (k : ℕ) → has (map code_of instances) k ≡ has codes.old.items k) }
 {

@@ -1,7 +1,10 @@
 use Rattle.std.proofs.Common.{map}
 use Rattle.grounding.proofs.MergedLaws.{IsMerged}
-use Rattle.instance_stories.specs.Codes.{code_of}
+use Rattle.instance_stories.specs.Codes.{code_of, AreSmall}
 use Rattle.instance_stories.proofs.codes.merged.Given as goal
 
 abbrev pub invariant-loop-i : goal.invariant-loop-i
-invariant-loop-i l = IsMerged l.codes (map code_of l.instances) l.last l.i
+invariant-loop-i l = record {
+  merged : IsMerged l.codes (map code_of l.instances) l.last l.i;
+  small : AreSmall l.instances;
+}
