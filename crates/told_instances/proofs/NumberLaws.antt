@@ -16,8 +16,8 @@ use Rattle.meaning.proofs.DigitLaws.{are_one_to_one}
 use Rattle.meaning.specs.declared.stories.Reason.TheVariants.{Axiom as ByAxiom}
 use Rattle.retell.proofs.CitedLaws.{limit_at}
 use Rattle.verdicts.specs.Lines.{sorts_of}
-use Rattle.verdicts.specs.Report.{is_reason}
 use Rattle.sharp_verdicts.specs.Instances.{number_at}
+use Rattle.told_instances.specs.Told.{names_instance}
 use Rattle.told_instances.specs.Numbered.{number_from, IsNumbered}
 
 -- the numbers on the way fit, and the last is that of the values
@@ -69,7 +69,7 @@ pub record HasReason (study : Question) (k : ℕ) (values : List ℕ) (f : Tree)
   pub is : number_from study.size f values 0 ≡ number_at study k values
   pub small : number_from study.size f values 0 < 40000000
 
-pub has_reason : (study : Question) (k : ℕ) (values : List ℕ) (a : Titled) (f : Tree) → IsStudy study → is_reason study (ByAxiom k values) ≡ true → slice_get study.axioms k ≡ Some a → f ≡ a.sentence → HasReason study k values f
+pub has_reason : (study : Question) (k : ℕ) (values : List ℕ) (a : Titled) (f : Tree) → IsStudy study → names_instance study (ByAxiom k values) ≡ true → slice_get study.axioms k ≡ Some a → f ≡ a.sentence → HasReason study k values f
 has_reason study k values a f taken h e same =
     let r = and_parts (nat_lt k (length study.axioms)) (pointwise nat_lt values (map (sort_count study.size) (sorts_of (slice_get study.axioms k)))) h in
     let fit : pointwise nat_lt values (bases_of study.size a.sentence) ≡ true = subst (λ o. pointwise nat_lt values (map (sort_count study.size) (sorts_of o)) ≡ true) e r.1 in

@@ -21,7 +21,6 @@ use Rattle.meaning.specs.Space.{below, number_of}
 use Rattle.meaning.proofs.DigitLaws.{are_one_to_one}
 use Rattle.meaning.proofs.InstanceLaws.{same_tests}
 use Rattle.verdicts.specs.Lines.{sorts_of}
-use Rattle.verdicts.specs.Report.{is_reason}
 use Rattle.verdicts.proofs.WordLaws.{IsIn}
 use Rattle.grounding.specs.Rising.{has}
 use Rattle.sharp_verdicts.specs.declared.instances.Cited.{Cited}
@@ -29,7 +28,7 @@ use Rattle.sharp_verdicts.specs.Instances.{cites_axiom, reasons_of, count_at, nu
 use Rattle.instance_stories.specs.Codes.{code_of, AreRising, AreSmall}
 use Rattle.instance_stories.proofs.AllInstances.{has-append, all_rise, all_small, filter_rises, filter_small, counts_few, rising_lists}
 use Rattle.instance_stories.proofs.Members.{map_in, flat_map_in, in_below, in_filter, filter_in}
-use Rattle.told_instances.specs.Told.{codes_in, codes_by, codes_told, has_reasons}
+use Rattle.told_instances.specs.Told.{codes_in, codes_by, codes_told, names_instance, has_reasons}
 
 -- ---- numbers that are in a list
 
@@ -102,7 +101,7 @@ module _ (study : Question) where
   present_by k values (Some a) e h lt =
       lt-ltb (number_of (bases_of study.size a.sentence) values) (instance_count study.size a.sentence) ((are_one_to_one (bases_of study.size a.sentence)).number values h)
 
-  reason_present : (k : ℕ) (values : List ℕ) → is_reason study (ByAxiom k values) ≡ true → is_present study (cited_at k values) ≡ true
+  reason_present : (k : ℕ) (values : List ℕ) → names_instance study (ByAxiom k values) ≡ true → is_present study (cited_at k values) ≡ true
   reason_present k values h =
       let e = and_parts (nat_lt k (length study.axioms)) (pointwise nat_lt values (map (sort_count study.size) (sorts_of (slice_get study.axioms k)))) h in
       and_from _ _ e.0 (present_by k values (slice_get study.axioms k) refl e.1 e.0)
@@ -111,7 +110,7 @@ module _ (study : Question) where
   abbrev IsBy : Reason → ℕ → Type 0
   IsBy r n = (c : Cited) × (is_present study c ≡ true) × (cites study c r ≡ true) × (code_of c ≡ n)
 
-  code_reason : (r : Reason) (n : ℕ) → has (codes_in study r) n ≡ true → is_reason study r ≡ true → IsBy r n
+  code_reason : (r : Reason) (n : ℕ) → has (codes_in study r) n ≡ true → names_instance study r ≡ true → IsBy r n
   code_reason (ByAxiom k values) n h is =
       elim (or_cases (nat_eq n (code_of (cited_at k values))) false h) [
         | inl e ↦ (cited_at k values, reason_present k values is, and_from _ _ (eq-eqb k k refl) (eq-eqb (number_at study k values) (number_at study k values) refl), sym (eqb-true n (code_of (cited_at k values)) e))
@@ -122,8 +121,8 @@ module _ (study : Question) where
 
   code_told : (story : List Lemma) (n : ℕ) → has (codes_told study story) n ≡ true → has_reasons study story ≡ true → (c : Cited) × (is_present study c ≡ true) × (is_told study story c ≡ true) × (code_of c ≡ n)
   code_told story n h range =
-      let l = any_found (λ (lemma : Lemma). has (codes_by study (reasons_of lemma)) n) (λ (lemma : Lemma). list_all (is_reason study) (reasons_of lemma)) story (sym (has_flat (λ (lemma : Lemma). codes_by study (reasons_of lemma)) story n) ∙ h) range in
-      let r = any_found (λ r. has (codes_in study r) n) (is_reason study) (reasons_of l.0) (sym (has_flat (codes_in study) (reasons_of l.0) n) ∙ l.2) l.3 in
+      let l = any_found (λ (lemma : Lemma). has (codes_by study (reasons_of lemma)) n) (λ (lemma : Lemma). list_all (names_instance study) (reasons_of lemma)) story (sym (has_flat (λ (lemma : Lemma). codes_by study (reasons_of lemma)) story n) ∙ h) range in
+      let r = any_found (λ r. has (codes_in study r) n) (names_instance study) (reasons_of l.0) (sym (has_flat (codes_in study) (reasons_of l.0) n) ∙ l.2) l.3 in
       let c = code_reason r.0 n r.2 r.3 in
       (c.0, c.1, any_in (λ (lemma : Lemma). list_any (cites study c.0) (reasons_of lemma)) story l.0 l.1 (any_in (cites study c.0) (reasons_of l.0) r.0 r.1 c.2), c.3)
 
@@ -192,5 +191,5 @@ steps_only : (t : Reason → Bool) (steps : List StoryStep) (more : List Reason)
 steps_only t [] more h = refl
 steps_only t (s ∷ steps) more h = let e = and_parts (t s.reason) (list_all t (map (λ (step : StoryStep). step.reason) steps ++ more)) h in and_from _ _ e.0 (steps_only t steps more e.1)
 
-pub steps_reasons : (study : Question) (lemma : Lemma) → list_all (is_reason study) (reasons_of lemma) ≡ true → list_all (λ (step : StoryStep). is_reason study step.reason) lemma.steps ≡ true
-steps_reasons study lemma h = steps_only (is_reason study) lemma.steps (lemma.last ∷ []) h
+pub steps_reasons : (study : Question) (lemma : Lemma) → list_all (names_instance study) (reasons_of lemma) ≡ true → list_all (λ (step : StoryStep). names_instance study step.reason) lemma.steps ≡ true
+steps_reasons study lemma h = steps_only (names_instance study) lemma.steps (lemma.last ∷ []) h

@@ -1,11 +1,13 @@
 -- The numbers of the instances that a story cites, in the order of the story.
-use Rattle.std.specs.Prelude.{ℕ, Bool, List, [], ◌∷◌}
+use Rattle.std.specs.Prelude.{ℕ, Bool, true, ◌&&◌, nat_lt, List, [], ◌∷◌, map, length, slice_get}
+use Rattle.std.specs.Cmp.Lexicographic.{pointwise}
 use Rattle.std.specs.List.{flat_map, list_all}
 use Rattle.vocab.specs.Study.{Question}
 use Rattle.meaning.specs.declared.stories.Reason.{Reason}
 use Rattle.meaning.specs.declared.stories.Reason.TheVariants.{Axiom as ByAxiom, Outcome as ByOutcome, Lemma as ByLemma}
 use Rattle.meaning.specs.declared.stories.Lemma.{Lemma}
-use Rattle.verdicts.specs.Report.{is_reason}
+use Rattle.vocab.specs.Size.{sort_count}
+use Rattle.verdicts.specs.Lines.{sorts_of}
 use Rattle.sharp_verdicts.specs.Instances.{reasons_of, number_at}
 use Rattle.instance_stories.specs.Codes.{code_of}
 
@@ -24,6 +26,12 @@ module _ (study : Question) where
   abbrev pub codes_told : List Lemma → List ℕ
   codes_told story = flat_map (λ lemma. codes_by (reasons_of lemma)) story
 
-  -- the reasons of a story name what there is
+  -- where a reason is by an axiom, it names one of the study, with one value in range for each leading universal
+  abbrev pub names_instance : Reason → Bool
+  names_instance (ByAxiom k values) = nat_lt k (length study.axioms) && pointwise nat_lt values (map (sort_count study.size) (sorts_of (slice_get study.axioms k)))
+  names_instance (ByOutcome p) = true
+  names_instance (ByLemma j) = true
+
+  -- so do the reasons of a story
   abbrev pub has_reasons : List Lemma → Bool
-  has_reasons story = list_all (λ lemma. list_all (is_reason study) (reasons_of lemma)) story
+  has_reasons story = list_all (λ lemma. list_all names_instance (reasons_of lemma)) story

@@ -2,9 +2,8 @@
 
 ghost use Rattle.std.specs.Prelude.{◌≡◌, [], ◌∷◌, MatchOption, IsTrue};
 ghost use Rattle.vocab.specs.Tree.{tree_of};
-ghost use Rattle.verdicts.specs.Report.{is_reason};
 ghost use Rattle.told_instances.specs.Numbered.{number_from, IsNumbered};
-ghost use Rattle.told_instances.specs.Told.{codes_in};
+ghost use Rattle.told_instances.specs.Told.{codes_in, names_instance};
 
 use instance_stories::code_of;
 use meaning::Reason;
@@ -33,7 +32,7 @@ fn number_from(space: &Space, formula: &Formula, values: &Env, level: u8) -> u64
 /// The number of the instance that a reason cites, if it cites one. The reason names what there is.
 pub fn code_of_reason(space: &Space, study: &Study, reason: &Reason) -> Option<u64>
     requires size { study.now.size ≡ space.now }
-    requires reason { IsTrue (is_reason study.now reason.now) }
+    requires reason { IsTrue (names_instance study.now reason.now) }
     ensures { MatchOption result
         (codes_in study.now reason.now ≡ [])
         (λ code. codes_in study.now reason.now ≡ code ∷ []) }

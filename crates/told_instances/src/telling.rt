@@ -2,10 +2,9 @@
 
 ghost use Rattle.std.specs.Prelude.{◌≡◌, ◌≤◌, ◌++◌, All, map, IfOk, OnOk, IsTrue};
 ghost use Rattle.std.specs.List.{list_all};
-ghost use Rattle.verdicts.specs.Report.{is_reason};
 ghost use Rattle.std.specs.List.{list_any};
 ghost use Rattle.sharp_verdicts.specs.Instances.{cites_axiom, is_axiom_told, reasons_of, instances_of, core_of};
-ghost use Rattle.told_instances.specs.Told.{codes_in, codes_by, codes_told, has_reasons};
+ghost use Rattle.told_instances.specs.Told.{codes_in, codes_by, codes_told, names_instance, has_reasons};
 
 use crate::numbers::code_of_reason;
 use instance_stories::rising;
@@ -24,7 +23,7 @@ fn push_reason(
     codes: &mut Vec<u64>,
 ) -> Result<(), NoMemory>
     requires size { study.now.size ≡ space.now }
-    requires reason { IsTrue (is_reason study.now reason.now) }
+    requires reason { IsTrue (names_instance study.now reason.now) }
     ensures { OnOk result (codes.new.items ≡ codes.old.items ++ codes_in study.now reason.now) }
 {
     if let Some(code) = code_of_reason(space, study, reason) {
@@ -41,7 +40,7 @@ fn push_steps(
     codes: &mut Vec<u64>,
 ) -> Result<(), NoMemory>
     requires size { study.now.size ≡ space.now }
-    requires reasons { IsTrue (list_all (λ step. is_reason study.now step.reason) steps.now) }
+    requires reasons { IsTrue (list_all (λ step. names_instance study.now step.reason) steps.now) }
     ensures { OnOk result
         (codes.new.items ≡ codes.old.items ++ codes_by study.now (map (λ step. step.reason) steps.now)) }
 {
