@@ -1,0 +1,2 @@
+pub mod CitingLaws
+pub mod ReducingLaws
