@@ -1,5 +1,5 @@
 -- The instances whose clauses a proof names.
-use Rattle.std.proofs.Common.{◌≡◌, refl, sym, ◌∙◌, ap, ap₂, subst, ℕ, zero, suc, ◌+◌, ◌*◌, ◌<◌, ◌≤◌, Bool, true, false, ◌||◌, nat_eq, inl, inr, ◌⊎◌, List, [], ◌∷◌, ◌++◌, map, length, arith, Option, Some, None, true≢false, eq-eqb, eqb-true, lt-ltb, ltb-true}
+use Rattle.std.proofs.Common.{◌≡◌, refl, sym, ◌∙◌, ap, ap₂, subst, ℕ, zero, suc, ◌+◌, ◌*◌, ◌<◌, ◌≤◌, Bool, true, false, ◌||◌, nat_eq, inl, inr, ◌⊎◌, List, [], ◌∷◌, ◌++◌, map, length, length-append, arith, Option, Some, None, true≢false, eq-eqb, eqb-true, lt-ltb, ltb-true}
 use Rattle.std.specs.Prelude.{nat_lt, slice_get, slice_index_or}
 use Rattle.std.specs.List.{list_all}
 use Rattle.std.specs.Option.{option_map_or}
@@ -73,7 +73,7 @@ has_new xs x = has-append xs (x ∷ []) x ∙ or_right (has xs x) (nat_eq x x ||
 module _ (study : Question) (sources : List Sourced) (flags : List Bool) where
   pub kept_same : (k : ℕ) (codes new : List ℕ) → AreCodes study sources flags k codes → new ≡ codes
       → ((s : Sourced) (a n : ℕ) → slice_get sources k ≡ Some s → s.origin ≡ Instance a n → slice_index_or flags k false ≡ true → ⊥) → AreCodes study sources flags (k + 1) new
-  kept_same k codes new kept same never = subst (AreCodes study sources flags (k + 1)) (sym same) (record { high = kept.high; present = kept.present; named = named })
+  kept_same k codes new kept same never = subst (AreCodes study sources flags (k + 1)) (sym same) (record { few = (let f = kept.few in omega (arith, f)); high = kept.high; present = kept.present; named = named })
     where
       named : (j : ℕ) (s : Sourced) (a n : ℕ) → j < k + 1 → slice_get sources j ≡ Some s → s.origin ≡ Instance a n → slice_index_or flags j false ≡ true → has codes (code_of (record { «axiom» = a; number = n })) ≡ true
       named j s a n lt e o f = elim (cases_lt j k) [
@@ -86,6 +86,7 @@ module _ (study : Question) (sources : List Sourced) (flags : List Bool) where
   pub kept_pushed : (k : ℕ) (codes new : List ℕ) (c : Cited) → AreCodes study sources flags k codes → new ≡ codes ++ code_of c ∷ []
       → is_present study c ≡ true → slice_get (origins_in sources) k ≡ Some (Instance c.«axiom» c.number) → AreCodes study sources flags (k + 1) new
   kept_pushed k codes new c kept same there at = subst (AreCodes study sources flags (k + 1)) (sym same) (record {
+    few = (let more = length-append codes (code_of c ∷ []) in let f = kept.few in omega (arith, more, f));
     high = All-push (λ n. 4294967296 ≤ n) codes (code_of c) kept.high (omega arith);
     present = λ n h. elim (split_has codes (code_of c) n h) [
       | inl e ↦ kept.present n e
@@ -138,10 +139,11 @@ module _ (study : Question) (taken : IsStudy study) where
       and_from _ _ (subst (λ (x : Cited). is_present study x ≡ true) same p.1)
       (all_present cs small.1 (λ k e. h k (or_right (nat_eq k (code_of c)) (has (map code_of cs) k) e)))
 
-  pub cited_made : (sources : List Sourced) (lines : List Line) (flags : List Bool) (codes : List ℕ) (instances : List Cited) → HaveInstances study.size study.axioms sources
+  pub cited_made : (sources : List Sourced) (lines : List Line) (flags : List Bool) (codes : List ℕ) (instances : List Cited) → length sources ≤ 4000000 → length instances ≤ length codes → HaveInstances study.size study.axioms sources
       → AreFlags (length sources) lines flags → AreCodes study sources flags (length sources) codes → AreRising instances → AreSmall instances
       → ((k : ℕ) → has (map code_of instances) k ≡ has codes k) → AreInstancesCited study sources lines instances
-  cited_made sources lines flags codes instances have flagged named rising small same = record {
+  cited_made sources lines flags codes instances few fewer have flagged named rising small same = record {
+    few = (let f = named.few in omega (arith, few, fewer, f));
     rising = rising;
     small = small;
     present = all_present instances small (λ k h. named.present k (sym (same k) ∙ h));

@@ -1,5 +1,5 @@
 -- The instances that a proof names, and a proof that is reduced over their study.
-use Rattle.std.specs.Prelude.{◌≡◌, ℕ, ◌<◌, ◌≤◌, suc, All, Bool, true, false, List, slice_get, slice_index_or, Some, IsTrue}
+use Rattle.std.specs.Prelude.{◌≡◌, length, ℕ, ◌<◌, ◌≤◌, suc, All, Bool, true, false, List, slice_get, slice_index_or, Some, IsTrue}
 use Rattle.std.specs.List.{list_all}
 use Rattle.vocab.specs.Study.{Question}
 use Rattle.cnf.specs.declared.derivations.Line.{Line}
@@ -21,12 +21,14 @@ HasPresent study n = (c : Cited) × (IsTrue (is_present study c)) × (code_of c 
 
 -- the numbers of the instances of which flagged clauses come, among the clauses up to a place
 pub record AreCodes (study : Question) (sources : List Sourced) (flags : List Bool) (upto : ℕ) (codes : List ℕ) : Type 0 where
+  pub few : length codes ≤ upto
   pub high : All (λ n. 4294967296 ≤ n) codes
   pub present : (n : ℕ) → IsTrue (has codes n) → HasPresent study n
   pub named : (j : ℕ) (s : Sourced) (a k : ℕ) → j < upto → slice_get sources j ≡ Some s → s.origin ≡ Instance a k → slice_index_or flags j false ≡ true → IsTrue (has codes (code_of (record { «axiom» = a; number = k })))
 
--- the instances of which a hint names a clause: they rise, are there, and cover each clause that a hint names
+-- the instances of which a hint names a clause: they are no more than a study may have axioms, rise, are there, and cover each clause that a hint names
 pub record AreInstancesCited (study : Question) (sources : List Sourced) (lines : List Line) (instances : List Cited) : Type 0 where
+  pub few : length instances ≤ 4000000
   pub rising : AreRising instances
   pub small : AreSmall instances
   pub present : IsTrue (list_all (is_present study) instances)

@@ -1,6 +1,6 @@
 //! Instances as numbers.
 
-ghost use Rattle.std.specs.Prelude.{◌≡◌, ◌<◌, ◌≤◌, ℕ, All, IfOk, map};
+ghost use Rattle.std.specs.Prelude.{◌≡◌, ◌<◌, ◌≤◌, ℕ, All, IfOk, length, map};
 ghost use Rattle.std.specs.List.Sorted.{IsNonDecreasing};
 ghost use Rattle.grounding.specs.Rising.{IsAbove, has};
 ghost use Rattle.instance_stories.specs.Codes.{code_of, AreRising, AreSmall};
@@ -41,6 +41,7 @@ fn merged(alloc: Global, codes: &[u64]) -> Result<Instances, NoMemory>
     ensures small { IfOk result AreSmall }
     ensures has { IfOk result
         (λ instances. (k : ℕ) → has (map code_of instances) k ≡ has codes.now k) }
+    ensures few { IfOk result (λ instances. length instances ≤ length codes.now) }
 {
     let mut instances = Items::new(alloc);
     let mut last = 0;
@@ -61,6 +62,7 @@ pub fn rising(alloc: Global, codes: &mut Vec<u64>) -> Result<Instances, NoMemory
     ensures small { IfOk result AreSmall }
     ensures has { IfOk result
         (λ instances. (k : ℕ) → has (map code_of instances) k ≡ has codes.old.items k) }
+    ensures few { IfOk result (λ instances. length instances ≤ length codes.old.items) }
 {
     codes.sort_unstable();
     let instances = merged(alloc, codes.as_slice())?;
