@@ -1,0 +1,3 @@
+pub mod ToldLaws
+pub mod MarkLaws
+pub mod SharpenedLaws

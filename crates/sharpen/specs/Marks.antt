@@ -1,0 +1,15 @@
+-- The marks of some of the instances of a core.
+use Rattle.std.specs.Prelude.{ℕ, List, [], ◌∷◌, get_or, if◌then◌else◌}
+use Rattle.meaning.specs.declared.cores.Witness.{Witness}
+use Rattle.sharp_verdicts.specs.declared.instances.Cited.{Cited}
+use Rattle.sharp_verdicts.specs.Instances.{has_instance}
+
+-- the instance that is the axiom at a place of a derived study
+abbrev pub instance_in : List Cited → ℕ → Cited
+instance_in derived k = get_or derived k (record { «axiom» = 0; number = 0 })
+
+-- of the marks of instances those of the instances of a list
+abbrev pub marks_kept : List Cited → List Cited → List Witness → List Witness
+marks_kept instances [] marks = []
+marks_kept instances (c ∷ cs) [] = []
+marks_kept instances (c ∷ cs) (m ∷ marks) = if has_instance instances c then m ∷ marks_kept instances cs marks else marks_kept instances cs marks

@@ -1,0 +1,60 @@
+//! The marks of the instances that a story cites.
+
+ghost use Rattle.std.specs.Prelude.{◌≡◌, length, map, All, IfOk, ◌<◌};
+ghost use Rattle.sharp_verdicts.specs.Instances.{has_instance};
+ghost use Rattle.sharpen.specs.Marks.{instance_in, marks_kept};
+
+use lists::{Items, NoMemory};
+use meaning::{Witness, Witnesses};
+use sharp_verdicts::{Cited, Instances};
+use std::alloc::Global;
+use vocab::Places;
+
+/// A copy of a mark.
+fn copied(alloc: Global, mark: &Witness) -> Result<Witness, NoMemory>
+    ensures { IfOk result (λ copy. copy ≡ mark.now) }
+{
+    match mark {
+        Witness::Rule(table) => {
+            let mut copy = Items::with_room(alloc, table.len())?;
+            copy.append(table.as_slice())?;
+            Ok(Witness::Rule(copy))
+        }
+        Witness::Open(limit) => Ok(Witness::Open(*limit)),
+    }
+}
+
+/// An instance is in a list.
+fn is_among(instances: &Instances, cited: Cited) -> bool
+    ensures { result ≡ has_instance instances.now cited }
+{
+    for instance in instances.as_slice() {
+        if cited == *instance {
+            return true;
+        }
+    }
+    false
+}
+
+/// Of the marks of the instances of a core those of some instances.
+pub fn marks_of(
+    alloc: Global,
+    derived: &Instances,
+    core: &Places,
+    witnesses: &Witnesses,
+    instances: &Instances,
+) -> Result<Witnesses, NoMemory>
+    requires core { All (λ k. k < length derived.now) core.now }
+    requires count { length witnesses.now ≡ length core.now }
+    ensures { IfOk result
+        (λ marks. marks ≡ marks_kept instances.now (map (instance_in derived.now) core.now) witnesses.now) }
+{
+    let mut marks = Items::new(alloc);
+    for k in 0..core.len() {
+        let cited = *derived.get(*core.get(k) as usize);
+        if is_among(instances, cited) {
+            marks.push(copied(alloc, witnesses.get(k))?)?;
+        }
+    }
+    Ok(marks)
+}
