@@ -1,6 +1,6 @@
 use Rattle.std.proofs.Common.{◌≡◌, ℕ, true, List, ap, ◌∙◌, sym, subst}
 use Rattle.std.specs.List.{list_all}
-use Rattle.vocab.specs.Size.{HasOutcomes, Extent}
+use Rattle.vocab.specs.Size.{Extent}
 use Rattle.cnf.specs.Sat.{Clause}
 use Rattle.cnf.specs.Fresh.{is_over}
 use Rattle.meaning.specs.Laws.{clauses_for}
@@ -13,8 +13,7 @@ use Rattle.retell.proofs.telling.retell_simply.Goals as goal
 pub simplify-requires-clause-range : goal.simplify-requires-clause-range
 simplify-requires-clause-range g c =
     let size : Extent = c.args.study.now.size in
-    let known : HasOutcomes size.kind = subst (λ (s : Extent). HasOutcomes s.kind) (sym c.requires.size) c.kinds_have_sizes.ensures.has_outcomes in
-    let over : list_all (is_over (variable_count size)) (clauses_for size c.args.study.now.axioms c.args.core.now) ≡ true = clauses_over size known c.args.study.now.axioms c.axioms-axioms.ensures.study.sentences c.args.core.now in
+    let over : list_all (is_over (variable_count size)) (clauses_for size c.args.study.now.axioms c.args.core.now) ≡ true = clauses_over size c.args.study.now.axioms c.axioms-axioms.ensures.study.sentences c.args.core.now in
     let same : clauses_for size c.args.study.now.axioms c.args.core.now ≡ c.clauses.result.now.clauses = sym (ap clauses_in c.requires.clauses) ∙ c.clauses.ensures.clauses in
     let count : variable_count size ≡ c.variables.result = ap variable_count c.requires.size ∙ sym c.variables.ensures.value in
     stay_within c.variables.result c.clauses.result.now.clauses
