@@ -2,8 +2,9 @@
 # Holds the program against the reports beside the studies: over each study `decide` writes its report byte for byte and `check`
 # confirms it, as it does another rule over studies/median_voter.toml, and over studies/anonymity_neutrality.toml each report in
 # studies/refused/ is refused with the line that docs/FORMATS.md shows. Over each study without a rule `adopt` takes what `proof`
-# writes, and `check` confirms its report. A sentence is answered as docs/START.md shows. Where all is so, nothing is written; else a
-# line for each fault, and the status is 1.
+# writes, and `check` confirms its report. Over each study of sets `gain` writes what stands beside it, as NAME.gain, and it refuses
+# every other study. A sentence is answered as docs/START.md shows. Where all is so, nothing is written; else a line for each fault,
+# and the status is 1.
 # `export` of Arrow's axioms for four alternatives is the same with 1, 2 and 16 workers, and takes an axiom of 21,233,664 instances but
 # none of 84,934,656; a sample is the same line at each run, no words end with status 2, and an absent study with status 5.
 # The program is the one that the launcher runs, which is proved and built first where a source is newer; with --built, as after `rt ci`,
@@ -40,6 +41,12 @@ for study in "$root"/studies/*.toml; do
     [ "$status" -eq 0 ] && cmp -s "$report" "$work/written" || fault "decide does not write $name.report"
     answer check "$study" "$report"
     is_line 0 "confirmed $verdict" || fault "check does not confirm $name.report"
+    answer gain "$study" "$report"
+    if grep -qx 'kind = "sets"' "$study"; then
+        [ "$status" -eq 0 ] && cmp -s "${study%.toml}.gain" "$work/written" || fault "gain does not write $name.gain"
+    else
+        is_line 3 'study: kind not sets' || fault "gain takes $name, which is not of sets"
+    fi
     [ "$verdict" = impossible ] || continue
     answer proof "$study"
     mv "$work/written" "$work/proof"
@@ -73,6 +80,7 @@ sentence=$(sed -n 's/^never_last = "\(.*\)"$/\1/p' "$root/studies/never_last.tom
 shows() { # LINE
     grep -qxF -- "    $1" "$root/docs/START.md"
 }
+shows "$(<"$root/studies/manipulable.gain")" || fault "docs/START.md shows another gain than manipulable.gain"
 shows "never_last = \"$sentence\"" || fault "docs/START.md shows another sentence than never_last.toml"
 
 ask() { # COMMAND ALTERNATIVES AXIOMS, what `never_last` says, and VOTERS where these are not two
