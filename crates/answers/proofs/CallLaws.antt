@@ -6,6 +6,7 @@ use Rattle.std.proofs.lemmas.Bool.{or_cases, and_parts, cases_lt, leb-true}
 use Rattle.edge.specs.Faults.{Rose}
 use Rattle.edge.specs.Shelf.{Files}
 use Rattle.vocab.specs.declared.kinds.Kind.{Kind}
+use Rattle.vocab.specs.declared.kinds.Kind.TheVariants.{Sets}
 use Rattle.vocab.specs.Study.{Question}
 use Rattle.verdicts.specs.Report.{IsConfirmed}
 use Rattle.clause_text.specs.ReadDimacs.{Formula}
@@ -18,17 +19,19 @@ use Rattle.samples.proofs.Samples.{samples_once}
 use Rattle.answers.specs.Studies.{GivesStudy, OverStudy}
 use Rattle.answers.specs.Grounding.{fault_of, OverClauses, clauses_refused, clauses_made}
 use Rattle.answers.specs.Evidence.{Decides, by_verdict, by_limit}
+use Rattle.answers.specs.Check.{judgement, status_of}
 use Rattle.answers.specs.Decide.{IsReported}
 use Rattle.answers.specs.Adopt.{Adopts, proof_refused, proof_retold}
 use Rattle.answers.specs.Export.{exported_formula, IsWritten}
 use Rattle.answers.specs.Proof.{Proves, refuted, possible, undecided}
 use Rattle.answers.specs.Lrat.{GivesFormula, IsConfirmedBy, formula_refused, proof_judged, said_of}
 use Rattle.answers.specs.Sample.{IsSampled}
+use Rattle.answers.specs.Gain.{Gains, other_kind, of_sets}
 use Rattle.answers.specs.Lawful.{IsAnswer, Lawful}
 use Rattle.answers.specs.Devices.{Devices}
 use Rattle.answers.specs.Call.{IsCall, AreFiles, are_told, none_read, HasReadCause, at_first, at_second, files_of, statuses_of}
 use Rattle.answers.specs.Laws.{AreQuiet, HasNoFault, IsDecidedOrWanting, CallsAreComplete}
-use Rattle.answers.proofs.ReportLaws.{checked_right}
+use Rattle.answers.proofs.ReportLaws.{by_report, checked_right, listed, reportable}
 use Rattle.answers.proofs.OneAnswer.{cnf_given}
 use Rattle.answers.proofs.RowLemmas.{row_of, over_study, one_formula, some_same}
 
@@ -103,6 +106,12 @@ by_adopted files proof run text study bytes held zero_is (proof_refused bytes' h
     let no : 1 ≡ 0 = sym one ∙ ap (λ (b : List ℕ). (said_of (exported_formula study) b).status) same ∙ zero_is in
     absurd (omega (arith, no))
 by_adopted files proof run text study bytes held zero_is (proof_retold bytes' lines held' refutes retold) = retold.found.ends
+
+by_gained : (files : Files) (report : List ℕ) (run : Run) (text : List ℕ) (study : Question) (bytes : List ℕ) → study.size.kind ≡ Sets → files report ≡ Some bytes
+    → status_of (judgement study bytes) ≡ 0 → Gains files report study run text → run.status ≡ 0
+by_gained files report run text study bytes sets held zero_is (other_kind other t bare) = absurd (other sets)
+by_gained files report run text study bytes sets held zero_is (of_sets same said) =
+    said.ends.ends ∙ ap (λ b. status_of (judgement study b)) (some_same (files report) said.bytes bytes said.held held) ∙ zero_is
 
 by_summed : (n : ℕ) (study : Question) (run : Run) (text : List ℕ) → IsSampleStudy n study → fault_of study ≡ None → IsSampled n run text → IsDecidedOrWanting run
 by_summed n study run text sample none row =
@@ -180,6 +189,17 @@ module _ (words : List (List ℕ)) (d : Devices) (run : Run) (call : IsCall word
     | inr seven ↦ inr seven
   ]
 
+  gain_settled : (files : Files) (name report bytes : List ℕ) (study : Question) → d.told ≡ Some files → request_of words ≡ Some (Gain name report)
+      → GivesStudy files name study → study.size.kind ≡ Sets → files report ≡ Some bytes → IsConfirmed study bytes → length bytes ≤ most_report_bytes
+      → (run.status ≡ 0) ⊎ (run.status ≡ 7)
+  gain_settled files name report bytes study told asked g sets held c fits = elim (settled_row (Some (Gain name report)) files asked told) [
+    | inl a ↦ inl (
+        by_gained files report run a.0 study bytes sets held (by_report study bytes (reportable files name study g) (listed files name study g) c fits)
+        (over_study files name run a.0 _ study g a.1)
+        )
+    | inr seven ↦ inr seven
+  ]
+
   without_files : (request : Option Request) → request_of words ≡ request → files_of request ≡ [] → ((text : List ℕ) × Lawful words (λ name. None) run text) ⊎ (run.status ≡ 7)
   without_files request asked none = settled (λ name. None) (none_read (subst (λ (r : Option Request). files_of r ≡ []) (sym asked) none))
 
@@ -211,6 +231,7 @@ calls_complete words d run call calm = record {
   sample = sample_settled words d run call calm;
   check = check_settled words d run call calm;
   adopt = adopt_settled words d run call calm;
+  gain = gain_settled words d run call calm;
   axioms = axioms_settled words d run call calm;
   usage = usage_settled words d run call calm;
   no_read_fault = no_read_fault words d run call calm;

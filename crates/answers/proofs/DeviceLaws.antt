@@ -104,7 +104,7 @@ library_written words d run kind call asked = record {
 
 -- ---- `check`
 
-refused_row : (files : Files) (name : List ℕ) (run : Run) (text line : List ℕ) (P : Question → Type 0) → RefusesStudy files name line → OverStudy files name run text P
+pub refused_row : (files : Files) (name : List ℕ) (run : Run) (text line : List ℕ) (P : Question → Type 0) → RefusesStudy files name line → OverStudy files name run text P
     → (run.status ≡ 3) × (text ≡ line)
 refused_row files name run text line P refuses (study_refused r b) = (b.ends, one_refusal files name text line r refuses)
 refused_row files name run text line P refuses (study_given study g p) = absurd (not_refused files name study line g refuses)

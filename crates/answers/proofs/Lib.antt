@@ -14,3 +14,5 @@ mod ConfirmedLaws
 mod AdoptLaws
 mod ConclusiveCalls
 mod GainRows
+mod WrittenReports
+mod WorkedExamples

@@ -63,7 +63,8 @@ module _ (study : Question) (bytes : List ℕ) where
       let right = confirmed_report c.0 c.1 in
       ((c.0, right.0), right.1)
 
-  by_report : IsReportable study → HasFewAxioms study → IsConfirmed study bytes → length bytes ≤ most_report_bytes → status_of (judgement study bytes) ≡ 0
+  -- and a confirmed report within its limit has status 0
+  pub by_report : IsReportable study → HasFewAxioms study → IsConfirmed study bytes → length bytes ≤ most_report_bytes → status_of (judgement study bytes) ≡ 0
   by_report whole few c fits = ap status_of (right_judged study bytes c.0 whole few c.1 fits)
 
 checked_row : (files : Files) (name report : List ℕ) (run : Run) (text : List ℕ) (study : Question) (bytes : List ℕ) → GivesStudy files name study → files report ≡ Some bytes

@@ -3,6 +3,7 @@
 use Rattle.std.specs.Prelude.{◌≡◌, ◌≢◌, ℕ, ◌≤◌, ◌⊎◌, ◌↔◌, List, [], ◌∷◌, length, codes, Option, None, Some}
 use Rattle.std.specs.Io.KnownBytes.{Appends}
 use Rattle.vocab.specs.declared.kinds.Kind.{Kind}
+use Rattle.vocab.specs.declared.kinds.Kind.TheVariants.{Sets}
 use Rattle.edge.specs.Shelf.{Files, OthersStay}
 use Rattle.edge.specs.Faults.{Rose}
 use Rattle.edge.specs.Told.{AppendsPrefix}
@@ -11,7 +12,7 @@ use Rattle.verdicts.specs.declared.verdicts.Verdict.{Verdict}
 use Rattle.verdicts.specs.Judge.{Confirmed}
 use Rattle.verdicts.specs.Report.{IsReport, IsConfirmed}
 use Rattle.verdicts.specs.Words.{answer_text}
-use Rattle.words.specs.Words.{Request, Decide, Check, Export, Proof, Lrat, Axioms, Sample, Adopt, request_of}
+use Rattle.words.specs.Words.{Request, Decide, Check, Export, Proof, Lrat, Axioms, Sample, Adopt, Gain, request_of}
 use Rattle.answers.specs.declared.runs.Run.{Run}
 use Rattle.answers.specs.FileLimits.{most_report_bytes, most_proof_bytes, Holds}
 use Rattle.clause_text.specs.ReadDimacs.{Formula}
@@ -155,8 +156,9 @@ IsDecidedOrWanting run = (run.status ≡ 0) ⊎ ((run.status ≡ 4) ⊎ (run.sta
 
 -- over a study that is read, with clauses within the limits, `decide` and `proof` end with status 0, 4 or 7, and
 -- `export` with 0 or 7; so does `sample` over the study of its number; a confirmed report within its limit over a
--- study that is read ends with 0 or 7, and so does an accepted proof over clauses that are read or that `adopt`
--- makes, and `axioms`; words that are no command end with 2 or 7; and no call ends with 5 or 6
+-- study that is read ends with 0 or 7, for `gain` over one of sets, and so does an accepted proof over clauses that
+-- are read or that `adopt` makes, and `axioms`; words that are no command end with 2 or 7; and no call ends with 5
+-- or 6
 pub record AreAnswered (words : List (List ℕ)) (d : Devices) (run : Run) : Type 0 where
   pub decide : (files : Files) (name : List ℕ) (workers : ℕ) (study : Question) → d.told ≡ Some files → request_of words ≡ Some (Decide name workers)
       → GivesStudy files name study → fault_of study ≡ None → IsDecidedOrWanting run
@@ -176,6 +178,10 @@ pub record AreAnswered (words : List (List ℕ)) (d : Devices) (run : Run) : Typ
       → d.told ≡ Some files → request_of words ≡ Some (Adopt name proof workers)
       → GivesStudy files name study → fault_of study ≡ None → files proof ≡ Some bytes
       → (said_of (exported_formula study) bytes).status ≡ 0 → (run.status ≡ 0) ⊎ (run.status ≡ 7)
+  pub gain : (files : Files) (name report bytes : List ℕ) (study : Question)
+      → d.told ≡ Some files → request_of words ≡ Some (Gain name report)
+      → GivesStudy files name study → study.size.kind ≡ Sets → files report ≡ Some bytes → IsConfirmed study bytes
+      → length bytes ≤ most_report_bytes → (run.status ≡ 0) ⊎ (run.status ≡ 7)
   pub axioms : (kind : Kind) → request_of words ≡ Some (Axioms kind) → (run.status ≡ 0) ⊎ (run.status ≡ 7)
   pub usage : request_of words ≡ None → (run.status ≡ 2) ⊎ (run.status ≡ 7)
   pub no_read_fault : run.status ≢ 5
@@ -239,3 +245,28 @@ WrittenProofsAreAdopted =
     IsCall words d run → d.told ≡ Some files → request_of words ≡ Some (Adopt name proof workers) →
     GivesStudy files name study → Holds files most_proof_bytes proof refutation →
     AdoptsIt words d run
+
+-- ---- `decide`, `adopt` and `check`
+
+-- a call of `check` confirms this verdict, faults and want of memory aside; where no fault is counted, only memory
+-- may be wanting
+pub record ConfirmsReport (words : List (List ℕ)) (d : Devices) (run : Run) (verdict : Verdict) : Type 0 where
+  pub says : run.status ≤ 4 → Says d run 0 (answer_text (Confirmed verdict))
+  pub completes : HasNoFault words d → (run.status ≡ 0) ⊎ (run.status ≡ 7)
+
+-- each call of `check` over files that hold this report and give this study, whatever else these hold, confirms the
+-- verdict that the run has found; but where the report is too long
+abbrev pub IsConfirmedByCalls : Run → Question → List ℕ → Type 0
+IsConfirmedByCalls found study text =
+    (words : List (List ℕ)) (d : Devices) (run : Run) (files : Files) (name report : List ℕ) (workers : ℕ) →
+    IsCall words d run → d.told ≡ Some files → request_of words ≡ Some (Check name report workers) →
+    GivesStudy files name study → Holds files most_report_bytes report text →
+    (verdict : Verdict) × (found.verdict ≡ Some verdict) × ConfirmsReport words d run verdict
+
+-- what a call of `decide` or of `adopt` has written of a study is confirmed
+pub record WrittenReportsAreConfirmed : Type 0 where
+  pub decide : (study : Question) (text : List ℕ) (wrote : Wrote Decide study text)
+      → IsConfirmedByCalls wrote.run study text
+  pub adopt : (proof : List ℕ) (study : Question) (text : List ℕ)
+      (wrote : Wrote (λ name workers. Adopt name proof workers) study text)
+      → IsConfirmedByCalls wrote.run study text

@@ -1,8 +1,8 @@
 //! What follows from the table of answers. Each law is the contract of a function that does nothing.
 
-ghost use Rattle.answers.specs.GainLaws.{NoneIsNoGain};
+ghost use Rattle.answers.specs.GainLaws.{GainsAreAnswered, NoneIsNoGain};
 ghost use Rattle.answers.specs.RowLaws.{AdoptedAreConfirmed, AdoptedHolds, AdoptsAsLrat, CallsAreConclusive, ConfirmedIsUnsatisfiable, DecidedAreConfirmed, DecidedHolds, EnoughAdopts, EnoughDecides, EnoughProves, ExportedSaysStudy, ProvedAreAdopted, ProvedAreConfirmed, ProvedHolds, RowsAreOne, SampledHolds, WrittenAdoptionsHold, WrittenDecisionsHold};
-ghost use Rattle.answers.specs.Laws.{CheckedAreRight, ConfirmedHolds, ChecksAreAnswered, AnswersAreOne, UsageIsExact, LibraryIsWritten, RefusedLeavesUnopened, OtherWordsTouchNone, CallsAreComplete, WrittenProofsAreAdopted, WrittenProofsAreConfirmed};
+ghost use Rattle.answers.specs.Laws.{CheckedAreRight, ConfirmedHolds, ChecksAreAnswered, AnswersAreOne, UsageIsExact, LibraryIsWritten, RefusedLeavesUnopened, OtherWordsTouchNone, CallsAreComplete, WrittenProofsAreAdopted, WrittenProofsAreConfirmed, WrittenReportsAreConfirmed};
 
 /// `check` confirms exactly the reports of right verdicts that claim something, within its limit.
 pub fn checked_are_right()
@@ -124,6 +124,12 @@ pub fn adopted_are_confirmed()
     ensures { AdoptedAreConfirmed }
 {}
 
+/// The same of calls: what a call of `decide` or of `adopt` has written, a call of `check` over files that hold
+/// it confirms, faults and want of memory aside.
+pub fn written_reports_are_confirmed()
+    ensures { WrittenReportsAreConfirmed }
+{}
+
 /// `adopt` ends with the status of `lrat` over what `export` writes, and refuses a proof with the same line.
 pub fn adopts_as_lrat()
     ensures { AdoptsAsLrat }
@@ -165,4 +171,9 @@ pub fn rows_are_one()
 /// Of the confirmed report of a rule `gain` says `none` exactly where no voter gains in the rule.
 pub fn none_is_no_gain()
     ensures { NoneIsNoGain }
+{}
+
+/// Each row of `gain` is what is answered where it applies.
+pub fn gains_are_answered()
+    ensures { GainsAreAnswered }
 {}
