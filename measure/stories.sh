@@ -49,10 +49,10 @@ for name, path in studies:
     lines = out.stdout.splitlines()
     if "verdict impossible" in lines:
         rows.append((name, *told(lines), spent))
-        print("%s: %d lemmas, %d suppositions at most, %d steps, %.2f s" % (name, *rows[-1][1:4], spent))
+        print("%s: %d lemmas, at most %d supposed, %d steps, %.2f s" % (name, *rows[-1][1:4], spent))
 for what, some in (("all", rows), ("of numbers", [row for row in rows if row[0].startswith("sample_")])):
     lemmas, _, steps, supposed, spent = (sum(row[at] for row in some) for at in range(1, 6))
-    print("%s: %d impossible, %d lemmas, %d suppositions, %d steps, %.1f s" % (what, len(some), lemmas, supposed, steps, spent))
+    print("%s: %d impossible, %d lemmas, %d supposed, %d steps, %.1f s" % (what, len(some), lemmas, supposed, steps, spent))
 more = sum(row[2] > 1 for row in rows)
 print("more %d" % more)
 sys.exit(more > 0)
