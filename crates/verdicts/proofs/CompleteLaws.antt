@@ -27,13 +27,13 @@ use Rattle.meaning.specs.Truth.{is_axiom_true}
 use Rattle.meaning.specs.declared.cores.Witness.{Witness}
 use Rattle.meaning.specs.declared.cores.Witness.TheVariants.{Rule, Open}
 use Rattle.meaning.specs.Cores.{is_core_from, is_witness}
-use Rattle.meaning.specs.Stories.{is_decided, refutes, are_new, are_forced, is_lemma, is_story_from}
+use Rattle.meaning.specs.Stories.{is_decided, refutes, are_new, are_forced, is_lemma, is_story_from, is_story}
 use Rattle.meaning.specs.Literals.{is_literal}
 use Rattle.std.specs.Option.{option_or, unwrap_or}
 use Rattle.meaning.specs.StoryFaults.{unless, literal_fault, reason_fault}
 use Rattle.meaning.proofs.SpaceLaws.{all_from, some_profile as size_has_profile}
 use Rattle.meaning.proofs.StoryFaultLaws.{passes_reason, passes_literal}
-use Rattle.verdicts.specs.Lines.{Line, Title, KindIs, VotersAre, AlternativesAre, BallotsAre, AbsentIs, AxiomsAre, Row, LemmasAre, Suppose, So, Clash, End, name_at}
+use Rattle.verdicts.specs.Lines.{Line, Title, KindIs, VotersAre, AlternativesAre, BallotsAre, AbsentIs, AxiomsAre, SaysImpossible, Row, CoreIs, LemmasAre, Suppose, So, Clash, End, name_at}
 use Rattle.verdicts.specs.Reading.{read_axiom}
 use Rattle.verdicts.specs.declared.verdicts.Verdict.{Verdict}
 use Rattle.verdicts.specs.declared.verdicts.Verdict.TheVariants.{Possible, Impossible, Undecided}
@@ -50,17 +50,17 @@ use Rattle.verdicts.proofs.FitLaws.{Fits, are_places}
 use Rattle.verdicts.proofs.ReadLaws.{is_plain}
 use Rattle.verdicts.specs.declared.refusals.Refusal.TheVariants as refusal
 
-so_none : (b : Bool) (w : Refusal) → b ≡ true → unless_so b w ≡ None
+pub so_none : (b : Bool) (w : Refusal) → b ≡ true → unless_so b w ≡ None
 so_none b w e = ap (λ c. unless_so c w) e
 
-eqb_no : (n m : ℕ) → (n ≡ m → ⊥) → (n == m) ≡ false
+pub eqb_no : (n m : ℕ) → (n ≡ m → ⊥) → (n == m) ≡ false
 eqb_no n m h = by_test (n == m) refl
   where
     by_test : (b : Bool) → (n == m) ≡ b → b ≡ false
     by_test true e = absurd (h (eqb-true n m e))
     by_test false e = refl
 
-eqb_yes : (n m : ℕ) → n ≡ m → (n == m) ≡ true
+pub eqb_yes : (n m : ℕ) → n ≡ m → (n == m) ≡ true
 eqb_yes n m e = (Decides-eqb n m).1 e
 
 same_self : (k : Kind) → same_kind k k ≡ true
@@ -106,6 +106,11 @@ ballots_are_places size =
     kept_all (λ place. nat_lt place n) (is_digit_set size.ballots) (below n)
     (all_from (λ place. nat_lt place n) n 0 (λ place low high. lt-ltb place n (omega (arith, high))))
 
+-- the lines of an impossibility up to the last lemma
+abbrev pub told_lines : Question → List ℕ → List Lemma → List Line
+told_lines study core story =
+    SaysImpossible ∷ CoreIs (map (name_at study.axioms) core) ∷ LemmasAre (length story) ∷ story_lines 1 story
+
 -- strict: that there is no fault is asked too
 module _ (study : Question) (is : IsReportable study) (strict : Bool) where
   abbrev P : ℕ
@@ -117,7 +122,7 @@ module _ (study : Question) (is : IsReportable study) (strict : Bool) where
   some_profile : 0 < P
   some_profile = size_has_profile study.size is.size
 
-  abbrev Asked : Type 0 → Type 0
+  abbrev pub Asked : Type 0 → Type 0
   Asked Q = strict ≡ true → Q
 
   -- lines (without a fault) lead from one standing to another
@@ -125,17 +130,17 @@ module _ (study : Question) (is : IsReportable study) (strict : Bool) where
   Runs s [] t = s ≡ t
   Runs s (l ∷ ls) t = Fits study s.place (length s.earlier + 1) l × (is_plain l ≡ true) × Asked (fault_of study s l ≡ None) × Runs (advance study s l) ls t
 
-  runs_append : (s t u : Standing) (a b : List Line) → Runs s a t → Runs t b u → Runs s (a ++ b) u
+  pub runs_append : (s t u : Standing) (a b : List Line) → Runs s a t → Runs t b u → Runs s (a ++ b) u
   runs_append s t u [] b r q = subst (λ (x : Standing). Runs x b u) (sym r) q
   runs_append s t u (l ∷ a) b r q = (r.0, r.1, r.2, runs_append (advance study s l) t u a b r.3 q)
 
-  runs_to : (s t u : Standing) (a : List Line) → t ≡ u → Runs s a t → Runs s a u
+  pub runs_to : (s t u : Standing) (a : List Line) → t ≡ u → Runs s a t → Runs s a u
   runs_to s t u a e r = subst (λ (x : Standing). Runs s a x) e r
 
-  runs_from : (s t u : Standing) (a : List Line) → s ≡ t → Runs t a u → Runs s a u
+  pub runs_from : (s t u : Standing) (a : List Line) → s ≡ t → Runs t a u → Runs s a u
   runs_from s t u a e r = subst (λ (x : Standing). Runs x a u) (sym e) r
 
-  runs_over : (s t : Standing) (a b : List Line) → a ≡ b → Runs s a t → Runs s b t
+  pub runs_over : (s t : Standing) (a b : List Line) → a ≡ b → Runs s a t → Runs s b t
   runs_over s t a b e r = subst (λ (ls : List Line). Runs s ls t) e r
 
   none_if : (table places : List ℕ) → list_all (λ k. is_axiom_true study.size table (slice_get study.axioms k)) places ≡ true → table_fault study table places ≡ None
@@ -232,7 +237,7 @@ module _ (study : Question) (is : IsReportable study) (strict : Bool) where
 
   module _ (version : ℕ) where
     -- nothing is read but the version
-    abbrev begun : Standing
+    abbrev pub begun : Standing
     begun = record start { version = version }
 
     abbrev after_size : Standing
@@ -241,7 +246,7 @@ module _ (study : Question) (is : IsReportable study) (strict : Bool) where
     abbrev at_axioms : Standing
     at_axioms = record begun { place = AtAxioms }
 
-    abbrev at_verdict : Standing
+    abbrev pub at_verdict : Standing
     at_verdict = record begun { place = AtVerdict }
 
     abbrev size_lines : List Line
@@ -250,7 +255,7 @@ module _ (study : Question) (is : IsReportable study) (strict : Bool) where
         ∷ AlternativesAre study.size.alternatives ∷ []
 
     -- there is a report of the version, which the size may have
-    abbrev IsKnown : Type 0
+    abbrev pub IsKnown : Type 0
     IsKnown = IsIn versions version × Asked (is_version study.size version ≡ true)
 
     size_run : IsKnown → Runs start size_lines after_size
@@ -305,7 +310,7 @@ module _ (study : Question) (is : IsReportable study) (strict : Bool) where
       refl,
     )
 
-    head_run : IsKnown → Runs start (head_lines study version) at_verdict
+    pub head_run : IsKnown → Runs start (head_lines study version) at_verdict
     head_run known =
         let domain = domain_lines study version in
         let axioms = AxiomsAre (map (λ a. a.name) study.axioms) ∷ [] in
@@ -447,10 +452,10 @@ module _ (study : Question) (is : IsReportable study) (strict : Bool) where
           (runs_to (between (earlier ++ lemma ∷ [])) (after_witness (between ((earlier ++ lemma ∷ []) ++ next ∷ rest))) (after_witness (between (earlier ++ lemma ∷ next ∷ rest))) (story_lines (length (earlier ++ lemma ∷ []) + 1) (next ∷ rest)) (ap (λ (ls : List Lemma). after_witness (between ls)) same) later))
 
     module _ (core : List ℕ) (count : ℕ) (story : List Lemma) where
-      abbrev witnessed : Place → List Witness → List ℕ → Standing
+      abbrev pub witnessed : Place → List Witness → List ℕ → Standing
       witnessed place witnesses rows = record begun { place = place; core = core; count = count; earlier = story; witnesses = witnesses; rows = rows }
 
-      abbrev told : List Witness → Standing
+      abbrev pub told : List Witness → Standing
       told witnesses = after_witness (witnessed AtLemma witnesses [])
 
       told_next : (witnesses : List Witness) (k : ℕ) → next_after core witnesses ≡ Some k → told witnesses ≡ witnessed AtWitness witnesses []
@@ -490,6 +495,33 @@ module _ (study : Question) (is : IsReportable study) (strict : Bool) where
           (witness_run done k m (remaining_next core done k ks e) (ltb-true k (length study.axioms) p.0) (λ a. (q a).0) u.0)
           (runs_to (told (done ++ m ∷ [])) (told ((done ++ m ∷ []) ++ ms)) (told (done ++ m ∷ ms)) (all_witness_lines study ks ms) (ap told (append_assoc done (m ∷ []) ms)) (witnesses_run (done ++ m ∷ []) ks ms (remaining_snoc core done m k ks e) p.1 (λ a. (q a).1) u.1))
 
+    remaining_all : (core : List ℕ) → remaining core [] ≡ core
+    remaining_all [] = refl
+    remaining_all (c ∷ core) = refl
+
+    -- an impossibility up to the last lemma
+    pub told_run : (core : List ℕ) (story : List Lemma) → Asked (is_story study.size study.axioms core story ≡ true)
+        → Asked (is_core_from 0 (length study.axioms) core ≡ true) → 0 < length story
+        → list_all (is_lemma_text study) story ≡ true → list_all (λ k. nat_lt k (length study.axioms)) core ≡ true
+        → Runs at_verdict (told_lines study core story) (told core (length story) story [])
+    told_run core story h c some texts inside =
+        let places = places_are core inside in
+        let count = length story in
+        let before = record at_verdict { place = AtLemmas; core = core } in
+        let lines : Runs before (LemmasAre count ∷ story_lines 1 story) (told core count story []) =
+        (some, refl, (λ _. refl), story_run core count [] story refl some h texts) in (
+          tt,
+          refl,
+          (λ _. refl),
+          (
+            tt,
+            names_plain core inside,
+            (λ z. so_none _ refusal.Core (ap (is_core (length study.axioms)) places ∙ c z)),
+            runs_from _ before (told core count story []) (LemmasAre count ∷ story_lines 1 story)
+                (ap (λ o. record at_verdict { place = AtLemmas; core = unwrap_or o [] }) places) lines,
+          ),
+        )
+
     impossible_run : (core : List ℕ) (story : List Lemma) (witnesses : List Witness) → Asked (is_right study (Impossible core story witnesses) ≡ true) → has_text study (Impossible core story witnesses) ≡ true → Runs at_verdict (verdict_lines study (Impossible core story witnesses)) (witnessed core (length story) story (AtEnd (Impossible core story witnesses)) witnesses [])
     impossible_run core story witnesses h t =
         let p : Asked ((is_story_from study.size study.axioms core [] story ≡ true) × ((is_core_from 0 (length study.axioms) core && pointwise (is_witness study.size study.axioms study.conflicts core) core witnesses) ≡ true)) = λ z. and_parts (is_story_from study.size study.axioms core [] story) _ (h z) in
@@ -497,27 +529,13 @@ module _ (study : Question) (is : IsReportable study) (strict : Bool) where
         let a = and_parts (nat_lt 0 (length story) && list_all (is_lemma_text study) story && list_all (λ k. nat_lt k (length study.axioms)) core) (pointwise (is_witness_text study) core witnesses) t in
         let b = and_parts (nat_lt 0 (length story) && list_all (is_lemma_text study) story) (list_all (λ k. nat_lt k (length study.axioms)) core) a.0 in
         let c = and_parts (nat_lt 0 (length story)) (list_all (is_lemma_text study) story) b.0 in
-        let places = places_are core b.1 in
-        let done : told core (length story) story witnesses ≡ witnessed core (length story) story (AtEnd (Impossible core story witnesses)) witnesses [] =
-        ap (λ o. witnessed core (length story) story (witness_place o (Impossible core story witnesses)) witnesses []) (next_full (is_witness_text study) core witnesses a.1) in
-        let lines = runs_append (between core (length story) []) (told core (length story) story []) (told core (length story) story witnesses) (story_lines 1 story) (all_witness_lines study core witnesses)
-        (story_run core (length story) [] story refl (ltb-true 0 (length story) c.0) (λ z. (p z).0) c.1)
-        (witnesses_run core (length story) story [] core witnesses (no_witnesses core) b.1 (λ z. (q z).1) a.1) in (
-          tt,
-          refl,
-          (λ _. refl),
-          (
-            tt,
-            names_plain core b.1,
-            (λ z. so_none _ refusal.Core (ap (is_core (length study.axioms)) places ∙ (q z).0)),
-            runs_from _ (record at_verdict { place = AtLemmas; core = core }) (witnessed core (length story) story (AtEnd (Impossible core story witnesses)) witnesses []) (LemmasAre (length story) ∷ (story_lines 1 story ++ all_witness_lines study core witnesses)) (ap (λ o. record at_verdict { place = AtLemmas; core = unwrap_or o [] }) places)
-                (ltb-true 0 (length story) c.0, refl, (λ _. refl), runs_to (between core (length story) []) (told core (length story) story witnesses) (witnessed core (length story) story (AtEnd (Impossible core story witnesses)) witnesses []) (story_lines 1 story ++ all_witness_lines study core witnesses) done lines),
-          ),
-        )
-      where
-        no_witnesses : (core : List ℕ) → remaining core [] ≡ core
-        no_witnesses [] = refl
-        no_witnesses (c ∷ core) = refl
+        let count = length story in
+        let done : told core count story witnesses ≡ witnessed core count story (AtEnd (Impossible core story witnesses)) witnesses [] =
+        ap (λ o. witnessed core count story (witness_place o (Impossible core story witnesses)) witnesses []) (next_full (is_witness_text study) core witnesses a.1) in
+        let story_told = told_run core story (λ z. (p z).0) (λ z. (q z).0) (ltb-true 0 count c.0) c.1 b.1 in
+        runs_to at_verdict (told core count story witnesses) (witnessed core count story (AtEnd (Impossible core story witnesses)) witnesses []) (verdict_lines study (Impossible core story witnesses)) done
+        (runs_append at_verdict (told core count story []) (told core count story witnesses) (told_lines study core story) (all_witness_lines study core witnesses) story_told
+        (witnesses_run core count story [] core witnesses (remaining_all core) b.1 (λ z. (q z).1) a.1))
 
     -- the report of a verdict is read
     abbrev pub Ends : Verdict → Type 0

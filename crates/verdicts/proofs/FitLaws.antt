@@ -145,7 +145,7 @@ module _ (study : Question) where
       let l = from_below _ t.0 (named_in (value_text study.size s) (below (sort_count study.size s)) w t.0 t.1) in
       subst (λ vs. pointwise nat_lt vs (map (sort_count study.size) (s ∷ sorts)) ≡ true) m.2 (and_from _ _ (lt-ltb t.0 _ l) (values_in sorts words m.0 m.1))
 
-  cited_in : (words : List (List ℕ)) (r : Reason) → read_cited study words ≡ Some r → is_reason study r ≡ true
+  pub cited_in : (words : List (List ℕ)) (r : Reason) → read_cited study words ≡ Some r → is_reason study r ≡ true
   cited_in [] r e = absurd (cc)
   cited_in (name ∷ words) r e =
       let t = then_is _ (read_axiom study.axioms name) r e in

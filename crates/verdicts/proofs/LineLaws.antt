@@ -111,7 +111,7 @@ module _ (study : Question) where
       ∙ ap (λ ws. value_text study.size s t.0 ∷ ws) (values_read sorts words m.0 m.1)
       ∙ ap (value_words study (s ∷ sorts)) m.2
 
-  cited_read : (words : List (List ℕ)) (r : Reason) → read_cited study words ≡ Some r → codes "axiom" ∷ words ≡ reason_words study r
+  pub cited_read : (words : List (List ℕ)) (r : Reason) → read_cited study words ≡ Some r → codes "axiom" ∷ words ≡ reason_words study r
   cited_read [] r e = absurd (cc)
   cited_read (name ∷ words) r e =
       let t = then_is _ (read_axiom study.axioms name) r e in

@@ -119,7 +119,7 @@ module _ (study : Question) (is : IsReportable study) where
   positive_read : (n : ℕ) → 0 < n → read_positive (number_text n) ≡ Some n
   positive_read n h = ap (option_and_then (λ n. cond (nat_lt 0 n) (Some n) None)) (read_text n) ∙ ap (λ b. cond b (Some n) None) (lt-ltb 0 n h)
 
-  reason_read : (r : Reason) → is_reason study r ≡ true → read_reason study (reason_words study r) ≡ Some r
+  pub reason_read : (r : Reason) → is_reason study r ≡ true → read_reason study (reason_words study r) ≡ Some r
   reason_read (ByAxiom k values) h =
       let p = and_parts (nat_lt k (length study.axioms)) _ h in
       let l = ltb-true k (length study.axioms) p.0 in
@@ -227,10 +227,10 @@ module _ (study : Question) (is : IsReportable study) where
       in_study (a ∷ axioms) zero h = name_word a.name (and_parts (is_name a.name) (list_all (λ a. is_name a.name) axioms) h).0
       in_study (a ∷ axioms) (suc k) h = in_study axioms k (and_parts (is_name a.name) (list_all (λ a. is_name a.name) axioms) h).1
 
-  one_word_ok : (w : List ℕ) → is_word w ≡ true → list_all is_word (w ∷ []) ≡ true
+  pub one_word_ok : (w : List ℕ) → is_word w ≡ true → list_all is_word (w ∷ []) ≡ true
   one_word_ok w h = and_from _ true h refl
 
-  reason_words_ok : (r : Reason) → list_all is_word (reason_words study r) ≡ true
+  pub reason_words_ok : (r : Reason) → list_all is_word (reason_words study r) ≡ true
   reason_words_ok (ByAxiom k values) = and_from _ _ (name_at_word k) (values_words (sorts_of (slice_get study.axioms k)) values)
   reason_words_ok (ByOutcome p) = one_word_ok (profile_text study.size p) (profile_word study.size is.size p)
   reason_words_ok (ByLemma j) = one_word_ok (number_text (j + 1)) (number_word (j + 1))
@@ -277,7 +277,7 @@ module _ (study : Question) (is : IsReportable study) where
   line_words_ok (WithOpen name n) h = (_, _, refl, and_from _ _ (name_word name h) (one_word_ok (number_text n) (number_word n)))
   line_words_ok End h = (_, _, refl, refl)
 
-  words_lack : (c : ℕ) (ws : List (List ℕ)) → c ≤ 32 → list_all is_word ws ≡ true → list_all (lacks c) ws ≡ true
+  pub words_lack : (c : ℕ) (ws : List (List ℕ)) → c ≤ 32 → list_all is_word ws ≡ true → list_all (lacks c) ws ≡ true
   words_lack c [] h e = refl
   words_lack c (w ∷ ws) h e = let p = and_parts (is_word w) (list_all is_word ws) e in and_from _ _ (word_lacks c w h p.0) (words_lack c ws h p.1)
 
@@ -291,7 +291,7 @@ module _ (study : Question) (is : IsReportable study) where
   lacks_append c [] w h k = k
   lacks_append c (b ∷ v) w h k = let p = and_parts (not (b == c)) (lacks c v) h in and_from _ _ p.0 (lacks_append c v w p.1 k)
 
-  joined_lacks : (ws : List (List ℕ)) → list_all (lacks 10) ws ≡ true → lacks 10 (joined ws) ≡ true
+  pub joined_lacks : (ws : List (List ℕ)) → list_all (lacks 10) ws ≡ true → lacks 10 (joined ws) ≡ true
   joined_lacks [] h = refl
   joined_lacks (w ∷ []) h = (and_parts (lacks 10 w) true h).0
   joined_lacks (w ∷ v ∷ ws) h = let p = and_parts (lacks 10 w) (list_all (lacks 10) (v ∷ ws)) h in lacks_append 10 w _ p.0 (and_from true _ refl (joined_lacks (v ∷ ws) p.1))

@@ -27,7 +27,7 @@ use Rattle.verdicts.proofs.ShortLaws.{is_short, report_short}
 use Rattle.meaning.proofs.SpaceLaws.{list_all-map_of}
 use Rattle.meaning.proofs.TestLaws.{list_all-both}
 
-abbrev short : List ℕ → Bool
+abbrev pub short : List ℕ → Bool
 short line = not (nat_lt 4096 (length line))
 
 pub front_snoc : (xs : List (List ℕ)) (y : List ℕ) → front (xs ++ y ∷ []) ≡ xs
@@ -35,7 +35,7 @@ front_snoc [] y = refl
 front_snoc (x ∷ []) y = refl
 front_snoc (x ∷ z ∷ xs) y = ap (λ ws. x ∷ ws) (front_snoc (z ∷ xs) y)
 
-front_more : (xs : List (List ℕ)) (q y : List ℕ) (ys : List (List ℕ)) → front (xs ++ q ∷ y ∷ ys) ≡ xs ++ q ∷ front (y ∷ ys)
+pub front_more : (xs : List (List ℕ)) (q y : List ℕ) (ys : List (List ℕ)) → front (xs ++ q ∷ y ∷ ys) ≡ xs ++ q ∷ front (y ∷ ys)
 front_more [] q y ys = refl
 front_more (x ∷ []) q y ys = refl
 front_more (x ∷ z ∷ xs) q y ys = ap (λ ws. x ∷ ws) (front_more (z ∷ xs) q y ys)
@@ -45,7 +45,7 @@ final_snoc [] y = refl
 final_snoc (x ∷ []) y = refl
 final_snoc (x ∷ z ∷ xs) y = final_snoc (z ∷ xs) y
 
-all_left : (t : List ℕ → Bool) (xs ys : List (List ℕ)) → list_all t (xs ++ ys) ≡ true → list_all t xs ≡ true
+pub all_left : (t : List ℕ → Bool) (xs ys : List (List ℕ)) → list_all t (xs ++ ys) ≡ true → list_all t xs ≡ true
 all_left t [] ys h = refl
 all_left t (x ∷ xs) ys h = let p = and_parts (t x) (list_all t (xs ++ ys)) h in and_from _ _ p.0 (all_left t xs ys p.1)
 
@@ -69,7 +69,7 @@ module _ (study : Question) (is : IsReportable study) where
       let later = judged (n + 1) (advance study s l) t ls more r.3 p.1 in
       (later.0, past study n s (line_text study l) (map (line_text study) ls ++ more) l (line_read s l r.0 r.1 p.0) (r.2 refl) ∙ later.1)
 
-  lines_lack : (b : Bool) (s t : Standing) (ls : List Line) → Runs study is b s ls t → list_all (lacks 10) (map (line_text study) ls) ≡ true
+  pub lines_lack : (b : Bool) (s t : Standing) (ls : List Line) → Runs study is b s ls t → list_all (lacks 10) (map (line_text study) ls) ≡ true
   lines_lack b s t [] r = refl
   lines_lack b s t (l ∷ ls) r = and_from _ _ (line_lacks study is l r.1) (lines_lack b (advance study s l) t ls r.3)
 
@@ -120,7 +120,7 @@ judge_complete study is text v h r = complete study is text v h r
 
 module _ (study : Question) (is : IsReportable study) where
   -- one line at a place, if the text is one
-  same_line : (p : Place) (n : ℕ) (l k : Line) → Fits study p n l → is_plain l ≡ true → Fits study p n k → is_plain k ≡ true → line_text study l ≡ line_text study k → l ≡ k
+  pub same_line : (p : Place) (n : ℕ) (l k : Line) → Fits study p n l → is_plain l ≡ true → Fits study p n k → is_plain k ≡ true → line_text study l ≡ line_text study k → l ≡ k
   same_line p n l k f a g b e =
       let words = sym (words_are study is l a) ∙ ap words_of e ∙ words_are study is k b in
       some_same l k (sym (wanted_is study is p n l f a) ∙ ap (wanted study p n) words ∙ wanted_is study is p n k g b)
@@ -128,7 +128,7 @@ module _ (study : Question) (is : IsReportable study) where
       some_same : (l k : Line) → Some l ≡ Some k → l ≡ k
       some_same l k e = cc
 
-  texts_cons : (x y : List ℕ) (xs ys : List (List ℕ)) → x ∷ xs ≡ y ∷ ys → (x ≡ y) × (xs ≡ ys)
+  pub texts_cons : (x y : List ℕ) (xs ys : List (List ℕ)) → x ∷ xs ≡ y ∷ ys → (x ≡ y) × (xs ≡ ys)
   texts_cons x y xs ys e = let h : x ≡ y = cc in let t : xs ≡ ys = cc in (h, t)
 
   -- one standing after lines with one text
@@ -172,7 +172,7 @@ module _ (study : Question) (is : IsReportable study) where
           ∙ ap front (split_ended 10 lines [] (lines_lack study is false start s said r))
           ∙ front_snoc lines []
 
-known_from : (version : ℕ) → IsVersion version → IsIn versions version
+pub known_from : (version : ℕ) → IsVersion version → IsIn versions version
 known_from version h = elim (cases_lt 1 version) [
   | inl l ↦ inr (inl (omega (arith, l, h.1)))
   | inr le ↦ inl (omega (arith, le, h.0))
@@ -198,7 +198,7 @@ module _ (study : Question) (is : IsReportable study) where
       let same = same_line study is s.place (length s.earlier + 1) l k r.0 r.1 q.0 q.1 c.0 in
       no_more (advance study s k) t u ls ks more v (subst (λ (x : Line). Runs study is false (advance study s x) ls t) same r.3) q.3 p c.1
 
-  only_piece : (rest : List ℕ) (xs ys ps : List (List ℕ)) → pieces rest ≡ ps → xs ++ ps ≡ ys ++ [] ∷ [] → (xs ++ front ps ≡ ys → front ps ≡ []) → rest ≡ []
+  pub only_piece : (rest : List ℕ) (xs ys ps : List (List ℕ)) → pieces rest ≡ ps → xs ++ ps ≡ ys ++ [] ∷ [] → (xs ++ front ps ≡ ys → front ps ≡ []) → rest ≡ []
   only_piece rest xs ys [] e f more = absurd (omega (arith, length-slice_split (λ b. b == 10) rest, ap length e))
   only_piece rest xs ys (q ∷ []) e f more =
       let none : q ≡ [] = sym (final_snoc xs q) ∙ ap final f ∙ final_snoc ys [] in
@@ -242,7 +242,7 @@ no_confirmed_prefix study is text rest a b =
 -- ---- short lines, and reports that are cut
 
 -- what stands after a text goes on its last piece
-pieces_append : (text rest : List ℕ) → pieces (text ++ rest) ≡ front (pieces text) ++ pieces (final (pieces text) ++ rest)
+pub pieces_append : (text rest : List ℕ) → pieces (text ++ rest) ≡ front (pieces text) ++ pieces (final (pieces text) ++ rest)
 pieces_append [] rest = refl
 pieces_append (b ∷ text) rest = by_test (b == 10) refl (pieces text) (omega (arith, length-slice_split (λ b. b == 10) text)) (pieces_append text rest)
   where

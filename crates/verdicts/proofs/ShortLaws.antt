@@ -47,7 +47,7 @@ use Rattle.verdicts.specs.Laws.{IsReportable}
 use Rattle.verdicts.proofs.PrintLaws.{decimal_is}
 use Rattle.verdicts.proofs.RightLaws.{is_sound_reason, is_sound_step, is_sound_lemma, sound_story}
 
-abbrev within : ℕ → List ℕ → Bool
+abbrev pub within : ℕ → List ℕ → Bool
 within n w = nat_le (length w) n
 
 within_from : (n : ℕ) (w : List ℕ) → length w ≤ n → within n w ≡ true
@@ -55,7 +55,7 @@ within_from n w h = le-leb (length w) n h
 
 -- ---- joined words
 
-joined_within : (c k : ℕ) (ws : List (List ℕ)) → list_all (within k) ws ≡ true → length (join_with_byte c ws) ≤ length ws * (k + 1)
+pub joined_within : (c k : ℕ) (ws : List (List ℕ)) → list_all (within k) ws ≡ true → length (join_with_byte c ws) ≤ length ws * (k + 1)
 joined_within c k [] h = omega arith
 joined_within c k (w ∷ []) h = let p = leb-true (length w) k (and_parts (within k w) true h).0 in omega (arith, p)
 joined_within c k (w ∷ v ∷ ws) h =
@@ -145,7 +145,7 @@ names_within : (ns : List (List ℕ)) → list_all is_name ns ≡ true → list_
 names_within [] h = refl
 names_within (n ∷ ns) h = let p = and_parts (is_name n) (list_all is_name ns) h in and_from _ _ (name_within n p.0) (names_within ns p.1)
 
-name_at_within : (axioms : List Titled) → list_all (λ a. is_name a.name) axioms ≡ true → (k : ℕ) → within 52 (name_at axioms k) ≡ true
+pub name_at_within : (axioms : List Titled) → list_all (λ a. is_name a.name) axioms ≡ true → (k : ℕ) → within 52 (name_at axioms k) ≡ true
 name_at_within [] h k = refl
 name_at_within (a ∷ axioms) h zero = name_within a.name (and_parts (is_name a.name) (list_all (λ a. is_name a.name) axioms) h).0
 name_at_within (a ∷ axioms) h (suc k) = name_at_within axioms (and_parts (is_name a.name) (list_all (λ a. is_name a.name) axioms) h).1 k
@@ -174,7 +174,7 @@ few_places from end (k ∷ core) le h =
     ]
 
 -- an axiom has at most 12 leading universals
-few_sorts : (size : Extent) (axioms : List Titled) → list_all (is_sentence size) axioms ≡ true → (k : ℕ) → length (sorts_of (slice_get axioms k)) ≤ 12
+pub few_sorts : (size : Extent) (axioms : List Titled) → list_all (is_sentence size) axioms ≡ true → (k : ℕ) → length (sorts_of (slice_get axioms k)) ≤ 12
 few_sorts size [] h k = omega arith
 few_sorts size (a ∷ axioms) h zero =
     let p = and_parts (is_sorted size [] a.sentence) (nat_le (quantifier_depth a.sentence) 12) (and_parts (is_sentence size a) (list_all (is_sentence size) axioms) h).0 in
@@ -189,7 +189,7 @@ module _ (study : Question) (is : IsReportable study) where
   few_words : (l : Line) → list_all (within 52) (line_words study l) ≡ true → length (line_words study l) ≤ 77 → is_short l ≡ true
   few_words l h k = ap not (le-ltb 4096 (length (line_text study l)) (omega (arith, joined_within 32 52 (line_words study l) h, k)))
 
-  short_number : (n : ℕ) → n < 2 ^ 64 → list_all (within 52) (number_text n ∷ []) ≡ true
+  pub short_number : (n : ℕ) → n < 2 ^ 64 → list_all (within 52) (number_text n ∷ []) ≡ true
   short_number n h = and_from _ _ (within_from 52 (number_text n) (omega (arith, number_within n h))) refl
 
   short_profile : (p : ℕ) → within 52 (profile_text study.size p) ≡ true
@@ -198,10 +198,10 @@ module _ (study : Question) (is : IsReportable study) where
   short_literal : (l : Literal) → within 52 (literal_text study.size l) ≡ true
   short_literal l = within_from 52 (literal_text study.size l) (literal_within study.size is.size l)
 
-  few_profiles : sort_count study.size Profile < 2 ^ 64
+  pub few_profiles : sort_count study.size Profile < 2 ^ 64
   few_profiles = omega (arith, is.size.few_profiles)
 
-  values_short : (sorts : List Sort) (values : List ℕ) → pointwise nat_lt values (map (sort_count study.size) sorts) ≡ true → (list_all (within 52) (value_words study sorts values) ≡ true) × (length (value_words study sorts values) ≤ length sorts)
+  pub values_short : (sorts : List Sort) (values : List ℕ) → pointwise nat_lt values (map (sort_count study.size) sorts) ≡ true → (list_all (within 52) (value_words study sorts values) ≡ true) × (length (value_words study sorts values) ≤ length sorts)
   values_short [] values h = (refl, omega arith)
   values_short (s ∷ sorts) [] h = (refl, omega arith)
   values_short (s ∷ sorts) (v ∷ values) h =
@@ -259,7 +259,7 @@ module _ (study : Question) (is : IsReportable study) where
   row_short : (p o : ℕ) → is_short (Row p o) ≡ true
   row_short p o = few_words (Row p o) (and_from _ _ (short_profile p) (and_from _ _ (within_from 52 (outcome_text study.size o) (outcome_within_of study.size is.size study.size.kind o)) refl)) (omega arith)
 
-  rows_short : (p : ℕ) (table : List ℕ) → list_all is_short (row_lines p table) ≡ true
+  pub rows_short : (p : ℕ) (table : List ℕ) → list_all is_short (row_lines p table) ≡ true
   rows_short p [] = refl
   rows_short p (o ∷ table) = and_from _ _ (row_short p o) (rows_short (p + 1) table)
 
