@@ -43,8 +43,9 @@ use Rattle.instance_studies.proofs.StudyLaws.{all_get, length_from}
 use Rattle.instance_stories.specs.Codes.{code_of, AreRising, AreSmall}
 use Rattle.instance_stories.proofs.AllInstances.{cited_of, decoded, all_rise, all_small, all_have, counts_few, present_small, sum_within}
 use Rattle.instance_grounds.specs.Conditions.{counts_of_instance, IsWithinTotal}
-use Rattle.instance_stories.proofs.Members.{in_below}
-use Rattle.instance_grounds.proofs.StandLaws.{derived_get, closed_is}
+use Rattle.sharp_verdicts.proofs.Members.{in_below}
+use Rattle.instance_grounds.proofs.StandLaws.{closed_is}
+use Rattle.sharp_verdicts.proofs.DerivedLaws.{derived_get}
 use Rattle.grounding.specs.Rising.{has}
 
 -- ---- nothing found

@@ -25,8 +25,9 @@ use Rattle.closing.proofs.SentenceLaws.{is_instance}
 use Rattle.verdicts.proofs.WordLaws.{IsIn}
 use Rattle.sharp_verdicts.specs.declared.instances.Cited.{Cited}
 use Rattle.sharp_verdicts.specs.Derived.{closed_at, axiom_of, axioms_from, instance_name}
+use Rattle.sharp_verdicts.proofs.DerivedLaws.{derived_get}
 use Rattle.sharp_verdicts.specs.Instances.{values_at}
-use Rattle.instance_stories.proofs.Members.{in_append, in_left, in_right, in_flat_map, flat_map_in, in_map, map_in, in_below, in_at, at_in}
+use Rattle.sharp_verdicts.proofs.Members.{in_append, in_left, in_right, in_flat_map, flat_map_in, in_map, map_in, in_below, in_at, at_in}
 use Rattle.instance_grounds.specs.Laws.{IsCovered, derived_clauses}
 
 -- ---- of equal clauses the first
@@ -99,16 +100,6 @@ module _ (study : Question) where
       let r = in_flat_map (from_instance study.size place a.sentence) (below (instance_count study.size a.sentence)) s here in
       (a, r.0, e, of_instance s place a r.0 r.2)
 
-  get_from : (place : ℕ) (cs : List Cited) (i : ℕ) (c : Cited) → slice_get cs i ≡ Some c → slice_get (axioms_from study place cs) i ≡ Some (axiom_of study (place + i) c)
-  get_from place [] i c e = absurd cc
-  get_from place (d ∷ cs) zero c e = let same : d ≡ c = cc in let p : place ≡ place + 0 = omega arith in ap₂ (λ (q : ℕ) (x : Cited). Some (axiom_of study q x)) p same
-  get_from place (d ∷ cs) (suc i) c e =
-      let over : (place + 1) + i ≡ place + suc i = omega arith in
-      get_from (place + 1) cs i c e ∙ ap (λ (q : ℕ). Some (axiom_of study q c)) over
-
-  pub derived_get : (cs : List Cited) (i : ℕ) (c : Cited) → slice_get cs i ≡ Some c → slice_get (axioms_from study 0 cs) i ≡ Some (axiom_of study i c)
-  derived_get cs i c e = let same : 0 + i ≡ i = omega arith in get_from 0 cs i c e ∙ ap (λ (q : ℕ). Some (axiom_of study q c)) same
-
   module _ (derived : List Cited) where
     abbrev daxioms : List Titled
     daxioms = axioms_from study 0 derived
@@ -134,7 +125,7 @@ module _ (study : Question) where
         let c : Cited = record { «axiom» = place; number = k } in
         let at = subst (IsCovered derived) of.0 covered in
         let kept = has_closed at.0 k a (axiom_of study at.0 c).sentence (instance_name at.0) s.clause (closed_is place k a e) of.1 in
-        let here : IsIn (from_axiom study.size at.0 (slice_get daxioms at.0)) kept.0 = subst (λ (o : Option Titled). IsIn (from_axiom study.size at.0 o) kept.0) (sym (derived_get derived at.0 c at.1)) kept.1 in (
+        let here : IsIn (from_axiom study.size at.0 (slice_get daxioms at.0)) kept.0 = subst (λ (o : Option Titled). IsIn (from_axiom study.size at.0 o) kept.0) (sym (derived_get study derived at.0 c at.1)) kept.1 in (
           kept.0,
           in_right frames _ kept.0 (flat_map_in (λ p. from_axiom study.size p (slice_get daxioms p)) (below (length derived)) at.0 kept.0 (in_below (length derived) at.0 (slice_get_within derived at.0 c at.1)) here),
           kept.2,

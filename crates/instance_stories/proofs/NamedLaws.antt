@@ -31,6 +31,7 @@ use Rattle.closing.proofs.SentenceLaws.{closed_prefix, closed_own_body}
 use Rattle.sharp_verdicts.specs.declared.instances.Cited.{Cited}
 use Rattle.sharp_verdicts.specs.Derived.{closed_at, axiom_of, axioms_from, instance_name}
 use Rattle.sharp_verdicts.specs.Instances.{is_present, count_at, reasons_of, cites_axiom, is_axiom_told, core_of}
+use Rattle.sharp_verdicts.proofs.DerivedLaws.{get_none, derived_get}
 use Rattle.instance_studies.proofs.StudyLaws.{all_get, number_within}
 use Rattle.instance_stories.specs.Named.{reason_in, named_back, step_named, lemma_named, story_named}
 
@@ -59,24 +60,7 @@ kept_there t (x ∷ xs) k h e = by (x == k) (t x) refl refl h (λ later. kept_th
     by false true p q g ih = or_right (x == k) _ (ih g)
     by false false p q g ih = ih g
 
--- ---- the axiom at a place of the derived study
-
 module _ (study : Question) where
-  get_from : (place : ℕ) (cs : List Cited) (i : ℕ) (c : Cited) → slice_get cs i ≡ Some c → slice_get (axioms_from study place cs) i ≡ Some (axiom_of study (place + i) c)
-  get_from place [] i c e = absurd cc
-  get_from place (d ∷ cs) zero c e = let same : d ≡ c = cc in let p : place ≡ place + 0 = omega arith in ap₂ (λ (q : ℕ) (x : Cited). Some (axiom_of study q x)) p same
-  get_from place (d ∷ cs) (suc i) c e =
-      let over : (place + 1) + i ≡ place + suc i = omega arith in
-      get_from (place + 1) cs i c e ∙ ap (λ (q : ℕ). Some (axiom_of study q c)) over
-
-  get_none : (place : ℕ) (cs : List Cited) (i : ℕ) → slice_get cs i ≡ None → slice_get (axioms_from study place cs) i ≡ None
-  get_none place [] i e = refl
-  get_none place (d ∷ cs) zero e = absurd cc
-  get_none place (d ∷ cs) (suc i) e = get_none (place + 1) cs i e
-
-  pub derived_get : (cs : List Cited) (i : ℕ) (c : Cited) → slice_get cs i ≡ Some c → slice_get (axioms_from study 0 cs) i ≡ Some (axiom_of study i c)
-  derived_get cs i c e = let same : 0 + i ≡ i = omega arith in get_from 0 cs i c e ∙ ap (λ (q : ℕ). Some (axiom_of study q c)) same
-
   -- ---- reasons
 
   no_values : (values : List ℕ) → pointwise nat_lt values [] ≡ true → values ≡ []
@@ -115,11 +99,11 @@ module _ (study : Question) where
     axiom_back : (known : List Literal) (i : ℕ) (values : List ℕ) (earlier : List Lemma) → (o : Option Cited) → slice_get derived i ≡ o → is_instance_false study.size known (slice_get daxioms i) values ≡ true
         → refutes study.size study.axioms everywhere earlier known (reason_in study o) ≡ true
     axiom_back known i values earlier None e h =
-        absurd (true≢false (sym h ∙ ap (λ o. is_instance_false study.size known o values) (get_none 0 derived i e)))
+        absurd (true≢false (sym h ∙ ap (λ o. is_instance_false study.size known o values) (get_none study 0 derived i e)))
     axiom_back known i values earlier (Some c) e h =
         let here = all_get (is_present study) derived i c present e in
         let lt = ltb-true c.«axiom» (length study.axioms) (and_parts (nat_lt c.«axiom» (length study.axioms)) (nat_lt c.number (count_at study c.«axiom»)) here).0 in
-        let closed = subst (λ o. is_instance_false study.size known o values ≡ true) (derived_get derived i c e) h in
+        let closed = subst (λ o. is_instance_false study.size known o values ≡ true) (derived_get study derived i c e) h in
         and_from _ _ (there (length study.axioms) c.«axiom» lt) (instance_back known c (instance_name i) values here (slice_get study.axioms c.«axiom») refl closed)
 
     claim_same : (known : List Literal) (earlier : List Lemma) (j : ℕ) → is_claim_false known (slice_get earlier j) ≡ true → is_claim_false known (slice_get (map (lemma_named study derived) earlier) j) ≡ true

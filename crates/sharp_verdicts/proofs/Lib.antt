@@ -1,1 +1,3 @@
 pub mod WorkedExamples
+pub mod Members
+pub mod DerivedLaws

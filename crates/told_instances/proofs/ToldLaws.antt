@@ -27,7 +27,7 @@ use Rattle.sharp_verdicts.specs.declared.instances.Cited.{Cited}
 use Rattle.sharp_verdicts.specs.Instances.{cites_axiom, reasons_of, count_at, number_at, is_present, cites, is_told, all_instances, instances_of}
 use Rattle.instance_stories.specs.Codes.{code_of, AreRising, AreSmall}
 use Rattle.instance_stories.proofs.AllInstances.{has-append, all_rise, all_small, filter_rises, filter_small, counts_few, rising_lists}
-use Rattle.instance_stories.proofs.Members.{map_in, flat_map_in, in_below, in_filter, filter_in}
+use Rattle.sharp_verdicts.proofs.Members.{map_in, flat_map_in, in_below, in_filter, filter_in}
 use Rattle.told_instances.specs.Told.{codes_in, codes_by, codes_told, names_instance, has_reasons}
 
 -- ---- numbers that are in a list

@@ -31,7 +31,7 @@ module _ (study : Question) where
   abbrev Ran : Standing → List Line → List (List ℕ) → Type 0
   Ran t before texts = (ls : List Line) × Reached t (before ++ ls) × (texts ≡ map (line_text study) ls)
 
-  read_is : (s : Standing) (text : List ℕ) (l : Line) → read_line study s text ≡ Some l → text ≡ line_text study l
+  pub read_is : (s : Standing) (text : List ℕ) (l : Line) → read_line study s text ≡ Some l → text ≡ line_text study l
   read_is s text l e =
       let w = not_long (nat_lt 4096 (length text)) (wanted study s.place (length s.earlier + 1) (words_of text)) l e in
       sym (join_with_byte-slice_split 32 text) ∙ ap joined (wanted_read study s.place (length s.earlier + 1) (words_of text) l w)

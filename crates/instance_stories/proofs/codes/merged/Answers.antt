@@ -16,16 +16,16 @@ loop-i-preserved c =
           ap (map code_of) (w.instances-is ∙ w.in_ok-push.ensures.ok) ∙ map-append code_of c.loop-i.instances (w.instance_of.result ∷ []) ∙ ap (λ (n : ℕ). map code_of c.loop-i.instances ++ n ∷ []) w.instance_of.ensures.code in
           let small = small_join c.loop-i.instances (w.instance_of.result ∷ []) c.loop-i.invariant.small (w.instance_of.ensures.small, tt) in
           record {
-          merged = rw w.last-is (subst (λ (xs : List ℕ). IsMerged c.args.codes.now xs code (c.loop-i.i + 1)) (sym codes)
-          (merged_new c.args.codes.now (map code_of c.loop-i.instances) c.loop-i.last c.loop-i.i c.requires.falls c.loop-i-test.true c.loop-i.invariant.merged _ refl w.if-code-last.true));
-          small = subst AreSmall (sym (w.instances-is ∙ w.in_ok-push.ensures.ok)) small;
-          few = let more = ap length (w.instances-is ∙ w.in_ok-push.ensures.ok) ∙ length-append c.loop-i.instances (w.instance_of.result ∷ []) in let before = c.loop-i.invariant.few in omega (arith, more, before);
+            merged = rw w.last-is (subst (λ (xs : List ℕ). IsMerged c.args.codes.now xs code (c.loop-i.i + 1)) (sym codes)
+                (merged_new c.args.codes.now (map code_of c.loop-i.instances) c.loop-i.last c.loop-i.i c.requires.falls c.loop-i-test.true c.loop-i.invariant.merged _ refl w.if-code-last.true));
+            small = subst AreSmall (sym (w.instances-is ∙ w.in_ok-push.ensures.ok)) small;
+            few = let more = ap length (w.instances-is ∙ w.in_ok-push.ensures.ok) ∙ length-append c.loop-i.instances (w.instance_of.result ∷ []) in let before = c.loop-i.invariant.few in omega (arith, more, before);
           }
       | else-code-last w ↦
           let low = c.requires.some c.loop-i.i 0 c.loop-i-test.true in
           record {
-          merged = rw w.instances-is (rw w.last-is (merged_old c.args.codes.now (map code_of c.loop-i.instances) c.loop-i.last c.loop-i.i c.requires.falls c.loop-i-test.true c.loop-i.invariant.merged _ refl w.if-code-last.false (omega (arith, low))));
-          small = subst AreSmall (sym w.instances-is) c.loop-i.invariant.small;
-          few = let same = ap length w.instances-is in let before = c.loop-i.invariant.few in omega (arith, same, before);
+            merged = rw w.instances-is (rw w.last-is (merged_old c.args.codes.now (map code_of c.loop-i.instances) c.loop-i.last c.loop-i.i c.requires.falls c.loop-i-test.true c.loop-i.invariant.merged _ refl w.if-code-last.false (omega (arith, low))));
+            small = subst AreSmall (sym w.instances-is) c.loop-i.invariant.small;
+            few = let same = ap length w.instances-is in let before = c.loop-i.invariant.few in omega (arith, same, before);
           }
     ]

@@ -1,0 +1,5 @@
+pub mod FitLaws
+pub mod CoreLaws
+pub mod MarkLaws
+pub mod SoundLaws
+pub mod JudgeLaws

@@ -1,0 +1,111 @@
+-- What holds of sharp texts: the statements of the laws. Each is proved as the contract of a function of the same name in src/laws.rt.
+use Rattle.std.specs.Prelude.{◌≡◌, ◌≢◌, ℕ, ◌<◌, ◌≤◌, ◌+◌, ◌^◌, ◌↔◌, List, [], ◌∷◌, ◌++◌, length, Some, IsTrue}
+use Rattle.std.specs.List.{list_all}
+use Rattle.vocab.specs.Size.{IsSize}
+use Rattle.vocab.specs.Study.{Question, HasFewAxioms}
+use Rattle.meaning.specs.declared.cores.Witness.{Witness}
+use Rattle.meaning.specs.Truth.{satisfies}
+use Rattle.verdicts.specs.declared.refusals.Refusal.TheVariants.{Form}
+use Rattle.verdicts.specs.Judge.{has_no_end, ended, pieces}
+use Rattle.verdicts.specs.Laws.{IsReportable, IsShort, is_rule_given}
+use Rattle.sharp_verdicts.specs.declared.instances.Cited.{Cited}
+use Rattle.sharp_verdicts.specs.declared.refusals.SharpRefusal.{SharpRefusal}
+use Rattle.sharp_verdicts.specs.declared.refusals.SharpRefusal.TheVariants.{Report}
+use Rattle.sharp_verdicts.specs.Instances.{has_instance, others_than}
+use Rattle.sharp_verdicts.specs.Right.{Pointed, satisfies_instances, IsSharpRight}
+use Rattle.sharp_verdicts.specs.SharpLines.{sharp_text}
+use Rattle.sharp_verdicts.specs.SharpPlaces.{SharpStanding}
+use Rattle.sharp_verdicts.specs.SharpJudge.{SharpGood, SharpRefused, sharp_line_fault, sharp_judge, SharpConfirmed, SharpFaulty, sharp_conclude, sharp_answer, sharp_answer_within}
+
+-- the text is that of this sharp verdict, which is right
+pub record IsSharpText (study : Question) (v : Pointed) (text : List ℕ) : Type 0 where
+  pub right : IsSharpRight study v
+  pub is : text ≡ sharp_text study v
+
+-- ---- confirmed texts
+
+-- what the judge confirms is the text of a right sharp verdict
+abbrev pub IsSharpJudgeSound : Type 0
+IsSharpJudgeSound = (study : Question) (text : List ℕ) (v : Pointed) → sharp_answer study text ≡ SharpConfirmed v → IsSharpText study v text
+
+-- the judge confirms the text of each right sharp verdict of a study of few axioms, where a machine word counts its lemmas
+abbrev pub IsSharpJudgeComplete : Type 0
+IsSharpJudgeComplete =
+    (study : Question) → IsReportable study → HasFewAxioms study → (text : List ℕ) (v : Pointed)
+    → IsSharpText study v text → length v.story < 2 ^ 64 → sharp_answer study text ≡ SharpConfirmed v
+
+-- no line of the text of a right sharp verdict of a study of few axioms is longer than 4,096 bytes, where a machine word counts its lemmas
+abbrev pub SharpLinesAreShort : Type 0
+SharpLinesAreShort =
+    (study : Question) → IsReportable study → HasFewAxioms study → (v : Pointed) → IsSharpRight study v
+    → length v.story < 2 ^ 64 → IsShort (sharp_text study v)
+
+-- different right sharp verdicts have different texts
+abbrev pub AreSharpTextsDistinct : Type 0
+AreSharpTextsDistinct =
+    (study : Question) → IsReportable study → (v w : Pointed) → IsSharpRight study v → IsSharpRight study w
+    → sharp_text study v ≡ sharp_text study w → v ≡ w
+
+-- no proper prefix of a confirmed sharp text is confirmed
+abbrev pub HasNoSharpPrefix : Type 0
+HasNoSharpPrefix =
+    (study : Question) → IsReportable study → (v w : Pointed) (text rest : List ℕ)
+    → sharp_answer study text ≡ SharpConfirmed v → sharp_answer study (text ++ rest) ≡ SharpConfirmed w → rest ≡ []
+
+-- a right sharp text of a study of few axioms that is cut anywhere before its end has its first faulty line where it is cut, which is not what the grammar wants
+abbrev pub CutSharpTextsAreForm : Type 0
+CutSharpTextsAreForm =
+    (study : Question) → IsReportable study → HasFewAxioms study → (v : Pointed) (text rest : List ℕ)
+    → IsSharpText study v (text ++ rest) → length v.story < 2 ^ 64 → rest ≢ []
+    → sharp_answer study text ≡ SharpFaulty (length (pieces text)) (Report Form)
+
+-- lines none of which has a line end within it are answered as the text that has them, each with its line end
+abbrev pub SharpLinesAreAnswered : Type 0
+SharpLinesAreAnswered =
+    (study : Question) (lines : List (List ℕ)) → IsTrue (list_all has_no_end lines)
+    → sharp_answer study (ended lines) ≡ sharp_conclude study (length lines + 1) [] (sharp_judge study lines)
+
+-- where only so many bytes of a text are read, exactly those confirmed sharp texts are confirmed that have no more
+abbrev pub SharpConfirmedWithinLimit : Type 0
+SharpConfirmedWithinLimit =
+    (limit : ℕ) (study : Question) (text : List ℕ) (v : Pointed)
+    → (sharp_answer_within study limit text ≡ SharpConfirmed v) ↔ ((length text ≤ limit) × (sharp_answer study text ≡ SharpConfirmed v))
+
+-- ---- what they claim
+
+-- no rule of the size makes the bodies of all of some instances true
+abbrev pub HasNoRuleOfAll : Question → List Cited → Type 0
+HasNoRuleOfAll study instances = (table : List ℕ) → ¬ IsTrue (satisfies_instances study instances table)
+
+-- some rule makes the bodies of all of them but one true, whichever it is
+abbrev pub HaveRulesOfOthers : Question → List Cited → Type 0
+HaveRulesOfOthers study instances = (c : Cited) → IsTrue (has_instance instances c) → (table : List ℕ) × IsTrue (satisfies_instances study (others_than instances c) table)
+
+-- what a sharp verdict claims: no rule makes the bodies of all listed instances true, so none satisfies the axioms of the core; and where no mark is open, no listed instance can be left out
+pub record SharpClaims (study : Question) (v : Pointed) : Type 0 where
+  pub none : HasNoRuleOfAll study v.instances
+  pub none_of_core : (table : List ℕ) → ¬ IsTrue (satisfies study.size study.axioms v.core table)
+  pub needed : IsTrue (list_all is_rule_given v.marks) → HaveRulesOfOthers study v.instances
+
+-- what a confirmed sharp text claims holds
+abbrev pub SharpClaimsHold : Type 0
+SharpClaimsHold = (study : Question) → IsSize study.size → (text : List ℕ) (v : Pointed) → IsSharpText study v text → SharpClaims study v
+
+-- ---- faulty lines
+
+-- a line of this number is faulty, and none before it is
+pub record IsFirstSharpFault (study : Question) (lines : List (List ℕ)) (n : ℕ) (word : SharpRefusal) : Type 0 where
+  pub before : List (List ℕ)
+  pub line : List ℕ
+  pub more : List (List ℕ)
+  pub standing : SharpStanding
+  pub split : lines ≡ before ++ line ∷ more
+  pub number : n ≡ length before + 1
+  pub faultless : sharp_judge study before ≡ SharpGood standing
+  pub fault : sharp_line_fault study standing line ≡ Some word
+
+-- the judge names the first faulty line, and no line after it plays a part
+abbrev pub SharpFaultsAreFirst : Type 0
+SharpFaultsAreFirst =
+    (study : Question) (lines : List (List ℕ)) (n : ℕ) (word : SharpRefusal)
+    → (sharp_judge study lines ≡ SharpRefused n word) ↔ IsFirstSharpFault study lines n word
