@@ -3,3 +3,5 @@ pub mod CoreLaws
 pub mod MarkLaws
 pub mod SoundLaws
 pub mod JudgeLaws
+pub mod TextLaws
+pub mod RunLaws
