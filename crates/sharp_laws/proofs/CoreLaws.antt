@@ -1,5 +1,5 @@
 -- The axioms that an accepted story cites are those of its core, where it cites each of them.
-use Rattle.std.proofs.Common.{◌≡◌, refl, sym, ap, ap₂, ◌∙◌, subst, ℕ, zero, suc, ◌+◌, ◌<◌, ◌≤◌, inl, inr, Bool, true, false, not, ◌&&◌, List, [], ◌∷◌, ◌++◌, map, filter, length, cond, arith, true≢false, eqb-true, eq-eqb, ltb-true, ltb-false, lt-ltb, le-ltb}
+use Rattle.std.proofs.Common.{◌≡◌, refl, sym, ap, ap₂, ◌∙◌, subst, ℕ, zero, suc, ◌+◌, ◌<◌, ◌≤◌, inl, inr, Bool, true, false, not, ◌&&◌, List, [], ◌∷◌, ◌++◌, map, filter, length, cond, arith, true≢false, eqb-true, ltb-true, ltb-false, lt-ltb, le-ltb}
 use Rattle.std.specs.Prelude.{◌==◌, nat_lt, slice_get}
 use Rattle.std.specs.List.{list_all, list_any}
 use Rattle.std.proofs.lemmas.Bool.{and_parts, and_from, or_cases, not-true, cases_lt}
@@ -13,7 +13,7 @@ use Rattle.meaning.specs.declared.stories.Reason.TheVariants.{Axiom as ByAxiom, 
 use Rattle.meaning.specs.declared.stories.StoryStep.{StoryStep}
 use Rattle.meaning.specs.declared.stories.Lemma.{Lemma}
 use Rattle.meaning.specs.Cores.{is_core_from}
-use Rattle.meaning.specs.Space.{up_from, below}
+use Rattle.meaning.specs.Space.{up_from}
 use Rattle.meaning.specs.Stories.{is_instance_false, refutes, is_decided, are_new, has_literals, are_forced, is_lemma, is_story_from, is_story}
 use Rattle.sharp_verdicts.specs.Instances.{reasons_of, cites_axiom, is_axiom_told, core_of}
 

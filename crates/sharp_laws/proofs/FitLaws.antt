@@ -1,8 +1,6 @@
 -- Which lines of a sharp text can stand at a place, and that a line that is read is one of these and has its text.
-use Rattle.std.proofs.Common.{◌≡◌, refl, sym, ap, ◌∙◌, subst, ℕ, ◌+◌, ◌-◌, ◌<◌, ◌⊎◌, inl, inr, Bool, true, false, List, [], ◌∷◌, ◌++◌, length, take, drop, Option, Some, None, option_map, option_and_then, arith, cond}
+use Rattle.std.proofs.Common.{◌≡◌, refl, sym, ap, ◌∙◌, subst, ℕ, ◌+◌, ◌-◌, ◌<◌, inl, inr, Bool, true, false, List, [], ◌∷◌, ◌++◌, length, take, drop, Option, Some, None, option_map, cond}
 use Rattle.std.specs.Prelude.{codes, nat_lt, slice_get}
-use Rattle.std.specs.List.{join_with_byte}
-use Rattle.std.specs.Option.{option_or}
 use Rattle.std.specs.Str.{bytes_eq}
 use Rattle.std.proofs.lemmas.List.{take-append-drop}
 use Rattle.std.proofs.lemmas.List.Splits.{join_with_byte-slice_split}
@@ -11,21 +9,20 @@ use Rattle.vocab.specs.declared.kinds.Sort.TheVariants.{Profile}
 use Rattle.vocab.specs.Size.{outcome_count, sort_count}
 use Rattle.vocab.specs.Study.{Question}
 use Rattle.meaning.specs.declared.stories.Reason.{Reason}
-use Rattle.meaning.specs.declared.stories.Reason.TheVariants.{Axiom as ByAxiom, Outcome as ByOutcome, Lemma as ByLemma}
-use Rattle.verdicts.specs.Lines.{Line, SaysPossible, Row, End, line_text, line_words, reason_words, name_at, sorts_of}
+use Rattle.meaning.specs.declared.stories.Reason.TheVariants.{Axiom as ByAxiom}
+use Rattle.verdicts.specs.Lines.{Line, SaysPossible, Row, End, reason_words, sorts_of}
 use Rattle.verdicts.specs.Numbers.{number_text, read_number}
-use Rattle.verdicts.specs.Places.{Place, AtWitnessRow, AtEnd, Standing, wanted}
+use Rattle.verdicts.specs.Places.{AtWitnessRow, Standing}
 use Rattle.verdicts.specs.Reading.{keyed, one_word, no_word, read_axiom, read_values, read_cited, read_row}
 use Rattle.verdicts.specs.Report.{is_reason}
 use Rattle.verdicts.specs.Texts.{joined, words_of}
 use Rattle.verdicts.specs.Judge.{read_line}
-use Rattle.verdicts.specs.declared.verdicts.Verdict.TheVariants.{Undecided}
 use Rattle.verdicts.proofs.NumberLaws.{text_read}
 use Rattle.verdicts.proofs.LineLaws.{map_is, then_is, or_is, test_is, keyed_is, one_is, none_is, cited_read, wanted_read}
 use Rattle.verdicts.proofs.FitLaws.{Fits, cited_in, wanted_fits}
 use Rattle.verdicts.proofs.JudgeLaws.{not_long, read_is}
 use Rattle.sharp_verdicts.specs.SharpLines.{SharpLine, SharpTitle, Plain, InstancesAre, NeedsRule, NeedsOpen, after_first, sharp_words, sharp_line_text}
-use Rattle.sharp_verdicts.specs.SharpPlaces.{SharpPlace, AtSharp, AtReport, AtInstances, AtNeed, AtNeedRow, AtSharpEnd, AtSharpNothing, SharpStanding, not_possible, read_mark, read_need, wanted_past, read_title, read_past, read_sharp_at, read_sharp_line}
+use Rattle.sharp_verdicts.specs.SharpPlaces.{SharpPlace, AtSharp, AtReport, AtInstances, AtNeed, AtNeedRow, AtSharpEnd, AtSharpNothing, SharpStanding, not_possible, read_need, wanted_past, read_past, read_sharp_at, read_sharp_line}
 
 -- a line of a report that a sharp text may have says of no rule that it is possible
 abbrev pub IsSaid : Line → Type 0

@@ -5,3 +5,6 @@ pub mod SoundLaws
 pub mod JudgeLaws
 pub mod TextLaws
 pub mod RunLaws
+pub mod FaultLaws
+pub mod ShortLaws
+pub mod AnswerLaws

@@ -1,5 +1,5 @@
 -- The listed instances, and their marks, which are read one after the other.
-use Rattle.std.proofs.Common.{◌≡◌, refl, sym, ap, ap₂, ◌∙◌, subst, ℕ, zero, suc, ◌+◌, ◌<◌, ◌≤◌, Bool, true, false, ◌&&◌, List, [], ◌∷◌, ◌++◌, map, length, Option, Some, None, arith, true≢false, eqb-true, eq-eqb, ltb-true, lt-ltb, append_assoc, append-nil}
+use Rattle.std.proofs.Common.{◌≡◌, refl, sym, ap, ap₂, ◌∙◌, subst, ℕ, zero, suc, ◌<◌, ◌≤◌, Bool, true, false, ◌&&◌, List, [], ◌∷◌, ◌++◌, map, length, Option, Some, None, arith, true≢false, eqb-true, eq-eqb, ltb-true, lt-ltb, append_assoc, append-nil}
 use Rattle.std.specs.Prelude.{◌==◌, nat_lt, slice_get}
 use Rattle.std.specs.Cmp.Lexicographic.{pointwise}
 use Rattle.std.specs.Option.{option_map_or}
@@ -18,7 +18,7 @@ use Rattle.verdicts.specs.Lines.{sorts_of}
 use Rattle.verdicts.proofs.WordLaws.{IsIn, from_below}
 use Rattle.sharp_verdicts.specs.declared.instances.Cited.{Cited}
 use Rattle.sharp_verdicts.specs.Instances.{count_at, is_present, values_at, number_at, cites, is_told, all_instances, instances_of}
-use Rattle.sharp_verdicts.specs.SharpLines.{SharpLine, reason_at, mark_lines, all_mark_lines}
+use Rattle.sharp_verdicts.specs.SharpLines.{reason_at, mark_lines, all_mark_lines}
 use Rattle.sharp_verdicts.proofs.Members.{in_flat_map, in_map, in_filter, in_at}
 use Rattle.sharp_laws.proofs.FitLaws.{IsCited}
 

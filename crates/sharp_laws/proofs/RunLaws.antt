@@ -1,11 +1,10 @@
 -- The judge finds no fault in the lines of a right sharp verdict.
-use Rattle.std.proofs.Common.{◌≡◌, refl, sym, ap, ap₂, ◌∙◌, subst, ℕ, zero, suc, ◌+◌, ◌<◌, Bool, true, false, not, ◌&&◌, List, [], ◌∷◌, ◌++◌, map, length, Option, Some, None, option_map, arith, true≢false, cond, append_assoc, append-nil, length-append, eqb-true, ltb-true}
+use Rattle.std.proofs.Common.{◌≡◌, refl, sym, ap, ap₂, ◌∙◌, subst, ℕ, suc, ◌+◌, ◌<◌, Bool, true, false, ◌&&◌, List, [], ◌∷◌, ◌++◌, map, length, Option, Some, None, option_map, arith, true≢false, cond, append_assoc, append-nil, length-append, eqb-true, ltb-true}
 use Rattle.std.specs.Prelude.{◌==◌, nat_lt, slice_get}
 use Rattle.std.specs.List.{list_all}
 use Rattle.std.specs.Option.{option_or, option_map_or}
 use Rattle.std.specs.Cmp.Lexicographic.{pointwise}
 use Rattle.std.proofs.lemmas.Bool.{and_parts, and_from}
-use Rattle.std.proofs.lemmas.List.{map-append}
 use Rattle.std.proofs.lemmas.Option.{slice_get_within}
 use Rattle.vocab.specs.declared.kinds.Sort.TheVariants.{Profile}
 use Rattle.vocab.specs.declared.literals.Literal.{Literal}
@@ -23,24 +22,23 @@ use Rattle.meaning.proofs.TestLaws.{list_all-both}
 use Rattle.verdicts.specs.declared.refusals.Refusal.TheVariants as refusal
 use Rattle.verdicts.specs.declared.verdicts.Verdict.{Verdict}
 use Rattle.verdicts.specs.declared.verdicts.Verdict.TheVariants.{Impossible}
-use Rattle.verdicts.specs.Faults.{is_version, fault_of, next_after}
+use Rattle.verdicts.specs.Faults.{next_after}
 use Rattle.verdicts.specs.Laws.{IsReportable}
 use Rattle.verdicts.specs.Lines.{Line, Title, SaysPossible, BallotsAre, AbsentIs, AxiomsAre, KindIs, VotersAre, AlternativesAre, Row, Heading, Suppose, Clash, WithRule, WithOpen, End, name_at}
 use Rattle.verdicts.specs.Places.{Place, AtWitness, AtEnd, Standing, start}
-use Rattle.verdicts.specs.Report.{row_lines, step_line, lemma_lines, story_lines, domain_lines, head_lines, all_witness_lines, verdict_lines, is_lemma_text, has_text, is_right, own_version}
+use Rattle.verdicts.specs.Report.{row_lines, step_line, lemma_lines, story_lines, head_lines, all_witness_lines, is_lemma_text, is_right, own_version}
 use Rattle.verdicts.specs.Judge.{witness_place, advance}
 use Rattle.verdicts.proofs.FitLaws.{Fits}
 use Rattle.verdicts.proofs.RightLaws.{right_has_text}
-use Rattle.verdicts.proofs.ReadLaws.{is_plain}
 use Rattle.verdicts.proofs.ReportLaws.{own_allowed}
 use Rattle.verdicts.proofs.CompleteLaws.{eqb_no, eqb_yes, allowed_known, told_lines, Runs, runs_append, head_run, told_run, told, at_verdict}
 use Rattle.sharp_verdicts.specs.declared.instances.Cited.{Cited}
 use Rattle.sharp_verdicts.specs.declared.refusals.SharpRefusal.{SharpRefusal}
 use Rattle.sharp_verdicts.specs.declared.refusals.SharpRefusal.TheVariants.{Report, Instance}
-use Rattle.sharp_verdicts.specs.Instances.{others_than, is_axiom_told, cites, instances_of, core_of, is_true_of}
+use Rattle.sharp_verdicts.specs.Instances.{others_than, is_axiom_told, instances_of, is_true_of}
 use Rattle.sharp_verdicts.specs.Right.{Pointed, is_mark, IsSharpRight}
-use Rattle.sharp_verdicts.specs.SharpLines.{SharpLine, SharpTitle, Plain, InstancesAre, NeedsRule, NeedsOpen, after_first, reason_at, mark_lines, all_mark_lines, story_part, sharp_lines}
-use Rattle.sharp_verdicts.specs.SharpPlaces.{SharpPlace, AtSharp, AtReport, AtInstances, AtNeed, AtNeedRow, AtSharpEnd, AtSharpNothing, SharpStanding, sharp_start, is_story_read}
+use Rattle.sharp_verdicts.specs.SharpLines.{SharpLine, SharpTitle, Plain, InstancesAre, after_first, reason_at, mark_lines, all_mark_lines, story_part, sharp_lines}
+use Rattle.sharp_verdicts.specs.SharpPlaces.{SharpPlace, AtReport, AtInstances, AtNeed, AtNeedRow, AtSharpEnd, AtSharpNothing, SharpStanding, sharp_start, is_story_read}
 use Rattle.sharp_verdicts.specs.SharpFaults.{unless_of, next_instance, instance_fault, instances_fault, sharp_fault}
 use Rattle.sharp_verdicts.specs.SharpJudge.{advance_sharp, pointed_of}
 use Rattle.sharp_laws.proofs.FitLaws.{IsSaid, SharpFits}

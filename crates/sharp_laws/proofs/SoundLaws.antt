@@ -10,15 +10,13 @@ use Rattle.vocab.specs.Size.{outcome_count, sort_count}
 use Rattle.vocab.specs.Study.{Question}
 use Rattle.meaning.specs.declared.cores.Witness.{Witness}
 use Rattle.meaning.specs.declared.cores.Witness.TheVariants.{Rule, Open}
-use Rattle.meaning.specs.declared.stories.Lemma.{Lemma}
 use Rattle.meaning.specs.declared.stories.Reason.{Reason}
-use Rattle.meaning.specs.declared.stories.Reason.TheVariants.{Axiom as ByAxiom, Outcome as ByOutcome, Lemma as ByLemma}
+use Rattle.meaning.specs.declared.stories.Reason.TheVariants.{Axiom as ByAxiom}
 use Rattle.meaning.specs.Cores.{is_core_from}
 use Rattle.meaning.specs.Stories.{is_story}
 use Rattle.meaning.specs.Truth.{is_rule}
 use Rattle.verdicts.specs.declared.refusals.Refusal.{Refusal}
 use Rattle.verdicts.specs.declared.refusals.Refusal.TheVariants as refusal
-use Rattle.verdicts.specs.declared.verdicts.Verdict.{Verdict}
 use Rattle.verdicts.specs.declared.verdicts.Verdict.TheVariants.{Impossible}
 use Rattle.verdicts.specs.Faults.{fault_of, next_core}
 use Rattle.verdicts.specs.Lines.{Line, Title, KindIs, VotersAre, AlternativesAre, BallotsAre, AbsentIs, AxiomsAre, SaysPossible, SaysImpossible, SaysUndecided, Row, CoreIs, LemmasAre, Heading, Suppose, So, Clash, End, name_at}
@@ -35,7 +33,7 @@ use Rattle.sharp_verdicts.specs.Instances.{others_than, is_axiom_told, cites, in
 use Rattle.sharp_verdicts.specs.Right.{is_mark}
 use Rattle.sharp_verdicts.specs.SharpLines.{SharpLine, SharpTitle, Plain, InstancesAre, NeedsRule, NeedsOpen, after_first, reason_at, mark_lines, all_mark_lines}
 use Rattle.sharp_verdicts.specs.SharpPlaces.{SharpPlace, AtSharp, AtReport, AtInstances, AtNeed, AtNeedRow, AtSharpEnd, AtSharpNothing, SharpStanding, is_story_read}
-use Rattle.sharp_verdicts.specs.SharpFaults.{unless_of, listed, next_instance, instance_fault, instances_fault, asked_of, sharp_fault}
+use Rattle.sharp_verdicts.specs.SharpFaults.{unless_of, next_instance, instance_fault, instances_fault, asked_of, sharp_fault}
 use Rattle.sharp_verdicts.specs.SharpJudge.{after_mark, after_report, advance_sharp}
 use Rattle.sharp_laws.proofs.FitLaws.{IsSaid, IsCited, SharpFits}
 use Rattle.sharp_laws.proofs.CoreLaws.{core_is_cited}

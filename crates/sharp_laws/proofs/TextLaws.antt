@@ -1,19 +1,19 @@
 -- A line of a sharp text is cut into its words again, and is read again where it fits.
-use Rattle.std.proofs.Common.{◌≡◌, refl, sym, ap, ◌∙◌, ℕ, ◌+◌, ◌-◌, ◌≤◌, inl, inr, Bool, true, false, not, ◌&&◌, List, [], ◌∷◌, ◌++◌, length, take, drop, Option, Some, None, option_map, option_and_then, arith, true≢false, cond, length-append}
-use Rattle.std.specs.Prelude.{codes, nat_lt}
+use Rattle.std.proofs.Common.{◌≡◌, refl, sym, ap, ◌∙◌, ℕ, ◌+◌, ◌-◌, inl, inr, Bool, true, List, [], ◌∷◌, ◌++◌, length, take, drop, Some, None, option_map, option_and_then, arith, cond, length-append}
+use Rattle.std.specs.Prelude.{codes}
 use Rattle.std.specs.List.{list_all}
 use Rattle.std.specs.Option.{option_or}
 use Rattle.std.proofs.Math.Seq.{take-append_seam, drop-append_seam}
 use Rattle.std.proofs.lemmas.Bool.{and_parts, and_from, not-true}
 use Rattle.vocab.specs.Study.{Question}
 use Rattle.meaning.specs.declared.stories.Reason.{Reason}
-use Rattle.meaning.specs.declared.stories.Reason.TheVariants.{Axiom as ByAxiom, Outcome as ByOutcome, Lemma as ByLemma}
+use Rattle.meaning.specs.declared.stories.Reason.TheVariants.{Axiom as ByAxiom}
 use Rattle.meaning.proofs.TestLaws.{list_all-both}
 use Rattle.verdicts.specs.Laws.{IsReportable}
-use Rattle.verdicts.specs.Lines.{Line, Row, End, line_text, line_words, reason_words}
-use Rattle.verdicts.specs.Numbers.{number_text, read_number}
+use Rattle.verdicts.specs.Lines.{Line, Row, End, line_text, reason_words}
+use Rattle.verdicts.specs.Numbers.{number_text}
 use Rattle.verdicts.specs.Places.{AtWitnessRow, Standing, wanted}
-use Rattle.verdicts.specs.Reading.{keyed, one_word, read_cited}
+use Rattle.verdicts.specs.Reading.{read_cited}
 use Rattle.verdicts.specs.Texts.{joined, words_of}
 use Rattle.verdicts.specs.Judge.{read_line}
 use Rattle.verdicts.proofs.NumberLaws.{read_text}
@@ -30,6 +30,12 @@ use Rattle.sharp_laws.proofs.FitLaws.{IsCited, SharpFits}
 abbrev pub is_sharp_plain : SharpLine → Bool
 is_sharp_plain (Plain l) = is_plain l
 is_sharp_plain l = true
+
+-- the places past the story
+abbrev pub IsPast : SharpPlace → Type 0
+IsPast AtSharp = ⊥
+IsPast AtReport = ⊥
+IsPast place = Unit {0}
 
 module _ (study : Question) (is : IsReportable study) where
   -- ---- words
@@ -82,13 +88,7 @@ module _ (study : Question) (is : IsReportable study) where
       ∙ ap (λ ws. option_and_then (λ q. read_mark q (a ∷ b ∷ [])) (read_cited study ws)) (take-append_seam front (a ∷ b ∷ []))
       ∙ ap (option_and_then (λ q. read_mark q (a ∷ b ∷ []))) (cited_again r h)
 
-  -- the places past the story
-  abbrev IsPast : SharpPlace → Type 0
-  IsPast AtSharp = ⊥
-  IsPast AtReport = ⊥
-  IsPast place = Unit {0}
-
-  wanted_again : (place : SharpPlace) (told : Standing) (l : SharpLine) → IsPast place → SharpFits study place told l → wanted_past study place (sharp_words study l) ≡ Some l
+  pub wanted_again : (place : SharpPlace) (told : Standing) (l : SharpLine) → IsPast place → SharpFits study place told l → wanted_past study place (sharp_words study l) ≡ Some l
   wanted_again AtSharp told l q f = absurd q
   wanted_again AtReport told l q f = absurd q
   wanted_again AtInstances told (InstancesAre n) q f = ap (option_map InstancesAre) (read_text n)

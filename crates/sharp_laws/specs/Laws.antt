@@ -3,7 +3,6 @@ use Rattle.std.specs.Prelude.{◌≡◌, ◌≢◌, ℕ, ◌<◌, ◌≤◌, ◌
 use Rattle.std.specs.List.{list_all}
 use Rattle.vocab.specs.Size.{IsSize}
 use Rattle.vocab.specs.Study.{Question, HasFewAxioms}
-use Rattle.meaning.specs.declared.cores.Witness.{Witness}
 use Rattle.meaning.specs.Truth.{satisfies}
 use Rattle.verdicts.specs.declared.refusals.Refusal.TheVariants.{Form}
 use Rattle.verdicts.specs.Judge.{has_no_end, ended, pieces}

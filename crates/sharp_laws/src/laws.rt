@@ -1,8 +1,52 @@
 //! What holds of sharp texts. Each law is the contract of a function that does nothing.
 
-ghost use Rattle.sharp_laws.specs.Laws.{IsSharpJudgeSound};
+ghost use Rattle.sharp_laws.specs.Laws.{AreSharpTextsDistinct, CutSharpTextsAreForm, HasNoSharpPrefix, IsSharpJudgeComplete, IsSharpJudgeSound, SharpConfirmedWithinLimit, SharpFaultsAreFirst, SharpLinesAreAnswered, SharpLinesAreShort};
 
 /// What the judge confirms is the text of a right sharp verdict.
 pub fn sharp_judge_is_sound()
     ensures { IsSharpJudgeSound }
+{}
+
+/// The judge confirms the text of each right sharp verdict with fewer than 2^64 lemmas, where the study has at
+/// most 40 axioms.
+pub fn sharp_judge_is_complete()
+    ensures { IsSharpJudgeComplete }
+{}
+
+/// No line of the text of a right sharp verdict with fewer than 2^64 lemmas is longer than 4,096 bytes, where
+/// the study has at most 40 axioms.
+pub fn sharp_lines_are_short()
+    ensures { SharpLinesAreShort }
+{}
+
+/// Different right sharp verdicts have different texts.
+pub fn sharp_texts_are_distinct()
+    ensures { AreSharpTextsDistinct }
+{}
+
+/// No proper prefix of a confirmed sharp text is confirmed.
+pub fn sharp_prefixes_are_refused()
+    ensures { HasNoSharpPrefix }
+{}
+
+/// A right sharp text that is cut anywhere before its end is refused where it is cut, where the study has at
+/// most 40 axioms.
+pub fn cut_sharp_texts_are_form()
+    ensures { CutSharpTextsAreForm }
+{}
+
+/// Lines without a line end within them are answered as the text that has them, each with its line end.
+pub fn sharp_lines_are_answered()
+    ensures { SharpLinesAreAnswered }
+{}
+
+/// Where only so many bytes of a text are read, exactly those confirmed sharp texts are confirmed that have no
+/// more.
+pub fn sharp_confirmed_within_limit()
+    ensures { SharpConfirmedWithinLimit }
+{}
+
+/// The judge names the first faulty line, and no line after it plays a part.
+pub fn sharp_faults_are_first()
+    ensures { SharpFaultsAreFirst }
 {}

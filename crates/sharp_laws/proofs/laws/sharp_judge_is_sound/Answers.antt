@@ -1,5 +1,4 @@
 use Rattle.sharp_laws.proofs.JudgeLaws.{judge_sound}
-use Rattle.sharp_laws.proofs.RunLaws.{whole_run}
 use Rattle.sharp_laws.proofs.laws.sharp_judge_is_sound.Goals as goal
 
 pub returns : goal.returns
