@@ -8,3 +8,4 @@ pub mod RunLaws
 pub mod FaultLaws
 pub mod ShortLaws
 pub mod AnswerLaws
+pub mod ClaimLaws

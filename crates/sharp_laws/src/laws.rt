@@ -1,6 +1,6 @@
 //! What holds of sharp texts. Each law is the contract of a function that does nothing.
 
-ghost use Rattle.sharp_laws.specs.Laws.{AreSharpTextsDistinct, CutSharpTextsAreForm, HasNoSharpPrefix, IsSharpJudgeComplete, IsSharpJudgeSound, SharpConfirmedWithinLimit, SharpFaultsAreFirst, SharpLinesAreAnswered, SharpLinesAreShort};
+ghost use Rattle.sharp_laws.specs.Laws.{AreSharpTextsDistinct, CutSharpTextsAreForm, HasNoSharpPrefix, IsSharpJudgeComplete, IsSharpJudgeSound, SharpClaimsHold, SharpConfirmedWithinLimit, SharpFaultsAreFirst, SharpLinesAreAnswered, SharpLinesAreShort};
 
 /// What the judge confirms is the text of a right sharp verdict.
 pub fn sharp_judge_is_sound()
@@ -49,4 +49,10 @@ pub fn sharp_confirmed_within_limit()
 /// The judge names the first faulty line, and no line after it plays a part.
 pub fn sharp_faults_are_first()
     ensures { SharpFaultsAreFirst }
+{}
+
+/// No rule makes the bodies of all listed instances of a right sharp text true, so none satisfies its core; and
+/// where no mark is open, some rule makes those of all but any one of them true.
+pub fn sharp_claims_hold()
+    ensures { SharpClaimsHold }
 {}
