@@ -20,7 +20,7 @@ use Rattle.verdicts.specs.declared.verdicts.Verdict.TheVariants.{Possible, Impos
 use Rattle.verdicts.specs.Lines.{Line, BallotsAre, AbsentIs, AxiomsAre, End, name_at, title_of}
 use Rattle.verdicts.specs.Numbers.{number_text}
 use Rattle.verdicts.specs.Report.{row_lines, lemma_lines, story_lines, domain_lines, head_lines, own_version, witness_lines, all_witness_lines, verdict_lines, report_text}
-use Rattle.report_text.specs.Pieces.{count_text, ended, lines_text, spaced}
+use Rattle.report_text.specs.Pieces.{about_lines, count_text, ended, lines_text, spaced, told_lines}
 use Rattle.texts.specs.Spelled.{spelled}
 use Rattle.report_text.proofs.WordLemmas.{joined_spaced}
 
@@ -62,19 +62,23 @@ pub own_domain : (study : Question) (full : Bool) → full ≡ false → lines_t
 own_domain study true h = absurd (false≢true (sym h))
 own_domain study false h = refl
 
--- the lines that say what the study is
-pub head_text : (study : Question) (version : ℕ) →
-    count_text (codes "bench report ") version ++ ((codes "kind " ++ (kind_text study.size.kind ++ 10 ∷ [])) ++ (count_text (codes "voters ") study.size.voters ++ (count_text (codes "alternatives ") study.size.alternatives
-    ++ (lines_text study (domain_lines study version) ++ (codes "axioms" ++ (spelled (λ _ (a : Titled). 32 ∷ a.name) 0 study.axioms ++ 10 ∷ []))))))
-    ≡ lines_text study (head_lines study version)
-head_text study version =
+-- the lines that say what the study is, after the title
+pub about_text : (study : Question) (version : ℕ) →
+    (codes "kind " ++ (kind_text study.size.kind ++ 10 ∷ [])) ++ (count_text (codes "voters ") study.size.voters ++ (count_text (codes "alternatives ") study.size.alternatives
+    ++ (lines_text study (domain_lines study version) ++ (codes "axioms" ++ (spelled (λ _ (a : Titled). 32 ∷ a.name) 0 study.axioms ++ 10 ∷ [])))))
+    ≡ lines_text study (about_lines study version)
+about_text study version =
     let names : codes "axioms" ++ (spelled (λ _ (a : Titled). 32 ∷ a.name) 0 study.axioms ++ 10 ∷ []) ≡ lines_text study (AxiomsAre (map (λ (a : Titled). a.name) study.axioms) ∷ [])
     = ap (λ (words : List ℕ). codes "axioms" ++ (words ++ 10 ∷ [])) (names_spelled (λ (a : Titled). a.name) 0 study.axioms)
     ∙ ap (λ (words : List ℕ). words ++ 10 ∷ []) (sym (joined_spaced (codes "axioms") (map (λ (a : Titled). a.name) study.axioms)))
     ∙ sym (append-nil (ended study (AxiomsAre (map (λ (a : Titled). a.name) study.axioms)))) in
-    ap (λ (rest : List ℕ). count_text (codes "bench report ") version ++ ((codes "kind " ++ (kind_text study.size.kind ++ 10 ∷ [])) ++ (count_text (codes "voters ") study.size.voters ++ (count_text (codes "alternatives ") study.size.alternatives ++ rest))))
+    ap (λ (rest : List ℕ). (codes "kind " ++ (kind_text study.size.kind ++ 10 ∷ [])) ++ (count_text (codes "voters ") study.size.voters ++ (count_text (codes "alternatives ") study.size.alternatives ++ rest)))
     (ap (λ (last : List ℕ). lines_text study (domain_lines study version) ++ last) names
     ∙ sym (flat_map-append (ended study) (domain_lines study version) (AxiomsAre (map (λ (a : Titled). a.name) study.axioms) ∷ [])))
+
+-- the title comes first
+pub head_text : (study : Question) (version : ℕ) → count_text (codes "bench report ") version ++ lines_text study (about_lines study version) ≡ lines_text study (head_lines study version)
+head_text study version = refl
 
 -- ---- rules
 
@@ -186,26 +190,31 @@ story_spelled study n (lemma ∷ story) =
     ap (λ (rest : List ℕ). lines_text study (lemma_lines n lemma) ++ rest) (story_spelled study (n + 1) story)
     ∙ sym (flat_map-append (ended study) (lemma_lines n lemma) (story_lines (n + 1) story))
 
--- the core, the number of lemmas, the story and the witnesses
-claim_parts : (names lemmas story witnesses : List ℕ) →
-    ((codes "verdict impossible\ncore" ++ names) ++ ((10 ∷ lemmas) ++ story)) ++ witnesses ≡ codes "verdict impossible\n" ++ (((codes "core" ++ names) ++ 10 ∷ []) ++ (lemmas ++ (story ++ witnesses)))
-claim_parts names lemmas story witnesses = simp append_assoc
+-- the core, the number of lemmas and the story
+claim_parts : (names lemmas story : List ℕ) →
+    (codes "verdict impossible\ncore" ++ names) ++ ((10 ∷ lemmas) ++ story) ≡ codes "verdict impossible\n" ++ (((codes "core" ++ names) ++ 10 ∷ []) ++ (lemmas ++ story))
+claim_parts names lemmas story = simp append_assoc
 
-pub impossible_text : (study : Question) (core : List ℕ) (story : List Lemma) (witnesses : List Witness) →
-    (lines_text study (own_head study) ++ ((codes "verdict impossible\ncore" ++ spelled (λ _ (k : ℕ). 32 ∷ name_at study.axioms k) 0 core) ++ (count_text (codes "\nlemmas ") (length story) ++ spelled (λ number lemma. lines_text study (lemma_lines number lemma)) 1 story)))
-    ++ (lines_text study (all_witness_lines study core witnesses) ++ codes "end\n")
-    ≡ report_text study (Impossible core story witnesses)
-impossible_text study core story witnesses =
-    let head : List ℕ = lines_text study (own_head study) in
+pub told_text : (study : Question) (core : List ℕ) (story : List Lemma) →
+    (codes "verdict impossible\ncore" ++ spelled (λ _ (k : ℕ). 32 ∷ name_at study.axioms k) 0 core) ++ (count_text (codes "\nlemmas ") (length story) ++ spelled (λ number lemma. lines_text study (lemma_lines number lemma)) 1 story)
+    ≡ lines_text study (told_lines study core story)
+told_text study core story =
     let names : List ℕ = spaced (map (name_at study.axioms) core) in
     let lemmas : List ℕ = count_text (codes "lemmas ") (length story) in
     let told : List ℕ = lines_text study (story_lines 1 story) in
+    ap₂ (λ (a b : List ℕ). (codes "verdict impossible\ncore" ++ a) ++ ((10 ∷ lemmas) ++ b)) (names_spelled (name_at study.axioms) 0 core) (story_spelled study 1 story)
+    ∙ claim_parts names lemmas told
+    ∙ ap (λ (a : List ℕ). codes "verdict impossible\n" ++ ((a ++ 10 ∷ []) ++ (lemmas ++ told))) (sym (joined_spaced (codes "core") (map (name_at study.axioms) core)))
+
+pub impossible_text : (study : Question) (core : List ℕ) (story : List Lemma) (witnesses : List Witness) →
+    (lines_text study (own_head study) ++ lines_text study (told_lines study core story)) ++ (lines_text study (all_witness_lines study core witnesses) ++ codes "end\n")
+    ≡ report_text study (Impossible core story witnesses)
+impossible_text study core story witnesses =
+    let head : List ℕ = lines_text study (own_head study) in
+    let told : List ℕ = lines_text study (told_lines study core story) in
     let marks : List ℕ = lines_text study (all_witness_lines study core witnesses) in
-    ap₂ (λ (a b : List ℕ). (head ++ ((codes "verdict impossible\ncore" ++ a) ++ ((10 ∷ lemmas) ++ b))) ++ (marks ++ codes "end\n")) (names_spelled (name_at study.axioms) 0 core) (story_spelled study 1 story)
-    ∙ regroup head ((codes "verdict impossible\ncore" ++ names) ++ ((10 ∷ lemmas) ++ told)) marks (codes "end\n")
-    ∙ ap (λ (claim : List ℕ). (head ++ claim) ++ codes "end\n")
-    (claim_parts names lemmas told marks
-    ∙ ap₂ (λ (a b : List ℕ). codes "verdict impossible\n" ++ ((a ++ 10 ∷ []) ++ (lemmas ++ b))) (sym (joined_spaced (codes "core") (map (name_at study.axioms) core))) (sym (flat_map-append (ended study) (story_lines 1 story) (all_witness_lines study core witnesses))))
+    regroup head told marks (codes "end\n")
+    ∙ ap (λ (claim : List ℕ). (head ++ claim) ++ codes "end\n") (sym (flat_map-append (ended study) (told_lines study core story) (all_witness_lines study core witnesses)))
     ∙ sym (report_parts study (Impossible core story witnesses))
   where
     regroup : (a b c d : List ℕ) → (a ++ b) ++ (c ++ d) ≡ (a ++ (b ++ c)) ++ d

@@ -10,7 +10,7 @@ use Rattle.vocab.specs.Tree.{Tree, All}
 use Rattle.meaning.specs.declared.stories.Reason.TheVariants.{Axiom as ByAxiom}
 use Rattle.verdicts.specs.Lines.{value_words, name_at, sorts_of, title_of}
 use Rattle.verdicts.specs.Texts.{value_text, joined}
-use Rattle.report_text.specs.Pieces.{spaced, reason_text}
+use Rattle.report_text.specs.Pieces.{instance_text, spaced, reason_text}
 
 -- a blank stands before each word but the first
 pub joined_spaced : (word : List ℕ) (words : List (List ℕ)) → joined (word ∷ words) ≡ word ++ spaced words
@@ -25,8 +25,10 @@ next_value study size tree s rest values level v same is within at =
     own ∙ ap (λ (e : Extent). (32 ∷ value_text e s v) ++ spaced (value_words study (prefix_of rest) (drop (level + 1) values))) same
 
 -- an instance of the axiom at a place
-pub axiom_text : (study : Question) (k : ℕ) (values : List ℕ) (a : Titled) → slice_get study.axioms k ≡ Some a → codes "axiom " ++ (a.name ++ spaced (value_words study (prefix_of a.sentence) values)) ≡ reason_text study (ByAxiom k values)
-axiom_text study k values a at =
-    let named : joined (name_at study.axioms k ∷ value_words study (sorts_of (slice_get study.axioms k)) values) ≡ a.name ++ spaced (value_words study (prefix_of a.sentence) values)
-    = ap (λ (found : Option Titled). joined (title_of found ∷ value_words study (sorts_of found) values)) at ∙ joined_spaced a.name (value_words study (prefix_of a.sentence) values) in
-    ap (λ (words : List ℕ). codes "axiom " ++ words) (sym named)
+pub named_instance : (study : Question) (k : ℕ) (values : List ℕ) (a : Titled) → slice_get study.axioms k ≡ Some a → a.name ++ spaced (value_words study (prefix_of a.sentence) values) ≡ instance_text study k values
+named_instance study k values a at =
+    sym (ap (λ (found : Option Titled). joined (title_of found ∷ value_words study (sorts_of found) values)) at ∙ joined_spaced a.name (value_words study (prefix_of a.sentence) values))
+
+-- as a reason
+pub axiom_text : (study : Question) (k : ℕ) (values : List ℕ) → codes "axiom " ++ instance_text study k values ≡ reason_text study (ByAxiom k values)
+axiom_text study k values = refl

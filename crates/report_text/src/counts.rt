@@ -31,9 +31,9 @@ fn pour_count<O: Sink>(key: &[u8], count: u64, page: &mut Page, out: &mut O) -> 
 
 /// A line of a key, which ends with a blank, and a number.
 #[derive(Drop)]
-pub(crate) struct Count<'a> {
-    pub(crate) key: &'a [u8],
-    pub(crate) count: u64,
+pub struct Count<'a> {
+    pub key: &'a [u8],
+    pub count: u64,
 }
 
 impl Text for Count<'_> {

@@ -6,7 +6,7 @@ ghost use Rattle.vocab.specs.Size.{ballot_places};
 ghost use Rattle.meaning.specs.Texts.{kind_text, ranking_text};
 ghost use Rattle.verdicts.specs.Lines.{name_at};
 ghost use Rattle.verdicts.specs.Report.{domain_lines, head_lines, own_version};
-ghost use Rattle.report_text.specs.Pieces.{lines_text};
+ghost use Rattle.report_text.specs.Pieces.{about_lines, lines_text};
 ghost use Rattle.texts.specs.Spelled.{spelled};
 
 use crate::counts::Count;
@@ -132,25 +132,21 @@ impl Text for Domain<'_> {
     }
 }
 
-/// The lines that say what the study is.
+/// The lines that say what the study is, after the title.
 #[derive(Drop)]
-pub(crate) struct Head<'a> {
-    pub(crate) of: Subject<'a>,
+pub struct About<'a> {
+    pub of: Subject<'a>,
 }
 
-impl Text for Head<'_> {
+impl Text for About<'_> {
     ghost can = { λ _. Unit {0} };
 
-    ghost text = { λ head.
-        lines_text head.of.study.now (head_lines head.of.study.now (own_version head.of.study.now)) };
+    ghost text = { λ about.
+        lines_text about.of.study.now (about_lines about.of.study.now (own_version about.of.study.now)) };
 
     fn pour<O: Sink>(&self, page: &mut Page, out: &mut O) -> Result<(), Failed> {
         let study = self.of.study;
         let size = study.size();
-        let title = Count {
-            key: b"bench report ",
-            count: version_of(study),
-        };
         let voters = Count {
             key: b"voters ",
             count: u64::from(size.voters()),
@@ -167,6 +163,27 @@ impl Text for Head<'_> {
         let kind = Two(Raw(b"kind "), word);
         let domain = Two(Domain { of: self.of }, axioms);
         let counts = Two(voters, Two(alternatives, domain));
-        Two(title, Two(kind, counts)).pour(page, out)
+        Two(kind, counts).pour(page, out)
+    }
+}
+
+/// The lines that say what the study is.
+#[derive(Drop)]
+pub(crate) struct Head<'a> {
+    pub(crate) of: Subject<'a>,
+}
+
+impl Text for Head<'_> {
+    ghost can = { λ _. Unit {0} };
+
+    ghost text = { λ head.
+        lines_text head.of.study.now (head_lines head.of.study.now (own_version head.of.study.now)) };
+
+    fn pour<O: Sink>(&self, page: &mut Page, out: &mut O) -> Result<(), Failed> {
+        let title = Count {
+            key: b"bench report ",
+            count: version_of(self.of.study),
+        };
+        Two(title, About { of: self.of }).pour(page, out)
     }
 }

@@ -1,4 +1,4 @@
-//! Writes the text of a verdict.
+//! Writes the text of a verdict, and the pieces of which it and other texts are made.
 #![tactic(auto)]
 
 mod counts;
@@ -10,4 +10,9 @@ mod tests;
 mod verdict;
 mod words;
 
+pub use counts::Count;
+pub use head::About;
+pub use lines::Told;
+pub use rules::Rows;
 pub use verdict::{pour_verdict, print};
+pub use words::{InstanceWords, Subject};

@@ -1,14 +1,15 @@
 //! The lines of a story.
 
-ghost use Rattle.std.specs.Prelude.{◌&&◌, IsTrue};
+ghost use Rattle.std.specs.Prelude.{◌&&◌, nat_lt, length, IsTrue};
 ghost use Rattle.std.specs.List.{list_all};
 ghost use Rattle.meaning.specs.Literals.{is_literal};
 ghost use Rattle.verdicts.specs.Lines.{Suppose};
 ghost use Rattle.verdicts.specs.Report.{is_lemma_text, is_reason, lemma_lines, step_line};
-ghost use Rattle.report_text.specs.Pieces.{ended, lines_text};
+ghost use Rattle.report_text.specs.Pieces.{ended, lines_text, told_lines};
 ghost use Rattle.texts.specs.Spelled.{spelled};
 
 use crate::counts::Count;
+use crate::head::CoreNames;
 use crate::words::{LiteralWord, ReasonWords, Subject};
 use edge::{Failed, Sink};
 use meaning::{Lemma, StoryStep};
@@ -108,9 +109,9 @@ impl Text for LemmaLines<'_> {
 
 /// The lines of the lemmas of a story, which are numbered from 1.
 #[derive(Drop)]
-pub(crate) struct StoryLines<'a> {
-    pub(crate) of: Subject<'a>,
-    pub(crate) lemmas: &'a [Lemma],
+struct StoryLines<'a> {
+    of: Subject<'a>,
+    lemmas: &'a [Lemma],
 }
 
 impl Text for StoryLines<'_> {
@@ -130,5 +131,39 @@ impl Text for StoryLines<'_> {
             lines.pour(page, out)?;
         }
         Ok(())
+    }
+}
+
+/// The lines of an impossibility up to its last lemma: what the verdict is, the names of the axioms of the core,
+/// and the story.
+#[derive(Drop)]
+pub struct Told<'a> {
+    pub of: Subject<'a>,
+    pub core: &'a [u32],
+    pub lemmas: &'a [Lemma],
+}
+
+impl Text for Told<'_> {
+    ghost can = { λ told.
+        IsTrue (list_all (λ k. nat_lt k (length told.of.study.now.axioms)) told.core.now)
+        × IsTrue (list_all (is_lemma_text told.of.study.now) told.lemmas.now) };
+
+    ghost text = { λ told. lines_text told.of.study.now (told_lines told.of.study.now told.core.now told.lemmas.now) };
+
+    fn pour<O: Sink>(&self, page: &mut Page, out: &mut O) -> Result<(), Failed> {
+        let names = CoreNames {
+            study: self.of.study,
+            core: self.core,
+        };
+        let count = Count {
+            key: b"\nlemmas ",
+            count: self.lemmas.len() as u64,
+        };
+        let lines = StoryLines {
+            of: self.of,
+            lemmas: self.lemmas,
+        };
+        let claim = Two(Raw(b"verdict impossible\ncore"), names);
+        Two(claim, Two(count, lines)).pour(page, out)
     }
 }

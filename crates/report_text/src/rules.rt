@@ -19,9 +19,9 @@ use vocab::Table;
 
 /// The rows of a rule.
 #[derive(Drop)]
-pub(crate) struct Rows<'a, K> {
-    pub(crate) kind: &'a K,
-    pub(crate) table: &'a Table,
+pub struct Rows<'a, K> {
+    pub kind: &'a K,
+    pub table: &'a Table,
 }
 
 impl<K: OutcomeKind> Text for Rows<'_, K> {

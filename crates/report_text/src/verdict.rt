@@ -9,8 +9,8 @@ ghost use Rattle.verdicts.specs.Report.{has_text, report_text};
 ghost use Rattle.texts.specs.Page.{Pours};
 
 use crate::counts::Count;
-use crate::head::{CoreNames, Head};
-use crate::lines::StoryLines;
+use crate::head::Head;
+use crate::lines::Told;
 use crate::rules::{Rows, pour_witnesses};
 use crate::words::Subject;
 use edge::{Failed, Sink};
@@ -40,20 +40,12 @@ fn pour_impossible<'a, K: OutcomeKind, O: Sink>(
         study,
         space: setting.kind.space(),
     };
-    let names = CoreNames {
-        study,
-        core: core.as_slice(),
-    };
-    let lemmas = Count {
-        key: b"\nlemmas ",
-        count: story.len() as u64,
-    };
-    let lines = StoryLines {
+    let told = Told {
         of,
+        core: core.as_slice(),
         lemmas: story.as_slice(),
     };
-    let claim = Two(Raw(b"verdict impossible\ncore"), names);
-    Two(Head { of }, Two(claim, Two(lemmas, lines))).pour(page, out)?;
+    Two(Head { of }, told).pour(page, out)?;
     pour_witnesses(setting, core.as_slice(), witnesses.as_slice(), page, out)?;
     Raw(b"end\n").pour(page, out)
 }

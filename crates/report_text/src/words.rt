@@ -12,7 +12,7 @@ ghost use Rattle.meaning.specs.declared.stories.Reason.TheVariants.{Axiom as ByA
 ghost use Rattle.verdicts.specs.Lines.{value_words};
 ghost use Rattle.verdicts.specs.Report.{is_reason};
 ghost use Rattle.verdicts.specs.Texts.{literal_text, value_text};
-ghost use Rattle.report_text.specs.Pieces.{spaced, reason_text};
+ghost use Rattle.report_text.specs.Pieces.{spaced, instance_text, reason_text};
 ghost use Rattle.texts.specs.Page.{Pours};
 
 use crate::counts::pour_place;
@@ -25,10 +25,10 @@ use vocab::{Env, Formula, Literal, Sort, Study};
 
 /// A study, and the profiles of its size.
 #[derive(Clone, Copy)]
-pub(crate) struct Subject<'a> {
-    pub(crate) study: &'a Study,
-    pub(crate) space: &'a Space,
-    ghost same: { study.now.size ≡ space.now },
+pub struct Subject<'a> {
+    pub study: &'a Study,
+    pub space: &'a Space,
+    pub ghost same: { study.now.size ≡ space.now },
 }
 
 /// The letter of an alternative, the first being a.
@@ -162,8 +162,8 @@ impl Text for Values<'_> {
     }
 }
 
-/// An instance of an axiom, as a reason.
-fn pour_axiom_reason<O: Sink>(
+/// An instance of the axiom at a place: its name and the values, each with a blank before it.
+fn pour_instance<O: Sink>(
     of: &Subject,
     place: u32,
     values: Env,
@@ -173,7 +173,7 @@ fn pour_axiom_reason<O: Sink>(
     requires { IsTrue (is_reason of.now.study.now (ByAxiom place values)) }
     ensures { Pours (O.taken out.old) (O.taken out.new) page.old page.new
         (O.faults out.old) (O.faults out.new) result
-        (reason_text of.now.study.now (ByAxiom place values)) }
+        (instance_text of.now.study.now place values) }
 {
     let named = of.study.axioms().get(place as usize);
     let name = named.name();
@@ -182,7 +182,25 @@ fn pour_axiom_reason<O: Sink>(
         sentence: named.sentence(),
         values,
     };
-    Two(Raw(b"axiom "), Two(Raw(name.bytes()), values)).pour(page, out)
+    Two(Raw(name.bytes()), values).pour(page, out)
+}
+
+/// An instance of an axiom: the name of the axiom, and the values of its leading universals.
+#[derive(Drop)]
+pub struct InstanceWords<'a> {
+    pub of: Subject<'a>,
+    pub place: u32,
+    pub values: Env,
+}
+
+impl Text for InstanceWords<'_> {
+    ghost can = { λ words. IsTrue (is_reason words.of.study.now (ByAxiom words.place words.values)) };
+
+    ghost text = { λ words. instance_text words.of.study.now words.place words.values };
+
+    fn pour<O: Sink>(&self, page: &mut Page, out: &mut O) -> Result<(), Failed> {
+        pour_instance(&self.of, self.place, self.values, page, out)
+    }
 }
 
 /// A reason.
@@ -199,7 +217,14 @@ impl Text for ReasonWords<'_> {
 
     fn pour<O: Sink>(&self, page: &mut Page, out: &mut O) -> Result<(), Failed> {
         match self.reason {
-            Reason::Axiom(place, values) => pour_axiom_reason(&self.of, place, values, page, out),
+            Reason::Axiom(place, values) => {
+                let instance = InstanceWords {
+                    of: self.of,
+                    place,
+                    values,
+                };
+                Two(Raw(b"axiom "), instance).pour(page, out)
+            }
             Reason::Outcome(p) => {
                 let profile = self.of.space.profile_text(p);
                 Two(Raw(b"outcome "), Raw(profile.bytes())).pour(page, out)

@@ -6,5 +6,4 @@ use Rattle.report_text.proofs.head.HeadText.pour.Goals as goal
 pub returns : goal.returns
 returns g c =
     let study = c.args.self.now.of.study.now in
-    renamed _ _ _ _ _ _ c.pour.result _ _ (head_text study (own_version study))
-    (rw (c.version_of.ensures, c.kind_word.ensures, c.kind.ensures, c.from.ensures, c.voters.ensures, c.from-2.ensures, c.alternatives.ensures, c.as_slice.ensures, c.axioms.ensures.axioms, c.size-size.ensures) at c.pour.ensures)
+    renamed _ _ _ _ _ _ c.pour.result _ _ (head_text study (own_version study)) (rw c.version_of.ensures at c.pour.ensures)
