@@ -1,6 +1,7 @@
 -- One more line.
-use Rattle.std.proofs.Common.{◌≡◌, ◌≢◌, refl, sym, subst, ℕ, ◌+◌, ◌⊎◌, inl, inr, List, [], ◌∷◌, ◌++◌, length, Option, Some, None, option_map, Result, Ok, Err, arith, length-append}
+use Rattle.std.proofs.Common.{◌≡◌, ◌≢◌, refl, sym, ap, ◌∙◌, subst, ℕ, ◌+◌, ◌⊎◌, inl, inr, List, [], ◌∷◌, ◌++◌, length, Option, Some, None, option_map, Result, Ok, Err, arith, length-append}
 use Rattle.std.specs.Prelude.{MatchResult, OnOk}
+use Rattle.std.specs.Option.{option_map_or}
 use Rattle.lists.specs.declared.memory.NoMemory.{NoMemory as Wanting}
 use Rattle.vocab.specs.Study.{Question}
 use Rattle.meaning.specs.declared.stories.Lemma.{Lemma}
@@ -18,7 +19,7 @@ use Rattle.report.specs.declared.faults.ReportFault.TheVariants.{Line as AtLine,
 use Rattle.report.specs.declared.progress.Progress.{Progress}
 use Rattle.report.specs.declared.judging.Judging.{Judging}
 use Rattle.report.specs.Stands.{supposed, Stands, StandsAs, StandsFor, IsReady}
-use Rattle.report.specs.Taken.{Took}
+use Rattle.report.specs.Taken.{Took, IsTaken}
 
 -- ---- one line
 
@@ -58,16 +59,31 @@ module _ (study : Question) where
   none_of (Some w) e = absurd (cc)
 
   -- a line that is not wanted
-  pub unread : (n : ℕ) (s : Standing) (text : List ℕ) (r : Judging) → None ≡ option_map (held_line study) (read_line study s text) → StandsAs study (Some (AtLine n Form)) r (settle study n s (read_line study s text) Good)
-  unread n s text r e = subst (λ o. StandsAs study (Some (AtLine n Form)) r (settle study n s o Good)) (sym (none_of (read_line study s text) e)) refl
+  pub unread : (s : Standing) (text : List ℕ) (r : Judging) → None ≡ option_map (held_line study) (read_line study s text) → IsTaken study s text r (Err Form)
+  unread s text r e = ap (λ o. option_map_or (fault_of study s) o (Some Form)) (none_of (read_line study s text) e)
 
-  -- a line that is taken
-  pub taken : (n : ℕ) (s : Standing) (text : List ℕ) (w : Line) (r : Judging) (fault : Option Refusal) → read_line study s text ≡ Some w → Took study s w r fault → StandsAs study (option_map (AtLine n) fault) r (settle study n s (read_line study s text) Good)
-  taken n s text w r fault e h = subst (λ o. StandsAs study (option_map (AtLine n) fault) r (settle study n s o Good)) (sym e) (by_fault fault h.0 h.1)
+  -- a line that is taken, and one that is refused
+  pub taken_line : (s : Standing) (text : List ℕ) (w : Line) (r : Judging) (line : HeldLine) → read_line study s text ≡ Some w → line ≡ held_line study w → Took study s w r None → IsTaken study s text r (Ok line)
+  taken_line s text w r line e same h = (w, e, same, sym h.0, h.1 refl)
+
+  pub refused_line : (s : Standing) (text : List ℕ) (w : Line) (r : Judging) (word : Refusal) → read_line study s text ≡ Some w → Took study s w r (Some word) → IsTaken study s text r (Err word)
+  refused_line s text w r word e h = ap (λ o. option_map_or (fault_of study s) o (Some Form)) e ∙ sym h.0
+
+  -- what is held then
+  pub taken : (n : ℕ) (s : Standing) (text : List ℕ) (r : Judging) (line : HeldLine) → IsTaken study s text r (Ok line) → StandsAs study None r (settle study n s (read_line study s text) Good)
+  taken n s text r line h =
+      subst (λ o. StandsAs study None r (settle study n s o Good)) (sym h.1)
+      (subst (λ o. StandsAs study None r (settle_at study n s h.0 o Good)) (sym h.3) (refl, h.4))
+
+  pub refused : (n : ℕ) (s : Standing) (text : List ℕ) (r : Judging) (word : Refusal) → IsTaken study s text r (Err word) → StandsAs study (Some (AtLine n word)) r (settle study n s (read_line study s text) Good)
+  refused n s text r word h = by_line (read_line study s text) h
     where
-      by_fault : (fault : Option Refusal) → fault ≡ fault_of study s w → (fault ≡ None → Stands study r (advance study s w)) → StandsAs study (option_map (AtLine n) fault) r (settle_at study n s w (fault_of study s w) Good)
-      by_fault None f stands = subst (λ o. StandsAs study None r (settle_at study n s w o Good)) f (refl, stands refl)
-      by_fault (Some word) f stands = subst (λ o. StandsAs study (Some (AtLine n word)) r (settle_at study n s w o Good)) f refl
+      by_fault : (w : Line) (o : Option Refusal) → o ≡ Some word → StandsAs study (Some (AtLine n word)) r (settle_at study n s w o Good)
+      by_fault w o e = subst (λ o. StandsAs study (Some (AtLine n word)) r (settle_at study n s w o Good)) (sym e) refl
+
+      by_line : (o : Option Line) → option_map_or (fault_of study s) o (Some Form) ≡ Some word → StandsAs study (Some (AtLine n word)) r (settle study n s o Good)
+      by_line None e = let same : Form ≡ word = cc in ap (λ w. Some (AtLine n w)) (sym same)
+      by_line (Some w) e = by_fault w (fault_of study s w) e
 
   -- ---- after other lines
 

@@ -1,5 +1,5 @@
 -- What it is to take a line that is read.
-use Rattle.std.specs.Prelude.{◌≡◌, ℕ, ◌<◌, nat_lt, length, List, Option, None, Some, Result, IfOk, IsTrue}
+use Rattle.std.specs.Prelude.{◌≡◌, ℕ, ◌<◌, nat_lt, length, List, Option, None, Some, Result, Ok, Err, IfOk, IsTrue}
 use Rattle.std.specs.List.{list_all}
 use Rattle.lists.specs.declared.memory.NoMemory.{NoMemory}
 use Rattle.vocab.specs.declared.kinds.Sort.TheVariants.{Profile}
@@ -10,7 +10,7 @@ use Rattle.verdicts.specs.declared.refusals.Refusal.{Refusal}
 use Rattle.verdicts.specs.Lines.{Line}
 use Rattle.verdicts.specs.Places.{Place, Standing, AtSuppose, AtStep, AtWitnessRow}
 use Rattle.verdicts.specs.Faults.{table_fault, asked_at, fault_of}
-use Rattle.verdicts.specs.Judge.{after_row, advance, read_line}
+use Rattle.verdicts.specs.Judge.{after_row, advance, read_line, line_fault}
 use Rattle.report_lines.specs.declared.lines.Line.{Line as HeldLine}
 use Rattle.report_lines.specs.Held.{held_line, held_place}
 use Rattle.report.specs.declared.judging.Judging.{Judging}
@@ -63,3 +63,9 @@ TakesTable study s r result =
 abbrev pub IsLine : Question → Standing → List ℕ → HeldLine → Type 0
 IsLine study s text line = (wanted : Line) × (read_line study s text ≡ Some wanted) ×
     (line ≡ held_line study wanted)
+
+-- a line of this text is taken: where it has no fault, it is told what it says, and its part is held with what was held; else its refusal is told
+abbrev pub IsTaken : Question → Standing → List ℕ → Judging → Result HeldLine Refusal → Type 0
+IsTaken study s text r (Ok line) = (wanted : Line) × (read_line study s text ≡ Some wanted) ×
+    (line ≡ held_line study wanted) × (fault_of study s wanted ≡ None) × Stands study r (advance study s wanted)
+IsTaken study s text r (Err word) = line_fault study s text ≡ Some word

@@ -17,9 +17,9 @@ use crate::subject::Subject;
 use crew::Crew;
 use edge::Gate;
 use lists::NoMemory;
+use outcomes::OutcomeKind;
 use outcomes::laws::kinds_have_sizes;
-use outcomes::{OutcomeKind, Setting};
-use report_lines::{IndexedStudy, Place};
+use report_lines::Place;
 use std::alloc::Global;
 use std::thread::Threads;
 use verdicts::{Confirmed, Refusal};
@@ -73,12 +73,7 @@ impl<'a, K: OutcomeKind> Checker<'a, K> {
         ensures workers { IfOk result (λ checker. checker.subject.workers ≡ workers) }
         ensures stands { IfOk result (λ checker. StandsFor study.now checker.progress []) }
     {
-        let subject = Subject {
-            alloc,
-            setting: Setting { kind, study },
-            indexed: IndexedStudy::new(alloc, study)?,
-            workers,
-        };
+        let subject = Subject::new(alloc, kind, study, workers)?;
         let judging = Judging::new(&subject)?;
         let progress = Progress {
             judging,

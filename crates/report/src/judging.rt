@@ -1,7 +1,9 @@
 //! What a checker keeps of the lines that it took.
 
 ghost use Rattle.std.specs.Prelude.{◌≡◌, IfOk};
-ghost use Rattle.verdicts.specs.Places.{start};
+ghost use Rattle.vocab.specs.Study.{Question};
+ghost use Rattle.verdicts.specs.Places.{Standing, start};
+ghost use Rattle.report_lines.specs.Held.{held_place};
 ghost use Rattle.report.specs.Stands.{Stands};
 
 mod core_lines;
@@ -24,7 +26,7 @@ use worlds::Board;
 /// those that are read; what the present one supposes; on the board, all that it has supposed or forced; and
 /// how many witnesses are read.
 #[derive(Drop)]
-pub(crate) struct Judging {
+pub struct Judging {
     pub(crate) place: Place,
     pub(crate) version: u8,
     pub(crate) rows: Table,
@@ -38,7 +40,7 @@ pub(crate) struct Judging {
 
 impl Judging {
     /// Nothing is read.
-    pub(crate) fn new<K: OutcomeKind>(subject: &Subject<K>) -> Result<Judging, NoMemory>
+    pub fn new<K: OutcomeKind>(subject: &Subject<K>) -> Result<Judging, NoMemory>
         ensures { IfOk result (λ judging. Stands subject.now.setting.study.now judging start) }
     {
         Ok(Judging {
@@ -52,5 +54,20 @@ impl Judging {
             board: Board::new(subject.alloc, subject.setting.kind)?,
             witnesses: 0,
         })
+    }
+
+    /// The place in the grammar: which line is wanted next.
+    pub fn place(&self) -> Place
+        ensures { (s : Standing) (study : Question) → Stands study self.now s →
+            result ≡ held_place s.place }
+    {
+        self.place
+    }
+
+    /// The places of the core's axioms, none before they are read.
+    pub fn core(&self) -> &[u32]
+        ensures { (s : Standing) (study : Question) → Stands study self.now s → result.now ≡ s.core }
+    {
+        self.core.as_slice()
     }
 }

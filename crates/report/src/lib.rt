@@ -9,6 +9,7 @@ mod subject;
 
 pub use checker::Checker;
 pub use faults::ReportFault;
+pub use judging::Judging;
 pub use progress::Progress;
 pub use report_text::print;
 pub use subject::Subject;

@@ -50,8 +50,8 @@ pub(crate) fn read_kind(text: &[u8]) -> Option<Line>
     }
 }
 
-/// The number of a line that has a key and a number.
-pub(crate) fn read_count(text: &[u8], key: &[u8]) -> Option<u64>
+/// The number of a line that has a key and a number. It stands still at the end of `u64`.
+pub fn read_count(text: &[u8], key: &[u8]) -> Option<u64>
     ensures { result ≡ option_map held_number (keyed key.now (one_word read_number) (words_of text.now)) }
 {
     read_number(first_keyed(text, key)?)

@@ -18,10 +18,15 @@ mod values;
 mod words;
 
 pub use core_line::read_core;
+pub use head::read_count;
 pub use indexed::IndexedStudy;
 pub use lines::Line;
+pub use numbers::read_number;
 pub use places::Place;
 pub use reading::read_line;
+pub use reasons::read_cited;
+pub use rules::read_row_parts;
+pub use words::{after_first, is_same};
 
 #[cfg(test)]
 mod tests;

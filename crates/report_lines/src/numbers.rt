@@ -42,8 +42,9 @@ fn value(word: &[u8]) -> u64
     value
 }
 
-/// The number of a word.
-pub(crate) fn read_number(word: &[u8]) -> Option<u64>
+/// The number of a word in decimal digits, without a sign and without a leading zero, except `0` itself. It
+/// stands still at the end of `u64`.
+pub fn read_number(word: &[u8]) -> Option<u64>
     ensures { result ≡ option_map held_number (read_number word.now) }
 {
     if is_number(word) {

@@ -54,8 +54,9 @@ fn read_values(space: &Space, sentence: &Formula, rest: &[u8]) -> Option<Env>
     if left.is_empty() { Some(values) } else { None }
 }
 
-/// An axiom of the study with its values.
-fn read_cited(study: &IndexedStudy, space: &Space, rest: &[u8]) -> Option<Reason>
+/// An axiom of the study by its name, with one value in range for each leading universal, by the words that
+/// are left of a line.
+pub fn read_cited(study: &IndexedStudy, space: &Space, rest: &[u8]) -> Option<Reason>
     requires { space.now ≡ study.now.size }
     ensures { result ≡ read_cited study.now (words_after rest.now) }
 {

@@ -4,7 +4,8 @@ ghost use Rattle.std.specs.Prelude.{◌≡◌, ℕ, option_map};
 ghost use Rattle.vocab.specs.Study.{Question};
 ghost use Rattle.verdicts.specs.Numbers.{read_number};
 ghost use Rattle.verdicts.specs.Texts.{words_of};
-ghost use Rattle.verdicts.specs.Reading.{keyed, one_word};
+ghost use Rattle.verdicts.specs.Lines.{Row};
+ghost use Rattle.verdicts.specs.Reading.{keyed, one_word, read_row};
 ghost use Rattle.report_lines.specs.Held.{held_number};
 ghost use Rattle.report_lines.specs.Rest.{words_after};
 ghost use Rattle.report_lines.specs.Wanted.{held_wanted};
@@ -29,15 +30,26 @@ pub(crate) fn read_rule(text: &[u8]) -> Option<Line>
     }
 }
 
+/// The profile and the outcome of a row.
+pub fn read_row_parts<K: OutcomeKind>(kind: &K, text: &[u8]) -> Option<(u32, u8)>
+    ensures { (study : Question) → study.size ≡ K.size kind.now →
+        read_row study (words_of text.now) ≡ option_map (λ row. Row row.0 row.1) result }
+{
+    let (word, rest) = cut_word(text);
+    let profile = read_profile(kind.space(), word)?;
+    let outcome = read_outcome(kind, only_word(rest)?)?;
+    Some((profile, outcome))
+}
+
 /// A row: a profile and its outcome.
 pub(crate) fn read_row<K: OutcomeKind>(kind: &K, text: &[u8]) -> Option<Line>
     ensures { (study : Question) (number : ℕ) → study.size ≡ K.size kind.now →
         result ≡ held_wanted study Place.AtRow number (words_of text.now) }
 {
-    let (word, rest) = cut_word(text);
-    let profile = read_profile(kind.space(), word)?;
-    let outcome = read_outcome(kind, only_word(rest)?)?;
-    Some(Line::Row(profile, outcome))
+    match read_row_parts(kind, text) {
+        Some((profile, outcome)) => Some(Line::Row(profile, outcome)),
+        None => None,
+    }
 }
 
 fn read_next_count(rest: &[u8], key: &[u8]) -> Option<u64>

@@ -12,7 +12,7 @@ ghost use Rattle.report_lines.specs.Rest.{words_after};
 use vocab::Name;
 
 /// Whether two texts are the same.
-pub(crate) fn is_same(text: &[u8], other: &[u8]) -> bool
+pub fn is_same(text: &[u8], other: &[u8]) -> bool
     ensures { result ≡ bytes_eq text.now other.now }
 {
     text == other
@@ -53,8 +53,9 @@ pub(crate) fn next_word(rest: &[u8]) -> Option<(&[u8], &[u8])>
     Some(cut_word(text))
 }
 
-/// What is left after the first word of a text, where that is the key.
-pub(crate) fn after_first<'a>(text: &'a [u8], key: &[u8]) -> Option<&'a [u8]>
+/// What is left after the first word of a text, where that is the key: nothing, or a blank with the other
+/// words.
+pub fn after_first<'a>(text: &'a [u8], key: &[u8]) -> Option<&'a [u8]>
     ensures { MatchOption result
         (keyed key.now Some (words_of text.now) ≡ None)
         (λ rest. keyed key.now Some (words_of text.now) ≡ Some (words_after rest.now)) }

@@ -1,13 +1,12 @@
 //! Reads a line, and takes it.
 
-ghost use Rattle.std.specs.Prelude.{◌≡◌, ◌≢◌, ◌≤◌, Some, option_map};
+ghost use Rattle.std.specs.Prelude.{◌≡◌, ◌≢◌, Some, IfOk};
 ghost use Rattle.verdicts.specs.Lines.{Line as WantedLine};
 ghost use Rattle.verdicts.specs.Places.{Standing};
 ghost use Rattle.verdicts.specs.Judge.{read_line, settle, Good};
 ghost use Rattle.report_lines.specs.Held.{held_line};
 ghost use Rattle.report.specs.Stands.{Stands, IsRead, StandsAs};
-ghost use Rattle.report.specs.declared.faults.ReportFault.TheVariants.{Line as AtLine};
-ghost use Rattle.report.specs.Taken.{Takes, IsLine};
+ghost use Rattle.report.specs.Taken.{Takes, IsLine, IsTaken};
 
 use crate::faults::ReportFault;
 use crate::judging::Judging;
@@ -19,16 +18,6 @@ use outcomes::OutcomeKind;
 use report_lines::{Line, read_line};
 use std::thread::Threads;
 use verdicts::Refusal;
-
-/// The fault of a line with its number.
-fn at_line(line: u32, fault: Option<Refusal>) -> Option<ReportFault>
-    ensures { result ≡ option_map (AtLine line) fault }
-{
-    match fault {
-        None => None,
-        Some(refusal) => Some(ReportFault::Line { line, refusal }),
-    }
-}
 
 impl Judging {
     /// Reads the next line, which has this number, at the place, and takes it: None where it has no fault.
@@ -46,6 +35,26 @@ impl Judging {
             (settle subject.now.setting.study.now line s
             (read_line subject.now.setting.study.now s text.now) Good) }
     {
+        match self.take_line(crew, subject, text) {
+            Ok(Ok(_)) => None,
+            Ok(Err(refusal)) => Some(ReportFault::Line { line, refusal }),
+            Err(NoMemory) => Some(ReportFault::NoMemory),
+        }
+    }
+
+    /// Reads the next line, without its line end, at the place, and takes it: what it says where it has no
+    /// fault, and then its part is held with what was held; else its refusal. A line that is not the one that
+    /// the grammar wants there, or that has more than 4,096 bytes, is refused as `Form`.
+    pub fn take_line<R: Threads + Sync, G: Gate, K: OutcomeKind>(
+        &mut self,
+        crew: &Crew<R, G>,
+        subject: &Subject<K>,
+        text: &[u8],
+    ) -> Result<Result<Line, Refusal>, NoMemory>
+        requires read { IsRead subject.now.setting.study.now self.old }
+        ensures { (s : Standing) → Stands subject.now.setting.study.now self.old s →
+            IfOk result (IsTaken subject.now.setting.study.now s text.now self.new) }
+    {
         let number = self.earlier.len() as u64 + 1;
         let Some(said) = read_line(
             subject.setting.kind,
@@ -54,14 +63,12 @@ impl Judging {
             number,
             text,
         ) else {
-            return Some(ReportFault::Line {
-                line,
-                refusal: Refusal::Form,
-            });
+            return Ok(Err(Refusal::Form));
         };
-        match self.take(crew, subject, &said, text) {
-            Ok(fault) => at_line(line, fault),
-            Err(NoMemory) => Some(ReportFault::NoMemory),
+        let fault = self.take(crew, subject, &said, text)?;
+        match fault {
+            None => Ok(Ok(said)),
+            Some(refusal) => Ok(Err(refusal)),
         }
     }
 
