@@ -1,4 +1,4 @@
-//! Runs of consecutive pieces, halved among workers.
+//! Runs of consecutive pieces, cut among workers.
 
 ghost use Rattle.std.specs.Prelude.{◌≡◌, ℕ, ◌+◌, ◌-◌, ◌*◌, ◌/◌, ◌<◌, ◌≤◌, IfOk, length, vec_len};
 ghost use Rattle.std.specs.Thread.{IsSync};
@@ -31,8 +31,22 @@ fn in_turn<J: Job, G: Gate>(
     Ok(parts)
 }
 
-/// The parts of the pieces from `from` up to `to`: the pieces are halved, and so are the workers, until a run
-/// has one of either.
+/// Where the pieces from `from` up to `to` are cut in two, so that the first run has as large a share of them
+/// as these workers are of all.
+fn cut(from: u32, to: u32, fewer: u8, workers: u8) -> u32
+    requires rising { from ≤ to }
+    requires some { 1 ≤ workers }
+    requires fewer { fewer ≤ workers }
+    ensures least { from ≤ result }
+    ensures most { result ≤ to }
+    ensures share { result ≡ from + (to - from) * fewer / workers }
+{
+    let share = u64::from(to - from) * u64::from(fewer) / u64::from(workers);
+    from + share as u32
+}
+
+/// The parts of the pieces from `from` up to `to`: the workers are halved, and the pieces are cut as the
+/// workers are, until a run has one of either.
 fn among<R: Threads + Sync, J: Job, G: Gate>(
     rt: &R,
     alloc: Global,
@@ -52,7 +66,7 @@ fn among<R: Threads + Sync, J: Job, G: Gate>(
     }
     let fewer = workers / 2;
     let others = workers - fewer;
-    let middle = from + (to - from) / 2;
+    let middle = cut(from, to, fewer, workers);
     let (left, right) = join(
         rt,
         || -> Result<Vec<J::Part>, NoMemory>
