@@ -1,6 +1,6 @@
 //! Whether a reason refutes known literals.
 
-ghost use Rattle.std.specs.Prelude.{◌≡◌, ◌==◌, ◌≤◌, ◌<◌, nat_lt, drop, length, slice_get, IsTrue, IsFalse};
+ghost use Rattle.std.specs.Prelude.{◌≡◌, ◌==◌, ◌≤◌, ◌<◌, nat_lt, drop, length, slice_get, IsTrue, IsFalse, OnErr, OnOk};
 ghost use Rattle.std.specs.List.{list_all, list_any};
 ghost use Rattle.std.specs.Cmp.Lexicographic.{pointwise};
 ghost use Rattle.std.specs.Option.{option_or};
@@ -11,7 +11,7 @@ ghost use Rattle.vocab.specs.Study.{is_sentence};
 ghost use Rattle.vocab.specs.Tree.{tree_of};
 ghost use Rattle.meaning.specs.Kleene.{partial_truth};
 ghost use Rattle.meaning.specs.Literals.{is_literal};
-ghost use Rattle.meaning.specs.Stories.{is_false, are_false, claim_of, has_literals, is_claim_false, is_instance_false, is_outcome_excluded};
+ghost use Rattle.meaning.specs.Stories.{is_false, are_false, claim_of, has_literals, is_claim_false, is_instance_false, is_outcome_excluded, refutes};
 ghost use Rattle.meaning.specs.StoryFaults.{unless, reason_fault};
 ghost use Rattle.meaning.specs.Written.{write_out};
 ghost use Rattle.story.specs.Answers.{Answers};
@@ -24,8 +24,8 @@ use vocab::{Axiom, Env, Formula, Literal, Places, Size, Study};
 use worlds::laws::bodies_have_values;
 use worlds::{Board, excludes, partial};
 
-/// Whether the reason refutes the literals of the board: no rule that satisfies the core has all of them.
-/// Else `NotInCore` where it cites an axiom that the core lacks, `Later` where it cites a lemma that is not
+/// Whether the reason refutes the literals of the board: no rule that satisfies the core has all of them. Ok
+/// exactly there. Else `NotInCore` where it cites an axiom that the core lacks, `Later` where it cites a lemma that is not
 /// an earlier one, and `NotForced` where it may be given and does not refute. No memory is taken.
 pub fn refutes<K: OutcomeKind>(
     kind: &K,
@@ -39,8 +39,12 @@ pub fn refutes<K: OutcomeKind>(
     requires board { board.now.size ≡ K.size kind.now }
     requires core { IsTrue (has_places study.now.axioms core.now) }
     requires earlier { IsTrue (list_all (has_literals (K.size kind.now)) earlier.now) }
-    ensures { Answers result (reason_fault (K.size kind.now) study.now.axioms core.now earlier.now
+    ensures fault { Answers result (reason_fault (K.size kind.now) study.now.axioms core.now earlier.now
         board.now.literals reason.now) }
+    ensures ok { OnOk result (IsTrue (refutes (K.size kind.now) study.now.axioms core.now earlier.now
+        board.now.literals reason.now)) }
+    ensures err { OnErr result (IsFalse (refutes (K.size kind.now) study.now.axioms core.now earlier.now
+        board.now.literals reason.now)) }
 {
     let setting = Setting { kind, study };
     let grounds = Grounds {

@@ -25,7 +25,7 @@ returns-in-Err g c = λ s wanted h at held.
     let r = c.args.self.now in
     let es = c.as_slice.result.now in
     let same = clash_fault_is study r s h c.args.reason.now wanted size es held c.args.subject.now.setting.same c.as_slice.ensures in (
-      refused (reason_fault size study.axioms r.core es r.board.literals c.args.reason.now) (fault_of study s (Clash wanted)) same c.in-Err.fault c.refusal_of.result c.in-Err.ensures c.refusal_of.ensures,
+      refused (reason_fault size study.axioms r.core es r.board.literals c.args.reason.now) (fault_of study s (Clash wanted)) same c.in-Err.fault c.refusal_of.result c.in-Err.ensures.fault c.refusal_of.ensures,
       λ none. absurd (none-some _ (sym none)),
     )
 
@@ -36,6 +36,6 @@ returns g c = λ s wanted h at held.
     let r = c.args.self.now in
     let es = c.as_slice.result.now in
     let same = clash_fault_is study r s h c.args.reason.now wanted size es held c.args.subject.now.setting.same c.as_slice.ensures in (
-      accepted (reason_fault size study.axioms r.core es r.board.literals c.args.reason.now) (fault_of study s (Clash wanted)) same c.in-Ok.ensures,
+      accepted (reason_fault size study.axioms r.core es r.board.literals c.args.reason.now) (fault_of study s (Clash wanted)) same c.in-Ok.ensures.fault,
       λ _. c.after_lemma.ensures (told s wanted) study (c.in_ok-end_lemma.ensures s study wanted h),
     )
