@@ -20,9 +20,12 @@ use Rattle.meaning.specs.declared.stories.StoryRefusal.{StoryRefusal}
 use Rattle.meaning.specs.declared.stories.StoryRefusal.TheVariants.{Lemma as InLemma, Empty}
 use Rattle.meaning.specs.declared.stories.StoryStep.{StoryStep}
 use Rattle.meaning.specs.declared.cores.Witness.TheVariants.{Rule, Open}
+use Rattle.meaning.specs.declared.three.Three.{Three}
+use Rattle.meaning.specs.declared.three.Three.TheVariants.{True, False, Unknown}
 use Rattle.meaning.specs.Cores.{is_core_right}
 use Rattle.meaning.specs.Instances.{is_instance_true}
 use Rattle.meaning.specs.declared.clauses.Counts.{Counts}
+use Rattle.meaning.specs.Kleene.{three_literal}
 use Rattle.meaning.specs.Measure.{largest, measure_of, plus_counts}
 use Rattle.meaning.specs.Space.{below, rankings, casts_of, majority, prefers}
 use Rattle.meaning.specs.Stories.{is_story}
@@ -164,6 +167,14 @@ either_wins = All Alt (All Alt (All Profile (Either (Leaf (WinsAt (Var 0) (Var 2
 equal_clauses_of_one_axiom_are_kept_once : clauses (choice 1 2) (axiom_of either_wins ∷ []) (0 ∷ []) ≡ (plain 1 ∷ plain 2 ∷ []) ∷ (negated 1 ∷ negated 2 ∷ []) ∷ (plain 3 ∷ plain 4 ∷ []) ∷ (negated 3 ∷ negated 4 ∷ []) ∷ (plain 1 ∷ []) ∷ (plain 3 ∷ []) ∷ (plain 1 ∷ plain 2 ∷ []) ∷ (plain 3 ∷ plain 4 ∷ []) ∷ (plain 2 ∷ []) ∷ (plain 4 ∷ []) ∷ []
 equal_clauses_of_one_axiom_are_kept_once = refl
 
+-- all p: profile. (wins(@a, p) <-> wins(@b, p))
+abbrev win_together : Tree
+win_together = All Profile (Same (Leaf (WinsAt (Const 0) (Var 0))) (Leaf (WinsAt (Const 1) (Var 0))))
+
+-- at each of two profiles a clause for either direction
+equivalence_has_clauses_for_both_directions : clauses (choice 1 2) (axiom_of win_together ∷ []) (0 ∷ []) ≡ (plain 1 ∷ plain 2 ∷ []) ∷ (negated 1 ∷ negated 2 ∷ []) ∷ (plain 3 ∷ plain 4 ∷ []) ∷ (negated 3 ∷ negated 4 ∷ []) ∷ (negated 1 ∷ plain 2 ∷ []) ∷ (plain 1 ∷ negated 2 ∷ []) ∷ (negated 3 ∷ plain 4 ∷ []) ∷ (plain 3 ∷ negated 4 ∷ []) ∷ []
+equivalence_has_clauses_for_both_directions = refl
+
 -- ---- a body that is too wide
 
 -- some p: profile. (wins(@a, p) & wins(@b, with(p, #1, <bac>))): 2 ^ 36 clauses of 36 literals
@@ -278,6 +289,14 @@ supposition_of_the_last_lemma_is_refused = refl
 
 story_without_lemma_is_refused : refusal both [] ≡ Some Empty
 story_without_lemma_is_refused = refl
+
+-- or it would refute anything
+lemma_by_itself_is_not_accepted : is_story (choice 2 2) both_axioms both (record { suppose = []; steps = []; last = ByLemma 0 } ∷ []) ≡ false
+lemma_by_itself_is_not_accepted = refl
+
+-- that a wins is known, and is false where it is known that a loses; of b nothing is
+literal_that_is_not_known_is_unknown : map (three_literal (Wins 0 1 ∷ [])) (Wins 0 1 ∷ Loses 0 1 ∷ Wins 1 1 ∷ []) ≡ True ∷ False ∷ Unknown ∷ []
+literal_that_is_not_known_is_unknown = refl
 
 -- a lemma that nothing cites is accepted, and is not tidy
 uncited_lemma_is_accepted : is_story (choice 2 2) both_axioms both (a_does_not_win ∷ a_does_not_win ∷ nothing_wins ∷ []) ≡ true
