@@ -9,3 +9,6 @@ pub mod FaultLaws
 pub mod ShortLaws
 pub mod AnswerLaws
 pub mod ClaimLaws
+pub mod FewLaws
+pub mod TableLaws
+pub mod ApartLaws

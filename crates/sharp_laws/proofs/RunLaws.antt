@@ -24,7 +24,7 @@ use Rattle.verdicts.specs.declared.verdicts.Verdict.{Verdict}
 use Rattle.verdicts.specs.declared.verdicts.Verdict.TheVariants.{Impossible}
 use Rattle.verdicts.specs.Faults.{next_after}
 use Rattle.verdicts.specs.Laws.{IsReportable}
-use Rattle.verdicts.specs.Lines.{Line, Title, SaysPossible, BallotsAre, AbsentIs, AxiomsAre, KindIs, VotersAre, AlternativesAre, Row, Heading, Suppose, Clash, WithRule, WithOpen, End, name_at}
+use Rattle.verdicts.specs.Lines.{Line, Title, SaysPossible, BallotsAre, AbsentIs, AxiomsAre, KindIs, VotersAre, AlternativesAre, Row, Heading, Suppose, Clash, WithRule, WithOpen, End}
 use Rattle.verdicts.specs.Places.{Place, AtWitness, AtEnd, Standing, start}
 use Rattle.verdicts.specs.Report.{row_lines, step_line, lemma_lines, story_lines, head_lines, all_witness_lines, is_lemma_text, is_right, own_version}
 use Rattle.verdicts.specs.Judge.{witness_place, advance}
@@ -43,6 +43,7 @@ use Rattle.sharp_verdicts.specs.SharpFaults.{unless_of, next_instance, instance_
 use Rattle.sharp_verdicts.specs.SharpJudge.{advance_sharp, pointed_of}
 use Rattle.sharp_laws.proofs.FitLaws.{IsSaid, SharpFits}
 use Rattle.sharp_laws.proofs.CoreLaws.{all_filter, cited_is_core}
+use Rattle.sharp_laws.proofs.TableLaws.{none_from}
 use Rattle.sharp_laws.proofs.MarkLaws.{reason_cites, next_present}
 use Rattle.sharp_laws.proofs.TextLaws.{is_sharp_plain}
 
@@ -197,13 +198,6 @@ module _ (study : Question) (is : IsReportable study) where
     abbrev in_rows : List Witness → List ℕ → SharpStanding
     in_rows ms rows = record { place = AtNeedRow; told = known; marks = ms; rows = rows }
 
-    none_if : (table : List ℕ) (ds : List Cited) → list_all (is_true_of study table) ds ≡ true → instances_fault study table ds ≡ None
-    none_if table [] h = refl
-    none_if table (d ∷ ds) h =
-        let p = and_parts (is_true_of study table d) (list_all (is_true_of study table) ds) h in
-        let word : SharpRefusal = Report (refusal.Fails (name_at study.axioms d.«axiom») d.number) in
-        ap (λ b. cond b (instances_fault study table ds) (Some word)) p.0 ∙ none_if table ds p.1
-
     module _ (done : List Witness) (c : Cited) (next : slice_get cs (length done) ≡ Some c) where
       more : length done < length cs
       more = slice_get_within cs (length done) c next
@@ -275,7 +269,7 @@ module _ (study : Question) (is : IsReportable study) where
             (reason_cites study c (next_present study story (length done) c next)).0,
             refl,
             need_fault (P == P) (Report refusal.Row) (eqb_yes P P refl),
-            table_run table (eqb-true (length table) P q.0) q.1 (none_if table (others_than cs c) p.1),
+            table_run table (eqb-true (length table) P q.0) q.1 (none_from study table (others_than cs c) p.1),
           )
       mark_run (Open n) h =
           sharp_from (marked done) (wanting done) (marked (done ++ Open n ∷ [])) (mark_lines study c (Open n)) wanted_next (

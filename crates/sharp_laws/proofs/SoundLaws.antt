@@ -1,5 +1,5 @@
 -- Lines without a fault are the lines of a sharp verdict that is right so far.
-use Rattle.std.proofs.Common.{◌≡◌, refl, sym, ap, ap₂, ◌∙◌, subst, ℕ, ◌+◌, ◌<◌, ◌≤◌, inl, inr, Bool, true, false, ◌&&◌, List, [], ◌∷◌, ◌++◌, map, length, Option, Some, None, option_map, arith, true≢false, cond, append_assoc, length-append, lt-ltb, eqb-true, eq-eqb}
+use Rattle.std.proofs.Common.{◌≡◌, refl, sym, ap, ap₂, ◌∙◌, subst, ℕ, ◌+◌, ◌<◌, ◌≤◌, inl, inr, Bool, true, false, List, [], ◌∷◌, ◌++◌, map, length, Option, Some, None, option_map, arith, true≢false, cond, append_assoc, length-append, lt-ltb, eqb-true, eq-eqb}
 use Rattle.std.specs.Prelude.{◌==◌, nat_lt, slice_get}
 use Rattle.std.specs.List.{list_all}
 use Rattle.std.specs.Option.{option_or, option_map_or}
@@ -29,7 +29,7 @@ use Rattle.verdicts.proofs.SoundLaws.{printed, IsIdle, Holds, HasRead, step_read
 use Rattle.sharp_verdicts.specs.declared.instances.Cited.{Cited}
 use Rattle.sharp_verdicts.specs.declared.refusals.SharpRefusal.{SharpRefusal}
 use Rattle.sharp_verdicts.specs.declared.refusals.SharpRefusal.TheVariants.{Report, Instance}
-use Rattle.sharp_verdicts.specs.Instances.{others_than, is_axiom_told, cites, instances_of, core_of, is_true_of}
+use Rattle.sharp_verdicts.specs.Instances.{others_than, is_axiom_told, cites, instances_of, core_of}
 use Rattle.sharp_verdicts.specs.Right.{is_mark}
 use Rattle.sharp_verdicts.specs.SharpLines.{SharpLine, SharpTitle, Plain, InstancesAre, NeedsRule, NeedsOpen, after_first, reason_at, mark_lines, all_mark_lines}
 use Rattle.sharp_verdicts.specs.SharpPlaces.{SharpPlace, AtSharp, AtReport, AtInstances, AtNeed, AtNeedRow, AtSharpEnd, AtSharpNothing, SharpStanding, is_story_read}
@@ -37,6 +37,7 @@ use Rattle.sharp_verdicts.specs.SharpFaults.{unless_of, next_instance, instance_
 use Rattle.sharp_verdicts.specs.SharpJudge.{after_mark, after_report, advance_sharp}
 use Rattle.sharp_laws.proofs.FitLaws.{IsSaid, IsCited, SharpFits}
 use Rattle.sharp_laws.proofs.CoreLaws.{core_is_cited}
+use Rattle.sharp_laws.proofs.TableLaws.{true_from}
 use Rattle.sharp_laws.proofs.MarkLaws.{are_marks, marks_within, marks_snoc, there_is, no_marks, lines_snoc, reason_same}
 
 -- ---- where there is no fault
@@ -344,18 +345,6 @@ module _ (study : Question) where
 
   -- ---- rows
 
-  all_true : (table : List ℕ) (cs : List Cited) → instances_fault study table cs ≡ None → list_all (is_true_of study table) cs ≡ true
-  all_true table [] e = refl
-  all_true table (c ∷ cs) e = by_test (is_true_of study table c) refl e (all_true table cs)
-    where
-      word : SharpRefusal
-      word = Report (refusal.Fails (name_at study.axioms c.«axiom») c.number)
-
-      by_test : (b : Bool) → is_true_of study table c ≡ b → cond b (instances_fault study table cs) (Some word) ≡ None
-          → (instances_fault study table cs ≡ None → list_all (is_true_of study table) cs ≡ true) → (is_true_of study table c && list_all (is_true_of study table) cs) ≡ true
-      by_test true t f later = and_from _ _ t (later f)
-      by_test false t f later = absurd (cc)
-
   row_line : (s : SharpStanding) (lines : List SharpLine) (p o : ℕ) → SharpHolds AtNeedRow s lines → o < K
       → sharp_fault study (stand AtNeedRow s) (Plain (Row p o)) ≡ None → HasSharpRead (advance_sharp study (stand AtNeedRow s) (Plain (Row p o))) (lines ++ Plain (Row p o) ∷ [])
   row_line s lines p o (marked, inside, c, next, e) l fault =
@@ -392,7 +381,7 @@ module _ (study : Question) where
           let others : instances_fault study table (others_than (listed_in s.told) c) ≡ None =
           subst (λ o. instances_fault study table (option_map_or (others_than (listed_in s.told)) o []) ≡ None) next (none t) in
           let rule : is_rule study.size table ≡ true = and_from _ _ t inside in
-          let right = and_from _ _ rule (all_true table (others_than (listed_in s.told) c) others) in
+          let right = and_from _ _ rule (true_from study table (others_than (listed_in s.told) c) others) in
           to_mark whole (lines ++ Plain (Row p o) ∷ []) (marked_more s.told s.marks c (Rule table) marked next right) (all ∙ marks_more s.told s.marks c (Rule table) next)
       by_test false t inside all none = (marked, inside, c, next, all)
 

@@ -1,5 +1,5 @@
 -- A line of a sharp text is cut into its words again, and is read again where it fits.
-use Rattle.std.proofs.Common.{◌≡◌, refl, sym, ap, ◌∙◌, ℕ, ◌+◌, ◌-◌, inl, inr, Bool, true, List, [], ◌∷◌, ◌++◌, length, take, drop, Some, None, option_map, option_and_then, arith, cond, length-append}
+use Rattle.std.proofs.Common.{◌≡◌, refl, sym, ap, ◌∙◌, ℕ, ◌-◌, inl, inr, Bool, true, List, [], ◌∷◌, ◌++◌, length, take, drop, Some, None, option_map, option_and_then, arith, cond, length-append}
 use Rattle.std.specs.Prelude.{codes}
 use Rattle.std.specs.List.{list_all}
 use Rattle.std.specs.Option.{option_or}
@@ -12,7 +12,7 @@ use Rattle.meaning.proofs.TestLaws.{list_all-both}
 use Rattle.verdicts.specs.Laws.{IsReportable}
 use Rattle.verdicts.specs.Lines.{Line, Row, End, line_text, reason_words}
 use Rattle.verdicts.specs.Numbers.{number_text}
-use Rattle.verdicts.specs.Places.{AtWitnessRow, Standing, wanted}
+use Rattle.verdicts.specs.Places.{AtWitnessRow, Standing}
 use Rattle.verdicts.specs.Reading.{read_cited}
 use Rattle.verdicts.specs.Texts.{joined, words_of}
 use Rattle.verdicts.specs.Judge.{read_line}
@@ -20,8 +20,8 @@ use Rattle.verdicts.proofs.NumberLaws.{read_text}
 use Rattle.verdicts.proofs.WordLaws.{lacks, split_joined}
 use Rattle.verdicts.proofs.TextLaws.{is_word, number_word}
 use Rattle.verdicts.proofs.LineLaws.{or_is}
-use Rattle.verdicts.proofs.ReadLaws.{is_plain, reason_read, wanted_is, reason_words_ok, one_word_ok, line_words_ok, words_lack, words_are, joined_lacks}
-use Rattle.verdicts.proofs.ReportLaws.{short}
+use Rattle.verdicts.proofs.ReadLaws.{is_plain, reason_read, wanted_is, reason_words_ok, one_word_ok, line_words_ok, words_lack, joined_lacks}
+use Rattle.verdicts.proofs.ReportLaws.{short, line_read}
 use Rattle.sharp_verdicts.specs.SharpLines.{SharpLine, SharpTitle, Plain, InstancesAre, NeedsRule, NeedsOpen, after_first, sharp_words, sharp_line_text}
 use Rattle.sharp_verdicts.specs.SharpPlaces.{SharpPlace, AtSharp, AtReport, AtInstances, AtNeed, AtNeedRow, AtSharpEnd, AtSharpNothing, not_possible, read_mark, read_need, wanted_past, read_past, read_sharp_at}
 use Rattle.sharp_laws.proofs.FitLaws.{IsCited, SharpFits}
@@ -108,11 +108,7 @@ module _ (study : Question) (is : IsReportable study) where
       ∙ wanted_again place told l q f
 
   report_again : (told : Standing) (k : Line) → SharpFits study AtReport told (Plain k) → is_plain k ≡ true → short (line_text study k) ≡ true → not_possible (read_line study told (line_text study k)) ≡ Some (Plain k)
-  report_again told k f p h =
-      let number = length told.earlier + 1 in
-      ap (λ b. not_possible (cond b None (wanted study told.place number (words_of (line_text study k))))) (not-true _ h)
-      ∙ ap (λ ws. not_possible (wanted study told.place number ws)) (words_are study is k p)
-      ∙ ap not_possible (wanted_is study is told.place number k f.0 p) ∙ f.1
+  report_again told k f p h = ap not_possible (line_read study is told k f.0 p h) ∙ f.1
 
   -- a line that fits is read
   pub line_again : (place : SharpPlace) (told : Standing) (l : SharpLine) → SharpFits study place told l → is_sharp_plain l ≡ true → short (sharp_line_text study l) ≡ true

@@ -1,19 +1,22 @@
 -- What holds of sharp texts: the statements of the laws. Each is proved as the contract of a function of the same name in src/laws.rt.
-use Rattle.std.specs.Prelude.{◌≡◌, ◌≢◌, ℕ, ◌<◌, ◌≤◌, ◌+◌, ◌^◌, ◌↔◌, List, [], ◌∷◌, ◌++◌, length, Some, IsTrue}
+use Rattle.std.specs.Prelude.{◌≡◌, ◌≢◌, ℕ, ◌<◌, ◌≤◌, ◌+◌, ◌^◌, ◌↔◌, List, [], ◌∷◌, ◌++◌, length, codes, Some, None, IsTrue, IsFalse}
 use Rattle.std.specs.List.{list_all}
 use Rattle.vocab.specs.Size.{IsSize}
 use Rattle.vocab.specs.Study.{Question, HasFewAxioms}
 use Rattle.meaning.specs.Truth.{satisfies}
-use Rattle.verdicts.specs.declared.refusals.Refusal.TheVariants.{Form}
-use Rattle.verdicts.specs.Judge.{has_no_end, ended, pieces}
+use Rattle.verdicts.specs.declared.refusals.Refusal.TheVariants.{Form, Fails}
+use Rattle.verdicts.specs.declared.verdicts.Verdict.{Verdict}
+use Rattle.verdicts.specs.Lines.{name_at}
+use Rattle.verdicts.specs.Judge.{has_no_end, ended, pieces, Confirmed, Faulty, answer}
 use Rattle.verdicts.specs.Laws.{IsReportable, IsShort, is_rule_given}
 use Rattle.sharp_verdicts.specs.declared.instances.Cited.{Cited}
 use Rattle.sharp_verdicts.specs.declared.refusals.SharpRefusal.{SharpRefusal}
 use Rattle.sharp_verdicts.specs.declared.refusals.SharpRefusal.TheVariants.{Report}
-use Rattle.sharp_verdicts.specs.Instances.{has_instance, others_than}
+use Rattle.sharp_verdicts.specs.Instances.{has_instance, others_than, is_true_of}
 use Rattle.sharp_verdicts.specs.Right.{Pointed, satisfies_instances, IsSharpRight}
 use Rattle.sharp_verdicts.specs.SharpLines.{sharp_text}
 use Rattle.sharp_verdicts.specs.SharpPlaces.{SharpStanding}
+use Rattle.sharp_verdicts.specs.SharpFaults.{instances_fault}
 use Rattle.sharp_verdicts.specs.SharpJudge.{SharpGood, SharpRefused, sharp_line_fault, sharp_judge, SharpConfirmed, SharpFaulty, sharp_conclude, sharp_answer, sharp_answer_within}
 
 -- the text is that of this sharp verdict, which is right
@@ -70,6 +73,22 @@ SharpConfirmedWithinLimit =
     (limit : ℕ) (study : Question) (text : List ℕ) (v : Pointed)
     → (sharp_answer_within study limit text ≡ SharpConfirmed v) ↔ ((length text ≤ limit) × (sharp_answer study text ≡ SharpConfirmed v))
 
+-- lines without a fault have given at most as many lemmas as they are
+abbrev pub SharpLemmasAreFew : Type 0
+SharpLemmasAreFew = (study : Question) (lines : List (List ℕ)) (s : SharpStanding) → sharp_judge study lines ≡ SharpGood s → length s.told.earlier ≤ length lines
+
+-- the text of a sharp verdict has at least as many bytes as its story has lemmas
+abbrev pub SharpLemmasFit : Type 0
+SharpLemmasFit = (study : Question) (v : Pointed) (text : List ℕ) → text ≡ sharp_text study v → length v.story ≤ length text
+
+-- no text is confirmed both as a report and as a sharp text
+abbrev pub AreToldApart : Type 0
+AreToldApart = (study : Question) (text : List ℕ) (verdict : Verdict) (v : Pointed) → answer study text ≡ Confirmed verdict → ¬ (sharp_answer study text ≡ SharpConfirmed v)
+
+-- the judge of reports refuses the first line of a sharp text, which is not what the grammar of reports wants
+abbrev pub SharpTextsAreNoReports : Type 0
+SharpTextsAreNoReports = (study : Question) (text rest : List ℕ) → text ≡ codes "bench sharp 1" ++ 10 ∷ rest → answer study text ≡ Faulty 1 Form
+
 -- ---- what they claim
 
 -- no rule of the size makes the bodies of all of some instances true
@@ -108,3 +127,20 @@ abbrev pub SharpFaultsAreFirst : Type 0
 SharpFaultsAreFirst =
     (study : Question) (lines : List (List ℕ)) (n : ℕ) (word : SharpRefusal)
     → (sharp_judge study lines ≡ SharpRefused n word) ↔ IsFirstSharpFault study lines n word
+
+-- the first of some instances whose body is false of a table: the word has the name of its axiom, and its number
+pub record IsFirstFalse (study : Question) (table : List ℕ) (instances : List Cited) (word : SharpRefusal) : Type 0 where
+  pub before : List Cited
+  pub cited : Cited
+  pub after : List Cited
+  pub split : instances ≡ before ++ cited ∷ after
+  pub named : word ≡ Report (Fails (name_at study.axioms cited.«axiom») cited.number)
+  pub true_before : IsTrue (list_all (is_true_of study table) before)
+  pub fails : IsFalse (is_true_of study table cited)
+
+-- a table has no fault exactly where the bodies of the instances that are asked are true of it, and else it names the first that is false
+abbrev pub SharpTableFaultsAreFirst : Type 0
+SharpTableFaultsAreFirst =
+    (study : Question) (table : List ℕ) (instances : List Cited)
+    → ((instances_fault study table instances ≡ None) ↔ IsTrue (list_all (is_true_of study table) instances))
+    × ((word : SharpRefusal) → (instances_fault study table instances ≡ Some word) ↔ IsFirstFalse study table instances word)

@@ -1,6 +1,6 @@
 //! What holds of sharp texts. Each law is the contract of a function that does nothing.
 
-ghost use Rattle.sharp_laws.specs.Laws.{AreSharpTextsDistinct, CutSharpTextsAreForm, HasNoSharpPrefix, IsSharpJudgeComplete, IsSharpJudgeSound, SharpClaimsHold, SharpConfirmedWithinLimit, SharpFaultsAreFirst, SharpLinesAreAnswered, SharpLinesAreShort};
+ghost use Rattle.sharp_laws.specs.Laws.{AreSharpTextsDistinct, AreToldApart, CutSharpTextsAreForm, HasNoSharpPrefix, IsSharpJudgeComplete, IsSharpJudgeSound, SharpClaimsHold, SharpConfirmedWithinLimit, SharpFaultsAreFirst, SharpLemmasAreFew, SharpLemmasFit, SharpLinesAreAnswered, SharpLinesAreShort, SharpTableFaultsAreFirst, SharpTextsAreNoReports};
 
 /// What the judge confirms is the text of a right sharp verdict.
 pub fn sharp_judge_is_sound()
@@ -55,4 +55,30 @@ pub fn sharp_faults_are_first()
 /// where no mark is open, some rule makes those of all but any one of them true.
 pub fn sharp_claims_hold()
     ensures { SharpClaimsHold }
+{}
+
+/// Lines without a fault have given at most as many lemmas as they are.
+pub fn sharp_lemmas_are_few()
+    ensures { SharpLemmasAreFew }
+{}
+
+/// The text of a sharp verdict has at least as many bytes as its story has lemmas.
+pub fn sharp_lemmas_fit()
+    ensures { SharpLemmasFit }
+{}
+
+/// No text is confirmed both as a report and as a sharp text.
+pub fn reports_are_told_apart()
+    ensures { AreToldApart }
+{}
+
+/// The judge of reports refuses the first line of a sharp text.
+pub fn sharp_texts_are_no_reports()
+    ensures { SharpTextsAreNoReports }
+{}
+
+/// The fault of the table of a mark is the first of the other instances whose body is false of it, and there is
+/// none where the bodies of all are true.
+pub fn sharp_table_faults_are_first()
+    ensures { SharpTableFaultsAreFirst }
 {}

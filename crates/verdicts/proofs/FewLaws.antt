@@ -37,7 +37,7 @@ module _ (study : Question) where
   same_fits : (m n : ℕ) → m ≡ n → m ≤ n + 1
   same_fits m n e = omega (arith, e)
 
-  one_lemma : (s : Standing) (l : Line) → length (advance study s l).earlier ≤ length s.earlier + 1
+  pub one_lemma : (s : Standing) (l : Line) → length (advance study s l).earlier ≤ length s.earlier + 1
   one_lemma s (Clash r) =
       let lemma : Lemma = record { suppose = s.suppose; steps = s.steps; last = r } in
       let same : length (advance study s (Clash r)).earlier ≡ length (s.earlier ++ lemma ∷ []) = ap length (after_lemma_same (record s { earlier = s.earlier ++ lemma ∷ []; suppose = []; steps = [] })) in

@@ -29,7 +29,7 @@ lines_answered study lines h =
 
 -- ---- a report has at least as many lines as lemmas
 
-story_fits : (n : ℕ) (story : List Lemma) → length story ≤ length (story_lines n story)
+pub story_fits : (n : ℕ) (story : List Lemma) → length story ≤ length (story_lines n story)
 story_fits n [] = omega arith
 story_fits n (lemma ∷ story) =
     let rest : length story ≤ length (story_lines (n + 1) story) = story_fits (n + 1) story in

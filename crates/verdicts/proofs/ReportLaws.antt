@@ -55,7 +55,7 @@ texts_of study version v = map (line_text study) (report_lines study version v)
 
 module _ (study : Question) (is : IsReportable study) where
   -- a line that fits is read
-  line_read : (s : Standing) (l : Line) → Fits study s.place (length s.earlier + 1) l → is_plain l ≡ true → short (line_text study l) ≡ true → read_line study s (line_text study l) ≡ Some l
+  pub line_read : (s : Standing) (l : Line) → Fits study s.place (length s.earlier + 1) l → is_plain l ≡ true → short (line_text study l) ≡ true → read_line study s (line_text study l) ≡ Some l
   line_read s l f p h =
       ap (λ b. cond b None (wanted study s.place (length s.earlier + 1) (words_of (line_text study l)))) (not-true _ h)
       ∙ ap (wanted study s.place (length s.earlier + 1)) (words_are study is l p)

@@ -1,0 +1,34 @@
+-- No text is confirmed both as a report and as a sharp text, and the judge of reports refuses the first line of a sharp text.
+use Rattle.std.proofs.Common.{◌≡◌, refl, sym, ap, ◌∙◌, ℕ, ◌<◌, List, [], ◌∷◌, ◌++◌, length, get_or, arith}
+use Rattle.std.specs.Prelude.{codes, ◌==◌}
+use Rattle.std.proofs.lemmas.List.Splits.{length-slice_split}
+use Rattle.vocab.specs.Study.{Question}
+use Rattle.verdicts.specs.declared.refusals.Refusal.TheVariants.{Form}
+use Rattle.verdicts.specs.declared.verdicts.Verdict.{Verdict}
+use Rattle.verdicts.specs.Judge.{judge, pieces, front, final, Confirmed, Faulty, conclude, answer}
+use Rattle.verdicts.proofs.JudgeLaws.{judge_sound as report_sound}
+use Rattle.verdicts.proofs.WordLaws.{split_ended}
+use Rattle.sharp_verdicts.specs.Right.{Pointed}
+use Rattle.sharp_verdicts.specs.SharpJudge.{SharpConfirmed, sharp_answer}
+use Rattle.sharp_laws.proofs.JudgeLaws.{judge_sound}
+
+-- the first line of a sharp text
+abbrev title : List ℕ
+title = codes "bench sharp 1"
+
+pub no_report : (study : Question) (text rest : List ℕ) → text ≡ codes "bench sharp 1" ++ 10 ∷ rest → answer study text ≡ Faulty 1 Form
+no_report study text rest e =
+    ap (λ ps. conclude (length ps) (final ps) (judge study (front ps))) (ap pieces e ∙ split_ended 10 (title ∷ []) rest refl)
+    ∙ by_rest (pieces rest) (let some : 0 < length (pieces rest) = omega (arith, length-slice_split (λ b. b == 10) rest) in some)
+  where
+    by_rest : (ps : List (List ℕ)) → 0 < length ps → conclude (length (title ∷ ps)) (final (title ∷ ps)) (judge study (front (title ∷ ps))) ≡ Faulty 1 Form
+    by_rest [] h = absurd (omega (arith, h))
+    by_rest (p ∷ ps) h = refl
+
+-- the seventh byte of a report is `r`, and that of a sharp text is `s`
+pub told_apart : (study : Question) (text : List ℕ) (verdict : Verdict) (v : Pointed) → answer study text ≡ Confirmed verdict → sharp_answer study text ≡ SharpConfirmed v → ⊥
+told_apart study text verdict v a b =
+    let report = report_sound study text verdict a in
+    let sharp = judge_sound study text v b in
+    let differ : 114 ≡ 115 = ap (λ (t : List ℕ). get_or t 6 0) (sym report.is ∙ sharp.is) in
+    absurd (omega (arith, differ))
