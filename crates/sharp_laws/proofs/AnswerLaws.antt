@@ -1,5 +1,5 @@
 -- The judge confirms the texts of right sharp verdicts, each of its own verdict, and refuses a text that is cut where it is cut.
-use Rattle.std.proofs.Common.{◌≡◌, ◌≢◌, refl, sym, ap, ◌∙◌, subst, ℕ, ◌+◌, ◌^◌, ◌<◌, true, List, [], ◌∷◌, ◌++◌, map, length, Some, arith, append-nil}
+use Rattle.std.proofs.Common.{◌≡◌, ◌≢◌, refl, sym, ap, ◌∙◌, subst, ℕ, ◌+◌, ◌^◌, ◌<◌, true, List, [], ◌∷◌, ◌++◌, map, length, Some, arith, append-nil, ◌↔◌, ◌≤◌}
 use Rattle.std.specs.List.{list_all, join_with_byte}
 use Rattle.std.proofs.lemmas.Bool.{and_parts, and_from}
 use Rattle.std.proofs.lemmas.List.Splits.{join_with_byte-slice_split, length-slice_split}
@@ -18,13 +18,14 @@ use Rattle.sharp_verdicts.specs.declared.refusals.SharpRefusal.TheVariants.{Repo
 use Rattle.sharp_verdicts.specs.Right.{Pointed, IsSharpRight}
 use Rattle.sharp_verdicts.specs.SharpLines.{SharpLine, SharpTitle, Plain, sharp_line_text, sharp_lines, sharp_text}
 use Rattle.sharp_verdicts.specs.SharpPlaces.{SharpPlace, AtSharp, AtReport, AtInstances, AtNeed, AtNeedRow, AtSharpEnd, AtSharpNothing, SharpStanding, sharp_start, wanted_past, read_sharp_line}
-use Rattle.sharp_verdicts.specs.SharpJudge.{advance_sharp, SharpGood, sharp_judge_from, sharp_judge, pointed_of, SharpConfirmed, SharpFaulty, at_sharp_end, sharp_conclude, sharp_answer}
+use Rattle.sharp_verdicts.specs.SharpJudge.{advance_sharp, SharpGood, sharp_judge_from, sharp_judge, pointed_of, SharpConfirmed, SharpFaulty, at_sharp_end, sharp_conclude, sharp_answer, sharp_answer_within}
 use Rattle.sharp_laws.specs.Laws.{IsSharpText}
 use Rattle.sharp_laws.proofs.FitLaws.{SharpFits}
 use Rattle.sharp_laws.proofs.JudgeLaws.{ended_map, judge_sound}
 use Rattle.sharp_laws.proofs.TextLaws.{is_sharp_plain, sharp_words_are, sharp_line_lacks, IsPast, wanted_again, line_again}
 use Rattle.sharp_laws.proofs.RunLaws.{SharpRuns, whole_run}
-use Rattle.sharp_laws.proofs.FaultLaws.{past}
+use Rattle.sharp_laws.proofs.FaultLaws.{past, within_limit}
+use Rattle.sharp_laws.proofs.FewLaws.{lemmas_fit}
 use Rattle.sharp_laws.proofs.ShortLaws.{is_sharp_short, lines_short}
 
 module _ (study : Question) (is : IsReportable study) where
@@ -211,3 +212,14 @@ module _ (study : Question) (is : IsReportable study) where
   pub cut_is_form : HasFewAxioms study → (v : Pointed) (text rest : List ℕ) → IsSharpText study v (text ++ rest) → length v.story < 2 ^ 64 → rest ≢ []
       → sharp_answer study text ≡ SharpFaulty (length (pieces text)) (Report Form)
   cut_is_form listed v text rest t few some = cut_here v text rest t (shorts listed v t.right few) (pieces (final (pieces text) ++ rest)) refl some
+
+-- where at most so many bytes are read, exactly the texts of right sharp verdicts that have no more are confirmed
+pub texts_confirmed : (limit : ℕ) (study : Question) → IsReportable study → HasFewAxioms study → limit < 2 ^ 64 → (text : List ℕ) (v : Pointed)
+    → (sharp_answer_within study limit text ≡ SharpConfirmed v) ↔ ((length text ≤ limit) × IsSharpText study v text)
+texts_confirmed limit study is listed low text v = (
+  λ e. let r = (within_limit limit study text v).0 e in (r.0, judge_sound study text v r.1),
+  λ h.
+      let lemmas : length v.story ≤ length text = lemmas_fit study v text h.1.is in
+      let few : length v.story < 2 ^ 64 = omega (arith, lemmas, h.0, low) in
+      (within_limit limit study text v).1 (h.0, judge_complete study is listed text v h.1 few),
+)

@@ -1,5 +1,5 @@
 -- What a right sharp verdict claims holds: its story is accepted over the study of the listed instances, so no rule makes the bodies of all of these true.
-use Rattle.std.proofs.Common.{◌≡◌, refl, sym, ap, ap₂, ◌∙◌, subst, ℕ, zero, suc, ◌<◌, ◌⊎◌, inl, inr, Bool, true, false, not, ◌&&◌, List, [], ◌∷◌, ◌++◌, map, length, Option, Some, None, arith, true≢false, cond, eqb-true, eq-eqb, lt-ltb, ltb-true}
+use Rattle.std.proofs.Common.{◌≡◌, refl, sym, ap, ap₂, ◌∙◌, subst, subst₂, ℕ, zero, suc, ◌<◌, ◌⊎◌, inl, inr, Bool, true, false, not, ◌&&◌, List, [], ◌∷◌, ◌++◌, map, filter, length, Option, Some, None, arith, true≢false, cond, eqb-true, eq-eqb, lt-ltb, ltb-true}
 use Rattle.std.specs.Prelude.{◌==◌, nat_lt, slice_get}
 use Rattle.std.specs.List.{list_all, list_any}
 use Rattle.std.specs.Option.{option_map_or}
@@ -33,15 +33,18 @@ use Rattle.meaning.proofs.StoryLaws.{no_rule}
 use Rattle.closing.specs.Closed.{closed_body}
 use Rattle.closing.proofs.ClosedLaws.{body_written, body_true}
 use Rattle.closing.proofs.SentenceLaws.{closed_prefix, closed_own_body}
+use Rattle.verdicts.specs.Claims.{HasNoRule}
 use Rattle.verdicts.specs.Laws.{is_rule_given}
 use Rattle.verdicts.proofs.WordLaws.{IsIn, in_below}
 use Rattle.sharp_verdicts.specs.declared.instances.Cited.{Cited}
 use Rattle.sharp_verdicts.specs.Derived.{instance_name, closed_at, axiom_of, axioms_from}
-use Rattle.sharp_verdicts.specs.Instances.{same_instance, has_instance, others_than, reasons_of, is_present, count_at, values_at, number_at, cites, is_told, all_instances, instances_of, is_true_of}
-use Rattle.sharp_verdicts.specs.Right.{Pointed, satisfies_instances, is_mark}
+use Rattle.sharp_verdicts.specs.Instances.{same_instance, has_instance, others_than, reasons_of, is_axiom_told, core_of, is_present, count_at, values_at, number_at, cites, is_told, all_instances, instances_of, is_true_of}
+use Rattle.sharp_verdicts.specs.Right.{Pointed, satisfies_instances, is_mark, IsSharpRight}
 use Rattle.sharp_verdicts.proofs.DerivedLaws.{derived_get}
 use Rattle.sharp_verdicts.proofs.Members.{flat_map_in, map_in, filter_in}
-use Rattle.sharp_laws.specs.Laws.{HasNoRuleOfAll, IsSharpText, SharpClaims}
+use Rattle.sharp_verdicts.specs.SharpJudge.{SharpConfirmed, sharp_answer}
+use Rattle.sharp_laws.specs.Laws.{HasNoRuleOfAll, SharpClaims}
+use Rattle.sharp_laws.proofs.JudgeLaws.{judge_sound}
 use Rattle.sharp_laws.proofs.MarkLaws.{there_is}
 
 -- ---- places of instances
@@ -238,10 +241,45 @@ module _ (study : Question) where
         | inr later ↦ rule_of_others whole cs ms c p.1 given later
       ]
 
+  -- the rule that is a mark
+  rule_at : (whole cs : List Cited) (ms : List Witness) (k : ℕ) (c : Cited) (table : List ℕ) → pointwise (is_mark study whole) cs ms ≡ true → slice_get cs k ≡ Some c → slice_get ms k ≡ Some (Rule table)
+      → satisfies_instances study (others_than whole c) table ≡ true
+  rule_at whole [] ms k c table h e f = absurd (cc)
+  rule_at whole (d ∷ cs) [] k c table h e f = absurd (cc)
+  rule_at whole (d ∷ cs) (m ∷ ms) zero c table h e f =
+      let place : d ≡ c = cc in
+      let mark : m ≡ Rule table = cc in
+      let here = (and_parts (is_mark study whole d m) (pointwise (is_mark study whole) cs ms) h).0 in
+      subst₂ (λ x n. is_mark study whole x n ≡ true) place mark here
+  rule_at whole (d ∷ cs) (m ∷ ms) (suc k) c table h e f = rule_at whole cs ms k c table (and_parts (is_mark study whole d m) (pointwise (is_mark study whole) cs ms) h).1 e f
+
+  -- what holds of all items holds of those that are kept
+  all_kept : (t s : ℕ → Bool) (xs : List ℕ) → list_all t xs ≡ true → list_all t (filter s xs) ≡ true
+  all_kept t s [] h = refl
+  all_kept t s (x ∷ xs) h = let p = and_parts (t x) (list_all t xs) h in by (s x) p.0 (all_kept t s xs p.1)
+    where
+      by : (b : Bool) → t x ≡ true → list_all t (filter s xs) ≡ true → list_all t (cond b (x ∷ filter s xs) (filter s xs)) ≡ true
+      by true here rest = and_from _ _ here rest
+      by false here rest = rest
+
+  -- where no rule satisfies the axioms that a story cites, none satisfies all
+  none_of_axioms : (core : List ℕ) (story : List Lemma) → core ≡ core_of study story → HasNoRule study core → HasNoRule study (below (length study.axioms))
+  none_of_axioms core story same none table h =
+      let p = and_parts (is_rule study.size table) _ h in
+      let kept = all_kept (λ k. is_axiom_true study.size table (slice_get study.axioms k)) (is_axiom_told story) (below (length study.axioms)) p.1 in
+      none table (and_from _ _ p.0 (subst (λ (ks : List ℕ). list_all (λ k. is_axiom_true study.size table (slice_get study.axioms k)) ks ≡ true) (sym same) kept))
+
   -- what a right sharp verdict claims holds
-  pub claims_hold : IsSize study.size → (text : List ℕ) (v : Pointed) → IsSharpText study v text → SharpClaims study v
-  claims_hold taken text v t = record {
-    none = subst (HasNoRuleOfAll study) (sym t.right.instances) (none_of_all taken v.core v.story t.right.accepted);
-    none_of_core = no_rule study.size taken study.axioms v.core v.story t.right.accepted;
-    needed = λ given c here. rule_of_others v.instances v.instances v.marks c t.right.marks given here;
-  }
+  pub claims_hold : IsSize study.size → (v : Pointed) → IsSharpRight study v → SharpClaims study v
+  claims_hold taken v right =
+      let none = no_rule study.size taken study.axioms v.core v.story right.accepted in
+      record {
+        none = subst (HasNoRuleOfAll study) (sym right.instances) (none_of_all taken v.core v.story right.accepted);
+        none_of_core = none;
+        none_of_study = none_of_axioms v.core v.story right.core none;
+        rules = λ k c table e f. rule_at v.instances v.instances v.marks k c table right.marks e f;
+        needed = λ given c here. rule_of_others v.instances v.instances v.marks c right.marks given here;
+      }
+
+  pub confirmed_hold : IsSize study.size → (text : List ℕ) (v : Pointed) → sharp_answer study text ≡ SharpConfirmed v → SharpClaims study v
+  confirmed_hold taken text v e = claims_hold taken v (judge_sound study text v e).right

@@ -1,9 +1,11 @@
 -- What holds of sharp texts: the statements of the laws. Each is proved as the contract of a function of the same name in src/laws.rt.
-use Rattle.std.specs.Prelude.{◌≡◌, ◌≢◌, ℕ, ◌<◌, ◌≤◌, ◌+◌, ◌^◌, ◌↔◌, List, [], ◌∷◌, ◌++◌, length, codes, Some, None, IsTrue, IsFalse}
+use Rattle.std.specs.Prelude.{◌≡◌, ◌≢◌, ℕ, ◌<◌, ◌≤◌, ◌+◌, ◌^◌, ◌↔◌, List, [], ◌∷◌, ◌++◌, length, slice_get, codes, Some, None, IsTrue, IsFalse}
 use Rattle.std.specs.List.{list_all}
 use Rattle.vocab.specs.Size.{IsSize}
 use Rattle.vocab.specs.Study.{Question, HasFewAxioms}
-use Rattle.meaning.specs.Truth.{satisfies}
+use Rattle.meaning.specs.declared.cores.Witness.TheVariants.{Rule}
+use Rattle.meaning.specs.Space.{below}
+use Rattle.verdicts.specs.Claims.{HasNoRule}
 use Rattle.verdicts.specs.declared.refusals.Refusal.TheVariants.{Form, Fails}
 use Rattle.verdicts.specs.declared.verdicts.Verdict.{Verdict}
 use Rattle.verdicts.specs.Lines.{name_at}
@@ -89,6 +91,12 @@ AreToldApart = (study : Question) (text : List ℕ) (verdict : Verdict) (v : Poi
 abbrev pub SharpTextsAreNoReports : Type 0
 SharpTextsAreNoReports = (study : Question) (text rest : List ℕ) → text ≡ codes "bench sharp 1" ++ 10 ∷ rest → answer study text ≡ Faulty 1 Form
 
+-- where at most so many bytes of a text are read, exactly the texts of right sharp verdicts that have no more are confirmed
+abbrev pub SharpTextsAreConfirmed : Type 0
+SharpTextsAreConfirmed =
+    (limit : ℕ) (study : Question) → IsReportable study → HasFewAxioms study → limit < 2 ^ 64 → (text : List ℕ) (v : Pointed)
+    → (sharp_answer_within study limit text ≡ SharpConfirmed v) ↔ ((length text ≤ limit) × IsSharpText study v text)
+
 -- ---- what they claim
 
 -- no rule of the size makes the bodies of all of some instances true
@@ -99,15 +107,23 @@ HasNoRuleOfAll study instances = (table : List ℕ) → ¬ IsTrue (satisfies_ins
 abbrev pub HaveRulesOfOthers : Question → List Cited → Type 0
 HaveRulesOfOthers study instances = (c : Cited) → IsTrue (has_instance instances c) → (table : List ℕ) × IsTrue (satisfies_instances study (others_than instances c) table)
 
--- what a sharp verdict claims: no rule makes the bodies of all listed instances true, so none satisfies the axioms of the core; and where no mark is open, no listed instance can be left out
+-- what a sharp verdict claims: no rule makes the bodies of all listed instances true, so none satisfies the axioms of the core, and none all; the rule that is the mark of an instance makes the bodies of the others true; and so, where no mark is open, no listed instance can be left out
 pub record SharpClaims (study : Question) (v : Pointed) : Type 0 where
   pub none : HasNoRuleOfAll study v.instances
-  pub none_of_core : (table : List ℕ) → ¬ IsTrue (satisfies study.size study.axioms v.core table)
+  pub none_of_core : HasNoRule study v.core
+  pub none_of_study : HasNoRule study (below (length study.axioms))
+  pub rules : (k : ℕ) (c : Cited) (table : List ℕ) → slice_get v.instances k ≡ Some c → slice_get v.marks k ≡ Some (Rule table)
+      → IsTrue (satisfies_instances study (others_than v.instances c) table)
   pub needed : IsTrue (list_all is_rule_given v.marks) → HaveRulesOfOthers study v.instances
 
--- what a confirmed sharp text claims holds
+-- what a right sharp verdict claims holds
 abbrev pub SharpClaimsHold : Type 0
-SharpClaimsHold = (study : Question) → IsSize study.size → (text : List ℕ) (v : Pointed) → IsSharpText study v text → SharpClaims study v
+SharpClaimsHold = (study : Question) → IsSize study.size → (v : Pointed) → IsSharpRight study v → SharpClaims study v
+
+-- and so does what a confirmed sharp text claims
+abbrev pub ConfirmedSharpClaimsHold : Type 0
+ConfirmedSharpClaimsHold =
+    (study : Question) → IsSize study.size → (text : List ℕ) (v : Pointed) → sharp_answer study text ≡ SharpConfirmed v → SharpClaims study v
 
 -- ---- faulty lines
 

@@ -156,3 +156,40 @@ axiom_that_is_not_cited_is_core = refl
 
 text_beyond_the_limit_is_too_long : map (λ limit. sharp_answer_within symmetric limit (text_of two_instances_text)) (500 ∷ []) ≡ SharpTooLong ∷ []
 text_beyond_the_limit_is_too_long = refl
+
+-- ---- open marks
+
+-- the same story, with open marks alone
+abbrev open_marks : Pointed
+open_marks = record two_instances { marks = Open 100000 ∷ Open 100000 ∷ [] }
+
+abbrev open_marks_text : List (List ℕ)
+open_marks_text =
+    take 19 two_instances_text ++ codes "needs anonymity ab|ba 1 2 a open 100000" ∷ codes "needs neutrality ab|ba a b a open 100000" ∷ codes "end" ∷ []
+
+open_marks_have_this_text : sharp_text symmetric open_marks ≡ text_of open_marks_text
+open_marks_have_this_text = refl
+
+open_marks_are_confirmed : sharp_answer symmetric (text_of open_marks_text) ≡ SharpConfirmed open_marks
+open_marks_are_confirmed = refl
+
+-- a mark for each instance, and no other
+other_number_of_marks_is_form : map (λ lines. sharp_answer symmetric (text_of lines)) ((take 20 open_marks_text ++ codes "end" ∷ []) ∷ (take 21 open_marks_text ++ codes "needs neutrality ab|ba a b a open 100000" ∷ codes "end" ∷ []) ∷ []) ≡ SharpFaulty 21 (Report refusal.Form) ∷ SharpFaulty 22 (Report refusal.Form) ∷ []
+other_number_of_marks_is_form = refl
+
+-- ---- a size that is not full
+
+-- a voter may be absent
+abbrev with_absence : Question
+with_absence = record { size = record (choice 2 2) { absent = true }; conflicts = 100000; axioms = axiom_of (codes "anonymity") anonymity ∷ [] }
+
+abbrev head_with : List (List ℕ) → List (List ℕ)
+head_with lines = (codes "bench sharp 1" ∷ codes "kind choice" ∷ codes "voters 2" ∷ codes "alternatives 2" ∷ lines) ++ codes "axioms anonymity" ∷ codes "verdict undecided" ∷ []
+
+-- the head says which ballots may be cast and whether voters may be absent exactly where the size is not full
+ballots_stand_where_the_size_is_not_full : map (λ lines. sharp_answer with_absence (text_of (head_with lines))) ((codes "ballots ab ba" ∷ codes "absent yes" ∷ []) ∷ (codes "ballots ab ba" ∷ codes "absent no" ∷ []) ∷ [] ∷ []) ≡
+    SharpFaulty 8 (Report refusal.Undecided) ∷ SharpFaulty 6 (Report refusal.StudyDiffers) ∷ SharpFaulty 5 (Report refusal.Form) ∷ []
+ballots_stand_where_the_size_is_not_full = refl
+
+ballots_do_not_stand_in_a_full_size : sharp_answer symmetric (text_of (head_with (codes "ballots ab ba" ∷ codes "absent no" ∷ []))) ≡ SharpFaulty 5 (Report refusal.Form)
+ballots_do_not_stand_in_a_full_size = refl

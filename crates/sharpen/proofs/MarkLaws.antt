@@ -32,7 +32,7 @@ use Rattle.instance_stories.specs.Named.{story_named}
 use Rattle.instance_stories.proofs.AllInstances.{rising_lists, filter_rises, filter_small, all_rise, all_small, counts_few, present_small}
 use Rattle.instance_studies.proofs.StudyLaws.{all_get}
 use Rattle.sharp_verdicts.proofs.Members.{in_filter, filter_in, map_in}
-use Rattle.instance_stories.proofs.NamedLaws.{derived_get}
+use Rattle.sharp_verdicts.proofs.DerivedLaws.{derived_get}
 use Rattle.sharpen.specs.Marks.{instance_in, marks_kept}
 use Rattle.sharpen.proofs.ToldLaws.{told_in_core}
 
