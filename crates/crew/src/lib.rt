@@ -5,8 +5,6 @@
 mod crews;
 mod jobs;
 mod pieces;
-#[cfg(test)]
-mod tests;
 
 pub use crews::Crew;
 pub use jobs::{Job, Parts};

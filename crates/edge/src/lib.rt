@@ -16,8 +16,6 @@ mod memory_sink;
 mod shelf;
 mod sink;
 mod system;
-#[cfg(test)]
-mod tests;
 
 /// Bytes that contracts see as a list.
 pub type Bytes = lists::Items<u8>;

@@ -6,8 +6,6 @@ pub mod laws;
 mod reading;
 mod space;
 mod tables;
-#[cfg(test)]
-mod tests;
 mod texts;
 mod votes;
 

@@ -6,8 +6,6 @@
 
 mod buffered;
 mod page;
-#[cfg(test)]
-mod tests;
 mod text;
 mod writing;
 

@@ -20,6 +20,3 @@ pub use sentences::{Atom, Formula, Term};
 pub use sizes::{Size, SizeFault};
 pub use studies::{Axiom, Axioms, Study};
 pub use tables::{Places, Table};
-
-#[cfg(test)]
-mod tests;

@@ -1,4 +1,7 @@
-use crate::{NotAProfile, Space, is_above, place_of, ranking_count, ranking_text};
+//! Ballots and profiles by number: texts, votes and changes, where all ballots may be cast, where fewer may, and
+//! where voters may be absent.
+
+use profiles::{NotAProfile, Space, is_above, place_of, ranking_count, ranking_text};
 use std::process::Abort;
 use vocab::{Kind, Size};
 
@@ -34,6 +37,64 @@ static BALLOTS: [(i64, u32, &[u8]); 8] = [
     (5, 118, b"edcab"),
 ];
 
+/// Texts of no profile of two voters and two alternatives.
+static REFUSED: [&[u8]; 14] = [
+    b"", b"ab", b"ab|", b"|ab", b"ab|ab|", b"ab|ac", b"aa|ab", b"AB|ab", b"ab||ab", b"ab|abc",
+    b"ab/ab", b"|ab|ab", b"ab| ab", b"ab|ab ",
+];
+
+/// Texts of no ballot of three alternatives.
+static NO_BALLOTS: [&[u8]; 8] = [b"", b"ab", b"abcd", b"aba", b"abd", b"ABC", b"aaa", b"cab|"];
+
+/// Voters, alternatives, and how many profiles there are.
+static COUNTS: [(i64, i64, u32); 8] = [
+    (1, 1, 1),
+    (8, 1, 1),
+    (2, 2, 4),
+    (8, 2, 256),
+    (2, 3, 36),
+    (5, 3, 7776),
+    (3, 4, 13824),
+    (2, 5, 14400),
+];
+
+/// Voters and alternatives of which each profile is tried.
+static SPACES: [(i64, i64); 5] = [(1, 1), (1, 5), (8, 2), (2, 5), (5, 3)];
+
+/// Voters, alternatives, the ballots (4 of 6 rankings, 2 of 6, 26 of 120, and all of one alternative), and whether
+/// voters may be absent, of which each profile and each ballot is tried.
+static DOMAINS: [(i64, i64, u128, bool); 5] = [
+    (3, 3, 45, false),
+    (3, 3, 45, true),
+    (2, 3, 18, true),
+    (2, 5, 0x3ff_ffff, true),
+    (8, 1, 1, true),
+];
+
+/// Alternatives x and y, and whether voter 1, voter 2 and the majority have x above y at cab|bca.
+static VOTES: [(u32, u32, [bool; 3]); 7] = [
+    (0, 1, [true, false, false]),
+    (1, 0, [false, true, false]),
+    (0, 2, [false, false, false]),
+    (2, 0, [true, true, true]),
+    (1, 2, [false, true, false]),
+    (2, 1, [true, false, false]),
+    (1, 1, [false, false, false]),
+];
+
+/// Alternatives x and y, and whether voters 1, 2 and 3 and the majority have x above y at bca|-|cba.
+static VOTES_OF_TWO: [(u32, u32, [bool; 4]); 6] = [
+    (0, 1, [false, false, false, false]),
+    (1, 0, [true, false, true, true]),
+    (1, 2, [true, false, false, false]),
+    (2, 1, [false, false, true, false]),
+    (2, 0, [true, false, true, true]),
+    (0, 0, [false, false, false, false]),
+];
+
+/// Alternatives, and how many rankings they have.
+static RANKINGS: [(u8, u32); 6] = [(0, 1), (1, 1), (2, 2), (3, 6), (4, 24), (5, 120)];
+
 /// The ballots (1: ab, 3: ab and ba), whether voters may be absent, and the text of no profile of two voters.
 static NO_PROFILES: [(u128, bool, &[u8]); 14] = [
     (3, true, b"-|-"),
@@ -61,6 +122,38 @@ fn ballots_of() -> &'static [(i64, u32, &'static [u8])] {
     &BALLOTS
 }
 
+fn refused() -> &'static [&'static [u8]] {
+    &REFUSED
+}
+
+fn no_ballots() -> &'static [&'static [u8]] {
+    &NO_BALLOTS
+}
+
+fn counts_of() -> &'static [(i64, i64, u32)] {
+    &COUNTS
+}
+
+fn spaces() -> &'static [(i64, i64)] {
+    &SPACES
+}
+
+fn domains() -> &'static [(i64, i64, u128, bool)] {
+    &DOMAINS
+}
+
+fn votes_of() -> &'static [(u32, u32, [bool; 3])] {
+    &VOTES
+}
+
+fn votes_of_two() -> &'static [(u32, u32, [bool; 4])] {
+    &VOTES_OF_TWO
+}
+
+fn rankings() -> &'static [(u8, u32)] {
+    &RANKINGS
+}
+
 fn no_profiles() -> &'static [(u128, bool, &'static [u8])] {
     &NO_PROFILES
 }
@@ -69,17 +162,25 @@ fn space(rt: &impl Abort, voters: i64, alternatives: i64) -> Space {
     Space::new(Size::check(Kind::Choice, voters, alternatives).expect(rt, "a size"))
 }
 
-/// Takes what workers on several threads may read.
-fn share<T: Send + Sync>(_shared: &T) {}
+/// Whether this is the text of a profile, and no other profile has it.
+fn is_text(space: &Space, p: u32, text: &[u8]) -> bool {
+    p < space.count() && space.profile_text(p).bytes() == text && space.read_profile(text) == Ok(p)
+}
+
+/// Whether each profile of a space is the one that its text is read as.
+fn are_read_back(space: &Space) -> bool {
+    for p in 0..space.count() {
+        if space.read_profile(space.profile_text(p).bytes()) != Ok(p) {
+            return false;
+        }
+    }
+    true
+}
 
 #[test]
 fn texts_and_numbers(rt: HostRuntime) {
-    share(&space(&rt, 2, 2));
     for (voters, alternatives, p, text) in profiles() {
-        let space = space(&rt, *voters, *alternatives);
-        assert!(rt; *p < space.count());
-        assert!(rt; space.profile_text(*p).bytes() == *text);
-        assert!(rt; space.read_profile(text) == Ok(*p));
+        assert!(rt; is_text(&space(&rt, *voters, *alternatives), *p, text));
     }
 }
 
@@ -88,56 +189,36 @@ fn ballots(rt: HostRuntime) {
     for (alternatives, b, text) in ballots_of() {
         let space = space(&rt, 2, *alternatives);
         assert!(rt; *b < space.size().sort_len(vocab::Sort::Ballot));
-        assert!(rt; space.ballot_text(*b).bytes() == *text);
-        assert!(rt; space.read_ballot(text) == Some(*b));
+        assert!(rt; space.ballot_text(*b).bytes() == *text && space.read_ballot(text) == Some(*b));
     }
 }
 
 #[test]
 fn refusals(rt: HostRuntime) {
     let space = space(&rt, 2, 2);
-    let texts: [&[u8]; 14] = [
-        b"", b"ab", b"ab|", b"|ab", b"ab|ab|", b"ab|ac", b"aa|ab", b"AB|ab", b"ab||ab", b"ab|abc",
-        b"ab/ab", b"|ab|ab", b"ab| ab", b"ab|ab ",
-    ];
-    for text in texts {
+    for text in refused() {
         assert!(rt; space.read_profile(text) == Err(NotAProfile));
     }
 }
 
 #[test]
 fn every_number_is_that_of_its_text(rt: HostRuntime) {
-    for (voters, alternatives) in [(1, 1), (1, 5), (8, 2), (2, 5), (5, 3)] {
-        let space = space(&rt, voters, alternatives);
-        for p in 0..space.count() {
-            let text = space.profile_text(p);
-            assert!(rt; space.read_profile(text.bytes()) == Ok(p));
-        }
+    for (voters, alternatives) in spaces() {
+        assert!(rt; are_read_back(&space(&rt, *voters, *alternatives)));
     }
 }
 
 #[test]
 fn counts(rt: HostRuntime) {
-    let rows = [
-        (1, 1, 1),
-        (8, 1, 1),
-        (2, 2, 4),
-        (8, 2, 256),
-        (2, 3, 36),
-        (5, 3, 7776),
-        (3, 4, 13824),
-        (2, 5, 14400),
-    ];
-    for (voters, alternatives, count) in rows {
-        assert!(rt; space(&rt, voters, alternatives).count() == count);
+    for (voters, alternatives, count) in counts_of() {
+        assert!(rt; space(&rt, *voters, *alternatives).count() == *count);
     }
 }
 
 #[test]
 fn not_ballots(rt: HostRuntime) {
     let space = space(&rt, 2, 3);
-    let texts: [&[u8]; 8] = [b"", b"ab", b"abcd", b"aba", b"abd", b"ABC", b"aaa", b"cab|"];
-    for text in texts {
+    for text in no_ballots() {
         assert!(rt; space.read_ballot(text) == None);
     }
 }
@@ -150,29 +231,16 @@ fn votes(rt: HostRuntime) {
     assert!(rt; space.size().voters() == 2);
     assert!(rt; space.size().alternatives() == 3);
     assert!(rt; space.ballots() == 6);
-    // x, y, whether voter 1, voter 2 and the majority have x above y
-    let rows = [
-        (0, 1, true, false, false),
-        (1, 0, false, true, false),
-        (0, 2, false, false, false),
-        (2, 0, true, true, true),
-        (1, 2, false, true, false),
-        (2, 1, true, false, false),
-        (1, 1, false, false, false),
-    ];
-    for (x, y, first, second, most) in rows {
-        assert!(rt; x < 3);
-        assert!(rt; y < 3);
+    for (x, y, above) in votes_of() {
+        assert!(rt; *x < 3 && *y < 3);
         let found = [
-            space.prefers(0, x, y, 27),
-            space.prefers(1, x, y, 27),
-            space.better(4, x, y),
-            space.majority(x, y, 27),
+            space.prefers(0, *x, *y, 27),
+            space.prefers(1, *x, *y, 27),
+            space.majority(*x, *y, 27),
         ];
-        assert!(rt; found == [first, second, first, most]);
+        assert!(rt; found == *above && space.better(4, *x, *y) == above[0]);
     }
-    assert!(rt; space.casts(0, 4, 27));
-    assert!(rt; !space.casts(1, 4, 27));
+    assert!(rt; [space.casts(0, 4, 27), space.casts(1, 4, 27)] == [true, false]);
     assert!(rt; space.ballot_of(27, 1) == 3);
 }
 
@@ -192,10 +260,12 @@ fn changes(rt: HostRuntime) {
     ];
     // cab|abc, bca|cab, cab|bca, cba|acb and cab|bca
     assert!(rt; found == [24, 22, 27, 31, 27]);
-    for (z, other) in [(0, 1), (1, 0), (2, 2)] {
-        assert!(rt; z < 3);
-        assert!(rt; space.swap(0, 1, z) == other);
-    }
+    let others = [
+        space.swap(0, 1, 0),
+        space.swap(0, 1, 1),
+        space.swap(0, 1, 2),
+    ];
+    assert!(rt; others == [1, 0, 2]);
 }
 
 #[test]
@@ -219,18 +289,16 @@ fn paradox_of_condorcet(rt: HostRuntime) {
     assert!(rt; space.size().alternatives() == 3);
     let p = space.read_profile(b"abc|bca|cab").expect(&rt, "a profile");
     for (x, y) in [(0, 1), (1, 2), (2, 0)] {
-        assert!(rt; x < 3);
-        assert!(rt; y < 3);
-        assert!(rt; space.majority(x, y, p));
-        assert!(rt; !space.majority(y, x, p));
+        assert!(rt; x < 3 && y < 3);
+        assert!(rt; [space.majority(x, y, p), space.majority(y, x, p)] == [true, false]);
     }
 }
 
 #[test]
 fn laws(rt: HostRuntime) {
     let space = space(&rt, 5, 3);
-    crate::laws::spaces_have_sizes(&space);
-    crate::laws::texts_are_distinct(&space);
+    profiles::laws::spaces_have_sizes(&space);
+    profiles::laws::texts_are_distinct(&space);
 }
 
 /// The space of a size at which the rankings of some places may be cast.
@@ -246,10 +314,8 @@ fn fewer_ballots(rt: HostRuntime) {
     assert!(rt; space.count() == 64);
     assert!(rt; space.ballots() == 4);
     assert!(rt; space.ballot_text(2).bytes() == b"bca".as_slice());
-    assert!(rt; space.read_ballot(b"bca") == Some(2));
-    assert!(rt; space.read_ballot(b"acb") == None);
-    assert!(rt; space.profile_text(27).bytes() == b"bac|bca|cba".as_slice());
-    assert!(rt; space.read_profile(b"bac|bca|cba") == Ok(27));
+    assert!(rt; [space.read_ballot(b"bca"), space.read_ballot(b"acb")] == [Some(2), None]);
+    assert!(rt; is_text(&space, 27, b"bac|bca|cba"));
     assert!(rt; space.read_profile(b"bac|acb|cba") == Err(NotAProfile));
 }
 
@@ -260,9 +326,12 @@ fn votes_of_fewer_ballots(rt: HostRuntime) {
     assert!(rt; space.count() == 64);
     assert!(rt; space.size().voters() == 3);
     assert!(rt; space.size().alternatives() == 3);
-    assert!(rt; space.prefers(0, 0, 2, 27));
-    assert!(rt; space.prefers(1, 2, 0, 27));
-    assert!(rt; space.majority(2, 0, 27));
+    let above = [
+        space.prefers(0, 0, 2, 27),
+        space.prefers(1, 2, 0, 27),
+        space.majority(2, 0, 27),
+    ];
+    assert!(rt; above == [true; 3]);
 }
 
 // Two voters with both ballots: ab|ab, ab|ba, ab|-, ba|ab, ba|ba, ba|-, -|ab and -|ba.
@@ -270,11 +339,7 @@ fn votes_of_fewer_ballots(rt: HostRuntime) {
 fn absence_is_a_cast(rt: HostRuntime) {
     let space = domain(&rt, 2, 2, 3, true);
     assert!(rt; space.count() == 8);
-    for p in 0..space.count() {
-        let text = space.profile_text(p);
-        assert!(rt; space.read_profile(text.bytes()) == Ok(p));
-    }
-    assert!(rt; space.profile_text(2).bytes() == b"ab|-".as_slice());
+    assert!(rt; are_read_back(&space) && is_text(&space, 2, b"ab|-"));
     assert!(rt; space.read_profile(b"-|-") == Err(NotAProfile));
 }
 
@@ -304,10 +369,13 @@ fn votes_with_an_absent_voter(rt: HostRuntime) {
     assert!(rt; space.size().voters() == 2);
     assert!(rt; space.size().alternatives() == 2);
     assert!(rt; space.ballots() == 2);
-    assert!(rt; !space.prefers(1, 0, 1, 2));
-    assert!(rt; !space.prefers(1, 1, 0, 2));
-    assert!(rt; space.majority(0, 1, 2));
-    assert!(rt; !space.casts(1, 1, 2));
+    let found = [
+        space.prefers(1, 0, 1, 2),
+        space.prefers(1, 1, 0, 2),
+        space.majority(0, 1, 2),
+        space.casts(1, 1, 2),
+    ];
+    assert!(rt; found == [false, false, true, false]);
 }
 
 // Where ba alone may be cast, it is ballot 0, though it has place 1 among all rankings.
@@ -318,10 +386,8 @@ fn one_ballot(rt: HostRuntime) {
     assert!(rt; space.ballots() == 1);
     assert!(rt; space.size().alternatives() == 2);
     assert!(rt; space.ballot_text(0).bytes() == b"ba".as_slice());
-    assert!(rt; space.read_ballot(b"ba") == Some(0));
-    assert!(rt; space.read_ballot(b"ab") == None);
-    assert!(rt; space.profile_text(0).bytes() == b"ba|ba".as_slice());
-    assert!(rt; space.read_profile(b"ba|ba") == Ok(0));
+    assert!(rt; [space.read_ballot(b"ba"), space.read_ballot(b"ab")] == [Some(0), None]);
+    assert!(rt; is_text(&space, 0, b"ba|ba"));
     let above = [
         space.better(0, 1, 0),
         space.better(0, 0, 1),
@@ -353,9 +419,7 @@ fn both_ballots_and_absence(rt: HostRuntime) {
 fn each_text_has_its_number(rt: &impl Abort, space: &Space, texts: &[&[u8]]) {
     let mut p = 0;
     for text in texts {
-        assert!(rt; p < space.count());
-        assert!(rt; space.profile_text(p).bytes() == *text);
-        assert!(rt; space.read_profile(text) == Ok(p));
+        assert!(rt; p < space.count() && is_text(space, p, text));
         p += 1;
     }
 }
@@ -370,22 +434,11 @@ fn refusals_of_a_domain(rt: HostRuntime) {
 
 #[test]
 fn every_number_of_a_domain_is_that_of_its_text(rt: HostRuntime) {
-    // 4 of 6 rankings, 2 of 6, 26 of 120, and all of one alternative
-    for (voters, alternatives, ballots, absent) in [
-        (3, 3, 45, false),
-        (3, 3, 45, true),
-        (2, 3, 18, true),
-        (2, 5, 0x3ff_ffff, true),
-        (8, 1, 1, true),
-    ] {
-        let space = domain(&rt, voters, alternatives, ballots, absent);
-        for p in 0..space.count() {
-            let text = space.profile_text(p);
-            assert!(rt; space.read_profile(text.bytes()) == Ok(p));
-        }
+    for (voters, alternatives, ballots, absent) in domains() {
+        let space = domain(&rt, *voters, *alternatives, *ballots, *absent);
+        assert!(rt; are_read_back(&space));
         for b in 0..space.ballots() {
-            let text = space.ballot_text(b);
-            assert!(rt; space.read_ballot(text.bytes()) == Some(b));
+            assert!(rt; space.read_ballot(space.ballot_text(b).bytes()) == Some(b));
         }
     }
 }
@@ -403,25 +456,15 @@ fn votes_around_an_absent_voter(rt: HostRuntime) {
     assert!(rt; space.size().voters() == 3);
     assert!(rt; space.size().alternatives() == 3);
     assert!(rt; space.profile_text(73).bytes() == b"bca|-|cba".as_slice());
-    // x, y, whether voter 1, voter 2, voter 3 and the majority have x above y
-    let rows = [
-        (0, 1, false, false, false),
-        (1, 0, true, true, true),
-        (1, 2, true, false, false),
-        (2, 1, false, true, false),
-        (2, 0, true, true, true),
-        (0, 0, false, false, false),
-    ];
-    for (x, y, first, third, most) in rows {
-        assert!(rt; x < 3);
-        assert!(rt; y < 3);
+    for (x, y, above) in votes_of_two() {
+        assert!(rt; *x < 3 && *y < 3);
         let found = [
-            space.prefers(0, x, y, 73),
-            space.prefers(1, x, y, 73),
-            space.prefers(2, x, y, 73),
-            space.majority(x, y, 73),
+            space.prefers(0, *x, *y, 73),
+            space.prefers(1, *x, *y, 73),
+            space.prefers(2, *x, *y, 73),
+            space.majority(*x, *y, 73),
         ];
-        assert!(rt; found == [first, false, third, most]);
+        assert!(rt; found == *above);
     }
 }
 
@@ -431,8 +474,7 @@ fn casts_around_an_absent_voter(rt: HostRuntime) {
     assert!(rt; space.count() == 124);
     assert!(rt; space.size().voters() == 3);
     assert!(rt; space.ballots() == 4);
-    assert!(rt; space.casts(0, 2, 73));
-    assert!(rt; space.casts(2, 3, 73));
+    assert!(rt; space.casts(0, 2, 73) && space.casts(2, 3, 73));
     for b in 0..4 {
         assert!(rt; !space.casts(1, b, 73));
     }
@@ -455,18 +497,17 @@ fn one_voter_of_three_is_there(rt: HostRuntime) {
     assert!(rt; space.size().voters() == 3);
     assert!(rt; space.size().alternatives() == 3);
     assert!(rt; space.profile_text(24).bytes() == b"abc|-|-".as_slice());
-    assert!(rt; space.majority(0, 2, 24));
-    assert!(rt; !space.majority(2, 0, 24));
-    assert!(rt; space.swap_voters(24, 1, 2) == 24);
-    assert!(rt; space.swap_voters(24, 0, 2) == 120); // -|-|abc
+    assert!(rt; [space.majority(0, 2, 24), space.majority(2, 0, 24)] == [true, false]);
+    // abc|-|- and -|-|abc
+    assert!(rt; [space.swap_voters(24, 1, 2), space.swap_voters(24, 0, 2)] == [24, 120]);
 }
 
 // Whatever a size's ballots are: among all rankings acb has place 1 and cab place 4.
 #[test]
 fn rankings_by_place(rt: HostRuntime) {
-    for (alternatives, count) in [(0, 1), (1, 1), (2, 2), (3, 6), (4, 24), (5, 120)] {
-        assert!(rt; alternatives <= 5);
-        assert!(rt; ranking_count(alternatives) == count);
+    for (alternatives, count) in rankings() {
+        assert!(rt; *alternatives <= 5);
+        assert!(rt; ranking_count(*alternatives) == *count);
     }
     let places = [
         place_of(3, b"acb"),

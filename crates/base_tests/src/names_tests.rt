@@ -1,6 +1,6 @@
 //! What an index answers over a few names.
 
-use crate::NameIndex;
+use names::NameIndex;
 use std::test::Fail;
 
 static NAMES: [&[u8]; 4] = [b"pareto", b"onto", b"pareto", b""];
