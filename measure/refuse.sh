@@ -6,7 +6,7 @@
 # No command has more than 100,000; where one has more than the number that is given to the script, only every kth is tried, and its
 # line says so.
 # Commands that share work run with 2 workers too, over inputs for which threads are started; with 1 worker an allocation has the same
-# number at each run. The commands are those of the tests over failing devices (crates/bench/src/fault_tests.rt), and others: larger
+# number at each run. The commands are those of the tests over failing devices (crates/top_call/src/fault_tests.rt), and others: larger
 # studies, clauses that are refused, searches that spend their limit, and reports with open marks.
 # What is tried is the program that LLVM built, on the paths of these commands, where a call from its own code of malloc and the like is
 # refused (measure/refuse.c). What the C library and the loader ask for themselves, as for the stack of a thread, is always given; the
@@ -20,9 +20,9 @@ set -eu
 build_program
 cc -O2 -Wall -shared -fPIC -o "$work/refuse.so" "$root/measure/refuse.c"
 ulimit -c 0
-python3 - "$program" "$root/studies" "$root/crates/bench/src" "$work" "${1-100000}" <<'PY'
+python3 - "$program" "$root/studies" "$root/crates/rows/data" "$work" "${1-100000}" <<'PY'
 import itertools, multiprocessing, os, re, struct, subprocess, sys
-program, studies, tests, work, most = sys.argv[1:]
+program, studies, rows, work, most = sys.argv[1:]
 MOST, SECONDS = int(most), 600
 WAYS = ("alone", "with all after")
 
@@ -78,11 +78,6 @@ def hold(name, text): # a file of the work folder, by its path
     with open("%s/%s" % (work, name), "w") as file: file.write(text)
     return file.name
 
-def of_tests(source, name): # a text that the tests of the commands use, by its name there
-    with open("%s/%s.rt" % (tests, source)) as file:
-        text = re.search(r'const %s: &str =\s*"(.*)";' % name, file.read())[1]
-    return text.replace(r"\n", "\n").replace(r'\"', '"')
-
 def head(voters, alternatives, axioms, more=""): # of a study of rules that choose
     listed = ", ".join('"%s"' % axiom for axiom in axioms.split())
     return 'kind = "choice"\nvoters = %d\nalternatives = %d\n%saxioms = [%s]\n' % (voters, alternatives, more, listed)
@@ -95,7 +90,7 @@ table = hold("rule.report", "bench report 1\nkind choice\nvoters 2\nalternatives
 unanimity, symmetric, liberal, arrow = (
     "%s/%s.toml" % (studies, name) for name in ("unanimity", "anonymity_neutrality", "paretian_liberal", "arrow"))
 absent, empty = work + "/absent", hold("empty", "")
-story = hold("story.report", of_tests("report_tests", "SYMMETRIC_STORY"))
+story, marked, square = ("%s/%s" % (rows, name) for name in ("anonymity_neutrality.report", "paretian_liberal.report", "square.cnf"))
 
 total, commands, sampled = 0, 0, []
 with multiprocessing.get_context("fork").Pool(os.cpu_count()) as pool:
@@ -123,9 +118,9 @@ far = "some p: profile. (wins(@a, p) & wins(@b, with(p, #1, <bac>)))"
     # Reports and proofs that the program did not write.
     each("check", symmetric, story)
     each("check", unanimity, story, status=1) # the report is of another study
-    each("check", liberal, hold("marked.report", of_tests("report_tests", "LIBERAL_STORY"))) # with open marks
+    each("check", liberal, marked) # with open marks
     each("check", rule, table, "--workers", "2")
-    each("lrat", hold("square.cnf", of_tests("lrat_tests", "SQUARE")), hold("square.lrat", "5 2 0 1 2 0\n6 0 5 3 4 0\n"))
+    each("lrat", square, hold("square.lrat", "5 2 0 1 2 0\n6 0 5 3 4 0\n"))
     each("adopt", symmetric, hold("symmetric.lrat", "21 -3 0 9 17 6 0\n22 0 21 3 11 19 6 0\n"))
     # Searches that spend their limit: the one over all axioms, and one without an axiom, which then has an open mark.
     spent = hold("spent.toml", head(2, 3, "onto strategyproof non_dictatorship", "conflicts = 1\n"))

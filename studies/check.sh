@@ -6,7 +6,9 @@
 # every other study. A sentence is answered as docs/START.md shows. Where all is so, nothing is written; else a line for each fault,
 # and the status is 1.
 # `export` of Arrow's axioms for four alternatives is the same with 1, 2 and 16 workers, and takes an axiom of 21,233,664 instances but
-# none of 84,934,656; a sample is the same line at each run, no words end with status 2, and an absent study with status 5.
+# none of 84,934,656; a sample is the same line at each run, no words end with status 2, as does a word that is not UTF-8, an absent study
+# with status 5, and a full device with 6. Each front of a report is refused at the line that it lacks, and a study of one byte too many and
+# a list of one clause too many are refused.
 # The program is the one that the launcher runs, which is proved and built first where a source is newer; with --built, as after `rt ci`,
 # the one that stands there. No proof rests on this.
 set -u
@@ -65,6 +67,36 @@ answer
 [ "$status" -eq 2 ] || fault "no words end with status $status"
 answer check "$work/absent" "$work/absent"
 [ "$status" -eq 5 ] || fault "an absent study ends with status $status"
+answer decide $'\xff'
+[ "$status" -eq 2 ] && grep -q '^usage: ' "$work/written" || fault "a word that is not UTF-8 ends with status $status"
+"$program" axioms choice >/dev/full
+status=$?
+[ "$status" -eq 6 ] || fault "a full device ends with status $status"
+
+# Each front of a report, with the end of its last line and without it.
+whole=$root/studies/anonymity_neutrality.report
+for ((line = 1; line <= $(wc -l <"$whole"); line++)); do
+    head -n $((line - 1)) "$whole" >"$work/front"
+    head -n "$line" "$whole" | head -c -1 >"$work/open_front"
+    for front in front open_front; do
+        answer check "$root/studies/anonymity_neutrality.toml" "$work/$front"
+        is_line 1 "refused line $line: form" || fault "a report that is cut off at line $line is not refused there"
+    done
+done
+
+# A study of 1,048,576 bytes, and one of a byte more.
+size=$(wc -c <"$root/studies/unanimity.toml")
+{ cat "$root/studies/unanimity.toml"; printf '#%*s' $((1048575 - size)) ''; } >"$work/long.toml"
+answer check "$work/long.toml" "$root/studies/unanimity.report"
+is_line 0 'confirmed possible' || fault "a study of a mebibyte is refused"
+printf ' ' >>"$work/long.toml"
+answer check "$work/long.toml" "$root/studies/unanimity.report"
+is_line 3 'study: too long' || fault "a study of a byte more than a mebibyte is not refused"
+
+# Clauses of which there is one too many.
+{ echo 'p cnf 0 4000001'; yes 0 | head -n 4000001; } >"$work/full.cnf"
+answer lrat "$work/full.cnf" "$work/absent"
+is_line 3 'cnf: full' || fault "4,000,001 clauses are not refused"
 
 shown=0
 while read -r file line; do

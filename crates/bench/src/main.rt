@@ -2,13 +2,11 @@
 //! checks reports of both.
 #![tactic(auto)]
 
-mod top;
-
 use edge::{FileShelf, Open, StdSink};
 use std::env;
 use std::io::ErrorKind;
 use std::process::ExitCode;
-use top::bench;
+use top_call::bench;
 
 /// The words after the program's name; none where one of them is no text.
 fn words_given(rt: &HostRuntime) -> Option<Vec<String>> {
@@ -34,24 +32,3 @@ fn main(rt: HostRuntime) -> ExitCode {
     let run = bench(&rt, rt.alloc(), &words, &mut shelf, &mut out, &Open);
     ExitCode::from(run.status)
 }
-
-#[cfg(test)]
-mod adopt_tests;
-#[cfg(test)]
-mod calls;
-#[cfg(test)]
-mod decide_tests;
-#[cfg(test)]
-mod domain_tests;
-#[cfg(test)]
-mod fault_tests;
-#[cfg(test)]
-mod lrat_tests;
-#[cfg(test)]
-mod report_tests;
-#[cfg(test)]
-mod set_tests;
-#[cfg(test)]
-mod tests;
-#[cfg(test)]
-mod worker_tests;

@@ -1,0 +1,91 @@
+//! What the program itself does not call: a report in memory that is checked by one call, and one that is
+//! checked line by line.
+
+ghost use Rattle.std.specs.Prelude.{◌≤◌};
+ghost use Rattle.report.specs.Stands.{IsReady};
+
+use crate::test_calls::{SYMMETRIC, SYMMETRIC_STORY};
+use edge::Open;
+use lists::NoMemory;
+use outcomes::{ChoiceKind, OutcomeKind};
+use profiles::Space;
+use report::{Checker, ReportFault};
+use report_files::check_report;
+use std::test::Fail;
+use std::thread::Threads;
+use study::read_study;
+use verdicts::{Confirmed, Refusal};
+use vocab::Kind;
+
+#[test]
+fn texts_are_checked_by_one_call(rt: HostRuntime) -> Result<(), Fail> {
+    let alloc = rt.alloc();
+    let study = read_study(alloc, SYMMETRIC.as_bytes()).ok().ok_or("study")?;
+    let Kind::Choice = study.size().kind() else {
+        return Err(Fail::from(NoMemory));
+    };
+    if study.axioms().len() > 40 {
+        return Err(Fail::from(NoMemory));
+    }
+    let kind = ChoiceKind::new(Space::new(study.size()));
+    let story = SYMMETRIC_STORY.as_bytes();
+    let confirmed = check_report(&rt, alloc, &Open, 1, &kind, &study, story);
+    assert!(rt; confirmed == Ok(Confirmed::Impossible));
+    let front = story.get(..100).ok_or("front")?;
+    let cut = check_report(&rt, alloc, &Open, 16, &kind, &study, front);
+    assert!(rt; cut.is_err());
+    Ok(())
+}
+
+/// Gives a checker the lines of a text, up to a hundred lines in all, and tells how many are faultless.
+fn faultless_lines<R: Threads + Sync, K: OutcomeKind>(
+    rt: &R,
+    checker: &mut Checker<K>,
+    text: &str,
+) -> u32
+    requires few { checker.old.progress.lines ≤ 101 }
+    requires ready { IsReady checker.old.subject.setting.study.now checker.old.progress }
+    ensures few { checker.new.progress.lines ≤ 101 }
+    ensures ready { IsReady checker.new.subject.setting.study.now checker.new.progress }
+{
+    let mut count: u32 = 0;
+    for line in text.split('\n') {
+        if line.is_empty() || checker.progress.lines > 100 {
+            return count;
+        }
+        if checker.line(rt, &Open, line.as_bytes()).is_ok() {
+            count = count.saturating_add(1);
+        }
+    }
+    count
+}
+
+/// The fault of the line of this number.
+fn unfit(line: u32) -> Result<Confirmed, ReportFault> {
+    Err(ReportFault::Line {
+        line,
+        refusal: Refusal::Form,
+    })
+}
+
+#[test]
+fn lines_are_checked_one_by_one(rt: HostRuntime) -> Result<(), Fail> {
+    let alloc = rt.alloc();
+    let study = read_study(alloc, SYMMETRIC.as_bytes()).ok().ok_or("study")?;
+    let Kind::Choice = study.size().kind() else {
+        return Err(Fail::from(NoMemory));
+    };
+    if study.axioms().len() > 40 {
+        return Err(Fail::from(NoMemory));
+    }
+    let kind = ChoiceKind::new(Space::new(study.size()));
+    let mut checker = Checker::new(alloc, &kind, &study, 1)?;
+    let front = SYMMETRIC_STORY.strip_suffix("end\n").ok_or("end")?;
+    let before = faultless_lines(&rt, &mut checker, front);
+    assert!(rt; before == 29 && checker.finish() == unfit(30));
+    let last = faultless_lines(&rt, &mut checker, "end\n");
+    assert!(rt; last == 1 && checker.finish() == Ok(Confirmed::Impossible));
+    let after = faultless_lines(&rt, &mut checker, "end\n");
+    assert!(rt; after == 0 && checker.finish() == unfit(31));
+    Ok(())
+}
