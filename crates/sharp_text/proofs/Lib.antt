@@ -1,0 +1,3 @@
+pub mod SharpLemmas
+pub mod RangeLaws
+pub mod Symmetric

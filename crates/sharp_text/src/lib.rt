@@ -1,0 +1,10 @@
+//! Writes the text of a sharp verdict.
+#![tactic(auto)]
+
+pub mod laws;
+mod marks;
+mod sharp_verdict;
+#[cfg(test)]
+mod tests;
+
+pub use sharp_verdict::pour_sharp;
