@@ -1,5 +1,5 @@
 -- The number of values that fit, one leading universal after another.
-use Rattle.std.proofs.Common.{◌≡◌, refl, sym, ◌∙◌, ap, subst, ℕ, suc, ◌+◌, ◌*◌, ◌<◌, ◌≤◌, true, inl, inr, List, [], ◌∷◌, map, drop, drop-cons, length, arith, ltb-true, Some}
+use Rattle.std.proofs.Common.{◌≡◌, refl, sym, ◌∙◌, ap, subst, ℕ, suc, ◌+◌, ◌*◌, ◌<◌, ◌≤◌, true, inl, inr, List, [], ◌∷◌, map, drop, drop-cons, length, arith, ltb-true, Some, None}
 use Rattle.std.specs.Prelude.{nat_lt, slice_get, slice_index}
 use Rattle.std.specs.Option.{option_map_or}
 use Rattle.std.specs.Cmp.Lexicographic.{pointwise}
@@ -13,11 +13,14 @@ use Rattle.vocab.specs.Titled.{Titled}
 use Rattle.vocab.specs.Tree.{Tree, Leaf, Not, Both, Either, Implies, Same, All, Exists}
 use Rattle.meaning.specs.Space.{number_of}
 use Rattle.meaning.proofs.DigitLaws.{are_one_to_one}
-use Rattle.meaning.specs.declared.stories.Reason.TheVariants.{Axiom as ByAxiom}
+use Rattle.meaning.specs.declared.stories.Reason.{Reason}
+use Rattle.meaning.specs.declared.stories.Reason.TheVariants.{Axiom as ByAxiom, Outcome as ByOutcome, Lemma as ByLemma}
 use Rattle.retell.proofs.CitedLaws.{limit_at}
 use Rattle.verdicts.specs.Lines.{sorts_of}
+use Rattle.sharp_verdicts.specs.declared.instances.Cited.{Cited}
 use Rattle.sharp_verdicts.specs.Instances.{number_at}
-use Rattle.told_instances.specs.Told.{names_instance}
+use Rattle.instance_stories.specs.Codes.{code_of}
+use Rattle.told_instances.specs.Told.{names_instance, codes_in, instance_in}
 use Rattle.told_instances.specs.Numbered.{number_from, IsNumbered}
 
 -- the numbers on the way fit, and the last is that of the values
@@ -82,3 +85,22 @@ has_reason study k values a f taken h e same =
       is = n.is ∙ sym at;
       small = (let is = n.is in omega (arith, is, under, few));
     })
+
+-- the place of the axiom that a reason names
+pub within : (study : Question) (k : ℕ) (values : List ℕ) → names_instance study (ByAxiom k values) ≡ true → length study.axioms ≤ 4000000 → k < 4000000
+within study k values h few =
+    let r = and_parts (nat_lt k (length study.axioms)) (pointwise nat_lt values (map (sort_count study.size) (sorts_of (slice_get study.axioms k)))) h in
+    let lt = ltb-true k (length study.axioms) r.0 in
+    omega (arith, lt, few)
+
+-- ---- by the instance that is cited
+
+pub code_is : (study : Question) (r : Reason) (c : Cited) (code : ℕ) → instance_in study r ≡ Some c → code ≡ code_of c → codes_in study r ≡ code ∷ []
+code_is study (ByAxiom k values) c code e f = let same : record { «axiom» = k; number = number_at study k values } ≡ c = cc in ap (λ (d : Cited). code_of d ∷ []) same ∙ ap (λ (n : ℕ). n ∷ []) (sym f)
+code_is study (ByOutcome p) c code e f = absurd cc
+code_is study (ByLemma j) c code e f = absurd cc
+
+pub no_code : (study : Question) (r : Reason) → instance_in study r ≡ None → codes_in study r ≡ []
+no_code study (ByAxiom k values) e = absurd cc
+no_code study (ByOutcome p) e = refl
+no_code study (ByLemma j) e = refl

@@ -24,7 +24,7 @@ use Rattle.verdicts.specs.Lines.{sorts_of}
 use Rattle.verdicts.proofs.WordLaws.{IsIn}
 use Rattle.grounding.specs.Rising.{has}
 use Rattle.sharp_verdicts.specs.declared.instances.Cited.{Cited}
-use Rattle.sharp_verdicts.specs.Instances.{cites_axiom, reasons_of, count_at, number_at, is_present, cites, is_told, all_instances, instances_of}
+use Rattle.sharp_verdicts.specs.Instances.{cites_axiom, is_axiom_told, reasons_of, count_at, number_at, is_present, cites, is_told, all_instances, instances_of}
 use Rattle.instance_stories.specs.Codes.{code_of, AreRising, AreSmall}
 use Rattle.instance_stories.proofs.AllInstances.{has-append, all_rise, all_small, filter_rises, filter_small, counts_few, rising_lists}
 use Rattle.sharp_verdicts.proofs.Members.{map_in, flat_map_in, in_below, in_filter, filter_in}
@@ -48,11 +48,11 @@ has_flat : {X : Type 0} (f : X → List ℕ) (xs : List X) (k : ℕ) → has (fl
 has_flat f [] k = refl
 has_flat f (x ∷ xs) k = has-append (f x) (flat_map f xs) k ∙ ap (λ b. has (f x) k || b) (has_flat f xs k)
 
-any_mapped : {X : Type 0} (s t : X → Bool) (xs : List X) → ((x : X) → s x ≡ true → t x ≡ true) → list_any s xs ≡ true → list_any t xs ≡ true
+pub any_mapped : {X : Type 0} (s t : X → Bool) (xs : List X) → ((x : X) → s x ≡ true → t x ≡ true) → list_any s xs ≡ true → list_any t xs ≡ true
 any_mapped s t [] f h = absurd cc
 any_mapped s t (x ∷ xs) f h = elim (or_cases (s x) (list_any s xs) h) [ inl e ↦ or_left _ _ (f x e) | inr e ↦ or_right (t x) _ (any_mapped s t xs f e) ]
 
-any_found : {X : Type 0} (t u : X → Bool) (xs : List X) → list_any t xs ≡ true → list_all u xs ≡ true → (x : X) × IsIn xs x × (t x ≡ true) × (u x ≡ true)
+pub any_found : {X : Type 0} (t u : X → Bool) (xs : List X) → list_any t xs ≡ true → list_all u xs ≡ true → (x : X) × IsIn xs x × (t x ≡ true) × (u x ≡ true)
 any_found t u [] h k = absurd cc
 any_found t u (x ∷ xs) h k =
     let e = and_parts (u x) (list_all u xs) k in
@@ -61,7 +61,7 @@ any_found t u (x ∷ xs) h k =
       | inr f ↦ let r = any_found t u xs f e.1 in (r.0, inr r.1, r.2, r.3)
     ]
 
-any_in : {X : Type 0} (t : X → Bool) (xs : List X) (x : X) → IsIn xs x → t x ≡ true → list_any t xs ≡ true
+pub any_in : {X : Type 0} (t : X → Bool) (xs : List X) (x : X) → IsIn xs x → t x ≡ true → list_any t xs ≡ true
 any_in t [] x i h = absurd i
 any_in t (y ∷ xs) x (inl e) h = or_left _ _ (ap t e ∙ h)
 any_in t (y ∷ xs) x (inr i) h = or_right (t y) _ (any_in t xs x i h)
@@ -101,7 +101,7 @@ module _ (study : Question) where
   present_by k values (Some a) e h lt =
       lt-ltb (number_of (bases_of study.size a.sentence) values) (instance_count study.size a.sentence) ((are_one_to_one (bases_of study.size a.sentence)).number values h)
 
-  reason_present : (k : ℕ) (values : List ℕ) → names_instance study (ByAxiom k values) ≡ true → is_present study (cited_at k values) ≡ true
+  pub reason_present : (k : ℕ) (values : List ℕ) → names_instance study (ByAxiom k values) ≡ true → is_present study (cited_at k values) ≡ true
   reason_present k values h =
       let e = and_parts (nat_lt k (length study.axioms)) (pointwise nat_lt values (map (sort_count study.size) (sorts_of (slice_get study.axioms k)))) h in
       and_from _ _ e.0 (present_by k values (slice_get study.axioms k) refl e.1 e.0)
@@ -128,7 +128,7 @@ module _ (study : Question) where
 
   -- ---- together
 
-  all_in : (c : Cited) → is_present study c ≡ true → IsIn (all_instances study) c
+  pub all_in : (c : Cited) → is_present study c ≡ true → IsIn (all_instances study) c
   all_in c h =
       let e = and_parts (nat_lt c.«axiom» (length study.axioms)) (nat_lt c.number (count_at study c.«axiom»)) h in
       flat_map_in (λ k. map (λ n. record { «axiom» = k; number = n }) (below (count_at study k))) (below (length study.axioms)) c.«axiom» c
@@ -151,6 +151,46 @@ pub lists_told : (study : Question) (story : List Lemma) (cs : List Cited) → I
 lists_told study story cs taken range small rising same =
     rising_lists cs (instances_of study story) small (filter_small (is_told study story) (all_instances study) (all_small study (counts_few study taken))) rising
     (filter_rises (is_told study story) 0 (all_instances study) (all_rise study (counts_few study taken))) (λ n. same n ∙ sym (told_has study story n range))
+
+-- ---- the axioms of the instances that a story cites
+
+module _ (study : Question) where
+  -- who cites an instance cites its axiom
+  cites_both : (k : ℕ) (c : Cited) (r : Reason) → c.«axiom» ≡ k → cites study c r ≡ true → cites_axiom k r ≡ true
+  cites_both k c (ByAxiom j values) e h =
+      let a = and_parts (c.«axiom» == j) (c.number == number_at study j values) h in
+      eq-eqb j k (sym (eqb-true c.«axiom» j a.0) ∙ e)
+  cites_both k c (ByOutcome p) e h = absurd cc
+  cites_both k c (ByLemma j) e h = absurd cc
+
+  -- and who cites an axiom, and names what there is, cites an instance of it
+  abbrev IsOf : ℕ → Reason → Type 0
+  IsOf k r = (c : Cited) × (is_present study c ≡ true) × (cites study c r ≡ true) × (c.«axiom» ≡ k)
+
+  instance_by : (k : ℕ) (r : Reason) → cites_axiom k r ≡ true → names_instance study r ≡ true → IsOf k r
+  instance_by k (ByAxiom j values) h is =
+      (cited_at study j values, reason_present study j values is, and_from _ _ (eq-eqb j j refl) (eq-eqb (number_at study j values) (number_at study j values) refl), eqb-true j k h)
+  instance_by k (ByOutcome p) h is = absurd cc
+  instance_by k (ByLemma j) h is = absurd cc
+
+  -- the axioms of the instances that a story cites are those that it cites
+  pub axiom_listed : (story : List Lemma) (k : ℕ) → has_reasons study story ≡ true → list_any (λ c. c.«axiom» == k) (instances_of study story) ≡ is_axiom_told story k
+  axiom_listed story k range = same_tests _ _
+      (λ h.
+      let c = any_found (λ (c : Cited). c.«axiom» == k) (λ (c : Cited). true) (instances_of study story) h (all_true (instances_of study story)) in
+      let f = in_filter (is_told study story) (all_instances study) c.0 c.1 in
+      any_mapped (λ (lemma : Lemma). list_any (cites study c.0) (reasons_of lemma)) (λ (lemma : Lemma). list_any (cites_axiom k) (reasons_of lemma)) story
+      (λ lemma e. any_mapped (cites study c.0) (cites_axiom k) (reasons_of lemma) (λ r. cites_both k c.0 r (eqb-true c.0.«axiom» k c.2)) e) f.1)
+      (λ h.
+      let l = any_found (λ (lemma : Lemma). list_any (cites_axiom k) (reasons_of lemma)) (λ (lemma : Lemma). list_all (names_instance study) (reasons_of lemma)) story h range in
+      let r = any_found (cites_axiom k) (names_instance study) (reasons_of l.0) l.2 l.3 in
+      let c = instance_by k r.0 r.2 r.3 in
+      let told = any_in (λ (lemma : Lemma). list_any (cites study c.0) (reasons_of lemma)) story l.0 l.1 (any_in (cites study c.0) (reasons_of l.0) r.0 r.1 c.2) in
+      any_in (λ (c : Cited). c.«axiom» == k) (instances_of study story) c.0 (filter_in (is_told study story) (all_instances study) c.0 (all_in study c.0 c.1) told) (eq-eqb c.0.«axiom» k c.3))
+    where
+      all_true : (cs : List Cited) → list_all (λ (c : Cited). true) cs ≡ true
+      all_true [] = refl
+      all_true (c ∷ cs) = all_true cs
 
 -- ---- what code goes over
 

@@ -1,5 +1,5 @@
 -- The numbers of the instances that a story cites, in the order of the story.
-use Rattle.std.specs.Prelude.{ℕ, Bool, true, ◌&&◌, nat_lt, List, [], ◌∷◌, map, length, slice_get}
+use Rattle.std.specs.Prelude.{ℕ, ◌<◌, Bool, true, ◌&&◌, nat_lt, List, [], ◌∷◌, map, length, slice_get, Option, Some, None}
 use Rattle.std.specs.Cmp.Lexicographic.{pointwise}
 use Rattle.std.specs.List.{flat_map, list_all}
 use Rattle.vocab.specs.Study.{Question}
@@ -8,10 +8,21 @@ use Rattle.meaning.specs.declared.stories.Reason.TheVariants.{Axiom as ByAxiom, 
 use Rattle.meaning.specs.declared.stories.Lemma.{Lemma}
 use Rattle.vocab.specs.Size.{sort_count}
 use Rattle.verdicts.specs.Lines.{sorts_of}
+use Rattle.sharp_verdicts.specs.declared.instances.Cited.{Cited}
 use Rattle.sharp_verdicts.specs.Instances.{reasons_of, number_at}
 use Rattle.instance_stories.specs.Codes.{code_of}
 
+-- an instance has the place of an axiom of a study, and a number within its limit
+abbrev pub IsSmall : Cited → Type 0
+IsSmall c = (c.«axiom» < 4000000) × (c.number < 40000000)
+
 module _ (study : Question) where
+  -- the instance that a reason cites, if it cites one
+  abbrev pub instance_in : Reason → Option Cited
+  instance_in (ByAxiom k values) = Some (record { «axiom» = k; number = number_at study k values })
+  instance_in (ByOutcome p) = None
+  instance_in (ByLemma j) = None
+
   -- that of a reason, where it cites one
   abbrev pub codes_in : Reason → List ℕ
   codes_in (ByAxiom k values) = code_of (record { «axiom» = k; number = number_at study k values }) ∷ []

@@ -4,5 +4,5 @@
 mod numbers;
 mod telling;
 
-pub use numbers::code_of_reason;
+pub use numbers::{code_of_reason, instance_of_reason};
 pub use telling::{axioms_told, instances_told};

@@ -1,9 +1,9 @@
 //! The number of the instance that a reason cites.
 
-ghost use Rattle.std.specs.Prelude.{◌≡◌, [], ◌∷◌, MatchOption, IsTrue};
+ghost use Rattle.std.specs.Prelude.{◌≡◌, [], ◌∷◌, IfSome, MatchOption, IsTrue};
 ghost use Rattle.vocab.specs.Tree.{tree_of};
 ghost use Rattle.told_instances.specs.Numbered.{number_from, IsNumbered};
-ghost use Rattle.told_instances.specs.Told.{codes_in, names_instance};
+ghost use Rattle.told_instances.specs.Told.{codes_in, names_instance, instance_in, IsSmall};
 
 use instance_stories::code_of;
 use meaning::Reason;
@@ -29,6 +29,23 @@ fn number_from(space: &Space, formula: &Formula, values: &Env, level: u8) -> u64
     }
 }
 
+/// The instance that a reason cites, if it cites one. The reason names what there is.
+pub fn instance_of_reason(space: &Space, study: &Study, reason: &Reason) -> Option<Cited>
+    requires size { study.now.size ≡ space.now }
+    requires reason { IsTrue (names_instance study.now reason.now) }
+    ensures value { result ≡ instance_in study.now reason.now }
+    ensures small { IfSome result IsSmall }
+{
+    match reason {
+        Reason::Axiom(k, values) => {
+            let sentence = study.axioms().get(*k as usize).sentence();
+            let number = number_from(space, sentence, values, 0);
+            Some(Cited { axiom: *k, number })
+        }
+        Reason::Outcome(_) | Reason::Lemma(_) => None,
+    }
+}
+
 /// The number of the instance that a reason cites, if it cites one. The reason names what there is.
 pub fn code_of_reason(space: &Space, study: &Study, reason: &Reason) -> Option<u64>
     requires size { study.now.size ≡ space.now }
@@ -37,12 +54,8 @@ pub fn code_of_reason(space: &Space, study: &Study, reason: &Reason) -> Option<u
         (codes_in study.now reason.now ≡ [])
         (λ code. codes_in study.now reason.now ≡ code ∷ []) }
 {
-    match reason {
-        Reason::Axiom(k, values) => {
-            let sentence = study.axioms().get(*k as usize).sentence();
-            let number = number_from(space, sentence, values, 0);
-            Some(code_of(Cited { axiom: *k, number }))
-        }
-        Reason::Outcome(_) | Reason::Lemma(_) => None,
+    match instance_of_reason(space, study, reason) {
+        Some(cited) => Some(code_of(cited)),
+        None => None,
     }
 }
