@@ -124,8 +124,8 @@ pub fn adopted_are_confirmed()
     ensures { AdoptedAreConfirmed }
 {}
 
-/// The same of calls: what a call of `decide` or of `adopt` has written, a call of `check` over files that hold
-/// it confirms, faults and want of memory aside.
+/// The same of calls: what a call of `decide` or of `adopt` has written, a call of `check` over files that
+/// hold it confirms, faults and want of memory aside.
 pub fn written_reports_are_confirmed()
     ensures { WrittenReportsAreConfirmed }
 {}

@@ -32,7 +32,8 @@ use vocab::{Kind, Name, Study, Table};
 fn set_at(kind: &SetsKind, table: &Table, profile: u32) -> Name
     requires rule { IsTrue (is_rule (⟦<SetsKind as OutcomeKind>⟧.size kind.now) table.now) }
     requires profile { profile < sort_count (⟦<SetsKind as OutcomeKind>⟧.size kind.now) Profile }
-    ensures { result ≡ outcome_text (⟦<SetsKind as OutcomeKind>⟧.size kind.now) (slice_index table.now profile) }
+    ensures { result ≡
+        outcome_text (⟦<SetsKind as OutcomeKind>⟧.size kind.now) (slice_index table.now profile) }
 {
     kind.text(u32::from(*table.get(profile as usize)))
 }

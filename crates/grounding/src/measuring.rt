@@ -104,7 +104,8 @@ fn measure_round<R: Threads + Sync, K: OutcomeKind, G: Gate>(
 /// Whether the clauses of each round of instances are within the limits of a round, by the shape of the
 /// sentence alone. Then no instance is too wide.
 fn has_small_rounds<K: OutcomeKind>(kind: &K, named: &Axiom) -> bool
-    ensures { IsTrue result → (k : ℕ) → IsFalse (is_wide (measure_at (K.size kind.now) named.now.sentence k)) }
+    ensures { IsTrue result → (k : ℕ) →
+        IsFalse (is_wide (measure_at (K.size kind.now) named.now.sentence k)) }
 {
     let most = most_counts(kind.space(), named.sentence().body());
     most.clauses <= MOST_CLAUSES / (PIECE * ROUND)

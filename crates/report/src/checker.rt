@@ -196,11 +196,13 @@ impl<'a, K: OutcomeKind> Checker<'a, K> {
             rule_of (conclude (length lines + 1) [] (judge self.now.subject.setting.study.now lines)) }
         ensures right { (lines : List (List ℕ)) →
             StandsFor self.now.subject.setting.study.now self.now.progress lines →
-            IsReportedRule self.now.subject.setting.study.now (ended lines) (option_map (λ table. table.now) result) }
+            IsReportedRule self.now.subject.setting.study.now (ended lines)
+            (option_map (λ table. table.now) result) }
         ensures all { (lines : List (List ℕ)) →
             StandsFor self.now.subject.setting.study.now self.now.progress lines →
             IsTrue (list_all has_no_end lines) →
-            TellsAll self.now.subject.setting.study.now (ended lines) (option_map (λ table. table.now) result) }
+            TellsAll self.now.subject.setting.study.now (ended lines)
+            (option_map (λ table. table.now) result) }
     {
         match self.progress.fault {
             Some(_) => None,

@@ -152,7 +152,8 @@ fn worth_at<K: OutcomeKind>(reader: &Reader<K>, ending: Ending) -> Result<Worth,
         IsWorth (answer_within most_report_bytes reader.now.study held) worth) }
     ensures holds { IfOk result (λ worth. (bytes : List ℕ) → IsSize reader.now.study.size →
         StandsForText reader.now bytes → WorthHolds reader.now.study worth) }
-    ensures whole { IfOk result (λ worth. (claim : Confirmed) → worth ≡ Worth.Confirmed claim → ending ≡ Ending.Whole) }
+    ensures whole { IfOk result (λ worth. (claim : Confirmed) →
+        worth ≡ Worth.Confirmed claim → ending ≡ Ending.Whole) }
 {
     match ending {
         Ending::Whole => Worth::of(reader.end()),
@@ -178,7 +179,8 @@ pub fn worth_of<R: Threads + Sync, S: Shelf, K: OutcomeKind, G: Gate>(
     ensures study { reader.new.study ≡ reader.old.study }
     ensures lines { IfOk result (λ _. reader.new.progress.lines ≤ 268435456) }
     ensures stands { IfOk result (λ _. (bytes : List ℕ) × StandsForText reader.new bytes) }
-    ensures whole { IfSome (S.files shelf.old) (λ files. IfOk result (HasReadWhole reader.new files name.now)) }
+    ensures whole { IfSome (S.files shelf.old)
+        (λ files. IfOk result (HasReadWhole reader.new files name.now)) }
     ensures failed { IsErrOf result FileFault.Failed →
         Rose (S.faults shelf.old name.now) (S.faults shelf.new name.now) }
     ensures same { S.files shelf.new ≡ S.files shelf.old }

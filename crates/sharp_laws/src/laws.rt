@@ -7,26 +7,26 @@ pub fn sharp_judge_is_sound()
     ensures { IsSharpJudgeSound }
 {}
 
-/// The judge confirms the text of each right sharp verdict with fewer than 2^64 lemmas, where the study has at
-/// most 40 axioms.
+/// The judge confirms the text of each right sharp verdict with fewer than 2^64 lemmas, where the study has
+/// at most 40 axioms.
 pub fn sharp_judge_is_complete()
     ensures { IsSharpJudgeComplete }
 {}
 
-/// Where fewer than 2^64 bytes of a text are read, exactly the texts of right sharp verdicts that have no more
-/// are confirmed, where the study has at most 40 axioms.
+/// Where fewer than 2^64 bytes of a text are read, exactly the texts of right sharp verdicts that have no
+/// more are confirmed, where the study has at most 40 axioms.
 pub fn sharp_texts_are_confirmed()
     ensures { SharpTextsAreConfirmed }
 {}
 
-/// Where only so many bytes of a text are read, exactly those confirmed sharp texts are confirmed that have no
-/// more.
+/// Where only so many bytes of a text are read, exactly those confirmed sharp texts are confirmed that have
+/// no more.
 pub fn sharp_confirmed_within_limit()
     ensures { SharpConfirmedWithinLimit }
 {}
 
-/// No rule makes the bodies of all instances that a right sharp verdict lists true, so none satisfies its core.
-/// The rule that is the mark of an instance makes those of the others true.
+/// No rule makes the bodies of all instances that a right sharp verdict lists true, so none satisfies its
+/// core. The rule that is the mark of an instance makes those of the others true.
 pub fn sharp_claims_hold()
     ensures { SharpClaimsHold }
 {}
@@ -63,8 +63,8 @@ pub fn sharp_faults_are_first()
     ensures { SharpFaultsAreFirst }
 {}
 
-/// The fault of the table of a mark is the first of the other instances whose body is false of it, and there is
-/// none where the bodies of all are true.
+/// The fault of the table of a mark is the first of the other instances whose body is false of it, and there
+/// is none where the bodies of all are true.
 pub fn sharp_table_faults_are_first()
     ensures { SharpTableFaultsAreFirst }
 {}

@@ -109,7 +109,8 @@ fn shorten_line(
     given: &Derivation,
     k: usize,
 ) -> Result<bool, NoMemory>
-    requires passing { IsPassing (is_part_of given.now) clauses.now.clauses trail.old seen.old.items lines.old }
+    requires passing { IsPassing (is_part_of given.now) clauses.now.clauses trail.old
+        seen.old.items lines.old }
     requires level { trail.old.level ≡ 0 }
     requires settled { trail.old.settled ≡ true }
     requires given { AreOver trail.old.variables given.now }
@@ -150,7 +151,8 @@ fn shorten_all(
     mut budget: u32,
     given: &Derivation,
 ) -> Result<bool, NoMemory>
-    requires passing { IsPassing (is_part_of given.now) clauses.now.clauses trail.old seen.old.items lines.old }
+    requires passing { IsPassing (is_part_of given.now) clauses.now.clauses trail.old
+        seen.old.items lines.old }
     requires level { trail.old.level ≡ 0 }
     requires given { AreOver trail.old.variables given.now }
     requires room { length lines.old < 1000000 }
