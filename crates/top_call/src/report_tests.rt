@@ -68,9 +68,32 @@ fn unfit(line: u32) -> Result<Confirmed, ReportFault> {
     })
 }
 
+/// Whether the checker takes each line of the front and then the end, answers after each of the two, and takes
+/// nothing behind the end.
+fn checks_to_the_end<R: Threads + Sync, K: OutcomeKind>(
+    rt: &R,
+    mut checker: Checker<K>,
+    front: &str,
+) -> bool
+    requires few { checker.progress.lines ≤ 101 }
+    requires ready { IsReady checker.subject.setting.study.now checker.progress }
+{
+    let before = faultless_lines(rt, &mut checker, front);
+    let open = checker.finish();
+    let last = faultless_lines(rt, &mut checker, "end\n");
+    let whole = checker.finish();
+    let after = faultless_lines(rt, &mut checker, "end\n");
+    let more = checker.finish();
+    [before, last, after] == [29, 1, 0]
+        && open == unfit(30)
+        && whole == Ok(Confirmed::Impossible)
+        && more == unfit(31)
+}
+
 #[test]
 fn lines_are_checked_one_by_one(rt: HostRuntime) -> Result<(), Fail> {
     let alloc = rt.alloc();
+    let front = SYMMETRIC_STORY.strip_suffix("end\n").ok_or("end")?;
     let study = read_study(alloc, SYMMETRIC.as_bytes()).ok().ok_or("study")?;
     let Kind::Choice = study.size().kind() else {
         return Err(Fail::from(NoMemory));
@@ -79,13 +102,7 @@ fn lines_are_checked_one_by_one(rt: HostRuntime) -> Result<(), Fail> {
         return Err(Fail::from(NoMemory));
     }
     let kind = ChoiceKind::new(Space::new(study.size()));
-    let mut checker = Checker::new(alloc, &kind, &study, 1)?;
-    let front = SYMMETRIC_STORY.strip_suffix("end\n").ok_or("end")?;
-    let before = faultless_lines(&rt, &mut checker, front);
-    assert!(rt; before == 29 && checker.finish() == unfit(30));
-    let last = faultless_lines(&rt, &mut checker, "end\n");
-    assert!(rt; last == 1 && checker.finish() == Ok(Confirmed::Impossible));
-    let after = faultless_lines(&rt, &mut checker, "end\n");
-    assert!(rt; after == 0 && checker.finish() == unfit(31));
+    let checker = Checker::new(alloc, &kind, &study, 1)?;
+    assert!(rt; checks_to_the_end(&rt, checker, front));
     Ok(())
 }

@@ -3,7 +3,7 @@ use Rattle.vocab.specs.Study.{Question}
 use Rattle.report.specs.Stands.{IsReady}
 use Rattle.top_call.proofs.report_tests.lines_are_checked_one_by_one.Goals as goal
 
-pub faultless_lines-before-requires-clause-ready : goal.faultless_lines-before-requires-clause-ready
-faultless_lines-before-requires-clause-ready g c = λ κs.
+pub checks_to_the_end-requires-clause-ready : goal.checks_to_the_end-requires-clause-ready
+checks_to_the_end-requires-clause-ready g c = λ κs.
     subst (λ (study : Question). IsReady study c.in_ok-checker.checker.progress) (sym c.in_ok-checker.ensures.study)
     (inr ([], c.in_ok-checker.ensures.stands))
