@@ -4,8 +4,6 @@
 mod finding;
 pub mod laws;
 mod table;
-#[cfg(test)]
-mod tests;
 
 pub use finding::{find, name_at, text_under};
 pub use table::{count, text_at};

@@ -3,7 +3,5 @@
 
 pub mod laws;
 mod numbers;
-#[cfg(test)]
-mod tests;
 
 pub use numbers::sample;

@@ -11,8 +11,6 @@ mod resolving;
 mod scope;
 mod symbols;
 mod terms;
-#[cfg(test)]
-mod tests;
 mod texts;
 
 pub use faults::SortFault;

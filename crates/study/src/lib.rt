@@ -12,8 +12,6 @@ mod limits;
 mod listing;
 mod reading;
 mod sentences;
-#[cfg(test)]
-mod tests;
 
 pub use entries::{Entries, Entry, copied};
 pub use faults::{StudyFault, Text};

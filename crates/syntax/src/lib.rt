@@ -10,8 +10,6 @@ mod limits;
 mod parser;
 mod printer;
 mod reading;
-#[cfg(test)]
-mod tests;
 
 pub use faults::SyntaxFault;
 pub use printer::print;

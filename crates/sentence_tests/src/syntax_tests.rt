@@ -1,9 +1,9 @@
 //! Sentences by example: each lexeme and its edges, readings and refusals, limits, and canonical texts.
 
-use crate::{SyntaxFault, print, read};
 use edge::MemorySink;
 use std::alloc::{AllocError, Global};
 use std::test::Fail;
+use syntax::{SyntaxFault, print, read};
 
 /// Texts of lexemes and blanks alone, none of which is a sentence.
 static LEXED: [&[u8]; 16] = [

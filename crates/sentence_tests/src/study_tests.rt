@@ -1,17 +1,17 @@
 //! Documents, and the study or the fault that each of them gives.
 
-use crate::faults::StudyFault;
-use crate::reading::read_study;
+use crate::fixtures::{push_bytes, push_names};
 use sorts::SortFault;
 use std::alloc::{AllocError, Global};
 use std::test::Fail;
+use study::{StudyFault, read_study};
 use syntax::SyntaxFault;
 use vocab::{Name, Size, SizeFault, Study};
 
 const PLAIN: &str = "kind = 'choice'\nvoters = 2\nalternatives = 3\naxioms = ['pareto']\n";
 
 /// A part of the plain document, what stands in its place, and what the document then gives.
-const CASES: &[(&str, &str, &str)] = &[
+static CASES: [(&str, &str, &str); 49] = [
     ("", "", "2 3 100000 pareto"),
     // The document.
     ("'choice'", "", "toml"),
@@ -159,7 +159,7 @@ const CASES: &[(&str, &str, &str)] = &[
 
 /// A part of the plain document, what stands in its place, and what the document then gives: the ballots of a
 /// size are digits in base 2, the first ranking's last.
-const BALLOTS: &[(&str, &str, &str)] = &[
+static BALLOTS: [(&str, &str, &str); 35] = [
     ("3", "2\nballots = ['ba']", "2 2 100000 pareto of 10"),
     (
         "axioms",
@@ -286,7 +286,7 @@ const BALLOTS: &[(&str, &str, &str)] = &[
 ];
 
 /// Quantifiers of a sentence over five voters and two alternatives, what follows them, and what is then said.
-const SIZES: &[(&str, &str, &str)] = &[
+static SIZES: [(&str, &str, &str); 9] = [
     ("VVVVVVVPAAAA", "x = x", "5 2 100000 a"),
     ("VVVVVVVVAAAAAA", "x = x", "variables a"),
     ("VVVVVVVVAAAA", "x = x", "5 2 100000 a"),
@@ -306,12 +306,17 @@ const SIZES: &[(&str, &str, &str)] = &[
     ),
 ];
 
-/// Appends some bytes.
-fn push_bytes(text: &mut String, bytes: &[u8]) -> Result<(), AllocError> {
-    for byte in bytes {
-        text.push(char::from(*byte))?;
-    }
-    Ok(())
+// Each table is handed out as a slice, so that the proof of a test need not read it.
+fn cases() -> &'static [(&'static str, &'static str, &'static str)] {
+    &CASES
+}
+
+fn ballots() -> &'static [(&'static str, &'static str, &'static str)] {
+    &BALLOTS
+}
+
+fn sizes() -> &'static [(&'static str, &'static str, &'static str)] {
+    &SIZES
 }
 
 /// A word and some bytes.
@@ -380,15 +385,6 @@ fn refused(alloc: Global, fault: &StudyFault) -> Result<String, AllocError> {
     }
 }
 
-/// Appends the names of the axioms, each after a blank.
-fn push_names(text: &mut String, study: &Study) -> Result<(), AllocError> {
-    for named in study.axioms().as_slice() {
-        text.push(' ')?;
-        push_bytes(text, named.name().bytes())?;
-    }
-    Ok(())
-}
-
 /// Appends the ballots of a size where these are not all, and whether voters may be absent.
 fn push_domain(alloc: Global, text: &mut String, size: Size) -> Result<(), AllocError> {
     if !size.has_all_ballots() {
@@ -428,32 +424,25 @@ fn changed(alloc: Global, part: &str, other: &str) -> Result<String, Fail> {
     Ok(answer(alloc, text.as_bytes())?)
 }
 
-/// The first row whose document gives something else than it says, with what it gives; empty where each gives
-/// what it says.
-fn first_wrong(alloc: Global, rows: &[(&str, &str, &str)]) -> Result<String, Fail> {
-    for (part, other, want) in rows {
-        let found = changed(alloc, *part, *other)?;
-        if found.as_str() != *want {
-            return Ok(format!(in alloc; "{other} gives {found}")?);
-        }
-    }
-    Ok(String::new(alloc))
+/// Whether the plain document with something else in the place of a part gives this.
+fn is_given(alloc: Global, part: &str, other: &str, wanted: &str) -> Result<bool, Fail> {
+    Ok(changed(alloc, part, other)?.as_str() == wanted)
 }
 
 #[test]
 fn documents_give_studies(rt: HostRuntime) -> Result<(), Fail> {
-    let alloc = rt.alloc();
-    let wrong = first_wrong(alloc, CASES)?;
-    assert_eq!(rt; wrong.as_str(), "");
-    let found = answer(alloc, b"kind = 'choice\xff'")?;
-    assert_eq!(rt; found.as_str(), "toml");
+    for (part, other, wanted) in cases() {
+        assert!(rt; is_given(rt.alloc(), part, other, wanted)?, "{other}");
+    }
+    assert!(rt; answer(rt.alloc(), b"kind = 'choice\xff'")?.as_str() == "toml");
     Ok(())
 }
 
 #[test]
 fn studies_may_list_ballots(rt: HostRuntime) -> Result<(), Fail> {
-    let wrong = first_wrong(rt.alloc(), BALLOTS)?;
-    assert_eq!(rt; wrong.as_str(), "");
+    for (part, other, wanted) in ballots() {
+        assert!(rt; is_given(rt.alloc(), part, other, wanted)?, "{other}");
+    }
     Ok(())
 }
 
@@ -484,16 +473,17 @@ fn limited(alloc: Global, quantifiers: &str, body: &str) -> Result<String, Alloc
 
 #[test]
 fn sentences_have_limits(rt: HostRuntime) -> Result<(), Fail> {
-    let alloc = rt.alloc();
-    for (quantifiers, body, want) in SIZES {
-        let found = limited(alloc, *quantifiers, *body)?;
-        assert_eq!(rt; found.as_str(), *want, "at {quantifiers}");
+    for (quantifiers, body, wanted) in sizes() {
+        assert!(rt;
+            limited(rt.alloc(), quantifiers, body)?.as_str() == *wanted,
+            "{quantifiers}"
+        );
     }
     Ok(())
 }
 
-/// A study with so many axioms, all of one name.
-fn repeated(alloc: Global, count: u32) -> Result<String, AllocError> {
+/// What a study gives with so many axioms, all of one name.
+fn many(alloc: Global, count: u32) -> Result<String, AllocError> {
     let mut text = String::from_str(
         alloc,
         "kind = 'choice'\nvoters = 1\nalternatives = 1\naxioms = [",
@@ -502,16 +492,12 @@ fn repeated(alloc: Global, count: u32) -> Result<String, AllocError> {
         text.push_str("'no', ")?;
     }
     text.push_str("]\n")?;
-    Ok(text)
+    answer(alloc, text.as_bytes())
 }
 
 #[test]
 fn studies_have_few_axioms(rt: HostRuntime) -> Result<(), Fail> {
-    let alloc = rt.alloc();
-    for (count, want) in [(40, "unknown no"), (41, "many 41")] {
-        let text = repeated(alloc, count)?;
-        let found = answer(alloc, text.as_bytes())?;
-        assert_eq!(rt; found.as_str(), want);
-    }
+    assert!(rt; many(rt.alloc(), 40)?.as_str() == "unknown no");
+    assert!(rt; many(rt.alloc(), 41)?.as_str() == "many 41");
     Ok(())
 }

@@ -1,20 +1,17 @@
 //! Equalities, each resolved for two voters and two alternatives.
 
-use crate::{SortFault, resolve};
+use crate::fixtures::name_of;
 use profiles::Space;
+use sorts::{SortFault, resolve};
 use std::alloc::Global;
 use std::test::Fail;
-use vocab::{Atom, Formula, Kind, Name, Named, NamedTerm, Size, Sort, Term};
-
-fn word(text: &[u8]) -> Result<Name, Fail> {
-    Ok(Name::new(text).ok_or("a name")?)
-}
+use vocab::{Atom, Formula, Kind, Named, NamedTerm, Size, Sort, Term};
 
 /// What `all x: alt. all x: profile. NAME = x` resolves to, or its fault.
 fn equality(alloc: Global, name: &[u8]) -> Result<Result<Formula, SortFault>, Fail> {
     let size = Size::check(Kind::Choice, 2, 2)?;
-    let (left, right) = (word(name)?, word(b"x")?);
-    let (inside, outside) = (word(b"x")?, word(b"x")?);
+    let (left, right) = (name_of(name)?, name_of(b"x")?);
+    let (inside, outside) = (name_of(b"x")?, name_of(b"x")?);
     let part = Box::new(
         alloc,
         Named::Equal(NamedTerm::Var(left), NamedTerm::Var(right)),
@@ -39,7 +36,7 @@ fn an_inner_variable_hides_an_outer_one(rt: HostRuntime) -> Result<(), Fail> {
 #[test]
 fn an_unbound_variable_is_named(rt: HostRuntime) -> Result<(), Fail> {
     let fault = equality(rt.alloc(), b"y")?.err();
-    assert_eq!(rt; fault, Some(SortFault::Unbound(word(b"y")?)));
+    assert_eq!(rt; fault, Some(SortFault::Unbound(name_of(b"y")?)));
     Ok(())
 }
 
@@ -50,7 +47,7 @@ fn ballot(
     ballots: u128,
 ) -> Result<Result<Formula, SortFault>, Fail> {
     let size = Size::with_domain(Kind::Choice, 2, 2, ballots, false)?;
-    let letters = word(letters)?;
+    let letters = name_of(letters)?;
     let sentence = Named::Equal(NamedTerm::Ballot(letters), NamedTerm::Ballot(letters));
     Ok(resolve(alloc, &sentence, &Space::new(size)))
 }

@@ -1,12 +1,13 @@
 //! Numbers, and the study that each of them has.
 
-use crate::numbers::sample;
+use crate::fixtures::push_names;
+use samples::sample;
 use std::alloc::{AllocError, Global};
 use std::test::Fail;
 use vocab::{Kind, Study};
 
 /// A number, and the kind, the numbers and the axioms of its study.
-const SAMPLES: &[(u32, &str)] = &[
+static SAMPLES: [(u32, &str); 6] = [
     (0, "choice 2 3 20000"),
     (2, "choice 3 3 20000"),
     (112, "choice 2 3 20000 onto non_dictatorship strategyproof"),
@@ -20,6 +21,11 @@ const SAMPLES: &[(u32, &str)] = &[
         "ranking 3 3 20000 pareto independence non_dictatorship anonymity neutrality",
     ),
 ];
+
+// The table is handed out as a slice, so that the proof of a test need not read it.
+fn samples_of() -> &'static [(u32, &'static str)] {
+    &SAMPLES
+}
 
 /// The word of a kind.
 fn word(kind: Kind) -> &'static str {
@@ -37,22 +43,20 @@ fn shown(alloc: Global, study: &Study) -> Result<String, AllocError> {
     let alternatives = study.size().alternatives();
     let conflicts = study.conflicts();
     let mut text = format!(in alloc; "{kind} {voters} {alternatives} {conflicts}")?;
-    for named in study.axioms().as_slice() {
-        text.push(' ')?;
-        for byte in named.name().bytes() {
-            text.push(char::from(*byte))?;
-        }
-    }
+    push_names(&mut text, study)?;
     Ok(text)
+}
+
+/// Whether this is said of the study of a number.
+fn is_shown(alloc: Global, number: u32, wanted: &str) -> Result<bool, Fail> {
+    let study = sample(alloc, number)?;
+    Ok(shown(alloc, &study)?.as_str() == wanted)
 }
 
 #[test]
 fn numbers_have_studies(rt: HostRuntime) -> Result<(), Fail> {
-    let alloc = rt.alloc();
-    for (number, want) in SAMPLES {
-        let study = sample(alloc, *number)?;
-        let found = shown(alloc, &study)?;
-        assert_eq!(rt; found.as_str(), *want, "at {number}");
+    for (number, wanted) in samples_of() {
+        assert!(rt; is_shown(rt.alloc(), *number, wanted)?, "{number}");
     }
     Ok(())
 }
