@@ -1,0 +1,4 @@
+-- In reading order.
+pub mod Cited
+pub mod SharpStands
+pub mod SharpAnswers

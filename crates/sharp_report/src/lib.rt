@@ -1,0 +1,17 @@
+//! Checks a sharp text line by line.
+#![tactic(auto)]
+
+mod checker;
+mod citing;
+mod failing;
+mod faults;
+mod judging;
+mod places;
+mod progress;
+
+pub use checker::SharpChecker;
+pub use faults::SharpFault;
+pub use places::SharpPlace;
+pub use progress::SharpProgress;
+pub use report::Subject;
+pub use sharp_verdicts::SharpRefusal;
