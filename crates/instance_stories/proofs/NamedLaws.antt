@@ -29,7 +29,7 @@ use Rattle.closing.specs.Closed.{closed_body}
 use Rattle.closing.proofs.ClosedLaws.{body_written}
 use Rattle.closing.proofs.SentenceLaws.{closed_prefix, closed_own_body}
 use Rattle.sharp_verdicts.specs.declared.instances.Cited.{Cited}
-use Rattle.sharp_verdicts.specs.Derived.{closed_at, axiom_of, axioms_from, instance_name}
+use Rattle.sharp_verdicts.specs.Derived.{closed_at, axioms_from, instance_name}
 use Rattle.sharp_verdicts.specs.Instances.{is_present, count_at, reasons_of, cites_axiom, is_axiom_told, core_of}
 use Rattle.sharp_verdicts.proofs.DerivedLaws.{get_none, derived_get}
 use Rattle.instance_studies.proofs.StudyLaws.{all_get, number_within}
