@@ -1,5 +1,5 @@
 -- The clauses of instances stand among those of the study of these instances.
-use Rattle.std.proofs.Common.{◌≡◌, refl, sym, ◌∙◌, ap, ap₂, subst, ℕ, zero, suc, ◌+◌, ◌<◌, Bool, true, false, ◌⊎◌, inl, inr, List, [], ◌∷◌, ◌++◌, map, length, arith, Option, Some, None}
+use Rattle.std.proofs.Common.{◌≡◌, refl, sym, ◌∙◌, ap, ap₂, subst, ℕ, Bool, true, false, ◌⊎◌, inl, inr, List, [], ◌∷◌, length, arith, Option, Some, None}
 use Rattle.std.specs.Prelude.{if◌then◌else◌, slice_get}
 use Rattle.std.specs.Cmp.Lexicographic.{pointwise}
 use Rattle.std.specs.List.{flat_map, list_any}
@@ -18,7 +18,7 @@ use Rattle.cnf.proofs.LitLaws.{same_lit-equal}
 use Rattle.meaning.specs.declared.clauses.Origin.TheVariants.{Instance}
 use Rattle.meaning.specs.Clauses.{plus}
 use Rattle.meaning.specs.Instances.{instance_values}
-use Rattle.meaning.specs.Space.{up_from, below}
+use Rattle.meaning.specs.Space.{below}
 use Rattle.meaning.specs.StudyClauses.{Sourced, firsts, clauses_of, instance_of, from_frame, from_instance, from_axiom, study_clauses}
 use Rattle.closing.specs.Closed.{closed_body}
 use Rattle.closing.proofs.SentenceLaws.{is_instance}

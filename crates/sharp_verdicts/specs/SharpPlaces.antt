@@ -1,6 +1,6 @@
 -- Where a reader of a sharp text stands, and which line the grammar wants there. Up to the last lemma it reads as a reader of
 -- the report does, after the first line of the report that is printed.
-use Rattle.std.specs.Prelude.{ℕ, ◌-◌, Bool, true, false, nat_lt, List, [], ◌∷◌, length, take, drop, Option, Some, None, option_map, option_and_then, codes, if◌then◌else◌}
+use Rattle.std.specs.Prelude.{ℕ, ◌-◌, Bool, true, false, nat_lt, List, [], length, take, drop, Option, Some, None, option_map, option_and_then, codes, if◌then◌else◌}
 use Rattle.std.specs.Option.{option_or}
 use Rattle.std.specs.Str.{bytes_eq}
 use Rattle.vocab.specs.Study.{Question}

@@ -1,5 +1,5 @@
 -- What sharpening comes to, and of what its logs are evidence.
-use Rattle.std.specs.Prelude.{List, [], ◌∷◌, ◌||◌, IsTrue, IsFalse, Any, slice_get, Option, Some, None, ℕ, Bool, false}
+use Rattle.std.specs.Prelude.{List, [], ◌∷◌, ◌||◌, IsTrue, IsFalse, Any, slice_get, Bool, false}
 use Rattle.std.specs.List.{list_all, list_any}
 use Rattle.std.specs.Option.{option_map_or}
 use Rattle.vocab.specs.Study.{Question}
