@@ -12,8 +12,6 @@ mod lrat_writing;
 mod numbers;
 mod size_text;
 mod steps;
-#[cfg(test)]
-mod tests;
 mod tokens;
 
 pub use cnf_reading::{Formulas, read_dimacs};

@@ -7,6 +7,3 @@ pub mod laws;
 mod terms;
 
 pub use formulas::close;
-
-#[cfg(test)]
-mod tests;

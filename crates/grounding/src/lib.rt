@@ -9,7 +9,5 @@ mod merging;
 mod parts;
 mod pieces;
 mod sorting;
-#[cfg(test)]
-mod tests;
 
 pub use making::ground;

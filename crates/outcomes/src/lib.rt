@@ -15,6 +15,3 @@ pub use choice::ChoiceKind;
 pub use kind::OutcomeKind;
 pub use ranking::RankingKind;
 pub use setting::Setting;
-
-#[cfg(test)]
-mod tests;

@@ -22,6 +22,3 @@ pub use exclusion::excludes;
 pub use failures::{first_failure, instance_count};
 pub use kleene::partial;
 pub use tarski::truth;
-
-#[cfg(test)]
-mod tests;

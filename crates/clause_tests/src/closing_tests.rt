@@ -1,6 +1,6 @@
 //! Closed bodies that are worked out by hand.
 
-use crate::close;
+use closing::close;
 use lists::NoMemory;
 use std::alloc::Global;
 use std::test::Fail;

@@ -3,7 +3,6 @@
 ghost use Rattle.std.specs.Prelude.{◌≡◌, IfOk};
 ghost use Rattle.vocab.specs.Tree.{tree_of, Casts, Const, Leaf, WinsAt};
 
-use crate::{Board, excludes, partial, truth};
 use lists::{Items, NoMemory};
 use meaning::Three;
 use outcomes::ChoiceKind;
@@ -11,6 +10,7 @@ use profiles::Space;
 use std::alloc::Global;
 use std::test::Fail;
 use vocab::{Atom, Env, Formula, Kind, Literal, Size, Term};
+use worlds::{Board, excludes, partial, truth};
 
 /// The only alternative wins at profile 0. In a box, as is the next, so that a test drops it by one call.
 fn wins(alloc: Global) -> Result<Box<Formula>, NoMemory>
