@@ -9,8 +9,6 @@ pub mod laws;
 mod library;
 mod proof_faults;
 mod study_faults;
-#[cfg(test)]
-mod tests;
 mod worth;
 
 pub use claims::{ClaimLine, SummaryLine};

@@ -27,6 +27,3 @@ pub use reading::read_line;
 pub use reasons::read_cited;
 pub use rules::read_row_parts;
 pub use words::{after_first, is_same};
-
-#[cfg(test)]
-mod tests;

@@ -5,8 +5,6 @@ mod counts;
 mod head;
 mod lines;
 mod rules;
-#[cfg(test)]
-mod tests;
 mod verdict;
 mod words;
 

@@ -3,7 +3,5 @@
 
 mod check;
 mod pieces;
-#[cfg(test)]
-mod tests;
 
 pub use check::check_rule;

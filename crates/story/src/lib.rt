@@ -12,6 +12,3 @@ pub use lemmas::check_lemma;
 pub use lines::{suppose, take_step};
 pub use reasons::refutes;
 pub use stories::{Story, check_story};
-
-#[cfg(test)]
-mod tests;

@@ -2,7 +2,7 @@ use Rattle.std.proofs.Common.{◌-◌, ◌≤◌, length}
 use Rattle.std.specs.Prelude.{nat_lt, IsTrue}
 use Rattle.std.specs.List.{list_all}
 use Rattle.vocab.specs.Size.{outcome_count}
-use Rattle.report_text.proofs.tests.first_alternative.Given as goal
+use Rattle.report_tests.proofs.report_text_tests.rule_of.Given as goal
 
 -- so far each outcome is one of the size
 abbrev pub invariant-loop-table : goal.invariant-loop-table

@@ -1,23 +1,34 @@
 //! A rule of two voters and three alternatives, and two axioms of which it fails the second.
 
-ghost use Rattle.std.specs.Prelude.{◌≡◌, ◌≤◌, nat_lt, codes, length, IfOk, IsTrue};
+ghost use Rattle.std.specs.Prelude.{◌≡◌, ◌≤◌, nat_lt, length, IfOk, IsTrue};
 ghost use Rattle.std.specs.List.{list_all};
 ghost use Rattle.vocab.specs.Size.{full_size};
-ghost use Rattle.vocab.specs.Tree.{All, Leaf, Equal, WinsAt, Const, Var};
 ghost use Rattle.meaning.specs.Truth.{is_rule};
 
-use crate::check_rule;
+use crate::studies_by_text::of_two_axioms;
 use crew::Crew;
 use edge::{Gate, Open};
 use lists::Items;
 use outcomes::ChoiceKind;
 use profiles::Space;
+use rule_check::check_rule;
 use std::alloc::Global;
 use std::sync::atomic::{AtomicU64, Ordering};
 use std::test::Fail;
 use std::thread::Threads;
 use verdicts::Refusal;
-use vocab::{Atom, Axiom, Axioms, Formula, Kind, Name, Size, Sort, Study, Table, Term};
+use vocab::{Kind, Name, Size, Study, Table};
+
+/// That each voter is itself; and that the first alternative wins at every profile, for each further
+/// profile and each ballot. This one has 7,776 instances, of which 216 have one value of the first
+/// variable.
+static STUDY: &str =
+    "kind = \"choice\"\nvoters = 2\nalternatives = 3\naxioms = [\"same\", \"first\"]\n[sentences]\nsame = \"all i: voter. i = i\"\nfirst = \"all p: profile. all q: profile. all b: ballot. wins(@a, p)\"\n";
+
+// The text is handed out by a function, so that the proof of a test need not read it.
+fn text() -> &'static str {
+    STUDY
+}
 
 fn small_size() -> Result<Size, Fail>
     ensures { IfOk result (λ size. size ≡ full_size Kind.Choice 2 3) }
@@ -25,43 +36,11 @@ fn small_size() -> Result<Size, Fail>
     Ok(Size::check(Kind::Choice, 2, 3).ok().ok_or("size")?)
 }
 
-/// The axiom `same`, that each voter is itself.
-fn same(alloc: Global) -> Result<Axiom, Fail>
-    ensures { IfOk result (λ named.
-        named ≡ record { name = codes "same"; sentence = All Sort.Voter (Leaf (Equal (Var 0) (Var 0))) }) }
+fn two_axioms(alloc: Global) -> Result<Box<Study>, Fail>
+    ensures size { IfOk result (λ study. study.value.size ≡ full_size Kind.Choice 2 3) }
+    ensures axioms { IfOk result (λ study. length study.value.axioms ≡ 2) }
 {
-    let name = Name::new(b"same").ok_or("name")?;
-    let same = Formula::Leaf(Atom::Equal(Term::Var(0), Term::Var(0)));
-    Ok(Axiom::new(name, Formula::All(Sort::Voter, Box::new(alloc, same)?)))
-}
-
-/// The axiom `first`, that the first alternative wins at every profile, for each further profile and each
-/// ballot. It has 7,776 instances, of which 216 have one value of the first variable.
-fn first(alloc: Global) -> Result<Axiom, Fail>
-    ensures { IfOk result (λ named.
-        named ≡ record {
-          name = codes "first";
-          sentence = All Sort.Profile (All Sort.Profile (All Sort.Ballot (Leaf (WinsAt (Const 0) (Var 0)))));
-        }) }
-{
-    let name = Name::new(b"first").ok_or("name")?;
-    let wins = Formula::Leaf(Atom::Wins(Term::Const(0), Term::Var(0)));
-    let ballots = Formula::All(Sort::Ballot, Box::new(alloc, wins)?);
-    let profiles = Formula::All(Sort::Profile, Box::new(alloc, ballots)?);
-    Ok(Axiom::new(
-        name,
-        Formula::All(Sort::Profile, Box::new(alloc, profiles)?),
-    ))
-}
-
-fn two_axioms(alloc: Global) -> Result<Study, Fail>
-    ensures size { IfOk result (λ study. study.size ≡ full_size Kind.Choice 2 3) }
-    ensures axioms { IfOk result (λ study. length study.axioms ≡ 2) }
-{
-    let mut axioms: Axioms = Items::new(alloc);
-    axioms.push(same(alloc)?)?;
-    axioms.push(first(alloc)?)?;
-    Ok(Study::new(small_size()?, 100, axioms))
+    of_two_axioms(alloc, text(), small_size()?)
 }
 
 /// The rule by which the first alternative wins at each of the 36 profiles but those numbered 30 and 34.
@@ -109,9 +88,8 @@ fn faults_are_the_same_for_every_number_of_workers(rt: HostRuntime) -> Result<()
     let fails = Some(first_fails()?);
     for workers in [1, 2, 16] {
         let none = fault(&rt, rt.alloc(), &Open, workers, &[0, 0])?;
-        assert_eq!(rt; none, None, "{workers} workers");
         let found = fault(&rt, rt.alloc(), &Open, workers, &[0, 1])?;
-        assert_eq!(rt; found, fails, "{workers} workers");
+        assert!(rt; none.is_none() && found == fails, "{workers} workers");
     }
     Ok(())
 }
@@ -145,7 +123,6 @@ fn two_workers_share_a_round(rt: HostRuntime) -> Result<(), Fail> {
         met: AtomicU64::new(0),
     };
     let found = fault(&rt, rt.alloc(), &gate, 2, &[1])?;
-    assert_eq!(rt; found, Some(first_fails()?));
-    assert_eq!(rt; gate.met.load(Ordering::SeqCst), 1);
+    assert!(rt; found == Some(first_fails()?) && gate.met.load(Ordering::SeqCst) == 1);
     Ok(())
 }

@@ -1,0 +1,18 @@
+//! Tests of stories, reports and answers, each module of the crate that it is named for. The library itself
+//! is empty.
+#![tactic(auto)]
+
+#[cfg(test)]
+mod answer_text_tests;
+#[cfg(test)]
+mod report_files_tests;
+#[cfg(test)]
+mod report_lines_tests;
+#[cfg(test)]
+mod report_text_tests;
+#[cfg(test)]
+mod rule_check_tests;
+#[cfg(test)]
+mod story_tests;
+#[cfg(test)]
+mod studies_by_text;
