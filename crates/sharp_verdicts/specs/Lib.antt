@@ -7,3 +7,4 @@ pub mod SharpLines
 pub mod SharpPlaces
 pub mod SharpFaults
 pub mod SharpJudge
+pub mod Judged
