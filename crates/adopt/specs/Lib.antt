@@ -1,4 +1,3 @@
 -- In reading order.
 pub mod Told
 pub mod Refused
-pub mod Examples

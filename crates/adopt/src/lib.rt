@@ -6,6 +6,3 @@ mod telling;
 
 pub use adopting::{AdoptFault, adopt};
 pub use telling::{Adopted, tell};
-
-#[cfg(test)]
-mod tests;

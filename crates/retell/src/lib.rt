@@ -9,6 +9,3 @@ mod telling;
 
 pub use stories::retell;
 pub use telling::retell_simply;
-
-#[cfg(test)]
-mod tests;

@@ -11,6 +11,3 @@ mod vivification;
 pub use failed_literals::by_failed_literals;
 pub use simplifying::simplify;
 pub use vivification::vivify;
-
-#[cfg(test)]
-mod tests;

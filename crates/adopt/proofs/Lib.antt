@@ -1,2 +1,0 @@
--- In reading order.
-pub mod ExampleLaws

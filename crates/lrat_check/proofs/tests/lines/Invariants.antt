@@ -1,7 +1,0 @@
-use Rattle.std.specs.Prelude.{IsTrue}
-use Rattle.std.specs.List.{list_all}
-use Rattle.lrat_check.specs.Ranges.{has_next}
-use Rattle.lrat_check.proofs.tests.lines.Given as goal
-
-abbrev pub invariant-loop-row : goal.invariant-loop-row
-invariant-loop-row l = IsTrue (list_all has_next l.lines)

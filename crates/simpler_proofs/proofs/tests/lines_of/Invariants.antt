@@ -1,5 +1,0 @@
-use Rattle.cnf.specs.Fresh.{AreOver}
-use Rattle.simpler_proofs.proofs.tests.lines_of.Given as goal
-
-abbrev pub invariant-loop-row : goal.invariant-loop-row
-invariant-loop-row l = AreOver 12 l.lines
