@@ -1,5 +1,5 @@
 -- The first of some instances whose body is false of a table.
-use Rattle.std.proofs.Common.{◌≡◌, refl, sym, ap, ◌∙◌, subst, ℕ, zero, suc, ◌+◌, ◌<◌, ◌≤◌, Bool, true, false, not, cond, List, [], ◌∷◌, length, slice_get, Option, Some, arith, ltb-true, lt-ltb, map, inl, inr}
+use Rattle.std.proofs.Common.{◌≡◌, refl, ap, subst, ℕ, zero, suc, ◌+◌, ◌≤◌, Bool, true, List, [], ◌∷◌, length, slice_get, Option, Some, arith, ltb-true, lt-ltb, map, inl, inr}
 use Rattle.std.specs.Prelude.{nat_lt}
 use Rattle.std.specs.List.{list_all}
 use Rattle.std.specs.Option.{option_map_or}
@@ -9,57 +9,25 @@ use Rattle.vocab.specs.Study.{Question}
 use Rattle.vocab.specs.Titled.{Titled}
 use Rattle.meaning.specs.declared.stories.Lemma.{Lemma}
 use Rattle.meaning.specs.Space.{below}
-use Rattle.meaning.specs.Instances.{is_instance_true, AreInstancesTrue, IsFirstFailure}
 use Rattle.verdicts.proofs.WordLaws.{IsIn, from_below}
 use Rattle.sharp_verdicts.specs.declared.instances.Cited.{Cited}
 use Rattle.sharp_verdicts.specs.declared.refusals.SharpRefusal.{SharpRefusal}
-use Rattle.sharp_verdicts.specs.Instances.{same_instance, others_than, count_at, is_present, all_instances, is_told, instances_of, is_true_of}
+use Rattle.sharp_verdicts.specs.Instances.{others_than, count_at, is_present, all_instances, is_told, instances_of}
 use Rattle.sharp_verdicts.specs.SharpFaults.{instances_fault}
 use Rattle.instance_stories.proofs.Members.{in_filter, in_flat_map, in_map}
-use Rattle.sharp_report.specs.Cited.{failing_at}
 
 module _ (study : Question) where
-  -- the axiom of an instance that is there
-  pub axiom_within : (c : Cited) → is_present study c ≡ true → c.«axiom» < length study.axioms
-  axiom_within c h = ltb-true c.«axiom» (length study.axioms) (and_parts (nat_lt c.«axiom» (length study.axioms)) (nat_lt c.number (count_at study c.«axiom»)) h).0
-
   pub number_within : (c : Cited) (a : Titled) → is_present study c ≡ true → slice_get study.axioms c.«axiom» ≡ Some a → c.number + 1 ≤ instance_count study.size a.sentence
   number_within c a h e =
       let lt = ltb-true c.number (count_at study c.«axiom») (and_parts (nat_lt c.«axiom» (length study.axioms)) (nat_lt c.number (count_at study c.«axiom»)) h).1 in
       let same : count_at study c.«axiom» ≡ instance_count study.size a.sentence = ap (λ (o : Option Titled). option_map_or (λ (b : Titled). instance_count study.size b.sentence) o 0) e in
       omega (arith, lt, same)
 
-  -- its body is true, or false
-  pub body_true : (table : List ℕ) (c : Cited) (a : Titled) → slice_get study.axioms c.«axiom» ≡ Some a → AreInstancesTrue study.size table a.sentence c.number (c.number + 1) → true ≡ is_true_of study table c
-  body_true table c a e h = sym (ap (λ (o : Option Titled). option_map_or (λ (b : Titled). is_instance_true study.size table b.sentence c.number) o false) e ∙ h c.number (omega arith) (omega arith))
-
-  pub body_false : (table : List ℕ) (c : Cited) (a : Titled) (k : ℕ) → slice_get study.axioms c.«axiom» ≡ Some a → IsFirstFailure study.size table a.sentence c.number (c.number + 1) k → false ≡ is_true_of study table c
-  body_false table c a k e h =
-      let low = h.not_before in
-      let high = h.within in
-      let same : k ≡ c.number = omega (arith, low, high) in
-      sym (ap (λ (o : Option Titled). option_map_or (λ (b : Titled). is_instance_true study.size table b.sentence c.number) o false) e ∙ subst (λ (n : ℕ). is_instance_true study.size table a.sentence n ≡ false) same h.fails)
-
   -- ---- one after another
 
   module _ (table : List ℕ) (c : Cited) where
     abbrev pub fault_from : List Cited → Option SharpRefusal
     fault_from instances = instances_fault study table (others_than instances c)
-
-    -- one that is left out, or whose body is true
-    pub passes : (d : Cited) (instances : List Cited) → same_instance d c ≡ true → fault_from (d ∷ instances) ≡ fault_from instances
-    passes d instances e = ap (λ (b : Bool). instances_fault study table (cond (not b) (d ∷ others_than instances c) (others_than instances c))) e
-
-    pub is_true_too : (d : Cited) (instances : List Cited) → same_instance d c ≡ false → is_true_of study table d ≡ true → fault_from (d ∷ instances) ≡ fault_from instances
-    is_true_too d instances e t =
-        ap (λ (b : Bool). instances_fault study table (cond (not b) (d ∷ others_than instances c) (others_than instances c))) e
-        ∙ ap (λ (b : Bool). cond b (fault_from instances) (Some (failing_at study d))) t
-
-    -- one whose body is false
-    pub fails_first : (d : Cited) (instances : List Cited) → same_instance d c ≡ false → is_true_of study table d ≡ false → fault_from (d ∷ instances) ≡ Some (failing_at study d)
-    fails_first d instances e t =
-        ap (λ (b : Bool). instances_fault study table (cond (not b) (d ∷ others_than instances c) (others_than instances c))) e
-        ∙ ap (λ (b : Bool). cond b (fault_from instances) (Some (failing_at study d))) t
 
 -- ---- the instances that a story cites are there
 

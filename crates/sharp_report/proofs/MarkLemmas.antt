@@ -1,5 +1,5 @@
 -- The lines of marks.
-use Rattle.std.proofs.Common.{◌≡◌, refl, sym, ap, ap₂, ◌∙◌, subst, ℕ, zero, suc, ◌+◌, ◌<◌, ◌≤◌, Bool, true, false, cond, List, [], ◌∷◌, ◌++◌, length, Option, Some, None, option_map, arith, lt-ltb, length-append, inl, inr}
+use Rattle.std.proofs.Common.{◌≡◌, refl, sym, ap, ap₂, ◌∙◌, subst, ℕ, ◌+◌, ◌<◌, ◌≤◌, Bool, true, false, cond, List, [], ◌∷◌, ◌++◌, length, Option, Some, None, option_map, arith, lt-ltb, length-append, inl, inr}
 use Rattle.std.specs.Prelude.{codes, nat_lt, ◌==◌, slice_get, take, drop, ◌-◌}
 use Rattle.std.specs.Option.{option_or, option_map_or}
 use Rattle.std.proofs.lemmas.Bool.{and_from}
@@ -142,12 +142,6 @@ module _ (study : Question) where
     abbrev with_row : SharpStanding
     with_row = record s { rows = s.rows ++ o ∷ [] }
 
-    -- another one is wanted
-    pub row_other : (after : SharpJudging) → (p ≡ length s.rows → ⊥) → IsSharpTaken study s text after (Some (Report refusal.Row))
-    row_other after other =
-        ap (λ q. option_map_or (sharp_fault study s) q (Some (Report refusal.Form))) row_line ∙ row_fault
-        ∙ ap (λ (b : Bool). option_or (unless_of b (Report refusal.Row)) (cond (length s.rows + 1 == sort_count study.size Profile) (instances_fault study (s.rows ++ o ∷ []) (asked_of study s)) None)) (differs p (length s.rows) other)
-
     fault_then : (b : Bool) → p ≡ length s.rows → (length s.rows + 1 == sort_count study.size Profile) ≡ b → sharp_fault study s (Plain (Row p o)) ≡ cond b (instances_fault study (s.rows ++ o ∷ []) (asked_of study s)) None
     fault_then b e f =
         row_fault ∙ ap₂ (λ (x y : Bool). option_or (unless_of x (Report refusal.Row)) (cond y (instances_fault study (s.rows ++ o ∷ []) (asked_of study s)) None)) ((Decides-eqb p (length s.rows)).1 e) f
@@ -217,15 +211,6 @@ module _ (study : Question) where
 
     same_next : slice_get r.instances r.marks ≡ next_instance study s
     same_next = ap₂ (λ (cs : List Cited) (n : ℕ). slice_get cs n) table_holds.0 h.marks
-
-    -- a mark is due
-    pub table_due : None ≡ slice_get r.instances r.marks → ⊥
-    table_due e = no_item (listed study s) (length s.marks) table_holds.1 (sym (e ∙ same_next))
-      where
-        no_item : (cs : List Cited) (k : ℕ) → k < length cs → slice_get cs k ≡ None → ⊥
-        no_item [] k lt f = omega (arith, lt)
-        no_item (c ∷ cs) zero lt f = cc
-        no_item (c ∷ cs) (suc k) lt f = no_item cs k (omega (arith, lt)) f
 
     pub asked_is : (next : Cited) → Some next ≡ slice_get r.instances r.marks → others_than r.instances next ≡ asked_of study s
     asked_is next e = ap (λ (cs : List Cited). others_than cs next) table_holds.0 ∙ ap (λ o. option_map_or (others_than (listed study s)) o []) (e ∙ same_next)

@@ -21,7 +21,7 @@ use Rattle.verdicts.proofs.StepLaws.{told_more, judge_snoc}
 use Rattle.report_lines.specs.declared.lines.Line.{Line as HeldLine}
 use Rattle.report_lines.specs.Held.{held_line}
 use Rattle.report.specs.declared.judging.Judging.{Judging}
-use Rattle.report.specs.Stands.{Stands, IsRead}
+use Rattle.report.specs.Stands.{Stands}
 use Rattle.report.specs.Taken.{IsTaken}
 use Rattle.sharp_verdicts.specs.declared.instances.Cited.{Cited}
 use Rattle.sharp_verdicts.specs.declared.refusals.SharpRefusal.TheVariants.{Report, Instance}
@@ -32,8 +32,8 @@ use Rattle.sharp_verdicts.specs.SharpLines.{SharpTitle, Plain, InstancesAre}
 use Rattle.sharp_verdicts.specs.SharpPlaces.{SharpPlace, AtSharp, AtReport, AtInstances, AtNeed, AtNeedRow, AtSharpEnd, AtSharpNothing, SharpStanding, is_story_read, not_possible, read_title, read_sharp_at}
 use Rattle.sharp_report.specs.declared.judging.SharpJudging.{SharpJudging}
 use Rattle.sharp_report.specs.declared.places.SharpPlace.TheVariants as place
-use Rattle.sharp_report.specs.Cited.{codes_of_line, names_of_line, says_possible, has_axiom, Cites, IsCitedBySome}
-use Rattle.sharp_report.specs.SharpStands.{held_sharp_place, own_title, HoldsAt, SharpStands, IsReadWithin, IsSharpRead, SharpTook, IsSharpTaken}
+use Rattle.sharp_report.specs.Cited.{codes_of_line, names_of_line, says_possible, has_axiom, Cites}
+use Rattle.sharp_report.specs.SharpStands.{held_sharp_place, own_title, HoldsAt, SharpStands, IsReadWithin, SharpTook, IsSharpTaken}
 use Rattle.sharp_report.proofs.CitedLemmas.{named_line, After, next, core_told}
 
 -- a place is held as itself
@@ -52,10 +52,6 @@ other_line study SaysPossible e = absurd (true≢false e)
 other_line study w e = refl
 
 module _ (study : Question) where
-  -- what taking a line of the report asks
-  pub is_read : (r : SharpJudging) → IsSharpRead study r → IsRead study r.told
-  is_read r i = record { lines = i.read.lines; few = (let a = i.few in let b = i.read.few in omega (arith, a, b)); standing = i.standing.told; good = i.read.good; stands = i.stands.told }
-
   -- ---- the title
 
   title_at : (full : Bool) → read_line study start (cond full (codes "bench report 1") (codes "bench report 2")) ≡ Some (Title (cond full 1 2))
@@ -179,12 +175,6 @@ module _ (study : Question) where
         by_line (Some w) e = by_fault w e
 
   -- ---- the number of instances
-
-  -- what is collected is what some story cites
-  pub cited_by_some : (r : SharpJudging) → IsSharpRead study r → r.place ≡ held_sharp_place AtInstances → IsCitedBySome study r.cited.items
-  cited_by_some r i e =
-      let at : i.standing.place ≡ AtInstances = same_place i.standing.place AtInstances (sym i.stands.place ∙ e) in
-      (i.standing.told.earlier, subst (λ p. HoldsAt study p r i.standing) at i.stands.at)
 
   module _ (s : SharpStanding) (r : SharpJudging) (h : SharpStands study r s) (at : s.place ≡ AtInstances) where
     pub cites_story : Cites study r.cited.items s.told.earlier []
