@@ -10,7 +10,6 @@ ghost use Rattle.vocab.specs.Sorted.{is_sorted};
 ghost use Rattle.vocab.specs.Tree.{atom_tree, term_tree, tree_of, All, Const, Either, Exists, Leaf, Ranks, WinsAt};
 ghost use Rattle.worlds.specs.Conditions.{IsFormulaAt};
 
-use crate::kind_checks::share;
 use clause_form::{ClauseList, FormFault, Ground, clauses, measure};
 use cnf::{Clauses, Lit};
 use lists::NoMemory;
@@ -31,6 +30,9 @@ struct Sentence {
 }
 
 type Made = Result<Sentence, NoMemory>;
+
+/// Takes what workers on several threads may read.
+fn share<T: Send + Sync>(_shared: &T) {}
 
 /// Choices of five voters and two alternatives.
 fn choices(rt: &impl Abort) -> ChoiceKind

@@ -1,3 +1,2 @@
 pub mod SharpLemmas
 pub mod RangeLaws
-pub mod Symmetric

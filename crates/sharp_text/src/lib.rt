@@ -4,7 +4,5 @@
 pub mod laws;
 mod marks;
 mod sharp_verdict;
-#[cfg(test)]
-mod tests;
 
 pub use sharp_verdict::pour_sharp;

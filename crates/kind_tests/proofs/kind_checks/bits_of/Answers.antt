@@ -1,7 +1,7 @@
 use Rattle.std.proofs.Common.{◌≡◌, ◌∙◌, ℕ, ◌+◌, ◌*◌, ap, arith}
 use Rattle.cnf.specs.Assignment.{value_of}
 use Rattle.meaning.specs.Variables.{bits}
-use Rattle.clause_tests.proofs.kind_checks.bits_of.Goals as goal
+use Rattle.kind_tests.proofs.kind_checks.bits_of.Goals as goal
 
 pub returns : goal.returns
 returns g c =

@@ -2,7 +2,7 @@ use Rattle.std.proofs.Common.{◌≡◌, ℕ, ◌+◌, ◌*◌, ◌≤◌, lengt
 use Rattle.cnf.specs.Assignment.{value_of}
 use Rattle.meaning.specs.Truth.{holds_of}
 use Rattle.meaning.specs.Variables.{literal_of}
-use Rattle.clause_tests.proofs.kind_checks.bits_of.Given as goal
+use Rattle.kind_tests.proofs.kind_checks.bits_of.Given as goal
 
 abbrev pub invariant-loop-place : goal.invariant-loop-place
 invariant-loop-place g l =

@@ -2,7 +2,7 @@ use Rattle.std.proofs.Common.{◌-◌, ◌≤◌, length}
 use Rattle.std.specs.Prelude.{nat_lt, IsTrue}
 use Rattle.std.specs.List.{list_all}
 use Rattle.vocab.specs.Size.{outcome_count}
-use Rattle.clause_tests.proofs.choice_sets_tests.rule_of.Given as goal
+use Rattle.kind_tests.proofs.choice_sets_tests.rule_of.Given as goal
 
 -- so far each outcome is one of the size
 abbrev pub invariant-loop-table : goal.invariant-loop-table
