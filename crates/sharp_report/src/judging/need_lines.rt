@@ -52,7 +52,8 @@ impl SharpJudging {
             s.place ≡ AtNeed → count ≡ held_number n →
             SharpTook subject.now.setting.study.now s (NeedsRule reason.now n) self.new result }
     {
-        if !self.is_next(subject, reason) {
+        let due = self.is_next(subject, reason);
+        if !due {
             return Some(SharpRefusal::Instance);
         }
         if count != subject.setting.kind.space().count() as u64 {
