@@ -1,0 +1,56 @@
+//! Whether the shapes of the axioms tell that all their instances are within the limits.
+
+ghost use Rattle.std.specs.Prelude.{◌≡◌, ◌<◌, length, IfSome, IsFalse, IsTrue};
+ghost use Rattle.instance_totals.specs.Bounds.{HasRoomFor};
+ghost use Rattle.instance_totals.specs.Sums.{frame_counts};
+ghost use Rattle.instance_totals.specs.Totals.{is_over, total};
+
+use crate::totals::is_over;
+use clause_form::most_counts;
+use meaning::Counts;
+use outcomes::OutcomeKind;
+use vocab::Study;
+use worlds::instance_count;
+
+/// Counts, and after them as many as the instances of the axiom at a place have at most, by its shape. None
+/// where that may pass a limit.
+fn with_axiom<K: OutcomeKind>(kind: &K, study: &Study, place: u32, before: Counts) -> Option<Counts>
+    requires size { study.now.size ≡ K.size kind.now }
+    requires there { place < length study.now.axioms }
+    requires before { IsFalse (is_over before) }
+    ensures { IfSome result (HasRoomFor study.now place before) }
+{
+    let sentence = study.axioms().get(place as usize).sentence();
+    let count = instance_count(kind.space(), sentence);
+    let most = most_counts(kind.space(), sentence.body());
+    if is_over(most) {
+        return None;
+    }
+    let after = Counts {
+        clauses: before.clauses + count * most.clauses,
+        literals: before.literals + count * most.literals,
+    };
+    if is_over(after) {
+        return None;
+    }
+    Some(after)
+}
+
+/// Whether the frames and as many clauses as the instances of all axioms have at most, by their shapes, are
+/// within the limits.
+pub(crate) fn are_bounded<K: OutcomeKind>(kind: &K, study: &Study, frames: Counts) -> bool
+    requires size { study.now.size ≡ K.size kind.now }
+    requires frames { frames ≡ frame_counts study.now }
+    requires few { IsFalse (is_over frames) }
+    ensures { IsTrue result → IsFalse (is_over (total study.now)) }
+{
+    let count = study.axioms().len() as u32;
+    let mut most = frames;
+    for place in 0..count {
+        match with_axiom(kind, study, place, most) {
+            Some(after) => most = after,
+            None => return false,
+        }
+    }
+    true
+}
