@@ -63,11 +63,11 @@ fn full() -> &'static str {
     FULL
 }
 
-/// Studies of six pieces, and how many pieces begin before those two of which the first waits for the
-/// second.
-static SHARED: [(&str, u64); 3] = [(PARETIAN, 0), (MEASURED, 0), (MEASURED, 6)];
+/// Studies of six pieces, how many pieces begin before those two of which the first waits for the second, and
+/// how many begin in all.
+static SHARED: [(&str, u64, u64); 3] = [(PARETIAN, 0, 6), (MEASURED, 0, 12), (MEASURED, 6, 12)];
 
-fn shared() -> &'static [(&'static str, u64)] {
+fn shared() -> &'static [(&'static str, u64, u64)] {
     &SHARED
 }
 
@@ -239,24 +239,30 @@ impl Gate for Meeting {
     }
 }
 
-/// Whether two workers of so many are at work at a time once so many pieces have begun, and how many have
-/// begun in all.
-fn meet<R: Threads + Sync>(rt: &R, alloc: Global, text: &str, before: u64) -> Result<bool, Fail> {
+/// How many pieces begin in all, where two workers are at work at a time once so many pieces have begun; else 0.
+fn begun<R: Threads + Sync>(rt: &R, alloc: Global, text: &str, before: u64) -> Result<u64, Fail> {
     let gate = Meeting {
         before,
         begun: AtomicU64::new(0),
         met: AtomicU64::new(0),
     };
     let made = clauses_of_one(rt, alloc, &gate, text, 2)?;
-    Ok(made.is_ok() && gate.met.load(Ordering::SeqCst) == 1)
+    if made.is_ok() && gate.met.load(Ordering::SeqCst) == 1 {
+        Ok(gate.begun.load(Ordering::SeqCst))
+    } else {
+        Ok(0)
+    }
 }
 
 // Each pass over the instances is shared: the first, which measures them, and the second, which makes their
 // clauses, and which is the only one where the shape of an axiom tells that it is narrow.
 #[test]
 fn two_workers_share_each_pass(rt: HostRuntime) -> Result<(), Fail> {
-    for (text, before) in shared() {
-        assert!(rt; meet(&rt, rt.alloc(), text, *before)?, "after {before}");
+    for (text, before, all) in shared() {
+        assert!(rt;
+            begun(&rt, rt.alloc(), text, *before)? == *all,
+            "after {before}"
+        );
     }
     Ok(())
 }

@@ -77,27 +77,28 @@ fn a_piece_without_memory_is_the_answer(rt: HostRuntime) {
     }
 }
 
-/// A gate that counts its calls, and sums the numbers of the pieces that it is told of.
+/// A gate that counts its calls, and notes the pieces that it is told of, each by a bit of its own.
 #[derive(Drop)]
 struct Counting {
     calls: AtomicU64,
-    sum: AtomicU64,
+    pieces: AtomicU64,
 }
 
 impl Gate for Counting {
     fn enter(&self, piece: u32) {
         self.calls.fetch_add(1, Ordering::SeqCst);
-        self.sum.fetch_add(u64::from(piece), Ordering::SeqCst);
+        self.pieces
+            .fetch_or(1u64.wrapping_shl(piece), Ordering::SeqCst);
     }
 }
 
-// 0 + 1 + .. + 16 = 136.
+// The bits of 17 pieces are 2^17 - 1.
 #[test]
 fn the_gate_is_told_of_each_piece(rt: HostRuntime) -> Result<(), Fail> {
     for workers in [1, 4] {
         let gate = Counting {
             calls: AtomicU64::new(0),
-            sum: AtomicU64::new(0),
+            pieces: AtomicU64::new(0),
         };
         map_pieces(
             &rt,
@@ -109,9 +110,9 @@ fn the_gate_is_told_of_each_piece(rt: HostRuntime) -> Result<(), Fail> {
         )?;
         let told = [
             gate.calls.load(Ordering::SeqCst),
-            gate.sum.load(Ordering::SeqCst),
+            gate.pieces.load(Ordering::SeqCst),
         ];
-        assert!(rt; told == [17, 136]);
+        assert!(rt; told == [17, 131_071]);
     }
     Ok(())
 }
@@ -155,7 +156,7 @@ impl<'a> Job for Staying<'a> {
 }
 
 #[test]
-fn as_many_pieces_as_workers_are_inside(rt: HostRuntime) -> Result<(), Fail> {
+fn no_more_pieces_are_inside_than_workers(rt: HostRuntime) -> Result<(), Fail> {
     for workers in [1, 2, 3, 4, 16] {
         let inside = Inside {
             now: AtomicU64::new(0),
@@ -209,5 +210,39 @@ fn two_workers_share_the_work(rt: HostRuntime) -> Result<(), Fail> {
     let parts = map_pieces(&rt, rt.alloc(), &Squares { refused: 100 }, 2, 2, &gate)?;
     assert!(rt; parts.len() == 2);
     assert!(rt; gate.met.load(Ordering::SeqCst) == 1);
+    Ok(())
+}
+
+/// A gate at which the first three pieces wait for one another, and which notes these, each by a bit of its own.
+#[derive(Drop)]
+struct FirstThree {
+    calls: AtomicU64,
+    pieces: AtomicU64,
+}
+
+impl Gate for FirstThree {
+    fn enter(&self, piece: u32) {
+        if self.calls.fetch_add(1, Ordering::SeqCst) >= 3 {
+            return;
+        }
+        self.pieces
+            .fetch_or(1u64.wrapping_shl(piece), Ordering::SeqCst);
+        for _ in 0..200_000_000 {
+            if self.calls.load(Ordering::SeqCst) >= 3 {
+                return;
+            }
+        }
+    }
+}
+
+// The runs of nine pieces among three workers begin at the pieces 0, 3 and 6.
+#[test]
+fn pieces_are_cut_as_the_workers_are(rt: HostRuntime) -> Result<(), Fail> {
+    let gate = FirstThree {
+        calls: AtomicU64::new(0),
+        pieces: AtomicU64::new(0),
+    };
+    map_pieces(&rt, rt.alloc(), &Squares { refused: 100 }, 9, 3, &gate)?;
+    assert!(rt; gate.pieces.load(Ordering::SeqCst) == 73);
     Ok(())
 }
