@@ -13,7 +13,7 @@ use Rattle.cnf.specs.Fresh.{AreOver, added_by, is_over}
 use Rattle.cnf.specs.declared.derivations.Line.{Line}
 use Rattle.propagate.specs.Values.{StaysWithin}
 use Rattle.propagate.specs.TrailState.{TrailState}
-use Rattle.simpler_proofs.specs.Made.{EachPasses, IsMade, IsPassing, is_part_of}
+use Rattle.simpler_proofs.specs.Made.{EachPasses, IsMade, IsPassing, is_part, is_part_of}
 
 or_true : (a : Bool) {b : Bool} → b ≡ true → (a || b) ≡ true
 or_true true e = refl
@@ -50,25 +50,25 @@ passing_settled test input old new marks before lines more empty p made seen var
 pub each_at : (test : Clause → Bool) (lines : List Line) (i : ℕ) (d : Line) → EachPasses test lines → i < length lines → test (added_by (get_or lines i d).step) ≡ true
 each_at test lines i d h lt = all_at (λ (l : Line). test (added_by l.step)) lines i d h lt
 
--- a clause of which each literal is one of a given line's
-part_of : (given : List Line) (i : ℕ) (d : Line) (part : Clause) → i < length given →
+-- a clause of which each literal is one of a given line's, and which has no more of them
+part_of : (given : List Line) (i : ℕ) (d : Line) (part : Clause) → i < length given → length part ≤ length (added_by (get_or given i d).step) →
     ((pass : Signed → Bool) → list_all pass (added_by (get_or given i d).step) ≡ true → list_all pass part ≡ true) → is_part_of given part ≡ true
-part_of given i d part lt h =
+part_of given i d part lt few h =
     let whole : Clause = added_by (get_or given i d).step in
     let contained : contains whole part ≡ true = h (has_lit whole) (all_members (has_lit whole) whole (λ k e. e)) in
-    or_true (is_empty_clause part) (list_any_at (λ (g : Line). contains (added_by g.step) part) given i d lt contained)
+    or_true (is_empty_clause part) (list_any_at (λ (g : Line). is_part (added_by g.step) part) given i d lt (and_from _ _ contained (le-leb (length part) (length whole) few)))
 
 -- what is left of the clause of a given line is added
 pub passing_shortened : (given : List Line) (input : List Clause) (old new : TrailState) (marks before : List Bool) (lines more : List Line) (i : ℕ) (d : Line) → i < length given → AreOver old.variables given →
     IsPassing (is_part_of given) input old before lines → IsMade input new more → length marks ≡ new.variables → new.variables ≡ old.variables →
-    ((t : Clause → Bool) → ((part : Clause) → ((pass : Signed → Bool) → list_all pass (added_by (get_or given i d).step) ≡ true → list_all pass part ≡ true) → t part ≡ true) →
+    ((t : Clause → Bool) → ((part : Clause) → length part ≤ length (added_by (get_or given i d).step) → ((pass : Signed → Bool) → list_all pass (added_by (get_or given i d).step) ≡ true → list_all pass part ≡ true) → t part ≡ true) →
     EachPasses t lines → EachPasses t more) → IsPassing (is_part_of given) input new marks more
 passing_shortened given input old new marks before lines more i d lt over p made seen variables passes = record {
   made = made;
   seen = seen;
   over = subst (λ (n : ℕ). AreOver n more) (sym variables)
-      (passes (is_over old.variables) (λ part h. h (λ (l : Signed). nat_le 1 l.variable && nat_le l.variable old.variables) (each_at (is_over old.variables) given i d over lt)) p.over);
-  passes = passes (is_part_of given) (λ part h. part_of given i d part lt h) p.passes;
+      (passes (is_over old.variables) (λ part few h. h (λ (l : Signed). nat_le 1 l.variable && nat_le l.variable old.variables) (each_at (is_over old.variables) given i d over lt)) p.over);
+  passes = passes (is_part_of given) (λ part few h. part_of given i d part lt few h) p.passes;
 }
 
 -- a test that the trimmed derivation has from the one it was made of

@@ -1,5 +1,5 @@
 -- Derivations that are made in place of a given one.
-use Rattle.std.specs.Prelude.{◌≡◌, ◌+◌, ◌-◌, ◌<◌, ◌≤◌, ◌^◌, nat_le, ◌||◌, Bool, List, length, IsTrue, ◌⊎◌}
+use Rattle.std.specs.Prelude.{◌≡◌, ◌+◌, ◌-◌, ◌<◌, ◌≤◌, ◌^◌, nat_le, ◌&&◌, ◌||◌, Bool, List, length, IsTrue, ◌⊎◌}
 use Rattle.std.specs.List.{list_all, list_any}
 use Rattle.cnf.specs.Sat.{Clause, contains}
 use Rattle.cnf.specs.Derived.{IsAccepted}
@@ -17,9 +17,13 @@ EachPasses test lines = IsTrue (list_all (λ l. test (added_by l.step)) lines)
 abbrev pub is_single : Clause → Bool
 is_single clause = nat_le (length clause) 1
 
+-- a clause has no literal but those of another, and no more of them
+abbrev pub is_part : Clause → Clause → Bool
+is_part whole clause = contains whole clause && nat_le (length clause) (length whole)
+
 -- a clause is empty, or part of one that the given lines add
 abbrev pub is_part_of : List Line → Clause → Bool
-is_part_of given clause = is_empty_clause clause || list_any (λ g. contains (added_by g.step) clause) given
+is_part_of given clause = is_empty_clause clause || list_any (λ g. is_part (added_by g.step) clause) given
 
 -- each clause has at most one literal, or each is empty or part of one that the given lines add
 abbrev pub AreSimpler : List Line → List Line → Type 0

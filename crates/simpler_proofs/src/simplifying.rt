@@ -72,7 +72,7 @@ fn shortest(
 
 /// A simpler refutation of the same clauses, by failed literals or else by vivification, each within a budget;
 /// none where neither comes to an end. Each of its clauses has at most one literal, or each is empty or part
-/// of one of the given lines'.
+/// of one of the given lines', with no more literals.
 pub fn simplify(
     alloc: Global,
     clauses: &Clauses,

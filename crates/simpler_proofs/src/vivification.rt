@@ -51,6 +51,7 @@ fn marked(alloc: Global, clause: &[Lit], seen: &mut Vec<bool>) -> Result<Lits, N
     ensures seen { length seen.new.items ≡ length seen.old.items }
     ensures part { IfOk result (λ marked. (test : Signed → Bool) → IsTrue (list_all test clause.now) →
         IsTrue (list_all test marked)) }
+    ensures few { IfOk result (λ marked. length marked ≤ length clause.now) }
 {
     let mut marked = Items::new(alloc);
     for lit in clause {
@@ -82,8 +83,9 @@ fn shorten(
     ensures variables { OnOk result (trail.new.variables ≡ trail.old.variables) }
     ensures more { OnOk result (length lines.new ≤ length lines.old + 1) }
     ensures passes { OnOk result ((test : Clause → Bool) →
-        ((part : Clause) → ((pass : Signed → Bool) → IsTrue (list_all pass clause.now) →
-        IsTrue (list_all pass part)) → IsTrue (test part)) →
+        ((part : Clause) → length part ≤ length clause.now →
+        ((pass : Signed → Bool) → IsTrue (list_all pass clause.now) → IsTrue (list_all pass part)) →
+        IsTrue (test part)) →
         EachPasses test lines.old → EachPasses test lines.new) }
 {
     let Some(k) = conflict_of(trail, clause, budget) else {
@@ -174,8 +176,9 @@ fn shorten_all(
     Ok(false)
 }
 
-/// A refutation of which each clause is part of one of the given lines'. No variable of a clause is above the
-/// number of variables. `budget` is how many entries propagation may make; where it is spent, there is none.
+/// A refutation of which each clause is empty or part of one of the given lines', with no more literals. No
+/// variable of a clause is above the number of variables. `budget` is how many entries propagation may make;
+/// where it is spent, there is none.
 pub fn vivify(
     alloc: Global,
     clauses: &Clauses,
