@@ -54,6 +54,6 @@ for what, some in (("all", rows), ("of numbers", [row for row in rows if row[0].
     lemmas, _, steps, supposed, spent = (sum(row[at] for row in some) for at in range(1, 6))
     print("%s: %d impossible, %d lemmas, %d supposed, %d steps, %.1f s" % (what, len(some), lemmas, supposed, steps, spent))
 more = sum(row[2] > 1 for row in rows)
-print("more %d" % more)
+print(more)
 sys.exit(more > 0)
 PY

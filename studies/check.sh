@@ -79,7 +79,7 @@ for ((line = 1; line <= $(wc -l <"$whole"); line++)); do
     head -n $((line - 1)) "$whole" >"$work/front"
     head -n "$line" "$whole" | head -c -1 >"$work/open_front"
     for front in front open_front; do
-        answer check "$root/studies/anonymity_neutrality.toml" "$work/$front"
+        answer check "--workers=$((line % 2 ? 1 : 16))" "$root/studies/anonymity_neutrality.toml" "$work/$front"
         is_line 1 "refused line $line: form" || fault "a report that is cut off at line $line is not refused there"
     done
 done
