@@ -3,7 +3,7 @@
 # studies of studies/, the axioms of the theorems of Arrow, of Gibbard and Satterthwaite and of Muller and Satterthwaite for 3 voters and
 # 3 alternatives and for 2 and 4, `pareto`, `anonymity` and `strategyproof` for 3 and 3, and of every seventh number from 0 to 2047 the
 # study that `sample` decides. Each runs once. Then, for all of these and for those of numbers: how many they are, and their sums.
-# The last line is `more N`: how many have a lemma that supposes more than one thing. Where N is not 0 the status is 1.
+# The last line is the number of those that have a lemma which supposes more than one thing. Where it is not 0 the status is 1.
 set -eu
 . "$(dirname -- "$(readlink -f -- "${BASH_SOURCE[0]}")")/setup.sh"
 build_program
