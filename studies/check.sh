@@ -9,6 +9,8 @@
 # none of 84,934,656; a sample is the same line at each run, no words end with status 2, as does a word that is not UTF-8, an absent study
 # with status 5, and a full device with 6. Each front of a report is refused at the line that it lacks, and a study of one byte too many and
 # a list of one clause too many are refused.
+# The launcher, over this program or over one that only ends, has the program's status and standard output, and says in one line on
+# standard error what a status without an answer means, and where the toolchain is missing.
 # The program is the one that the launcher runs, which is proved and built first where a source is newer; with --built, as after `rt ci`,
 # the one that stands there. No proof rests on this.
 set -u
@@ -72,6 +74,59 @@ answer decide $'\xff'
 "$program" axioms choice >/dev/full
 status=$?
 [ "$status" -eq 6 ] || fault "a full device ends with status $status"
+
+# The launcher stands in a tree of its own, so that its program is never built anew here.
+tree=$work/tree
+mkdir -p "$tree/crates/bench/out"
+cp "$root/bench" "$tree/bench"
+: >"$tree/crates.txt"
+cp "$program" "$tree/crates/bench/out/bench"
+
+launches() { # STATUS SAID WORDS.., where SAID is what stands on standard error
+    local wanted=$1 said=$2
+    shift 2
+    answer "$@"
+    "$tree/bench" "$@" >"$work/launched" 2>"$work/said"
+    [ $? -eq "$status" ] && [ "$status" -eq "$wanted" ] && cmp -s "$work/launched" "$work/written" &&
+        [ "$(<"$work/said")" = "$said" ] || fault "the launcher does not do as the program, or not say \"$said\""
+}
+
+unread() { # WORD FAULT
+    launches 5 "bench: this file could not be read: $(printf '%q' "$1") ($2)" "${@:3}"
+}
+
+paradox=$root/studies/paretian_liberal
+launches 0 '' check "$paradox.toml" "$paradox.report"
+launches 0 '' check "$paradox.toml" "$paradox.report" <&-
+launches 1 '' check "$paradox.toml" "$root/studies/unanimity.report"
+launches 3 '' decide "$paradox.report"
+launches 2 "bench: these words are no command; $tree/docs/FORMATS.md explains them under \"Commands\"" check "$paradox.toml"
+grep -qx '## Commands' "$root/docs/FORMATS.md" || fault "docs/FORMATS.md has no part \"Commands\""
+unread "$work/absent" 'it is not there' check "$paradox.toml" "$work/absent"
+unread "$work/absent" 'it is not there' check --workers 4 -- "$work/absent" "$work/none"
+unread "$work" 'it is a folder' decide "$work"
+unread "$PWD/-x" 'it is not there' check "$paradox.toml" -- -x
+answer check "$paradox.toml" "$paradox.report"
+"$program" decide "$paradox.toml" | "$tree/bench" check "$paradox.toml" /dev/stdin 2>&1 | cmp -s - "$work/written" ||
+    fault "the launcher does not check what decide writes into a pipe"
+
+ends() { # STATUS SAID: of a program that only ends with a status
+    printf '#!/bin/sh\nexit %s\n' "$1" >"$tree/crates/bench/out/bench"
+    [ "$("$tree/bench" decide "$paradox.toml" 2>&1)" = "$2" ] || fault "the launcher does not say \"$2\" at status $1"
+}
+
+ends 5 'bench: a file of the command could not be opened or read'
+ends 6 'bench: standard output could not be written, so the answer is cut off'
+ends 7 'bench: no memory was found, so there is no answer'
+rm "$tree/crates/bench/out/bench"
+without=
+while IFS= read -r -d : folder; do
+    [ -x "$folder/rt" ] || without=$without${without:+:}$folder
+done <<<"$PATH:"
+said=$(PATH=$without "$tree/bench" axioms choice 2>&1)
+[ $? -eq 70 ] && [[ $said == "bench: the Rattle toolchain is missing: "*"$tree/README.md"*\"What\ you\ need\"* ]] ||
+    fault "the launcher does not say that the toolchain is missing"
+grep -qx '## What you need' "$root/README.md" || fault "README.md has no part \"What you need\""
 
 # Each front of a report, with the end of its last line and without it.
 whole=$root/studies/anonymity_neutrality.report
