@@ -3,7 +3,7 @@
 # confirms it, as it does another rule over studies/median_voter.toml, and over studies/anonymity_neutrality.toml each report in
 # studies/refused/ is refused with the line that docs/FORMATS.md shows. Over each study without a rule `adopt` takes what `proof`
 # writes, and `check` confirms its report. Over each study of sets `gain` writes what stands beside it, as NAME.gain, and it refuses
-# every other study. A sentence is answered as docs/START.md shows. Where all is so, nothing is written; else a line for each fault,
+# every other study. docs/START.md shows the studies and reports that stand here, and a sentence is answered as it shows. Where all is so, nothing is written; else a line for each fault,
 # and the status is 1.
 # `export` of Arrow's axioms for four alternatives is the same with 1, 2 and 16 workers, and takes an axiom of 21,233,664 instances but
 # none of 84,934,656; a sample is the same line at each run, no words end with status 2, as does a word that is not UTF-8, an absent study
@@ -167,6 +167,19 @@ sentence=$(sed -n 's/^never_last = "\(.*\)"$/\1/p' "$root/studies/never_last.tom
 shows() { # LINE
     grep -qxF -- "    $1" "$root/docs/START.md"
 }
+begins() { # LINES of the study or report that follows, which docs/START.md shows one after another
+    local shown
+    shown=$(sed 's/^/    /' | head -n "$1")
+    [[ $(<"$root/docs/START.md") == *$'\n'"$shown"$'\n'* ]] || fault "docs/START.md does not show the $1 lines of $2"
+}
+
+for study in condorcet_strategyproof arrow; do
+    begins 4 "$study.toml" < <(grep -v '^#' "$root/studies/$study.toml")
+done
+begins 16 condorcet_strategyproof.report <"$root/studies/condorcet_strategyproof.report"
+begins 8 arrow.report <"$root/studies/arrow.report"
+grep -q "^The report has $(wc -l <"$root/studies/arrow.report") lines" "$root/docs/START.md" ||
+    fault "arrow.report has other lines than docs/START.md counts"
 shows "$(<"$root/studies/manipulable.gain")" || fault "docs/START.md shows another gain than manipulable.gain"
 shows "never_last = \"$sentence\"" || fault "docs/START.md shows another sentence than never_last.toml"
 
