@@ -45,6 +45,9 @@ for study in "$root"/studies/*.toml; do
     [ "$status" -eq 0 ] && cmp -s "$report" "$work/written" || fault "decide does not write $name.report"
     answer check "$study" "$report"
     is_line 0 "confirmed $verdict" || fault "check does not confirm $name.report"
+    said=yes
+    [ "$verdict" = possible ] || said=no
+    grep -F "\`$name\`" "$root/docs/START.md" | grep -q "^| .* | $said |\$" || fault "docs/START.md does not list $name with the answer $said"
     answer gain "$study" "$report"
     if grep -qx 'kind = "sets"' "$study"; then
         [ "$status" -eq 0 ] && cmp -s "${study%.toml}.gain" "$work/written" || fault "gain does not write $name.gain"
