@@ -3,14 +3,16 @@
 # confirms it, as it does another rule over studies/median_voter.toml, and over studies/anonymity_neutrality.toml each report in
 # studies/refused/ is refused with the line that docs/FORMATS.md shows. Over each study without a rule `adopt` takes what `proof`
 # writes, and `check` confirms its report. Over each study of sets `gain` writes what stands beside it, as NAME.gain, and it refuses
-# every other study. docs/START.md shows the studies and reports that stand here, and a sentence is answered as it shows. Where all is so, nothing is written; else a line for each fault,
-# and the status is 1.
+# every other study. docs/START.md shows the studies and reports that stand here, and a sentence is answered as it shows. Where all is so,
+# nothing is written; else a line for each fault, and the status is 1.
 # `export` of Arrow's axioms for four alternatives is the same with 1, 2 and 16 workers, and takes an axiom of 21,233,664 instances but
 # none of 84,934,656; a sample is the same line at each run, no words end with status 2, as does a word that is not UTF-8, an absent study
 # with status 5, and a full device with 6. Each front of a report is refused at the line that it lacks, and a study of one byte too many and
 # a list of one clause too many are refused.
 # The launcher, over this program or over one that only ends, has the program's status and standard output, and says in one line on
 # standard error what a status without an answer means, and where the toolchain is missing.
+# docs/PHRASES.md is held by studies/phrases.py, with what it shows of all rules and of many studies, and the sizes of docs/START.md are
+# tried.
 # The program is the one that the launcher runs, which is proved and built first where a source is newer; with --built, as after `rt ci`,
 # the one that stands there. No proof rests on this.
 set -u
@@ -47,7 +49,7 @@ for study in "$root"/studies/*.toml; do
     is_line 0 "confirmed $verdict" || fault "check does not confirm $name.report"
     said=yes
     [ "$verdict" = possible ] || said=no
-    grep -F "\`$name\`" "$root/docs/START.md" | grep -q "^| .* | $said |\$" || fault "docs/START.md does not list $name with the answer $said"
+    grep -F "\`$name\`" "$root/docs/START.md" | grep -q "^| .* | $said |\$" || fault "docs/START.md does not list $name as $said"
     answer gain "$study" "$report"
     if grep -qx 'kind = "sets"' "$study"; then
         [ "$status" -eq 0 ] && cmp -s "${study%.toml}.gain" "$work/written" || fault "gain does not write $name.gain"
@@ -170,10 +172,10 @@ sentence=$(sed -n 's/^never_last = "\(.*\)"$/\1/p' "$root/studies/never_last.tom
 shows() { # LINE
     grep -qxF -- "    $1" "$root/docs/START.md"
 }
-begins() { # LINES of the study or report that follows, which docs/START.md shows one after another
-    local shown
+begins() { # LINES of the study or report that follows, its NAME, and the PAGE that shows them one after another, docs/START.md
+    local shown page=docs/${3-START.md}
     shown=$(sed 's/^/    /' | head -n "$1")
-    [[ $(<"$root/docs/START.md") == *$'\n'"$shown"$'\n'* ]] || fault "docs/START.md does not show the $1 lines of $2"
+    [[ $(<"$root/$page") == *$'\n'"$shown"$'\n'* ]] || fault "$page does not show the first $1 lines of $2"
 }
 
 for study in condorcet_strategyproof arrow; do
@@ -223,6 +225,57 @@ for limit in 5 10; do
     [ "$limit" -eq 10 ] || wanted=undecided
     has $'\nverdict '"$wanted" || fault "gibbard_satterthwaite with conflicts = $limit is not $wanted, as docs/START.md says"
 done
+
+# The sizes in docs/START.md: the most voters with which a study is taken, and one more. A study that is taken lets its report be opened.
+takes() { # VOTERS ALTERNATIVES KIND AXIOM MORE
+    printf '%s\n' "voters = $1" "alternatives = $2" "kind = \"$3\"" "axioms = [\"$4\"]" "${5-}" >"$work/size.toml"
+    answer check "$work/size.toml" "$work/absent"
+    [ "$status" -eq 5 ]
+}
+
+most() { # CELL ALTERNATIVES KIND AXIOM MORE
+    local voters
+    voters=$(grep -o '[0-9]*' <<<"$1" | tail -n 1)
+    takes "$voters" "${@:2}" || fault "$voters voters and $2 alternatives are not taken with $4, as docs/START.md says"
+    if [ "$2 $4" = "4 strategyproof" ]; then return; fi
+    takes $((voters + 1)) "${@:2}" && fault "$((voters + 1)) voters and $2 alternatives are taken with $4, other than docs/START.md says"
+}
+
+rows=0
+while IFS='|' read -r _ alternatives profiles pairs lies absences _; do
+    rows=$((rows + 1))
+    alternatives=${alternatives// /}
+    most "$profiles" "$alternatives" choice unanimity
+    most "$pairs" "$alternatives" choice maskin
+    most "$pairs" "$alternatives" ranking independence
+    most "$lies" "$alternatives" choice strategyproof
+    most "$lies" "$alternatives" sets strategyproof
+    most "$absences" "$alternatives" choice participation 'absent = true'
+done < <(grep -E '^\| [2-5] \| 1' "$root/docs/START.md")
+[ "$rows" -eq 4 ] || fault "docs/START.md has no table of four sizes"
+refuses() { # VOTERS ALTERNATIVES KIND AXIOM LINE MORE
+    takes "${@:1:4}" "${6-}"
+    is_line 3 "$5" && grep -qF "$5" "$root/docs/START.md" || fault "a size is not refused as docs/START.md shows: $5"
+}
+refuses 3 4 choice participation 'study: participation: work 485968896' 'absent = true'
+refuses 3 4 ranking independence 'study: independence: instances 3057647616'
+refuses 3 4 sets strategyproof 'study: strategyproof: work 262766592'
+refuses 3 5 choice unanimity 'study: profiles 1728000'
+takes 3 4 choice strategyproof
+answer export "$work/size.toml"
+is_line 3 'study: strategyproof: full' || fault "strategyproof for 3 voters and 4 alternatives is not full"
+
+# docs/PHRASES.md: its sentences, slips and studies, its counts of rules, and the answers over all sets of rankings.
+python3 "$root/studies/phrases.py" "$program" || fault "docs/PHRASES.md is not as the program answers"
+begins 4 may_only.toml PHRASES.md < <(grep -v '^#' "$root/studies/may_only.toml")
+rows=0
+while IFS='`' read -r _ study _ counted _; do
+    rows=$((rows + 1))
+    answer export "$root/$study"
+    python3 "$root/studies/rules.py" <"$work/written" | grep -qxF "$counted" || fault "docs/PHRASES.md says $counted of $study"
+done < <(grep -E '^\| `studies/.*` \| `[0-9]+ rules?` \|$' "$root/docs/PHRASES.md")
+[ "$rows" -eq 3 ] || fault "docs/PHRASES.md counts the rules of $rows studies"
+begins 99 domains.py PHRASES.md < <(python3 "$root/studies/domains.py" "$program" "$root/studies/gibbard_satterthwaite.toml")
 
 for workers in 1 2 16; do
     answer export "$root/studies/arrow_four.toml" --workers "$workers"
