@@ -12,7 +12,7 @@
 # The launcher, over this program or over one that only ends, has the program's status and standard output, and says in one line on
 # standard error what a status without an answer means, and where the toolchain is missing.
 # docs/PHRASES.md is held by studies/phrases.py, with what it shows of all rules and of many studies, and the sizes of docs/START.md are
-# tried.
+# tried. The clauses of library axioms, and the rules of the reports, are those of measure/encode.py, which shares nothing with the program.
 # The program is the one that the launcher runs, which is proved and built first where a source is newer; with --built, as after `rt ci`,
 # the one that stands there. No proof rests on this.
 set -u
@@ -55,6 +55,9 @@ for study in "$root"/studies/*.toml; do
         [ "$status" -eq 0 ] && cmp -s "${study%.toml}.gain" "$work/written" || fault "gain does not write $name.gain"
     else
         is_line 3 'study: kind not sets' || fault "gain takes $name, which is not of sets"
+    fi
+    if ! grep -q '^\[sentences' "$study" && [ "$name" != arrow_four ]; then
+        python3 "$root/measure/encode.py" "$study" "$report" >"$work/written" || fault "measure/encode.py refuses a rule of $name.report"
     fi
     [ "$verdict" = impossible ] || continue
     answer proof "$study"
@@ -276,6 +279,9 @@ while IFS='`' read -r _ study _ counted _; do
 done < <(grep -E '^\| `studies/.*` \| `[0-9]+ rules?` \|$' "$root/docs/PHRASES.md")
 [ "$rows" -eq 3 ] || fault "docs/PHRASES.md counts the rules of $rows studies"
 begins 99 domains.py PHRASES.md < <(python3 "$root/studies/domains.py" "$program" "$root/studies/gibbard_satterthwaite.toml")
+
+# The clauses of the library's axioms, as an encoder writes them that shares nothing with the program.
+python3 "$root/measure/encode.py" --hold "$program" >"$work/written" || fault "export writes other clauses than measure/encode.py"
 
 for workers in 1 2 16; do
     answer export "$root/studies/arrow_four.toml" --workers "$workers"
