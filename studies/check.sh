@@ -11,7 +11,7 @@
 # a list of one clause too many are refused.
 # The launcher, over this program or over one that only ends, has the program's status and standard output, and says in one line on
 # standard error what a status without an answer means, and where the toolchain is missing.
-# docs/PHRASES.md is held by studies/phrases.py, with what it shows of all rules and of many studies, and the sizes of docs/START.md are
+# docs/PHRASES.md is held by studies/phrases.py, with what it shows of instances, rules and many studies, and the sizes of docs/START.md are
 # tried. The clauses of library axioms, and the rules of the reports, are those of measure/encode.py, which shares nothing with the program.
 # The program is the one that the launcher runs, which is proved and built first where a source is newer; with --built, as after `rt ci`,
 # the one that stands there. No proof rests on this.
@@ -278,6 +278,19 @@ while IFS='`' read -r _ study _ counted _; do
     python3 "$root/studies/rules.py" <"$work/written" | grep -qxF "$counted" || fault "docs/PHRASES.md says $counted of $study"
 done < <(grep -E '^\| `studies/.*` \| `[0-9]+ rules?` \|$' "$root/docs/PHRASES.md")
 [ "$rows" -eq 3 ] || fault "docs/PHRASES.md counts the rules of $rows studies"
+python3 -B - "$root/studies" >"$work/borda.report" <<'PY'
+import sys
+sys.path.insert(0, sys.argv[1])
+import phrases
+print(phrases.Size("choice", 3, 3).report("strategyproof", phrases.RULES["choice"]["borda"]), end="")
+PY
+takes 3 3 choice strategyproof
+answer check "$work/size.toml" "$work/borda.report"
+is_line 1 'refused line 223: fails strategyproof 2280' && grep -qF "\`$(<"$work/written")\`" "$root/docs/PHRASES.md" ||
+    fault "Borda's rule is not refused as docs/PHRASES.md shows"
+begins 1 instance.py PHRASES.md < <(
+    python3 "$root/studies/instance.py" "$program" "$root/studies/condorcet_strategyproof.toml" strategyproof 2280
+)
 begins 99 domains.py PHRASES.md < <(python3 "$root/studies/domains.py" "$program" "$root/studies/gibbard_satterthwaite.toml")
 
 # The clauses of the library's axioms, as an encoder writes them that shares nothing with the program.
