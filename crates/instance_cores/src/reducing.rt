@@ -7,7 +7,7 @@ ghost use Rattle.meaning.specs.Laws.{clauses_for};
 ghost use Rattle.meaning.specs.StudyClauses.{study_clauses};
 ghost use Rattle.meaning.specs.Variables.{variable_count};
 ghost use Rattle.sharp_verdicts.specs.Derived.{derived_study};
-ghost use Rattle.instance_grounds.specs.Conditions.{IsWithinTotal};
+ghost use Rattle.sharp_verdicts.specs.Totals.{IsWithinTotal};
 ghost use Rattle.instance_cores.specs.Cores.{AreInstancesCited, IsReducedTo};
 
 use core_reduce::{Reduced, Refutation, reduce};

@@ -42,10 +42,10 @@ use Rattle.sharp_verdicts.specs.Instances.{count_at, is_present, all_instances}
 use Rattle.instance_studies.proofs.StudyLaws.{all_get, length_from}
 use Rattle.instance_stories.specs.Codes.{code_of, AreRising, AreSmall}
 use Rattle.instance_stories.proofs.AllInstances.{cited_of, decoded, all_rise, all_small, all_have, counts_few, present_small, sum_within}
-use Rattle.instance_grounds.specs.Conditions.{counts_of_instance, IsWithinTotal}
 use Rattle.sharp_verdicts.proofs.Members.{in_below}
 use Rattle.instance_grounds.proofs.StandLaws.{closed_is}
 use Rattle.sharp_verdicts.proofs.DerivedLaws.{derived_get}
+use Rattle.sharp_verdicts.specs.Totals.{counts_of_instance, IsWithinTotal}
 use Rattle.grounding.specs.Rising.{has}
 
 -- ---- nothing found

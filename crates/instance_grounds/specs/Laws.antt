@@ -12,8 +12,8 @@ use Rattle.sharp_verdicts.specs.declared.instances.Cited.{Cited}
 use Rattle.clause_form.specs.Refusals.{ground_fault}
 use Rattle.sharp_verdicts.specs.Derived.{axioms_from}
 use Rattle.sharp_verdicts.specs.Instances.{is_present}
+use Rattle.sharp_verdicts.specs.Totals.{IsWithinTotal}
 use Rattle.instance_stories.specs.Codes.{AreRising}
-use Rattle.instance_grounds.specs.Conditions.{IsWithinTotal}
 
 -- an origin is a frame, or one of some instances
 abbrev pub IsCovered : List Cited → Origin → Type 0

@@ -7,7 +7,7 @@ ghost use Rattle.meaning.specs.StudyClauses.{study_clauses};
 ghost use Rattle.search_logs.specs.Spent.{all_places};
 ghost use Rattle.sharp_verdicts.specs.Derived.{derived_study};
 ghost use Rattle.sharp_verdicts.specs.Instances.{is_present};
-ghost use Rattle.instance_grounds.specs.Conditions.{IsWithinTotal};
+ghost use Rattle.sharp_verdicts.specs.Totals.{IsWithinTotal};
 ghost use Rattle.instance_stories.specs.Codes.{AreRising};
 
 use clause_form::{Ground, GroundFault};

@@ -17,8 +17,8 @@ use Rattle.clause_form.specs.Refusals.{counts_at}
 use Rattle.clause_form.specs.Wide.{is_wide}
 use Rattle.sharp_verdicts.specs.declared.instances.Cited.{Cited}
 use Rattle.sharp_verdicts.specs.Instances.{count_at, is_present}
+use Rattle.sharp_verdicts.specs.Totals.{counts_of_instance}
 use Rattle.instance_stories.proofs.AllInstances.{counts_within}
-use Rattle.instance_grounds.specs.Conditions.{counts_of_instance}
 use Rattle.instance_totals.specs.Sums.{instance_at, piece_start, piece_end, counts_from, AreAllNarrow}
 
 -- ---- sums over consecutive numbers

@@ -23,10 +23,9 @@ use Rattle.search_logs.specs.Spent.{all_places}
 use Rattle.search_logs.proofs.PlaceLaws.{below_more}
 use Rattle.sharp_verdicts.specs.declared.instances.Cited.{Cited}
 use Rattle.sharp_verdicts.specs.Instances.{count_at}
-use Rattle.instance_grounds.specs.Conditions.{counts_of_instance}
+use Rattle.sharp_verdicts.specs.Totals.{counts_of_instance, is_over}
 use Rattle.instance_totals.specs.Bounds.{HasRoomFor}
 use Rattle.instance_totals.specs.Sums.{instance_at, counts_from, frame_counts, AreAllNarrow}
-use Rattle.instance_totals.specs.Totals.{is_over}
 use Rattle.instance_totals.proofs.SumLemmas.{counted, neither, sum_few}
 
 -- ---- limits

@@ -4,9 +4,8 @@ use Rattle.vocab.specs.Study.{Question}
 use Rattle.meaning.specs.declared.clauses.Counts.{Counts}
 use Rattle.clause_form.specs.Bounds.{IsWithin}
 use Rattle.sharp_verdicts.specs.Instances.{count_at}
-use Rattle.instance_grounds.specs.Conditions.{counts_of_instance}
+use Rattle.sharp_verdicts.specs.Totals.{counts_of_instance, is_over}
 use Rattle.instance_totals.specs.Sums.{instance_at}
-use Rattle.instance_totals.specs.Totals.{is_over}
 
 -- some counts, and after them as many as the instances of the axiom at a place have at most, pass no limit
 pub record HasRoomFor (study : Question) (place : ℕ) (before after : Counts) : Type 0 where

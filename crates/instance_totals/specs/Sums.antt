@@ -8,7 +8,7 @@ use Rattle.meaning.specs.Laws.{clauses_for}
 use Rattle.clause_form.specs.Wide.{is_wide}
 use Rattle.sharp_verdicts.specs.declared.instances.Cited.{Cited}
 use Rattle.sharp_verdicts.specs.Instances.{count_at, is_present}
-use Rattle.instance_grounds.specs.Conditions.{counts_of_instance}
+use Rattle.sharp_verdicts.specs.Totals.{counts_of_instance}
 
 -- the instance of a number of the axiom at a place
 abbrev pub instance_at : ℕ → ℕ → Cited

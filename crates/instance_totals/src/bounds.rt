@@ -1,9 +1,9 @@
 //! Whether the shapes of the axioms tell that all their instances are within the limits.
 
 ghost use Rattle.std.specs.Prelude.{◌≡◌, ◌<◌, length, IfSome, IsFalse, IsTrue};
+ghost use Rattle.sharp_verdicts.specs.Totals.{is_over, total};
 ghost use Rattle.instance_totals.specs.Bounds.{HasRoomFor};
 ghost use Rattle.instance_totals.specs.Sums.{frame_counts};
-ghost use Rattle.instance_totals.specs.Totals.{is_over, total};
 
 use crate::totals::is_over;
 use clause_form::most_counts;

@@ -1,8 +1,8 @@
 //! The counts of the frames of a study.
 
 ghost use Rattle.std.specs.Prelude.{◌≡◌, IfOk, IsFalse, length, sum_by};
+ghost use Rattle.sharp_verdicts.specs.Totals.{is_over};
 ghost use Rattle.instance_totals.specs.Sums.{frame_counts};
-ghost use Rattle.instance_totals.specs.Totals.{is_over};
 
 use clause_form::GroundFault;
 use cnf::Clauses;

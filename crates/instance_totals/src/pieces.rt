@@ -3,7 +3,7 @@
 ghost use Rattle.std.specs.Prelude.{◌≡◌, ◌-◌, ◌<◌, ◌+◌, ◌≤◌, IfOk, IsTrue, length};
 ghost use Rattle.crew.specs.Right.{AreRight};
 ghost use Rattle.sharp_verdicts.specs.Instances.{count_at, is_present};
-ghost use Rattle.instance_grounds.specs.Conditions.{counts_of_instance};
+ghost use Rattle.sharp_verdicts.specs.Totals.{counts_of_instance};
 ghost use Rattle.instance_totals.specs.Sums.{AreAllNarrow, AreCounted, IsSumOfPiece, counts_from, piece_end, piece_start};
 
 use clause_form::measure;

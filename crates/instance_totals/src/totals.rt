@@ -4,9 +4,9 @@ ghost use Rattle.std.specs.Prelude.{◌≡◌, None, IfErr, IfOk, IsFalse, OnOk}
 ghost use Rattle.vocab.specs.Study.{HasFewAxioms};
 ghost use Rattle.clause_form.specs.Refusals.{first_wide};
 ghost use Rattle.search_logs.specs.Spent.{all_places};
-ghost use Rattle.instance_grounds.specs.Conditions.{IsWithinTotal};
+ghost use Rattle.sharp_verdicts.specs.Totals.{IsWithinTotal, is_over, total};
 ghost use Rattle.instance_totals.specs.Sums.{AreAllNarrow, frame_counts};
-ghost use Rattle.instance_totals.specs.Totals.{IsTotalFault, is_over, total};
+ghost use Rattle.instance_totals.specs.Totals.{IsTotalFault};
 
 use crate::bounds::are_bounded;
 use crate::frames::counts_of_frames;

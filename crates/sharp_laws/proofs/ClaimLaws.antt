@@ -49,7 +49,7 @@ use Rattle.sharp_laws.proofs.MarkLaws.{there_is}
 
 -- ---- places of instances
 
-same_is : (c d : Cited) → same_instance c d ≡ true → c ≡ d
+pub same_is : (c d : Cited) → same_instance c d ≡ true → c ≡ d
 same_is c d e =
     let p = and_parts (c.«axiom» == d.«axiom») (c.number == d.number) e in
     ap₂ (λ (k n : ℕ). record { «axiom» = k; number = n }) (eqb-true c.«axiom» d.«axiom» p.0) (eqb-true c.number d.number p.1)

@@ -1,5 +1,5 @@
 -- Worked examples: the text of a sharp verdict, and the answer to a sharp text, as the definitions compute them.
-use Rattle.std.proofs.Common.{◌≡◌, refl, ℕ, ◌-◌, List, [], ◌∷◌, ◌++◌, map, take, true, replicate}
+use Rattle.std.proofs.Common.{◌≡◌, refl, ℕ, ◌-◌, arith, List, [], ◌∷◌, ◌++◌, map, take, true, replicate}
 use Rattle.std.specs.Prelude.{codes, slice_set}
 use Rattle.std.specs.List.{flat_map}
 use Rattle.std.specs.Cmp.Lexicographic.{pointwise}
@@ -18,6 +18,7 @@ use Rattle.sharp_verdicts.specs.declared.instances.Cited.{Cited}
 use Rattle.sharp_verdicts.specs.declared.refusals.SharpRefusal.TheVariants.{Report, Instance}
 use Rattle.sharp_verdicts.specs.Instances.{instances_of, core_of}
 use Rattle.sharp_verdicts.specs.Right.{Pointed, is_mark}
+use Rattle.sharp_verdicts.specs.Sharpened.{HaveMarkEvidence}
 use Rattle.sharp_verdicts.specs.SharpLines.{sharp_text}
 use Rattle.sharp_verdicts.specs.SharpJudge.{SharpJudgement, SharpConfirmed, SharpFaulty, SharpTooLong, sharp_answer, sharp_answer_within}
 
@@ -192,3 +193,7 @@ ballots_stand_where_the_size_is_not_full = refl
 
 ballots_do_not_stand_in_a_full_size : sharp_answer symmetric (text_of (head_with (codes "ballots ab ba" ∷ codes "absent no" ∷ []))) ≡ SharpFaulty 5 (Report refusal.Form)
 ballots_do_not_stand_in_a_full_size = refl
+
+-- an open mark wants the log of a search without its instance: one that opens them all after no search has none
+open_marks_want_logs : (derived : List Cited) → HaveMarkEvidence [] derived open_marks.instances open_marks.instances open_marks.marks → ⊥
+open_marks_want_logs derived h = omega (arith, h.0.2)

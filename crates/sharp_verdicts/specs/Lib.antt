@@ -8,3 +8,4 @@ pub mod SharpPlaces
 pub mod SharpFaults
 pub mod SharpJudge
 pub mod Judged
+pub mod Totals

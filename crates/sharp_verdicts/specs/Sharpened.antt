@@ -10,7 +10,7 @@ use Rattle.search_logs.specs.Spent.{AreSpentLogs}
 use Rattle.sharp_verdicts.specs.declared.instances.Cited.{Cited}
 use Rattle.sharp_verdicts.specs.declared.sharp.Sharp.{Sharp}
 use Rattle.sharp_verdicts.specs.Derived.{derived_study}
-use Rattle.sharp_verdicts.specs.Instances.{same_instance}
+use Rattle.sharp_verdicts.specs.Instances.{same_instance, is_present}
 use Rattle.sharp_verdicts.specs.Right.{IsSharpRight, pointed}
 
 -- a search over a derived study chose the axiom that is an instance
@@ -34,8 +34,9 @@ HaveMarkEvidence logs derived instances (c ∷ cs) [] = Unit {0}
 HaveMarkEvidence logs derived instances (c ∷ cs) (m ∷ marks) = HasMarkEvidence logs derived instances c m × HaveMarkEvidence logs derived instances cs marks
 
 module _ (study : Question) where
-  -- what sharpening comes to is right: its verdict is; each of its logs is of a search over the derived study that spent its limit; and each open mark has its log
+  -- what sharpening comes to is right: its verdict is; the axioms of the derived study are instances of the study; each of its logs is of a search over the derived study that spent its limit; and each open mark has its log
   pub record IsSharpened (s : Sharp) : Type 0 where
     pub right : IsSharpRight study (pointed s)
+    pub derived : IsTrue (list_all (is_present study) s.derived)
     pub logs : AreSpentLogs (derived_study study s.derived) s.logs
     pub evidence : HaveMarkEvidence s.logs s.derived s.instances s.instances s.marks

@@ -67,6 +67,7 @@ module _ (study : Question) (derived : List Cited) (reduced : Reduced) (right : 
             instances = refl;
             marks = marks_right study derived present instances reduced.refutation.core reduced.refutation.witnesses is_within same have_witnesses;
           };
+          derived = present;
           logs = right.logs;
           evidence = evidence_right (derived_study study derived) derived rising reduced.logs instances reduced.refutation.core is_within same reduced.refutation.witnesses right.refutation.logged;
         }

@@ -9,8 +9,8 @@ ghost use Rattle.meaning.specs.Variables.{variable_count};
 ghost use Rattle.sharp_verdicts.specs.Derived.{derived_study};
 ghost use Rattle.sharp_verdicts.specs.Instances.{is_present};
 ghost use Rattle.sharp_verdicts.specs.Sharpened.{IsSharpened};
+ghost use Rattle.sharp_verdicts.specs.Totals.{IsWithinTotal};
 ghost use Rattle.std.specs.List.{list_all};
-ghost use Rattle.instance_grounds.specs.Conditions.{IsWithinTotal};
 ghost use Rattle.instance_stories.specs.Codes.{AreRising};
 ghost use Rattle.instance_cores.specs.Cores.{IsReducedTo};
 
@@ -23,7 +23,7 @@ use instance_stories::story_named;
 use instance_studies::derive;
 use lists::NoMemory;
 use outcomes::OutcomeKind;
-use retell::retell;
+use retell::retell_simply;
 use sharp_verdicts::{Instances, Sharp};
 use std::alloc::Global;
 use std::thread::Threads;
@@ -52,7 +52,7 @@ fn tell<K: OutcomeKind>(
     let _axioms = study.axioms();
     let Reduced { refutation, logs } = reduced;
     let space = kind.space();
-    let told = retell(
+    let told = retell_simply(
         alloc,
         kind,
         made,

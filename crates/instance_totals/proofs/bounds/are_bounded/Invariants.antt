@@ -1,6 +1,6 @@
 use Rattle.std.proofs.Common.{◌≤◌}
 use Rattle.std.specs.Prelude.{IsFalse}
-use Rattle.instance_totals.specs.Totals.{is_over}
+use Rattle.sharp_verdicts.specs.Totals.{is_over}
 use Rattle.instance_totals.proofs.TotalLemmas.{front}
 use Rattle.instance_totals.proofs.bounds.are_bounded.Given as goal
 

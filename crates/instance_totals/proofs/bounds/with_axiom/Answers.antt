@@ -11,10 +11,9 @@ use Rattle.meaning.specs.Instances.{instance_values}
 use Rattle.meaning.specs.Measure.{measure_of}
 use Rattle.meaning.specs.Written.{write_out}
 use Rattle.clause_form.specs.Bounds.{IsWithin}
+use Rattle.sharp_verdicts.specs.Totals.{counts_of_instance, is_over}
 use Rattle.instance_stories.proofs.AllInstances.{counts_within}
-use Rattle.instance_grounds.specs.Conditions.{counts_of_instance}
 use Rattle.instance_totals.specs.Sums.{instance_at}
-use Rattle.instance_totals.specs.Totals.{is_over}
 use Rattle.instance_totals.proofs.SumLemmas.{count_is, counted}
 use Rattle.instance_totals.proofs.TotalLemmas.{within_limits}
 use Rattle.instance_totals.proofs.bounds.with_axiom.Goals as goal

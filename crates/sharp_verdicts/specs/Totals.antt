@@ -1,15 +1,18 @@
--- What sharpening asks of a study: no instance is too wide, and all of them together are within the limits of a list.
-use Rattle.std.specs.Prelude.{◌≡◌, ◌+◌, ◌≤◌, None, List, [], length, sum_by}
+-- How many clauses the frames of a study and all instances have together, and when these pass the limits of a list.
+use Rattle.std.specs.Prelude.{◌≡◌, ◌+◌, ◌≤◌, ◌||◌, Bool, nat_lt, None, List, [], length, sum_by, slice_get}
+use Rattle.std.specs.Option.{option_map_or}
 use Rattle.vocab.specs.Study.{Question}
 use Rattle.vocab.specs.Titled.{Titled}
 use Rattle.meaning.specs.declared.clauses.Counts.{Counts}
 use Rattle.meaning.specs.Laws.{clauses_for}
 use Rattle.clause_form.specs.Refusals.{counts_at, first_wide}
 use Rattle.search_logs.specs.Spent.{all_places}
-use Rattle.std.specs.Option.{option_map_or}
-use Rattle.std.specs.Prelude.{slice_get}
 use Rattle.sharp_verdicts.specs.declared.instances.Cited.{Cited}
 use Rattle.sharp_verdicts.specs.Instances.{all_instances}
+
+-- more than 4,000,000 clauses, or more than 60,000,000 literals
+abbrev pub is_over : Counts → Bool
+is_over counts = nat_lt 4000000 counts.clauses || nat_lt 60000000 counts.literals
 
 module _ (study : Question) where
   -- the counts of an instance, before anything is left out
@@ -22,6 +25,10 @@ module _ (study : Question) where
     clauses = length (clauses_for study.size study.axioms []) + sum_by (λ c. (counts_of_instance c).clauses) instances;
     literals = sum_by length (clauses_for study.size study.axioms []) + sum_by (λ c. (counts_of_instance c).literals) instances;
   }
+
+  -- the counts of the frames together with those of all instances
+  abbrev pub total : Counts
+  total = total_of (all_instances study)
 
   -- no instance of the study is too wide, and the frames with all instances are within the limits of a list of clauses
   pub record IsWithinTotal : Type 0 where
