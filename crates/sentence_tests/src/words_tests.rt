@@ -5,7 +5,7 @@ use std::test::Fail;
 use words::{Command, command_of};
 
 /// Lines, and the commands that they are.
-static COMMANDS: [(&str, &str); 23] = [
+static COMMANDS: [(&str, &str); 25] = [
     ("check s r", "check [s] [r] 1"),
     ("check --workers 4 s r", "check [s] [r] 4"),
     ("check s --workers 4 r", "check [s] [r] 4"),
@@ -32,6 +32,8 @@ static COMMANDS: [(&str, &str); 23] = [
     ("gain s r", "gain [s] [r]"),
     ("adopt s p", "adopt [s] [p] 1"),
     ("adopt --workers 16 s -- -p", "adopt [s] [-p] 16"),
+    ("sharpen s", "sharpen [s] 1"),
+    ("sharpen s --workers 12", "sharpen [s] 12"),
 ];
 
 /// Lines that are no command for what they say of workers.
@@ -54,7 +56,7 @@ static NO_WORKERS: [&str; 15] = [
 ];
 
 /// Lines that are no command for their words.
-static NO_COMMANDS: [&str; 30] = [
+static NO_COMMANDS: [&str; 32] = [
     "",
     " ",
     "-h",
@@ -85,6 +87,8 @@ static NO_COMMANDS: [&str; 30] = [
     "adopt s",
     "adopt s p r",
     "adopt s p --workers 0",
+    "sharpen",
+    "sharpen s r",
 ];
 
 // Each table is handed out as a slice, so that the proof of a test need not read it.
@@ -131,6 +135,7 @@ fn shown(alloc: Global, command: Command) -> Result<String, AllocError> {
             workers,
         } => format!(in alloc; "adopt [{study}] [{proof}] {workers}"),
         Command::Gain { study, report } => format!(in alloc; "gain [{study}] [{report}]"),
+        Command::Sharpen { study, workers } => format!(in alloc; "sharpen [{study}] {workers}"),
     }
 }
 

@@ -47,4 +47,6 @@ odd = record {
   workers_of_adopt = refl;
   proof_alone = refl;
   workers_of_gain = refl;
+  workers_of_sharpen = refl;
+  report_of_sharpen = refl;
 }

@@ -3,7 +3,7 @@ use Rattle.std.proofs.Common.{◌≡◌, refl, [], ◌∷◌, ◌++◌, codes, S
 use Rattle.clap.specs.Words.{Text}
 use Rattle.clap.proofs.OnLiterals.{clap_on_literals}
 use Rattle.words.specs.Values.{number_within, kind_named}
-use Rattle.words.specs.Words.{Decide, Check, Export, Proof, Lrat, Axioms, Sample, Adopt, Gain, request_of}
+use Rattle.words.specs.Words.{Decide, Check, Export, Proof, Lrat, Axioms, Sample, Adopt, Gain, Sharpen, request_of}
 use Rattle.word_laws.specs.Laws.{IsPlain, PlainWords, WorkersWords}
 
 decide_read : (word : Text) → IsPlain word → request_of (codes "decide" ∷ word ∷ []) ≡ Some (Decide word 1)
@@ -20,6 +20,11 @@ proof_read : (word : Text) → IsPlain word → request_of (codes "proof" ∷ wo
 unfolding clap_on_literals request_of
 proof_read [] e = refl
 proof_read (c ∷ cs) e = rw (e, e) refl
+
+sharpen_read : (word : Text) → IsPlain word → request_of (codes "sharpen" ∷ word ∷ []) ≡ Some (Sharpen word 1)
+unfolding clap_on_literals request_of
+sharpen_read [] e = refl
+sharpen_read (c ∷ cs) e = rw (e, e) refl
 
 axioms_read : (word : Text) → IsPlain word → request_of (codes "axioms" ∷ word ∷ []) ≡ option_map Axioms (kind_named word)
 unfolding clap_on_literals request_of
@@ -98,6 +103,7 @@ plain = record {
   sample = sample_read;
   adopt = adopt_read;
   gain = gain_read;
+  sharpen = sharpen_read;
 }
 
 pub workers : WorkersWords

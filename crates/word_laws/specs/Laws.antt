@@ -3,7 +3,7 @@ use Rattle.std.specs.Prelude.{◌≡◌, ◌==◌, Bool, false, [], ◌∷◌, �
 use Rattle.clap.specs.Words.{Text}
 use Rattle.vocab.specs.declared.kinds.Kind.TheVariants.{Sets}
 use Rattle.words.specs.Values.{number_within, kind_named}
-use Rattle.words.specs.Words.{Decide, Check, Export, Proof, Lrat, Axioms, Sample, Adopt, Gain, request_of}
+use Rattle.words.specs.Words.{Decide, Check, Export, Proof, Lrat, Axioms, Sample, Adopt, Gain, Sharpen, request_of}
 
 abbrev pub begins_with_hyphen : Text → Bool
 begins_with_hyphen [] = false
@@ -24,6 +24,7 @@ pub record PlainWords : Type 0 where
       → request_of (codes "sample" ∷ number ∷ []) ≡ option_map Sample (number_within 0 4294967295 number)
   pub adopt : (study proof : Text) → IsPlain study → IsPlain proof → request_of (codes "adopt" ∷ study ∷ proof ∷ []) ≡ Some (Adopt study proof 1)
   pub gain : (study report : Text) → IsPlain study → IsPlain report → request_of (codes "gain" ∷ study ∷ report ∷ []) ≡ Some (Gain study report)
+  pub sharpen : (study : Text) → IsPlain study → request_of (codes "sharpen" ∷ study ∷ []) ≡ Some (Sharpen study 1)
 
 -- `--workers` may stand before, between and after them, in one word or in two
 pub record WorkersWords : Type 0 where
@@ -78,3 +79,5 @@ pub record OddWords : Type 0 where
   pub workers_of_adopt : request_of (codes "adopt" ∷ codes "s" ∷ codes "--workers" ∷ codes "2" ∷ codes "p" ∷ []) ≡ Some (Adopt (codes "s") (codes "p") 2)
   pub proof_alone : request_of (codes "adopt" ∷ codes "p" ∷ []) ≡ None
   pub workers_of_gain : request_of (codes "gain" ∷ codes "s" ∷ codes "r" ∷ codes "--workers" ∷ codes "2" ∷ []) ≡ None
+  pub workers_of_sharpen : request_of (codes "sharpen" ∷ codes "--workers" ∷ codes "3" ∷ codes "s" ∷ []) ≡ Some (Sharpen (codes "s") 3)
+  pub report_of_sharpen : request_of (codes "sharpen" ∷ codes "s" ∷ codes "r" ∷ []) ≡ None

@@ -7,7 +7,7 @@ use Rattle.verdicts.specs.Numbers.{read_number}
 use Rattle.clap.specs.Words.{Row, Text, first_of}
 use Rattle.words.specs.declared.commands.Command.{Command}
 use Rattle.words.specs.Values.{number_within, workers_in, kind_in, number_in}
-use Rattle.words.specs.Words.{Request, Decide, Check, Export, Proof, Lrat, Axioms, Sample, Adopt, Gain, HasWorkers, asked, over_study, request_under}
+use Rattle.words.specs.Words.{Request, Decide, Check, Export, Proof, Lrat, Axioms, Sample, Adopt, Gain, Sharpen, HasWorkers, asked, over_study, request_under}
 
 abbrev Good : Option Request → Type 0
 Good o = IfSome o HasWorkers
@@ -74,7 +74,8 @@ module _ (rows : List Row) where
       (either (bytes_eq name (codes "axioms")) _ _ (mapped Axioms (λ kind. tt) (kind_in rows))
       (either (bytes_eq name (codes "sample")) _ _ (mapped Sample (λ n. tt) (number_in rows))
       (either (bytes_eq name (codes "adopt")) _ _ (adopts (first_of (codes "proof") rows))
-      (either (bytes_eq name (codes "gain")) _ _ (gained (first_of (codes "study") rows) (first_of (codes "report") rows)) tt))))))))
+      (either (bytes_eq name (codes "gain")) _ _ (gained (first_of (codes "study") rows) (first_of (codes "report") rows))
+      (either (bytes_eq name (codes "sharpen")) _ _ (over Sharpen (λ study n few. few)) tt)))))))))
 
 -- so has each command that was found
 pub found : (command : Option Command) (name : Text) (rows : List Row) → option_map asked command ≡ request_under name rows → IfSome command (λ it. HasWorkers (asked it))

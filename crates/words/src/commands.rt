@@ -50,4 +50,9 @@ pub enum Command<'a> {
         study: &'a str,
         report: &'a str,
     },
+    /// `sharpen STUDY`, with `--workers K`.
+    Sharpen {
+        study: &'a str,
+        workers: u8,
+    },
 }

@@ -115,5 +115,6 @@ pub(crate) fn bench_command<'a>(alloc: Global) -> Result<Command<'a>, AllocError
     let command = add_command(command, axioms_command(alloc));
     let command = add_command(command, sample_command(alloc));
     let command = add_command(command, adopt_command(alloc));
-    add_command(command, gain_command(alloc))
+    let command = add_command(command, gain_command(alloc));
+    add_command(command, study_command(alloc, "sharpen"))
 }

@@ -3,7 +3,7 @@
 ghost use Rattle.std.specs.Prelude.{◌≡◌, ℕ, IfOk, IfSome, option_map};
 ghost use Rattle.clap.specs.Words.{Text, first_of, found_of, rows_of, subcommand_rows_of};
 ghost use Rattle.words.specs.Values.{kind_named, number_within, workers_in, kind_in, number_in};
-ghost use Rattle.words.specs.Words.{Request, Decide, Check, Export, Proof, Axioms, Sample, HasWorkers};
+ghost use Rattle.words.specs.Words.{Request, Decide, Check, Export, Proof, Axioms, Sample, Sharpen, HasWorkers};
 ghost use Rattle.words.specs.Words.{texts, asked, over_study, check_in, lrat_in, adopt_in, gain_in, request_under, request_in, request_of};
 
 use crate::commands::Command;
@@ -166,6 +166,14 @@ fn gain_in<'a>(matches: &ArgMatches<'a>) -> Option<Command<'a>>
     })
 }
 
+/// `sharpen STUDY`.
+fn sharpen_in<'a>(matches: &ArgMatches<'a>) -> Option<Command<'a>>
+    ensures { option_map asked result ≡ over_study Sharpen (rows_of (found_of matches.now)) }
+{
+    let (study, workers) = over_study(matches)?;
+    Some(Command::Sharpen { study, workers })
+}
+
 /// The command of a name, with the values that were found.
 fn command_under<'a>(name: &str, matches: &ArgMatches<'a>) -> Option<Command<'a>>
     ensures { option_map asked result ≡ request_under name.now (rows_of (found_of matches.now)) }
@@ -180,6 +188,7 @@ fn command_under<'a>(name: &str, matches: &ArgMatches<'a>) -> Option<Command<'a>
         "sample" => sample_in(matches),
         "adopt" => adopt_in(matches),
         "gain" => gain_in(matches),
+        "sharpen" => sharpen_in(matches),
         _ => None,
     }
 }
