@@ -22,7 +22,7 @@ use Rattle.answers.specs.Laws.{Wrote, AdoptsIt, WrittenProofsAreAdopted}
 use Rattle.answers.specs.RowLaws.{IsConclusive, IsAdoptedRight, AdoptedHolds, WrittenAdoptionsHold, AdoptedAreConfirmed, AdoptsAsLrat, ProvedAreAdopted, EnoughAdopts}
 use Rattle.answers.proofs.RowLemmas.{some_same, over_study, granted}
 use Rattle.verdicts.proofs.ReportLaws.{printed_is_report}
-use Rattle.answers.proofs.FitLemmas.{right_judged}
+use Rattle.answers.proofs.JudgedLaws.{report_checked}
 use Rattle.answers.proofs.DecidedLaws.{impossible, conclusive, bare_conclusive}
 use Rattle.answers.proofs.ReportLaws.{reportable, listed}
 use Rattle.answers.proofs.DeviceLaws.{written_at}
@@ -98,7 +98,7 @@ adopted_confirmed files name proof run text study row g zero_is fits =
     let f = told.found in
     let verdict = Impossible told.core told.story told.witnesses in
     let report = printed_is_report study text verdict f.claims_some f.right told.is in
-    (verdict, f.told, right_judged study text verdict (reportable files name study g) (listed files name study g) report fits)
+    (verdict, f.told, report_checked study text verdict (reportable files name study g) (listed files name study g) report fits)
 
 adopted_as_said : (files : Files) (name proof : List ℕ) (run : Run) (text bytes : List ℕ) (study : Question) → IsAdoption files name proof run text → GivesStudy files name study
     → fault_of study ≡ None → files proof ≡ Some bytes → EndsAsSaid files proof study run text bytes
@@ -111,12 +111,12 @@ confirmed_as_said : (study : Question) (files : Files) (cnf proof : List ℕ) (r
     → (run.status ≡ (said_of (exported_formula study) bytes).status) × (text ≡ (said_of (exported_formula study) bytes).text)
 confirmed_as_said study files cnf proof run text bytes again row exported held =
     let said = said_of (exported_formula study) bytes in
-    let there : Run = record { status = said.status; verdict = None; logs = [] } in
+    let there : Run = record { status = said.status; verdict = None; logs = []; sharp = None } in
     let given : GivesFormula files cnf (exported_formula study) =
     record { bytes = export_text study; holds = record { held = exported; fits = again.fits }; read = again.read } in
     let same =
     one_lrat files run there text said.text cnf proof row
-    (proof_judged (exported_formula study) bytes given held (record { ends = refl; no_verdict = refl; no_logs = refl }) refl) in
+    (proof_judged (exported_formula study) bytes given held (record { ends = refl; no_verdict = refl; no_logs = refl; no_sharp = refl }) refl) in
     (ap (λ (r : Run). r.status) same.0, same.1)
 
 pub adopted_as_lrat : AdoptsAsLrat

@@ -1,5 +1,5 @@
 -- Where no fault is counted, a call answers what was asked.
-use Rattle.std.proofs.Common.{◌≡◌, ◌≢◌, ◌∙◌, ap, ap₂, sym, subst, ℕ, ◌≤◌, ◌⊎◌, inl, inr, true, true≢false, eqb-true, List, [], ◌∷◌, length, Option, None, Some, arith, refl}
+use Rattle.std.proofs.Common.{◌≡◌, ◌≢◌, ◌∙◌, ap, ap₂, sym, subst, ℕ, ◌≤◌, ◌⊎◌, inl, inr, true, false, true≢false, eqb-true, List, [], ◌∷◌, length, Option, None, Some, arith, refl}
 use Rattle.std.specs.Prelude.{◌==◌, nat_le}
 use Rattle.std.specs.List.{list_all, list_any}
 use Rattle.std.proofs.lemmas.Bool.{or_cases, and_parts, cases_lt, leb-true}
@@ -11,7 +11,8 @@ use Rattle.vocab.specs.Study.{Question}
 use Rattle.verdicts.specs.Report.{IsConfirmed}
 use Rattle.clause_text.specs.ReadDimacs.{Formula}
 use Rattle.samples.specs.Sample.{IsSampleStudy}
-use Rattle.words.specs.Words.{Request, Decide, Check, Export, Proof, Lrat, Axioms, Sample, Adopt, Gain, request_of}
+use Rattle.words.specs.Words.{Request, Decide, Check, Export, Proof, Lrat, Axioms, Sample, Adopt, Gain, Sharpen, request_of}
+use Rattle.sharp_verdicts.specs.Totals.{is_over, total}
 use Rattle.answers.specs.declared.runs.Run.{Run}
 use Rattle.answers.specs.FileLimits.{most_report_bytes}
 use Rattle.verdicts.specs.declared.verdicts.Verdict.{Verdict}
@@ -27,10 +28,11 @@ use Rattle.answers.specs.Proof.{Proves, refuted, possible, undecided}
 use Rattle.answers.specs.Lrat.{GivesFormula, IsConfirmedBy, formula_refused, proof_judged, said_of}
 use Rattle.answers.specs.Sample.{IsSampled}
 use Rattle.answers.specs.Gain.{Gains, other_kind, of_sets}
+use Rattle.answers.specs.Sharpen.{Sharpens, total_refused, decided, sharpened}
 use Rattle.answers.specs.Lawful.{IsAnswer, Lawful}
 use Rattle.answers.specs.Devices.{Devices}
 use Rattle.answers.specs.Call.{IsCall, AreFiles, are_told, none_read, HasReadCause, at_first, at_second, files_of, statuses_of}
-use Rattle.answers.specs.Laws.{AreQuiet, HasNoFault, IsDecidedOrWanting, CallsAreComplete}
+use Rattle.answers.specs.Laws.{IsRightText, AreQuiet, HasNoFault, IsDecidedOrWanting, CallsAreComplete}
 use Rattle.answers.proofs.ReportLaws.{by_report, checked_right, listed, reportable}
 use Rattle.answers.proofs.OneAnswer.{cnf_given}
 use Rattle.answers.proofs.RowLemmas.{row_of, over_study, one_formula, some_same}
@@ -56,6 +58,7 @@ few_statuses (Some (Axioms kind)) = refl
 few_statuses (Some (Sample number)) = refl
 few_statuses (Some (Adopt study proof workers)) = refl
 few_statuses (Some (Gain study report)) = refl
+few_statuses (Some (Sharpen study workers)) = refl
 
 -- each status is at most 7
 pub low_status : (words : List (List ℕ)) (d : Devices) (run : Run) → IsCall words d run → run.status ≤ 7
@@ -112,6 +115,11 @@ by_gained : (files : Files) (report : List ℕ) (run : Run) (text : List ℕ) (s
 by_gained files report run text study bytes sets held zero_is (other_kind other t bare) = absurd (other sets)
 by_gained files report run text study bytes sets held zero_is (of_sets same said) =
     said.ends.ends ∙ ap (λ b. status_of (judgement study b)) (some_same (files report) said.bytes bytes said.held held) ∙ zero_is
+
+by_sharpened : (study : Question) (run : Run) (text : List ℕ) → is_over (total study) ≡ false → Sharpens study run text → IsDecidedOrWanting run
+by_sharpened study run text within (total_refused over is bare) = absurd (true≢false (sym over ∙ within))
+by_sharpened study run text within (decided less reported other) = by_decides study run reported.verdict reported.decides
+by_sharpened study run text within (sharpened less s) = inl s.ends
 
 by_summed : (n : ℕ) (study : Question) (run : Run) (text : List ℕ) → IsSampleStudy n study → fault_of study ≡ None → IsSampled n run text → IsDecidedOrWanting run
 by_summed n study run text sample none row =
@@ -183,7 +191,7 @@ module _ (words : List (List ℕ)) (d : Devices) (run : Run) (call : IsCall word
   ]
 
   check_settled : (files : Files) (name report bytes : List ℕ) (workers : ℕ) (study : Question) → d.told ≡ Some files → request_of words ≡ Some (Check name report workers)
-      → GivesStudy files name study → files report ≡ Some bytes → IsConfirmed study bytes → length bytes ≤ most_report_bytes → (run.status ≡ 0) ⊎ (run.status ≡ 7)
+      → GivesStudy files name study → files report ≡ Some bytes → IsRightText study bytes → length bytes ≤ most_report_bytes → (run.status ≡ 0) ⊎ (run.status ≡ 7)
   check_settled files name report bytes workers study told asked g held c fits = elim (settled files (are_told told)) [
     | inl a ↦ inl ((checked_right words files run a.0 name report bytes workers study a.1 asked g held).1 (c, fits))
     | inr seven ↦ inr seven
@@ -198,6 +206,13 @@ module _ (words : List (List ℕ)) (d : Devices) (run : Run) (call : IsCall word
         (over_study files name run a.0 _ study g a.1)
         )
     | inr seven ↦ inr seven
+  ]
+
+  sharpen_settled : (files : Files) (name : List ℕ) (workers : ℕ) (study : Question) → d.told ≡ Some files → request_of words ≡ Some (Sharpen name workers)
+      → GivesStudy files name study → fault_of study ≡ None → is_over (total study) ≡ false → IsDecidedOrWanting run
+  sharpen_settled files name workers study told asked g none within = elim (settled_row (Some (Sharpen name workers)) files asked told) [
+    | inl a ↦ by_sharpened study run a.0 within (rest_of files name run a.0 (λ s. Sharpens s run a.0) study g none a.1)
+    | inr seven ↦ inr (inr seven)
   ]
 
   without_files : (request : Option Request) → request_of words ≡ request → files_of request ≡ [] → ((text : List ℕ) × Lawful words (λ name. None) run text) ⊎ (run.status ≡ 7)
@@ -232,6 +247,7 @@ calls_complete words d run call calm = record {
   check = check_settled words d run call calm;
   adopt = adopt_settled words d run call calm;
   gain = gain_settled words d run call calm;
+  sharpen = sharpen_settled words d run call calm;
   axioms = axioms_settled words d run call calm;
   usage = usage_settled words d run call calm;
   no_read_fault = no_read_fault words d run call calm;

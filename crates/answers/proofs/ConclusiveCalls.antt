@@ -3,7 +3,7 @@ use Rattle.std.proofs.Common.{◌≡◌, ◌∙◌, sym, subst, ℕ, ◌≤◌, 
 use Rattle.std.proofs.lemmas.Bool.{cases_lt}
 use Rattle.edge.specs.Shelf.{Files}
 use Rattle.verdicts.specs.declared.verdicts.Verdict.TheVariants.{Impossible}
-use Rattle.words.specs.Words.{Request, Decide, Check, Export, Proof, Lrat, Axioms, Sample, Adopt, Gain, request_of}
+use Rattle.words.specs.Words.{Request, Decide, Check, Export, Proof, Lrat, Axioms, Sample, Adopt, Gain, Sharpen, request_of}
 use Rattle.answers.specs.declared.runs.Run.{Run}
 use Rattle.answers.specs.Runs.{with_status}
 use Rattle.answers.specs.Lawful.{IsAnswer}
@@ -12,9 +12,11 @@ use Rattle.answers.specs.Call.{IsCall, are_told}
 use Rattle.answers.specs.Decide.{IsDecided}
 use Rattle.answers.specs.Proof.{IsProved}
 use Rattle.answers.specs.Adopt.{IsAdoption}
+use Rattle.answers.specs.Sharpen.{IsSharpening}
 use Rattle.answers.specs.RowLaws.{IsConclusive, CallsAreConclusive}
-use Rattle.answers.proofs.DecidedLaws.{enough_decided, enough_proved}
+use Rattle.answers.proofs.DecidedLaws.{no_sharpening, enough_decided, enough_proved}
 use Rattle.answers.proofs.AdoptLaws.{enough_adopted}
+use Rattle.answers.proofs.SharpenLaws.{enough_sharpened}
 use Rattle.answers.proofs.DeviceLaws.{written_at, front_at}
 use Rattle.answers.proofs.CallLaws.{low_status}
 
@@ -32,6 +34,7 @@ module _ (words : List (List ℕ)) (d : Devices) (run : Run) (call : IsCall word
         decided = λ four. let no : 6 ≡ 4 = sym six ∙ four in absurd (omega (arith, no));
         no_log = c.no_log;
         marked = c.marked;
+        sharp = c.sharp;
       }
 
   silent : (status : ℕ) → run.status ≡ status → 5 ≤ status → (run.status ≡ 5) ⊎ (run.status ≡ 7) → IsConclusive run
@@ -41,6 +44,7 @@ module _ (words : List (List ℕ)) (d : Devices) (run : Run) (call : IsCall word
         decided = λ four. let no : status ≡ 4 = sym is ∙ four in absurd (omega (arith, no, high));
         no_log = s.no_logs;
         marked = λ core story witnesses tells. let no : None ≡ Some (Impossible core story witnesses) = sym s.no_verdict ∙ tells in absurd (cc);
+        sharp = no_sharpening run s.no_sharp;
       }
 
   ended : IsConclusive run
@@ -62,6 +66,8 @@ calls_conclusive words d run files (Proof name' workers) name study call told as
     ended words d run call (Proof name' workers) asked files told (λ r text row. enough_proved files name r text study (subst (λ (n : List ℕ). IsProved files n r text) same row) g enough)
 calls_conclusive words d run files (Adopt name' proof workers) name study call told asked same g enough =
     ended words d run call (Adopt name' proof workers) asked files told (λ r text row. enough_adopted files name proof r text study (subst (λ (n : List ℕ). IsAdoption files n proof r text) same row) g enough)
+calls_conclusive words d run files (Sharpen name' workers) name study call told asked same g enough =
+    ended words d run call (Sharpen name' workers) asked files told (λ r text row. enough_sharpened files name r text study (subst (λ (n : List ℕ). IsSharpening files n r text) same row) g enough)
 calls_conclusive words d run files (Check name' report workers) name study call told asked same g enough = absurd same
 calls_conclusive words d run files (Export name' workers) name study call told asked same g enough = absurd same
 calls_conclusive words d run files (Lrat cnf proof) name study call told asked same g enough = absurd same

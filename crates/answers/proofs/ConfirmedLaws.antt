@@ -90,13 +90,13 @@ module _ (study : Question) (files : Files) (cnf proof clauses refutation : List
       (subst (λ (s : Said). IsBare run s.status) (sym confirmed_said) bare) (is ∙ ap (λ (s : Said). s.text) (sym confirmed_said))
 
   abbrev confirming_run : Run
-  confirming_run = record { status = 0; verdict = None; logs = [] }
+  confirming_run = record { status = 0; verdict = None; logs = []; sharp = None }
 
   row_alone : (run : Run) (text : List ℕ) → IsConfirmedBy files cnf proof run text → IsBare run 0 × (text ≡ codes "confirmed\n")
   row_alone run text row =
-      let there = row_there confirming_run (codes "confirmed\n") (record { ends = refl; no_verdict = refl; no_logs = refl }) refl in
+      let there = row_there confirming_run (codes "confirmed\n") (record { ends = refl; no_verdict = refl; no_logs = refl; no_sharp = refl }) refl in
       let same = one_lrat files run confirming_run text (codes "confirmed\n") cnf proof row there in
-      (subst (λ (r : Run). IsBare r 0) (sym same.0) (record { ends = refl; no_verdict = refl; no_logs = refl }), same.1)
+      (subst (λ (r : Run). IsBare r 0) (sym same.0) (record { ends = refl; no_verdict = refl; no_logs = refl; no_sharp = refl }), same.1)
 
   confirming : IsConfirming files cnf proof
   confirming run text = (row_alone run text, λ is. row_there run text is.0 is.1)

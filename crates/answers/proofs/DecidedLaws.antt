@@ -24,6 +24,7 @@ use Rattle.samples.proofs.Samples.{samples_once, samples_sized}
 use Rattle.study.proofs.WholeStudies.{studies_whole}
 use Rattle.search_logs.specs.declared.logs.SearchLog.{SearchLog}
 use Rattle.search_logs.specs.Spent.{has_place, IsOfAll, IsWithout, HaveEvidence, AreSpentLogs}
+use Rattle.sharp_verdicts.specs.declared.sharp.Sharp.{Sharp}
 use Rattle.answers.specs.declared.runs.Run.{Run}
 use Rattle.answers.specs.Runs.{IsBare}
 use Rattle.answers.specs.Grounding.{OverClauses, clauses_refused, clauses_made}
@@ -32,7 +33,7 @@ use Rattle.verdicts.specs.Claims.{Claims}
 use Rattle.answers.specs.Decide.{IsReported}
 use Rattle.answers.specs.Proof.{Proves, refuted, possible, undecided}
 use Rattle.answers.specs.Sample.{IsSummed}
-use Rattle.answers.specs.RowLaws.{IsNeeded, by_rule, by_mark, IsImpossible, IsPrinted, a_rule, an_impossibility, DecidedHolds, IsConclusive, EnoughDecides, EnoughProves, IsSampleRight, SampledHolds}
+use Rattle.answers.specs.RowLaws.{IsNeeded, by_rule, by_mark, IsImpossible, IsPrinted, a_rule, an_impossibility, DecidedHolds, IsWithoutOpen, IsConclusive, EnoughDecides, EnoughProves, IsSampleRight, SampledHolds}
 use Rattle.answers.proofs.RowLemmas.{some_same, over_study, past_clauses, not_three, granted}
 
 -- the witnesses of a right core
@@ -113,14 +114,14 @@ sampled_hold n run text study row sample zero_is =
 -- ---- a large limit
 
 -- there is no log of a search that spent its limit
-no_logs : (study : Question) (logs : List SearchLog) → 3 ^ variable_count study.size ≤ study.conflicts → AreSpentLogs study logs → logs ≡ []
+pub no_logs : (study : Question) (logs : List SearchLog) → 3 ^ variable_count study.size ≤ study.conflicts → AreSpentLogs study logs → logs ≡ []
 no_logs study [] enough spent = refl
 no_logs study (log ∷ logs) enough spent =
     let less : study.conflicts < 3 ^ variable_count study.size =
     spent_is_short (variable_count study.size) (clauses_for study.size study.axioms log.chosen) study.conflicts log.lines spent.0.spent in
     absurd (omega (arith, enough, less))
 
-none_among : (logs : List SearchLog) (P : SearchLog → Type 0) → logs ≡ [] → Any P logs → ⊥
+pub none_among : (logs : List SearchLog) (P : SearchLog → Type 0) → logs ≡ [] → Any P logs → ⊥
 none_among logs P none some = let few : length logs ≡ 0 = ap length none in omega (arith, few, some.2)
 
 -- so no mark is open
@@ -142,6 +143,10 @@ found_given study run verdict none f core story witnesses told =
     let backed : IsBacked study run.logs (Impossible core story witnesses) = subst (λ (v : Verdict). IsBacked study run.logs v) same f.backed in
     all_given study run.logs core core witnesses none (core_witnesses study core story witnesses right).1 backed.1
 
+-- where nothing is sharpened, no sharpening is told of
+pub no_sharpening : (run : Run) → run.sharp ≡ None → (s : Sharp) → run.sharp ≡ Some s → IsWithoutOpen s
+no_sharpening run none s told = let no : None ≡ Some s = sym none ∙ told in absurd (cc)
+
 pub conclusive : (study : Question) (run : Run) (verdict : Verdict) → 3 ^ variable_count study.size ≤ study.conflicts → Decides study run verdict → IsConclusive run
 conclusive study run verdict enough (by_verdict f) =
     let none = no_logs study run.logs enough f.logs in
@@ -149,6 +154,7 @@ conclusive study run verdict enough (by_verdict f) =
       decided = λ four. let no : 0 ≡ 4 = sym f.ends ∙ four in absurd (omega (arith, no));
       no_log = none;
       marked = found_given study run verdict none f;
+      sharp = no_sharpening run f.no_sharp;
     }
 conclusive study run verdict enough (by_limit u v) = absurd (none_among run.logs (IsOfAll study) (no_logs study run.logs enough u.logs) u.spent)
 
@@ -157,6 +163,7 @@ bare_conclusive run status other bare = record {
   decided = λ four. other (sym bare.ends ∙ four);
   no_log = bare.no_logs;
   marked = λ core story witnesses told. let no : None ≡ Some (Impossible core story witnesses) = sym bare.no_verdict ∙ told in absurd (cc);
+  sharp = no_sharpening run bare.no_sharp;
 }
 
 conclusive_row : (study : Question) (run : Run) (text : List ℕ) → 3 ^ variable_count study.size ≤ study.conflicts → OverClauses study run text (IsReported study run text) → IsConclusive run

@@ -9,13 +9,18 @@ use Rattle.edge.specs.Shelf.{Files, OthersStay}
 use Rattle.edge.specs.Told.{AppendsPrefix}
 use Rattle.vocab.specs.declared.kinds.Kind.{Kind}
 use Rattle.vocab.specs.declared.kinds.Kind.TheVariants.{Sets}
+use Rattle.vocab.specs.Size.{IsSize}
 use Rattle.vocab.specs.Study.{Question}
 use Rattle.clause_text.specs.ReadDimacs.{Formula}
 use Rattle.verdicts.specs.declared.verdicts.Verdict.{Verdict}
-use Rattle.verdicts.specs.Judge.{Judgement, Confirmed}
+use Rattle.verdicts.specs.Judge.{Confirmed}
 use Rattle.verdicts.specs.Report.{IsReport}
 use Rattle.verdicts.specs.Words.{answer_text}
-use Rattle.words.specs.Words.{Request, Decide, Check, Export, Proof, Lrat, Axioms, Sample, Adopt, Gain, request_of}
+use Rattle.words.specs.Words.{Request, Decide, Check, Export, Proof, Lrat, Axioms, Sample, Adopt, Gain, Sharpen, request_of}
+use Rattle.sharp_verdicts.specs.Judged.{Judged, judged_text}
+use Rattle.sharp_verdicts.specs.Right.{Pointed}
+use Rattle.sharp_laws.specs.Laws.{IsSharpText}
+use Rattle.sharp_laws.proofs.ClaimLaws.{claims_hold}
 use Rattle.answers.specs.declared.runs.Run.{Run}
 use Rattle.answers.specs.Runs.{with_status}
 use Rattle.answers.specs.FileLimits.{most_report_bytes}
@@ -23,18 +28,18 @@ use Rattle.answers.specs.Studies.{GivesStudy, RefusesStudy, OverStudy, study_ref
 use Rattle.answers.specs.Grounding.{fault_of, OverClauses, clauses_refused, clauses_made}
 use Rattle.answers.specs.Lrat.{GivesFormula, IsConfirmedBy, formula_refused, proof_judged}
 use Rattle.answers.specs.Usage.{usage_line}
-use Rattle.answers.specs.Check.{IsJudged, judgement, status_of}
+use Rattle.answers.specs.Check.{IsJudged, judged, judged_status}
 use Rattle.answers.specs.Axioms.{library_text}
 use Rattle.answers.specs.Gain.{Gains, other_kind, of_sets}
 use Rattle.answers.specs.Lawful.{IsAnswer}
 use Rattle.answers.specs.Devices.{Devices}
 use Rattle.answers.specs.Call.{IsCall, AreFiles, are_told, none_read, AreUntouched, HasReadCause, at_first, at_second, IsFirstTaken, files_of, statuses_of, touched_at}
-use Rattle.answers.specs.Laws.{Says, IsConfirmedRight, ConfirmedHolds, ChecksAreAnswered, UsageIsExact, LibraryIsWritten, RefusedLeavesUnopened, OtherWordsTouchNone}
+use Rattle.answers.specs.Laws.{confirmed_sharp_line, Says, IsConfirmedAs, as_report, as_sharp_text, IsConfirmedRight, ConfirmedHolds, ChecksAreAnswered, UsageIsExact, LibraryIsWritten, RefusedLeavesUnopened, OtherWordsTouchNone}
 use Rattle.answers.specs.RowLaws.{WrittenDecisionsHold}
 use Rattle.answers.proofs.DecidedLaws.{decided_hold}
-use Rattle.answers.proofs.FitLemmas.{right_judged}
+use Rattle.answers.proofs.JudgedLaws.{report_checked, sharp_checked, report_answered, sharp_answered, zero_judged}
 use Rattle.answers.proofs.OneAnswer.{one_refusal}
-use Rattle.answers.proofs.ReportLaws.{reportable, listed, zero_confirms, confirmed_report, confirmed_claims}
+use Rattle.answers.proofs.ReportLaws.{reportable, listed, confirmed_report, confirmed_claims, by_status}
 use Rattle.answers.proofs.RowLemmas.{some_same, row_of, over_study, not_refused}
 
 module _ (words : List (List ℕ)) (d : Devices) (run : Run) (call : IsCall words d run) (request : Option Request) (asked : request_of words ≡ request) where
@@ -77,6 +82,7 @@ no_command (Some (Axioms kind)) e = absurd (true≢false (sym e))
 no_command (Some (Sample number)) e = absurd (true≢false (sym e))
 no_command (Some (Adopt study proof workers)) e = absurd (true≢false (sym e))
 no_command (Some (Gain study report)) e = absurd (true≢false (sym e))
+no_command (Some (Sharpen study workers)) e = absurd (true≢false (sym e))
 
 pub usage_exact : UsageIsExact
 usage_exact words d run call = record {
@@ -118,36 +124,51 @@ module _ (words : List (List ℕ)) (d : Devices) (run : Run) (files : Files) (na
       (row.0, subst (λ (t : List ℕ). Appends d.taken_before d.taken_now t) row.1 a.2)
 
   judged_says : run.status ≤ 4 → (study : Question) (bytes : List ℕ) → GivesStudy files name study → files report ≡ Some bytes
-      → Says d run (status_of (judgement study bytes)) (answer_text (judgement study bytes))
+      → Says d run (judged_status (judged study bytes)) (judged_text (judged study bytes))
   judged_says low study bytes g held =
       let a = written_at words d run call (Some (Check name report workers)) asked files (are_told told) low in
       let j : IsJudged files report study run a.0 = over_study files name run a.0 _ study g a.1 in
       let same : j.bytes ≡ bytes = some_same (files report) j.bytes bytes j.held held in (
-        j.ends.ends ∙ ap (λ b. status_of (judgement study b)) same,
-        subst (λ (t : List ℕ). Appends d.taken_before d.taken_now t) (j.is ∙ ap (λ b. answer_text (judgement study b)) same) a.2,
+        j.ends.ends ∙ ap (λ b. judged_status (judged study b)) same,
+        subst (λ (t : List ℕ). Appends d.taken_before d.taken_now t) (j.is ∙ ap (λ b. judged_text (judged study b)) same) a.2,
       )
 
   right_says : run.status ≤ 4 → (study : Question) (bytes : List ℕ) (verdict : Verdict) → GivesStudy files name study → files report ≡ Some bytes → IsReport study verdict bytes
       → length bytes ≤ most_report_bytes → Says d run 0 (answer_text (Confirmed verdict))
   right_says low study bytes verdict g held right fits =
-      subst (λ (a : Judgement). Says d run (status_of a) (answer_text a)) (right_judged study bytes verdict (reportable files name study g) (listed files name study g) right fits) (judged_says low study bytes g held)
+      subst (λ (a : Judged). Says d run (judged_status a) (judged_text a)) (report_checked study bytes verdict (reportable files name study g) (listed files name study g) right fits) (judged_says low study bytes g held)
+
+  sharp_says : run.status ≤ 4 → (study : Question) (bytes : List ℕ) (v : Pointed) → GivesStudy files name study → files report ≡ Some bytes → IsSharpText study v bytes
+      → length bytes ≤ most_report_bytes → Says d run 0 confirmed_sharp_line
+  sharp_says low study bytes v g held right fits =
+      subst (λ (a : Judged). Says d run (judged_status a) (judged_text a)) (sharp_checked study bytes v (reportable files name study g) (listed files name study g) right fits) (judged_says low study bytes g held)
+
+  -- what is confirmed with a text, and what it claims
+  confirmed_as : (study : Question) (bytes text : List ℕ) → IsSize study.size → judged_status (judged study bytes) ≡ 0 → text ≡ judged_text (judged study bytes)
+      → Appends d.taken_before d.taken_now text → IsConfirmedAs d study bytes
+  confirmed_as study bytes text size zero_is is written = elim (zero_judged (judged study bytes) zero_is) [
+    | inl c ↦
+        let answered = report_answered study bytes (Confirmed c.0) c.1 in
+        as_report c.0 (confirmed_report study bytes c.0 answered).0 (confirmed_claims study bytes size c.0 answered)
+        (subst (λ (t : List ℕ). Appends d.taken_before d.taken_now t) (is ∙ ap judged_text c.1) written)
+    | inr c ↦
+        let right = (sharp_answered study bytes c.0 c.1).0 in
+        as_sharp_text c.0 right (claims_hold study size c.0 right.right)
+        (subst (λ (t : List ℕ). Appends d.taken_before d.taken_now t) (is ∙ ap judged_text c.1) written)
+  ]
 
   confirmed_row : (text : List ℕ) → run.status ≡ 0 → Appends d.taken_before d.taken_now text → OverStudy files name run text (λ study. IsJudged files report study run text)
       → IsConfirmedRight d files name report
   confirmed_row text zero_is written (study_refused r b) = let three : 0 ≡ 3 = sym zero_is ∙ b.ends in absurd (omega (arith, three))
   confirmed_row text zero_is written (study_given study g j) =
-      let c = zero_confirms (judgement study j.bytes) (sym j.ends.ends ∙ zero_is) in
-      let right = confirmed_report study j.bytes c.0 c.1 in
+      let confirms : judged_status (judged study j.bytes) ≡ 0 = sym j.ends.ends ∙ zero_is in
       record {
         study = study;
         bytes = j.bytes;
-        verdict = c.0;
         given = g;
         held = j.held;
-        right = right.0;
-        fits = right.1;
-        holds = confirmed_claims study j.bytes (reportable files name study g).size c.0 c.1;
-        written = subst (λ (t : List ℕ). Appends d.taken_before d.taken_now t) (j.is ∙ ap answer_text c.1) written;
+        fits = (by_status study j.bytes confirms).1;
+        right = confirmed_as study j.bytes text (reportable files name study g).size confirms j.is written;
       }
 
   confirmed : run.status ≡ 0 → IsConfirmedRight d files name report
@@ -163,6 +184,7 @@ checks_answered words d run files name report workers call told asked low = reco
   refused = refused_says words d run files name report workers call told asked low;
   judged = judged_says words d run files name report workers call told asked low;
   right = right_says words d run files name report workers call told asked low;
+  sharp = sharp_says words d run files name report workers call told asked low;
 }
 
 -- ---- `decide`
@@ -232,6 +254,7 @@ three_untaken (Some (Adopt study proof workers)) files first second run text two
     over_untaken files study first run text _ (first_same study first _ _ two) (λ s g p. adopted_untaken s run text _ (λ none. untaken (s, g, none)) p) row
 three_untaken (Some (Gain study report)) files first second run text two untaken row =
     over_untaken files study first run text _ (first_same study first _ _ two) (λ s g p. gained_untaken files report s run text (λ is. untaken (s, g, is)) p) row
+three_untaken (Some (Sharpen study workers)) files first second run text two untaken row = absurd (cc)
 
 module _ (words : List (List ℕ)) (d : Devices) (run : Run) (files : Files) (first second : List ℕ) (call : IsCall words d run) (told : d.told ≡ Some files)
     (two : files_of (request_of words) ≡ first ∷ second ∷ []) (untaken : IsFirstTaken (request_of words) files first → ⊥) where

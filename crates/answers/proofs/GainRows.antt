@@ -1,5 +1,5 @@
 -- What `gain` says of a rule.
-use Rattle.std.proofs.Common.{◌≡◌, ◌≢◌, ◌∙◌, refl, sym, ap, subst, ℕ, ◌≤◌, true≢false, List, length, get_or, codes, Option, None, Some, arith}
+use Rattle.std.proofs.Common.{◌≡◌, ◌≢◌, ◌∙◌, refl, sym, ap, subst, ℕ, ◌≤◌, true, true≢false, List, length, get_or, codes, Option, None, Some, arith}
 use Rattle.std.specs.Prelude.{◌↔◌, IsTrue, MatchOption}
 use Rattle.std.specs.Io.KnownBytes.{Appends}
 use Rattle.edge.specs.Shelf.{Files}
@@ -15,6 +15,7 @@ use Rattle.choice_sets.specs.Gains.{first_gain, gains}
 use Rattle.choice_sets.specs.Laws.{HasNoGain, IsManipulation}
 use Rattle.choice_sets.proofs.FoundLaws.{are_found}
 use Rattle.words.specs.Words.{Gain, request_of}
+use Rattle.sharp_verdicts.specs.Judged.{has_sharp_title}
 use Rattle.answers.specs.declared.runs.Run.{Run}
 use Rattle.answers.specs.FileLimits.{most_report_bytes}
 use Rattle.answers.specs.Studies.{GivesStudy, RefusesStudy}
@@ -27,6 +28,7 @@ use Rattle.answers.specs.Laws.{Says}
 use Rattle.answers.specs.GainLaws.{GainsAreAnswered, NoneIsNoGain}
 use Rattle.answers.proofs.DeviceLaws.{refused_row, written_at}
 use Rattle.answers.proofs.FitLemmas.{right_judged}
+use Rattle.answers.proofs.JudgedLaws.{titled_is_faulty}
 use Rattle.answers.proofs.ReportLaws.{listed, reportable}
 use Rattle.answers.proofs.RowLemmas.{over_study, row_of, some_same}
 
@@ -94,10 +96,16 @@ module _ (words : List (List ℕ)) (d : Devices) (run : Run) (files : Files) (na
       subst (λ (a : Judgement). Says d run (status_of a) (said_of_gain study a))
       (right_judged study bytes verdict (reportable files name study g) (listed files name study g) right fits) (judged_says study bytes g sets held)
 
+  sharp_says : (study : Question) (bytes : List ℕ) → GivesStudy files name study → study.size.kind ≡ Sets → files report ≡ Some bytes → has_sharp_title bytes ≡ true
+      → Says d run 1 (codes "refused line 1: form\n")
+  sharp_says study bytes g sets held titled =
+      subst (λ (a : Judgement). Says d run (status_of a) (said_of_gain study a)) (titled_is_faulty study bytes titled) (judged_says study bytes g sets held)
+
 pub gains_answered : GainsAreAnswered
 gains_answered words d run files name report call told asked low = record {
   refused = refused_says words d run files name report call told asked low;
   other_kind = other_says words d run files name report call told asked low;
   judged = judged_says words d run files name report call told asked low;
   right = right_says words d run files name report call told asked low;
+  sharp = sharp_says words d run files name report call told asked low;
 }

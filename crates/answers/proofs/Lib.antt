@@ -1,6 +1,7 @@
 -- In proof order.
 mod RowLemmas
 mod FitLemmas
+mod JudgedLaws
 mod DecidedLaws
 pub mod ReportLaws
 mod ClauseLaws
@@ -12,7 +13,9 @@ mod RangeLemmas
 mod ExportLemmas
 mod ConfirmedLaws
 mod AdoptLaws
-mod ConclusiveCalls
 mod GainRows
 mod WrittenReports
+mod SharpenLaws
+mod SharpenRows
+mod ConclusiveCalls
 mod WorkedExamples

@@ -3,14 +3,14 @@ use Rattle.std.proofs.Common.{◌≡◌, ◌∙◌, sym, refl, subst, ap, ap₂,
 use Rattle.edge.specs.Shelf.{Files}
 use Rattle.vocab.specs.Study.{Question}
 use Rattle.clause_text.specs.ReadDimacs.{Formula, read_dimacs}
-use Rattle.verdicts.specs.Words.{answer_text}
-use Rattle.words.specs.Words.{Request, Decide, Check, Export, Proof, Lrat, Axioms, Sample, Adopt, Gain, request_of}
+use Rattle.sharp_verdicts.specs.Judged.{judged_text}
+use Rattle.words.specs.Words.{Request, Decide, Check, Export, Proof, Lrat, Axioms, Sample, Adopt, Gain, Sharpen, request_of}
 use Rattle.answers.specs.declared.runs.Run.{Run}
 use Rattle.answers.specs.Runs.{IsBare}
 use Rattle.answers.specs.FileLimits.{Holds, HoldsTooMany, most_study_bytes, most_cnf_bytes}
 use Rattle.answers.specs.StudyLines.{study_line}
 use Rattle.answers.specs.Studies.{RefusesStudy, too_long, no_study, OverStudy, study_refused, study_given}
-use Rattle.answers.specs.Check.{IsJudged, judgement, status_of}
+use Rattle.answers.specs.Check.{IsJudged, judgement, judged, status_of, judged_status}
 use Rattle.answers.specs.Grounding.{fault_of, refusal_line, OverClauses, clauses_refused, clauses_made}
 use Rattle.answers.specs.Export.{IsExported}
 use Rattle.answers.specs.Lrat.{GivesFormula, RefusesFormula, too_long as long_cnf, no_formula, cnf_line, IsConfirmedBy, formula_refused, proof_judged, said_of}
@@ -20,13 +20,14 @@ use Rattle.answers.specs.Laws.{IsSettled, AnswersAreOne}
 use Rattle.answers.specs.RowLaws.{AreSame, RowsAreOne}
 use Rattle.answers.proofs.RowLemmas.{some_same, same_reading, one_study, not_refused, one_formula}
 
--- two runs that tell of no search are one, where their statuses are
+-- two runs that tell of no search and of nothing sharp are one, where their statuses are
 one_run : (run run' : Run) (s s' : ℕ) → IsBare run s → IsBare run' s' → s ≡ s' → run ≡ run'
 one_run run run' s s' b b' e =
     let ends : run.status ≡ run'.status = b.ends ∙ e ∙ sym b'.ends in
     let verdicts : run.verdict ≡ run'.verdict = b.no_verdict ∙ sym b'.no_verdict in
     let logs : run.logs ≡ run'.logs = b.no_logs ∙ sym b'.no_logs in
-    λ i. record { status = ends i; verdict = verdicts i; logs = logs i }
+    let sharps : run.sharp ≡ run'.sharp = b.no_sharp ∙ sym b'.no_sharp in
+    λ i. record { status = ends i; verdict = verdicts i; logs = logs i; sharp = sharps i }
 
 module _ (files : Files) (name : List ℕ) where
   long_or_not : (limit : ℕ) (h : HoldsTooMany files limit name) (bytes : List ℕ) → Holds files limit name bytes → ⊥
@@ -99,8 +100,8 @@ module _ (files : Files) (run run' : Run) (text text' : List ℕ) where
   one_judged : (report : List ℕ) (study : Question) → IsJudged files report study run text → IsJudged files report study run' text' → AreSame run run' text text'
   one_judged report study j j' =
       let same : j.bytes ≡ j'.bytes = some_same (files report) j.bytes j'.bytes j.held j'.held in (
-        one_run run run' _ _ j.ends j'.ends (ap (λ b. status_of (judgement study b)) same),
-        j.is ∙ ap (λ b. answer_text (judgement study b)) same ∙ sym j'.is,
+        one_run run run' _ _ j.ends j'.ends (ap (λ b. judged_status (judged study b)) same),
+        j.is ∙ ap (λ b. judged_text (judged study b)) same ∙ sym j'.is,
       )
 
   one_gain : (report : List ℕ) (study : Question) → Gains files report study run text → Gains files report study run' text' → AreSame run run' text text'
@@ -124,6 +125,7 @@ module _ (files : Files) (run run' : Run) (text text' : List ℕ) where
   one_row (Some (Sample number)) settled a a' = absurd settled
   one_row (Some (Adopt study proof workers)) settled a a' = absurd settled
   one_row (Some (Gain study report)) settled a a' = one_over files study run run' text text' _ _ (one_gain report) a a'
+  one_row (Some (Sharpen study workers)) settled a a' = absurd settled
 
 pub one_answer : AnswersAreOne
 one_answer words files run run' text text' settled a a' = one_row files run run' text text' (request_of words) settled a a'

@@ -1,11 +1,11 @@
--- `check` confirms exactly the reports of right verdicts, those that `decide` prints among them, and what they claim holds.
-use Rattle.std.proofs.Common.{◌≡◌, ◌∙◌, ◌↔◌, refl, sym, subst, ap, true≢false, ℕ, ◌≤◌, List, length, Some, arith}
+-- `check` confirms exactly the reports of right verdicts, those that `decide` prints among them, and the texts of right sharp verdicts; and what reports claim holds.
+use Rattle.std.proofs.Common.{◌≡◌, ◌∙◌, ◌↔◌, sym, subst, ap, true≢false, ℕ, ◌≤◌, inl, inr, List, length, Some}
 use Rattle.edge.specs.Shelf.{Files}
 use Rattle.vocab.specs.Size.{IsSize}
 use Rattle.vocab.specs.Study.{Question, HasFewAxioms}
 use Rattle.verdicts.specs.declared.verdicts.Verdict.{Verdict}
 use Rattle.verdicts.specs.declared.verdicts.Verdict.TheVariants.{Possible, Impossible, Undecided}
-use Rattle.verdicts.specs.Judge.{Judgement, Confirmed, Faulty, TooLong}
+use Rattle.verdicts.specs.Judge.{Confirmed}
 use Rattle.verdicts.specs.Laws.{IsReportable}
 use Rattle.verdicts.specs.Report.{IsConfirmed, IsReport}
 use Rattle.verdicts.proofs.ClaimLaws.{claims_hold, within_limit}
@@ -16,13 +16,14 @@ use Rattle.words.specs.Words.{Check}
 use Rattle.answers.specs.declared.runs.Run.{Run}
 use Rattle.answers.specs.FileLimits.{most_report_bytes}
 use Rattle.answers.specs.Studies.{GivesStudy}
-use Rattle.answers.specs.Check.{IsJudged, judgement, status_of}
+use Rattle.answers.specs.Check.{IsJudged, judgement, judged, status_of, judged_status}
 use Rattle.verdicts.specs.Claims.{Claims}
 use Rattle.answers.specs.Decide.{IsReported}
-use Rattle.answers.specs.Laws.{CheckedAreRight}
+use Rattle.answers.specs.Laws.{IsRightText, CheckedAreRight}
 use Rattle.answers.specs.RowLaws.{DecidedAreConfirmed}
 use Rattle.answers.proofs.DecidedLaws.{found_at}
 use Rattle.answers.proofs.FitLemmas.{right_judged}
+use Rattle.answers.proofs.JudgedLaws.{report_checked, sharp_checked, report_answered, sharp_answered, zero_judged}
 use Rattle.answers.proofs.RowLemmas.{some_same, row_of, over_study, granted}
 
 -- a study that was read is one whose reports the laws speak of
@@ -34,12 +35,6 @@ reportable files name study g =
 -- and it has at most 40 axioms
 pub listed : (files : Files) (name : List ℕ) (study : Question) → GivesStudy files name study → HasFewAxioms study
 listed files name study g = (studies_whole g.bytes study g.read).3
-
--- status 0 says that the answer is a confirmation
-pub zero_confirms : (a : Judgement) → status_of a ≡ 0 → (verdict : Verdict) × (a ≡ Confirmed verdict)
-zero_confirms (Confirmed verdict) e = (verdict, refl)
-zero_confirms (Faulty line word) e = absurd (omega (arith, e))
-zero_confirms TooLong e = absurd (omega (arith, e))
 
 module _ (study : Question) (bytes : List ℕ) where
   -- a verdict that is confirmed is right, within its limit
@@ -57,23 +52,29 @@ module _ (study : Question) (bytes : List ℕ) where
       λ table. (((claims_hold study size bytes).1 core story witnesses).0 within.1 table).0
   confirmed_claims size Undecided e = true≢false (sym (confirmed_report Undecided e).0.claims_some)
 
-  by_status : status_of (judgement study bytes) ≡ 0 → IsConfirmed study bytes × (length bytes ≤ most_report_bytes)
-  by_status e =
-      let c = zero_confirms (judgement study bytes) e in
-      let right = confirmed_report c.0 c.1 in
-      ((c.0, right.0), right.1)
+  -- status 0 of `check` says that the text is of something right
+  pub by_status : judged_status (judged study bytes) ≡ 0 → IsRightText study bytes × (length bytes ≤ most_report_bytes)
+  by_status e = elim (zero_judged (judged study bytes) e) [
+    | inl c ↦ let right = confirmed_report c.0 (report_answered study bytes (Confirmed c.0) c.1) in (inl (c.0, right.0), right.1)
+    | inr c ↦ let right = sharp_answered study bytes c.0 c.1 in (inr (c.0, right.0), right.1)
+  ]
 
-  -- and a confirmed report within its limit has status 0
+  -- and such a text within its limit has status 0
+  by_text : IsReportable study → HasFewAxioms study → IsRightText study bytes → length bytes ≤ most_report_bytes → judged_status (judged study bytes) ≡ 0
+  by_text whole few (inl c) fits = ap judged_status (report_checked study bytes c.0 whole few c.1 fits)
+  by_text whole few (inr c) fits = ap judged_status (sharp_checked study bytes c.0 whole few c.1 fits)
+
+  -- a confirmed report within its limit has it for `gain` too
   pub by_report : IsReportable study → HasFewAxioms study → IsConfirmed study bytes → length bytes ≤ most_report_bytes → status_of (judgement study bytes) ≡ 0
   by_report whole few c fits = ap status_of (right_judged study bytes c.0 whole few c.1 fits)
 
 checked_row : (files : Files) (name report : List ℕ) (run : Run) (text : List ℕ) (study : Question) (bytes : List ℕ) → GivesStudy files name study → files report ≡ Some bytes
-    → IsJudged files report study run text → (run.status ≡ 0) ↔ (IsConfirmed study bytes × (length bytes ≤ most_report_bytes))
+    → IsJudged files report study run text → (run.status ≡ 0) ↔ (IsRightText study bytes × (length bytes ≤ most_report_bytes))
 checked_row files name report run text study bytes g held j =
     let same : j.bytes ≡ bytes = some_same (files report) j.bytes bytes j.held held in
-    let status : run.status ≡ status_of (judgement study bytes) = subst (λ (x : List ℕ). run.status ≡ status_of (judgement study x)) same j.ends.ends in (
+    let status : run.status ≡ judged_status (judged study bytes) = subst (λ (x : List ℕ). run.status ≡ judged_status (judged study x)) same j.ends.ends in (
       λ e. by_status study bytes (sym status ∙ e),
-      λ c. status ∙ by_report study bytes (reportable files name study g) (listed files name study g) c.0 c.1,
+      λ c. status ∙ by_text study bytes (reportable files name study g) (listed files name study g) c.0 c.1,
     )
 
 pub checked_right : CheckedAreRight
@@ -87,4 +88,4 @@ decided_confirmed files name run text study row g zero_is fits =
     let r = granted files name run text (λ s. IsReported s run text) study g zero_is row in
     let f = found_at study run r.verdict zero_is r.decides in
     let report = printed_is_report study text r.verdict f.claims_some f.right r.is in
-    (r.verdict, f.told, right_judged study text r.verdict (reportable files name study g) (listed files name study g) report fits)
+    (r.verdict, f.told, report_checked study text r.verdict (reportable files name study g) (listed files name study g) report fits)

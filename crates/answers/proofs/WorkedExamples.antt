@@ -7,8 +7,10 @@ use Rattle.verdicts.specs.declared.refusals.Refusal.TheVariants.{Form}
 use Rattle.verdicts.specs.declared.verdicts.Verdict.TheVariants.{Possible}
 use Rattle.verdicts.specs.Judge.{Confirmed, Faulty, TooLong}
 use Rattle.clause_text.specs.ReadDimacs.{Formula}
+use Rattle.sharp_verdicts.specs.declared.refusals.SharpRefusal.TheVariants.{Instance}
+use Rattle.sharp_verdicts.specs.SharpJudge.{SharpConfirmed, SharpFaulty, SharpTooLong}
 use Rattle.answers.specs.Call.{touched_at}
-use Rattle.answers.specs.Check.{status_of}
+use Rattle.answers.specs.Check.{status_of, sharp_status_of}
 use Rattle.answers.specs.Gain.{rule_text}
 use Rattle.answers.specs.Lrat.{said_of}
 
@@ -16,6 +18,10 @@ use Rattle.answers.specs.Lrat.{said_of}
 
 confirmed_reports_alone_end_with_status_0 : map status_of (Confirmed (Possible (0 ∷ [])) ∷ Faulty 9 Form ∷ TooLong ∷ []) ≡ 0 ∷ 1 ∷ 1 ∷ []
 confirmed_reports_alone_end_with_status_0 = refl
+
+confirmed_sharp_texts_alone_end_with_status_0 : map sharp_status_of (SharpConfirmed (record { core = []; story = []; instances = []; marks = [] }) ∷ SharpFaulty 19 Instance ∷ SharpTooLong ∷ [])
+    ≡ 0 ∷ 1 ∷ 1 ∷ []
+confirmed_sharp_texts_alone_end_with_status_0 = refl
 
 -- at status 3 the second file is not touched
 refused_study_leaves_the_report : map (λ status. touched_at status (codes "s" ∷ codes "r" ∷ [])) (3 ∷ 1 ∷ []) ≡ (codes "s" ∷ []) ∷ (codes "s" ∷ codes "r" ∷ []) ∷ []

@@ -10,7 +10,7 @@ use Rattle.edge.specs.Told.{AppendsPrefix}
 use Rattle.vocab.specs.declared.kinds.Kind.TheVariants.{Sets}
 use Rattle.vocab.specs.Study.{Question}
 use Rattle.clause_text.specs.ReadDimacs.{Formula}
-use Rattle.words.specs.Words.{Request, Decide, Check, Export, Proof, Lrat, Axioms, Sample, Adopt, Gain, request_of}
+use Rattle.words.specs.Words.{Request, Decide, Check, Export, Proof, Lrat, Axioms, Sample, Adopt, Gain, Sharpen, request_of}
 use Rattle.answers.specs.declared.runs.Run.{Run}
 use Rattle.answers.specs.Runs.{with_status}
 use Rattle.answers.specs.Studies.{GivesStudy}
@@ -33,6 +33,7 @@ files_of (Some (Axioms kind)) = []
 files_of (Some (Sample number)) = []
 files_of (Some (Adopt study proof workers)) = study ∷ proof ∷ []
 files_of (Some (Gain study report)) = study ∷ report ∷ []
+files_of (Some (Sharpen study workers)) = study ∷ []
 
 -- the statuses of a command
 abbrev pub statuses_of : Option Request → List ℕ
@@ -46,6 +47,7 @@ statuses_of (Some (Axioms kind)) = 0 ∷ 6 ∷ 7 ∷ []
 statuses_of (Some (Sample number)) = 0 ∷ 3 ∷ 4 ∷ 6 ∷ 7 ∷ []
 statuses_of (Some (Adopt study proof workers)) = 0 ∷ 1 ∷ 3 ∷ 5 ∷ 6 ∷ 7 ∷ []
 statuses_of (Some (Gain study report)) = 0 ∷ 1 ∷ 3 ∷ 5 ∷ 6 ∷ 7 ∷ []
+statuses_of (Some (Sharpen study workers)) = 0 ∷ 3 ∷ 4 ∷ 5 ∷ 6 ∷ 7 ∷ []
 
 -- the files that a command may touch, by its status: at 3 its first file alone
 abbrev pub touched_at : ℕ → List (List ℕ) → List (List ℕ)
@@ -92,8 +94,8 @@ module _ (words : List (List ℕ)) (d : Devices) (files : Files) (run : Run) whe
     pub lawful : Lawful words files run text
     pub written : Appends d.taken_before d.taken_now text
 
-  -- the front of the text of a lawful answer was written, which has the verdict and the logs of the run; and
-  -- no file was touched that the answer leaves alone
+  -- the front of the text of a lawful answer was written, which has the verdict, the logs and the sharpening of
+  -- the run; and no file was touched that the answer leaves alone
   pub record IsAnsweredInPart : Type 0 where
     pub status : ℕ
     pub text : List ℕ
@@ -101,11 +103,12 @@ module _ (words : List (List ℕ)) (d : Devices) (files : Files) (run : Run) whe
     pub written : AppendsPrefix d.taken_before d.taken_now text
     pub untouched : AreUntouched status (files_of (request_of words)) d.left_before d.left_now
 
--- nothing was written, and no search is told of
+-- nothing was written, and no search and nothing sharp is told of
 pub record IsSilent (run : Run) (before now : Option (List ℕ)) : Type 0 where
   pub kept : Keeps before now
   pub no_verdict : run.verdict ≡ None
   pub no_logs : run.logs ≡ []
+  pub no_sharp : run.sharp ≡ None
 
 -- what a call promises: its status and its answer, what was written, the causes of faults, and the files that
 -- stay as they were

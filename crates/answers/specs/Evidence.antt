@@ -1,5 +1,5 @@
 -- What a search found, and the evidence that a run has for it.
-use Rattle.std.specs.Prelude.{◌≡◌, List, Any, Some, IsTrue}
+use Rattle.std.specs.Prelude.{◌≡◌, List, Any, None, Some, IsTrue}
 use Rattle.vocab.specs.Study.{Question}
 use Rattle.meaning.specs.Tidy.{is_tidy}
 use Rattle.verdicts.specs.declared.verdicts.Verdict.{Verdict}
@@ -17,7 +17,7 @@ module _ (study : Question) where
   IsBacked logs _ = Unit {0}
 
   -- the run has found a verdict: it is right and claims something, with what there is besides; and each log
-  -- is of a search that spent its limit
+  -- is of a search that spent its limit; nothing is sharpened
   pub record IsFound (run : Run) (verdict : Verdict) : Type 0 where
     pub ends : run.status ≡ 0
     pub told : run.verdict ≡ Some verdict
@@ -25,13 +25,15 @@ module _ (study : Question) where
     pub right : IsTrue (is_right study verdict)
     pub backed : IsBacked run.logs verdict
     pub logs : AreSpentLogs study run.logs
+    pub no_sharp : run.sharp ≡ None
 
-  -- the run has found nothing: a search over all axioms spent its limit
+  -- the run has found nothing: a search over all axioms spent its limit; nothing is sharpened
   pub record IsUndecided (run : Run) : Type 0 where
     pub ends : run.status ≡ 4
     pub told : run.verdict ≡ Some Undecided
     pub spent : Any (IsOfAll study) run.logs
     pub logs : AreSpentLogs study run.logs
+    pub no_sharp : run.sharp ≡ None
 
 -- the run decides the study: it has found a verdict, or nothing
 pub data Decides (study : Question) (run : Run) (verdict : Verdict) : Type 0 where

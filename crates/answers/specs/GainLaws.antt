@@ -1,5 +1,5 @@
 -- What follows from the row of `gain`. Each is proved as the contract of a function of the same name in src/laws.rt.
-use Rattle.std.specs.Prelude.{◌≡◌, ◌≢◌, ◌≤◌, ◌↔◌, ℕ, List, length, codes, Some}
+use Rattle.std.specs.Prelude.{◌≡◌, ◌≢◌, ◌≤◌, ◌↔◌, ℕ, List, length, codes, Some, IsTrue}
 use Rattle.edge.specs.Shelf.{Files}
 use Rattle.vocab.specs.declared.kinds.Kind.TheVariants.{Sets}
 use Rattle.vocab.specs.Study.{Question}
@@ -9,6 +9,7 @@ use Rattle.verdicts.specs.Judge.{Confirmed}
 use Rattle.verdicts.specs.Report.{IsReport}
 use Rattle.choice_sets.specs.Laws.{HasNoGain}
 use Rattle.words.specs.Words.{Gain, request_of}
+use Rattle.sharp_verdicts.specs.Judged.{has_sharp_title}
 use Rattle.answers.specs.declared.runs.Run.{Run}
 use Rattle.answers.specs.FileLimits.{most_report_bytes}
 use Rattle.answers.specs.Studies.{GivesStudy, RefusesStudy}
@@ -27,8 +28,8 @@ NoneIsNoGain =
     study.size.kind ≡ Sets → files report ≡ Some bytes → judgement study bytes ≡ Confirmed (Possible table) →
     (text ≡ codes "none\n") ↔ HasNoGain study.size table
 
--- row by row: a study that is refused, one of another kind, a report that is judged, and the report of a right
--- verdict
+-- row by row: a study that is refused, one of another kind, a report that is judged, the report of a right verdict,
+-- and a text that begins with the title of a sharp one, which is no report, whatever follows and however long
 pub record AreGainRows (d : Devices) (run : Run) (files : Files) (name report : List ℕ) : Type 0 where
   pub refused : (text : List ℕ) → RefusesStudy files name text → Says d run 3 text
   pub other_kind : (study : Question) → GivesStudy files name study → study.size.kind ≢ Sets
@@ -39,6 +40,8 @@ pub record AreGainRows (d : Devices) (run : Run) (files : Files) (name report : 
   pub right : (study : Question) (bytes : List ℕ) (verdict : Verdict) → GivesStudy files name study
       → study.size.kind ≡ Sets → files report ≡ Some bytes → IsReport study verdict bytes
       → length bytes ≤ most_report_bytes → Says d run 0 (said_of_gain study (Confirmed verdict))
+  pub sharp : (study : Question) (bytes : List ℕ) → GivesStudy files name study → study.size.kind ≡ Sets
+      → files report ≡ Some bytes → IsTrue (has_sharp_title bytes) → Says d run 1 (codes "refused line 1: form\n")
 
 -- each row of `gain` is what is answered where it applies, faults and want of memory aside
 abbrev pub GainsAreAnswered : Type 0

@@ -1,7 +1,7 @@
 -- The table of answers: which run and which text answer which words, over which files.
 use Rattle.std.specs.Prelude.{ℕ, List, Option, None, Some}
 use Rattle.edge.specs.Shelf.{Files}
-use Rattle.words.specs.Words.{Request, Decide, Check, Export, Proof, Lrat, Axioms, Sample, Adopt, Gain, request_of}
+use Rattle.words.specs.Words.{Request, Decide, Check, Export, Proof, Lrat, Axioms, Sample, Adopt, Gain, Sharpen, request_of}
 use Rattle.answers.specs.declared.runs.Run.{Run}
 use Rattle.answers.specs.Usage.{IsUsage}
 use Rattle.answers.specs.Decide.{IsDecided}
@@ -13,6 +13,7 @@ use Rattle.answers.specs.Axioms.{IsListed}
 use Rattle.answers.specs.Sample.{IsSampled}
 use Rattle.answers.specs.Adopt.{IsAdoption}
 use Rattle.answers.specs.Gain.{IsGained}
+use Rattle.answers.specs.Sharpen.{IsSharpening}
 
 -- A row for each request. Where a file that is needed is not held, no answer is lawful. The number of workers changes none.
 abbrev pub IsAnswer : Option Request → Files → Run → List ℕ → Type 0
@@ -26,6 +27,7 @@ IsAnswer (Some (Axioms kind)) files run text = IsListed kind run text
 IsAnswer (Some (Sample number)) files run text = IsSampled number run text
 IsAnswer (Some (Adopt study proof workers)) files run text = IsAdoption files study proof run text
 IsAnswer (Some (Gain study report)) files run text = IsGained files study report run text
+IsAnswer (Some (Sharpen study workers)) files run text = IsSharpening files study run text
 
 -- this run and this text answer the words
 abbrev pub Lawful : List (List ℕ) → Files → Run → List ℕ → Type 0

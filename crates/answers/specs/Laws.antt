@@ -1,6 +1,6 @@
 -- What follows from the table of answers. Each is proved as the contract of a function of the same name in
 -- src/laws.rt.
-use Rattle.std.specs.Prelude.{◌≡◌, ◌≢◌, ℕ, ◌≤◌, ◌⊎◌, ◌↔◌, List, [], ◌∷◌, length, codes, Option, None, Some}
+use Rattle.std.specs.Prelude.{◌≡◌, ◌≢◌, ℕ, ◌≤◌, ◌⊎◌, ◌↔◌, List, [], ◌∷◌, length, codes, Option, None, Some, IsFalse}
 use Rattle.std.specs.Io.KnownBytes.{Appends}
 use Rattle.vocab.specs.declared.kinds.Kind.{Kind}
 use Rattle.vocab.specs.declared.kinds.Kind.TheVariants.{Sets}
@@ -12,7 +12,11 @@ use Rattle.verdicts.specs.declared.verdicts.Verdict.{Verdict}
 use Rattle.verdicts.specs.Judge.{Confirmed}
 use Rattle.verdicts.specs.Report.{IsReport, IsConfirmed}
 use Rattle.verdicts.specs.Words.{answer_text}
-use Rattle.words.specs.Words.{Request, Decide, Check, Export, Proof, Lrat, Axioms, Sample, Adopt, Gain, request_of}
+use Rattle.words.specs.Words.{Request, Decide, Check, Export, Proof, Lrat, Axioms, Sample, Adopt, Gain, Sharpen, request_of}
+use Rattle.sharp_verdicts.specs.Judged.{judged_text}
+use Rattle.sharp_verdicts.specs.Right.{Pointed}
+use Rattle.sharp_verdicts.specs.Totals.{is_over, total}
+use Rattle.sharp_laws.specs.Laws.{IsSharpText, SharpClaims}
 use Rattle.answers.specs.declared.runs.Run.{Run}
 use Rattle.answers.specs.FileLimits.{most_report_bytes, most_proof_bytes, Holds}
 use Rattle.clause_text.specs.ReadDimacs.{Formula}
@@ -23,7 +27,7 @@ use Rattle.answers.specs.Export.{exported_formula}
 use Rattle.answers.specs.Lrat.{GivesFormula, said_of}
 use Rattle.verdicts.specs.Claims.{Claims}
 use Rattle.answers.specs.Usage.{usage_line}
-use Rattle.answers.specs.Check.{judgement, status_of}
+use Rattle.answers.specs.Check.{judged, judged_status}
 use Rattle.answers.specs.Axioms.{library_text}
 use Rattle.answers.specs.Lawful.{Lawful}
 use Rattle.answers.specs.Devices.{Devices}
@@ -35,42 +39,61 @@ Says d run status text = (run.status ≡ status) × Appends d.taken_before d.tak
 
 -- ---- `check`
 
--- `check` confirms exactly the reports of right verdicts that claim something, within the limit
+-- the line for a sharp text that is confirmed
+abbrev pub confirmed_sharp_line : List ℕ
+confirmed_sharp_line = codes "confirmed sharp\n"
+
+-- the bytes are the report of a right verdict that claims something, or the text of a right sharp verdict
+abbrev pub IsRightText : Question → List ℕ → Type 0
+IsRightText study bytes = IsConfirmed study bytes ⊎ ((v : Pointed) × IsSharpText study v bytes)
+
+-- `check` confirms exactly the reports of right verdicts that claim something and the texts of right sharp verdicts,
+-- within the limit
 abbrev pub CheckedAreRight : Type 0
 CheckedAreRight =
     (words : List (List ℕ)) (files : Files) (run : Run) (text name report bytes : List ℕ) (workers : ℕ)
     (study : Question) → Lawful words files run text → request_of words ≡ Some (Check name report workers) →
     GivesStudy files name study → files report ≡ Some bytes →
-    (run.status ≡ 0) ↔ (IsConfirmed study bytes × (length bytes ≤ most_report_bytes))
+    (run.status ≡ 0) ↔ (IsRightText study bytes × (length bytes ≤ most_report_bytes))
 
--- the file of the study gives one, and that of the report is the report, within its limit, of a verdict that
--- is right over it; what the verdict claims holds, and the line for it was written
+-- the bytes are the report of a verdict that is right over the study, or the text of a sharp verdict that is; what it
+-- claims holds, and the line for it was written
+pub data IsConfirmedAs (d : Devices) (study : Question) (bytes : List ℕ) : Type 0 where
+  as_report : (verdict : Verdict) → IsReport study verdict bytes → Claims study verdict
+      → Appends d.taken_before d.taken_now (answer_text (Confirmed verdict))
+      → IsConfirmedAs d study bytes
+  as_sharp_text : (v : Pointed) → IsSharpText study v bytes → SharpClaims study v
+      → Appends d.taken_before d.taken_now confirmed_sharp_line
+      → IsConfirmedAs d study bytes
+
+-- the file of the study gives one, and that of the report is such a text, within its limit
 pub record IsConfirmedRight (d : Devices) (files : Files) (name report : List ℕ) : Type 0 where
   pub study : Question
   pub bytes : List ℕ
-  pub verdict : Verdict
   pub given : GivesStudy files name study
   pub held : files report ≡ Some bytes
-  pub right : IsReport study verdict bytes
   pub fits : length bytes ≤ most_report_bytes
-  pub holds : Claims study verdict
-  pub written : Appends d.taken_before d.taken_now (answer_text (Confirmed verdict))
+  pub right : IsConfirmedAs d study bytes
 
--- where `check` ends with status 0, it was such a report
+-- where `check` ends with status 0, it was such a text
 abbrev pub ConfirmedHolds : Type 0
 ConfirmedHolds =
     (words : List (List ℕ)) (d : Devices) (run : Run) (files : Files) (name report : List ℕ) (workers : ℕ) →
     IsCall words d run → d.told ≡ Some files → request_of words ≡ Some (Check name report workers) →
     run.status ≡ 0 → IsConfirmedRight d files name report
 
--- row by row: a study that is refused, a report that is judged, and the report of a right verdict
+-- row by row: a study that is refused, a report or a sharp text that is judged, the report of a right verdict, and the
+-- text of a right sharp verdict
 pub record AreRows (d : Devices) (run : Run) (files : Files) (name report : List ℕ) : Type 0 where
   pub refused : (text : List ℕ) → RefusesStudy files name text → Says d run 3 text
   pub judged : (study : Question) (bytes : List ℕ) → GivesStudy files name study → files report ≡ Some bytes
-      → Says d run (status_of (judgement study bytes)) (answer_text (judgement study bytes))
+      → Says d run (judged_status (judged study bytes)) (judged_text (judged study bytes))
   pub right : (study : Question) (bytes : List ℕ) (verdict : Verdict) → GivesStudy files name study
       → files report ≡ Some bytes → IsReport study verdict bytes → length bytes ≤ most_report_bytes
       → Says d run 0 (answer_text (Confirmed verdict))
+  pub sharp : (study : Question) (bytes : List ℕ) (v : Pointed) → GivesStudy files name study
+      → files report ≡ Some bytes → IsSharpText study v bytes → length bytes ≤ most_report_bytes
+      → Says d run 0 confirmed_sharp_line
 
 -- each row of `check` is what is answered where it applies, faults and want of memory aside
 abbrev pub ChecksAreAnswered : Type 0
@@ -81,13 +104,14 @@ ChecksAreAnswered =
 
 -- ---- one answer
 
--- words whose answer leaves no choice: all but `decide`, `proof`, `sample` and `adopt`, of which several verdicts
--- may be right
+-- words whose answer leaves no choice: all but `decide`, `proof`, `sample`, `adopt` and `sharpen`, of which several
+-- verdicts may be right
 abbrev pub IsSettled : Option Request → Type 0
 IsSettled (Some (Decide study workers)) = ⊥
 IsSettled (Some (Proof study workers)) = ⊥
 IsSettled (Some (Sample number)) = ⊥
 IsSettled (Some (Adopt study proof workers)) = ⊥
+IsSettled (Some (Sharpen study workers)) = ⊥
 IsSettled request = Unit {0}
 
 -- over some files such words have one answer, so each row comes exactly where it says
@@ -154,11 +178,11 @@ pub record HasNoFault (words : List (List ℕ)) (d : Devices) : Type 0 where
 abbrev pub IsDecidedOrWanting : Run → Type 0
 IsDecidedOrWanting run = (run.status ≡ 0) ⊎ ((run.status ≡ 4) ⊎ (run.status ≡ 7))
 
--- over a study that is read, with clauses within the limits, `decide` and `proof` end with status 0, 4 or 7, and
--- `export` with 0 or 7; so does `sample` over the study of its number; a confirmed report within its limit over a
--- study that is read ends with 0 or 7, for `gain` over one of sets, and so does an accepted proof over clauses that
--- are read or that `adopt` makes, and `axioms`; words that are no command end with 2 or 7; and no call ends with 5
--- or 6
+-- over a study that is read, with clauses within the limits, `decide` and `proof` end with status 0, 4 or 7, and so
+-- does `sharpen` where the frames with all instances are within them too, and `export` with 0 or 7; so does `sample`
+-- over the study of its number; a confirmed report or sharp text within its limit over a study that is read ends with
+-- 0 or 7, for `gain` a report over one of sets, and so does an accepted proof over clauses that are read or that
+-- `adopt` makes, and `axioms`; words that are no command end with 2 or 7; and no call ends with 5 or 6
 pub record AreAnswered (words : List (List ℕ)) (d : Devices) (run : Run) : Type 0 where
   pub decide : (files : Files) (name : List ℕ) (workers : ℕ) (study : Question) → d.told ≡ Some files → request_of words ≡ Some (Decide name workers)
       → GivesStudy files name study → fault_of study ≡ None → IsDecidedOrWanting run
@@ -172,7 +196,7 @@ pub record AreAnswered (words : List (List ℕ)) (d : Devices) (run : Run) : Typ
       → IsDecidedOrWanting run
   pub check : (files : Files) (name report bytes : List ℕ) (workers : ℕ) (study : Question)
       → d.told ≡ Some files → request_of words ≡ Some (Check name report workers)
-      → GivesStudy files name study → files report ≡ Some bytes → IsConfirmed study bytes
+      → GivesStudy files name study → files report ≡ Some bytes → IsRightText study bytes
       → length bytes ≤ most_report_bytes → (run.status ≡ 0) ⊎ (run.status ≡ 7)
   pub adopt : (files : Files) (name proof bytes : List ℕ) (workers : ℕ) (study : Question)
       → d.told ≡ Some files → request_of words ≡ Some (Adopt name proof workers)
@@ -182,6 +206,8 @@ pub record AreAnswered (words : List (List ℕ)) (d : Devices) (run : Run) : Typ
       → d.told ≡ Some files → request_of words ≡ Some (Gain name report)
       → GivesStudy files name study → study.size.kind ≡ Sets → files report ≡ Some bytes → IsConfirmed study bytes
       → length bytes ≤ most_report_bytes → (run.status ≡ 0) ⊎ (run.status ≡ 7)
+  pub sharpen : (files : Files) (name : List ℕ) (workers : ℕ) (study : Question) → d.told ≡ Some files → request_of words ≡ Some (Sharpen name workers)
+      → GivesStudy files name study → fault_of study ≡ None → IsFalse (is_over (total study)) → IsDecidedOrWanting run
   pub axioms : (kind : Kind) → request_of words ≡ Some (Axioms kind) → (run.status ≡ 0) ⊎ (run.status ≡ 7)
   pub usage : request_of words ≡ None → (run.status ≡ 2) ⊎ (run.status ≡ 7)
   pub no_read_fault : run.status ≢ 5

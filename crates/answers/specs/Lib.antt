@@ -15,9 +15,11 @@ pub mod Lrat
 pub mod Sample
 pub mod Adopt
 pub mod Gain
+pub mod Sharpen
 pub mod Lawful
 pub mod Devices
 pub mod Call
 pub mod Laws
 pub mod RowLaws
 pub mod GainLaws
+pub mod SharpenLaws

@@ -26,16 +26,18 @@ use Rattle.clause_text.specs.ReadDimacs.{Formula}
 use Rattle.clause_text.specs.ReadLrat.{read_lrat}
 use Rattle.search_logs.specs.declared.logs.SearchLog.{SearchLog}
 use Rattle.search_logs.specs.Spent.{has_place, all_places, IsWithout, HaveEvidence, AreSpentLogs}
+use Rattle.sharp_verdicts.specs.declared.sharp.Sharp.{Sharp}
+use Rattle.sharp_verdicts.specs.Judged.{AsReport}
 use Rattle.answers.specs.declared.runs.Run.{Run}
 use Rattle.answers.specs.Runs.{IsBare}
 use Rattle.answers.specs.FileLimits.{most_report_bytes, most_proof_bytes, Holds}
 use Rattle.answers.specs.Studies.{GivesStudy}
 use Rattle.verdicts.specs.Claims.{IsRuleFor, HasNoRule, Claims}
 use Rattle.answers.specs.Grounding.{all_clauses, fault_of}
-use Rattle.words.specs.Words.{Request, Decide, Proof, Adopt, request_of}
+use Rattle.words.specs.Words.{Request, Decide, Proof, Adopt, Sharpen, request_of}
 use Rattle.answers.specs.Devices.{Devices}
 use Rattle.answers.specs.Call.{IsCall}
-use Rattle.answers.specs.Check.{judgement}
+use Rattle.answers.specs.Check.{judged}
 use Rattle.answers.specs.Export.{export_text, IsExported}
 use Rattle.answers.specs.Decide.{IsDecided}
 use Rattle.answers.specs.Proof.{IsProved}
@@ -108,15 +110,21 @@ abbrev pub DecidedAreConfirmed : Type 0
 DecidedAreConfirmed = (files : Files) (name : List ℕ) (run : Run) (text : List ℕ) (study : Question) →
     IsDecided files name run text → GivesStudy files name study → run.status ≡ 0 →
     length text ≤ most_report_bytes →
-    (verdict : Verdict) × (run.verdict ≡ Some verdict) × (judgement study text ≡ Confirmed verdict)
+    (verdict : Verdict) × (run.verdict ≡ Some verdict) × (judged study text ≡ AsReport (Confirmed verdict))
+
+-- what sharpening came to has no log, and each instance has a rule
+pub record IsWithoutOpen (s : Sharp) : Type 0 where
+  pub no_log : s.logs ≡ []
+  pub marked : IsTrue (list_all is_rule_given s.marks)
 
 -- as far as the run tells, no search spent its limit: status 4 did not come, and each axiom of a core that was
--- found has a rule
+-- found has a rule, and so has each instance of a sharpening
 pub record IsConclusive (run : Run) : Type 0 where
   pub decided : run.status ≢ 4
   pub no_log : run.logs ≡ []
   pub marked : (core : List ℕ) (story : List Lemma) (witnesses : List Witness)
       → run.verdict ≡ Some (Impossible core story witnesses) → IsTrue (list_all is_rule_given witnesses)
+  pub sharp : (s : Sharp) → run.sharp ≡ Some s → IsWithoutOpen s
 
 -- where the limit of a study is at least 3 to the number of its variables, no search of `decide` spends it
 abbrev pub EnoughDecides : Type 0
@@ -207,7 +215,7 @@ AdoptedAreConfirmed =
     (files : Files) (name proof : List ℕ) (run : Run) (text : List ℕ) (study : Question) →
     IsAdoption files name proof run text → GivesStudy files name study → run.status ≡ 0 →
     length text ≤ most_report_bytes →
-    (verdict : Verdict) × (run.verdict ≡ Some verdict) × (judgement study text ≡ Confirmed verdict)
+    (verdict : Verdict) × (run.verdict ≡ Some verdict) × (judged study text ≡ AsReport (Confirmed verdict))
 
 -- it ends with this status, and refuses a proof with this text
 pub record EndsAs (run run' : Run) (text text' : List ℕ) : Type 0 where
@@ -247,6 +255,7 @@ abbrev pub Searches : Request → List ℕ → Type 0
 Searches (Decide study workers) name = study ≡ name
 Searches (Proof study workers) name = study ≡ name
 Searches (Adopt study proof workers) name = study ≡ name
+Searches (Sharpen study workers) name = study ≡ name
 Searches request name = ⊥
 
 -- where the limit of a study is at least 3 to the number of its variables, no call that searches over it ends

@@ -1,15 +1,17 @@
 //! What follows from the table of answers. Each law is the contract of a function that does nothing.
 
 ghost use Rattle.answers.specs.GainLaws.{GainsAreAnswered, NoneIsNoGain};
+ghost use Rattle.answers.specs.SharpenLaws.{EnoughSharpens, SharpenedAreConfirmed, SharpenedHolds, SharpeningsAreAnswered, WrittenSharpeningsAreConfirmed, WrittenSharpeningsHold};
 ghost use Rattle.answers.specs.RowLaws.{AdoptedAreConfirmed, AdoptedHolds, AdoptsAsLrat, CallsAreConclusive, ConfirmedIsUnsatisfiable, DecidedAreConfirmed, DecidedHolds, EnoughAdopts, EnoughDecides, EnoughProves, ExportedSaysStudy, ProvedAreAdopted, ProvedAreConfirmed, ProvedHolds, RowsAreOne, SampledHolds, WrittenAdoptionsHold, WrittenDecisionsHold};
 ghost use Rattle.answers.specs.Laws.{CheckedAreRight, ConfirmedHolds, ChecksAreAnswered, AnswersAreOne, UsageIsExact, LibraryIsWritten, RefusedLeavesUnopened, OtherWordsTouchNone, CallsAreComplete, WrittenProofsAreAdopted, WrittenProofsAreConfirmed, WrittenReportsAreConfirmed};
 
-/// `check` confirms exactly the reports of right verdicts that claim something, within its limit.
+/// `check` confirms exactly the reports of right verdicts that claim something and the texts of right sharp
+/// verdicts, within its limit.
 pub fn checked_are_right()
     ensures { CheckedAreRight }
 {}
 
-/// What a confirmed report claims of rules holds.
+/// What a confirmed report or sharp text claims of rules holds.
 pub fn confirmed_holds()
     ensures { ConfirmedHolds }
 {}
@@ -152,8 +154,8 @@ pub fn enough_adopts()
     ensures { EnoughAdopts }
 {}
 
-/// The same of calls: no call of `decide`, `proof` or `adopt` over such a study ends with status 4, has a log
-/// of a search that spent its limit, or prints an open mark.
+/// The same of calls: no call of `decide`, `proof`, `adopt` or `sharpen` over such a study ends with status
+/// 4, has a log of a search that spent its limit, or prints an open mark.
 pub fn calls_are_conclusive()
     ensures { CallsAreConclusive }
 {}
@@ -173,7 +175,43 @@ pub fn none_is_no_gain()
     ensures { NoneIsNoGain }
 {}
 
-/// Each row of `gain` is what is answered where it applies.
+/// Each row of `gain` is what is answered where it applies; a sharp text is no report, and its first line is
+/// refused.
 pub fn gains_are_answered()
     ensures { GainsAreAnswered }
+{}
+
+/// Whatever study is read, a rule that `sharpen` prints satisfies its axioms; and where it prints a sharp
+/// text, no rule makes the bodies of all listed instances true, and for each of these a rule is printed that
+/// makes the bodies of the others true, or an open mark.
+pub fn sharpened_holds()
+    ensures { SharpenedHolds }
+{}
+
+/// The same of what was written by a call of `sharpen`.
+pub fn written_sharpenings_hold()
+    ensures { WrittenSharpeningsHold }
+{}
+
+/// Where the limit of a study is at least 3 to the number of its variables, each instance that `sharpen`
+/// lists has its rule.
+pub fn enough_sharpens()
+    ensures { EnoughSharpens }
+{}
+
+/// What `sharpen` prints is, within the limit of reports, confirmed by `check`.
+pub fn sharpened_are_confirmed()
+    ensures { SharpenedAreConfirmed }
+{}
+
+/// The same of calls: what a call of `sharpen` has written, a call of `check` over files that hold it
+/// confirms, faults and want of memory aside.
+pub fn written_sharpenings_are_confirmed()
+    ensures { WrittenSharpeningsAreConfirmed }
+{}
+
+/// Each row of `sharpen` is what is answered where it applies; a study whose frames and instances together
+/// pass a limit gets its line, and no other does.
+pub fn sharpenings_are_answered()
+    ensures { SharpeningsAreAnswered }
 {}

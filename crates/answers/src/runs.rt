@@ -3,6 +3,7 @@
 ghost use Rattle.answers.specs.Runs.{IsBare};
 
 use search_logs::Logs;
+use sharp_verdicts::Sharp;
 use std::alloc::Global;
 use verdicts::Verdict;
 
@@ -17,6 +18,8 @@ pub struct Run {
     pub verdict: Option<Verdict>,
     /// The searches that spent their limit.
     pub logs: Logs,
+    /// What sharpening came to, where the command made one.
+    pub sharp: Option<Sharp>,
 }
 
 impl Run {
@@ -28,6 +31,7 @@ impl Run {
             status,
             verdict: None,
             logs: Logs::new(alloc),
+            sharp: None,
         }
     }
 }
