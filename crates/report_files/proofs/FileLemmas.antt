@@ -4,6 +4,7 @@ use Rattle.std.specs.Io.KnownBytes.{Consumes}
 use Rattle.edge.specs.Shelf.{Files, OthersStay, NoneFell}
 use Rattle.edge.proofs.Known.{Consumes-more}
 use Rattle.report_files.specs.Files.{most_report_bytes}
+use Rattle.report_files.proofs.PieceLemmas.{length_take}
 use Rattle.report_files.specs.Pieces.{ReaderState, StandsForText, HasTaken}
 
 -- as much was read as there is no room for any more
@@ -38,19 +39,14 @@ take_take (suc n) (suc m) (x ∷ xs) h = ap (λ ys. x ∷ ys) (take_take n m xs 
 take_part : (n m : ℕ) (xs : List ℕ) → n ≤ m → take m xs ≡ take n xs ++ drop n (take m xs)
 take_part n m xs h = sym (take-append-drop n (take m xs)) ∙ ap (λ ys. ys ++ drop n (take m xs)) (take_take n m xs h)
 
-length_taken : (n : ℕ) (xs : List ℕ) → n ≤ length xs → length (take n xs) ≡ n
-length_taken zero xs h = refl
-length_taken (suc n) [] h = absurd (let bad : ⊥ = omega (arith, h) in bad)
-length_taken (suc n) (x ∷ xs) h = ap suc (length_taken n xs (omega (arith, h)))
-
 -- more came of a read than there was room for
 pub consumes_too_many : (before now next : Option (List ℕ)) (bytes chunk : List ℕ) (count room : ℕ) → room < count → count ≤ length chunk → length bytes + room ≡ most_report_bytes
     → Consumes before now bytes → Consumes now next (take count chunk)
     → (more : List ℕ) × Consumes before next ((bytes ++ take room chunk) ++ more) × (0 < length more) × (length (bytes ++ take room chunk) ≡ most_report_bytes)
 consumes_too_many before now next bytes chunk count room less within total h k =
     let parts : take count chunk ≡ take room chunk ++ drop room (take count chunk) = take_part room count chunk (omega (arith, less)) in
-    let whole : length (take count chunk) ≡ count = length_taken count chunk within in
-    let front : length (take room chunk) ≡ room = length_taken room chunk (omega (arith, less, within)) in
+    let whole : length (take count chunk) ≡ count = length_take count chunk within in
+    let front : length (take room chunk) ≡ room = length_take room chunk (omega (arith, less, within)) in
     let sum : length (take count chunk) ≡ length (take room chunk) + length (drop room (take count chunk)) = ap length parts ∙ length-append (take room chunk) (drop room (take count chunk)) in
     let total_now : length (bytes ++ take room chunk) ≡ length bytes + length (take room chunk) = length-append bytes (take room chunk) in (
       drop room (take count chunk),
@@ -62,7 +58,7 @@ consumes_too_many before now next bytes chunk count room less within total h k =
 -- what came of a read is counted
 pub count_more : (bytes chunk : List ℕ) (count room : ℕ) → count ≤ room → count ≤ length chunk → length bytes + room ≡ most_report_bytes → length (bytes ++ take count chunk) + (room - count) ≡ most_report_bytes
 count_more bytes chunk count room fits within total =
-    let front : length (take count chunk) ≡ count = length_taken count chunk within in
+    let front : length (take count chunk) ≡ count = length_take count chunk within in
     let sum : length (bytes ++ take count chunk) ≡ length bytes + length (take count chunk) = length-append bytes (take count chunk) in
     omega (arith, sum, front, total, fits)
 

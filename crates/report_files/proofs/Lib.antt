@@ -1,5 +1,12 @@
 pub mod PieceLemmas
+pub mod TitleLemmas
+pub mod LineLemmas
+pub mod SharpLineLemmas
+pub mod CheckerLemmas
 pub mod ReaderLemmas
 pub mod FileLemmas
-pub mod WorthLemmas
 pub mod TextLemmas
+pub mod EndedLemmas
+pub mod WorthLemmas
+pub mod SharpWorthLemmas
+pub mod JudgedLemmas

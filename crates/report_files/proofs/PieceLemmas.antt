@@ -32,6 +32,17 @@ take_room n c (x ∷ xs) ys h e = by_room n h e (λ m l d. take_room m c xs ys l
     by_room zero h e later = absurd (let bad : ⊥ = omega (arith, h) in bad)
     by_room (suc m) h e later = let same : m - length xs ≡ suc m - length (x ∷ xs) = omega arith in ap (λ zs. x ∷ zs) (later m (omega (arith, h)) (e ∙ ap (λ k. min (length ys) k) (sym same)))
 
+pub length_take : {A : Type 0} (n : ℕ) (xs : List A) → n ≤ length xs → length (take n xs) ≡ n
+length_take zero xs h = refl
+length_take (suc n) [] h = absurd (let bad : ⊥ = omega (arith, h) in bad)
+length_take (suc n) (x ∷ xs) h = ap suc (length_take n xs (omega (arith, h)))
+
+pub take_all : {A : Type 0} (n : ℕ) (xs : List A) → length xs ≤ n → take n xs ≡ xs
+take_all zero [] h = refl
+take_all zero (x ∷ xs) h = absurd (let bad : ⊥ = omega (arith, h) in bad)
+take_all (suc n) [] h = refl
+take_all (suc n) (x ∷ xs) h = ap (λ ys. x ∷ ys) (take_all n xs (omega (arith, h)))
+
 -- ---- pieces
 
 -- pieces after pieces: the last of the one and the first of the other are one
@@ -44,7 +55,7 @@ seam [] qs = qs
 seam (p ∷ []) qs = onto p qs
 seam (p ∷ r ∷ ps) qs = p ∷ seam (r ∷ ps) qs
 
-abbrev IsSome : List (List ℕ) → Type 0
+abbrev pub IsSome : List (List ℕ) → Type 0
 IsSome [] = ⊥
 IsSome (p ∷ ps) = Unit {0}
 
@@ -52,7 +63,7 @@ some_onto : (x : ℕ) (ps : List (List ℕ)) → IsSome (onto_first x ps)
 some_onto x [] = tt
 some_onto x (p ∷ ps) = tt
 
-some_pieces : (text : List ℕ) → IsSome (pieces text)
+pub some_pieces : (text : List ℕ) → IsSome (pieces text)
 some_pieces [] = tt
 some_pieces (b ∷ text) = by_test (b == 10)
   where

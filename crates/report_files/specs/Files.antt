@@ -1,5 +1,5 @@
--- What is answered of a file that holds a report.
-use Rattle.std.specs.Prelude.{◌≡◌, ℕ, ◌<◌, ◌≤◌, List, ◌++◌, length, Option, Some, is_some, IsSomeAnd, Result, Ok, IfOk, IsTrue}
+-- What is answered of a file that holds a report or a sharp text.
+use Rattle.std.specs.Prelude.{◌≡◌, ℕ, ◌<◌, ◌≤◌, Bool, List, ◌++◌, length, Option, Some, IsSomeAnd, Result, IfOk, IsTrue}
 use Rattle.std.specs.Io.KnownBytes.{Consumes, IsAtEnd}
 use Rattle.edge.specs.Shelf.{Files}
 use Rattle.edge.specs.declared.faults.RewindFault.{RewindFault}
@@ -9,16 +9,23 @@ use Rattle.verdicts.specs.Judge.{Judgement, Confirmed as IsConfirmed, Faulty, To
 use Rattle.verdicts.specs.Claims.{claim_of, IsClaimed, ClaimHolds}
 use Rattle.verdicts.specs.Laws.{IsReportable}
 use Rattle.verdicts.specs.declared.verdicts.Confirmed.{Confirmed}
-use Rattle.report.specs.declared.faults.ReportFault.{ReportFault}
+use Rattle.sharp_verdicts.specs.Judged.{Judged, AsReport, AsSharp, judged_within}
+use Rattle.sharp_verdicts.specs.Right.{Pointed, IsSharpRight}
+use Rattle.sharp_verdicts.specs.SharpJudge.{SharpJudgement, SharpConfirmed, SharpFaulty, SharpTooLong}
+use Rattle.sharp_laws.specs.Laws.{IsSharpText, SharpClaims}
 use Rattle.report_files.specs.declared.files.Ending.{Ending}
 use Rattle.report_files.specs.declared.files.Ending.TheVariants as ending
 use Rattle.report_files.specs.declared.files.FileFault.{FileFault}
 use Rattle.report_files.specs.declared.files.FileFault.TheVariants as fault
-use Rattle.report_files.specs.declared.files.Worth.{Worth}
-use Rattle.report_files.specs.declared.files.Worth.TheVariants as worth
+use Rattle.report_files.specs.declared.worths.Worth.{Worth}
+use Rattle.report_files.specs.declared.worths.Worth.TheVariants as worth
+use Rattle.report_files.specs.declared.worths.SharpWorth.{SharpWorth}
+use Rattle.report_files.specs.declared.worths.SharpWorth.TheVariants as sharp_worth
+use Rattle.report_files.specs.declared.worths.JudgedWorth.{JudgedWorth}
+use Rattle.report_files.specs.declared.worths.JudgedWorth.TheVariants as judged_worth
 use Rattle.report_files.specs.Pieces.{ReaderState, StandsForText}
 
--- the most bytes of a report
+-- the most bytes of a report or a sharp text
 abbrev pub most_report_bytes : ℕ
 most_report_bytes = 268435456
 
@@ -28,25 +35,43 @@ file_fault rewind.Failed = fault.Failed
 file_fault rewind.NoMemory = fault.NoMemory
 
 -- where the reading of a file ended: all of it was read, or as much as the limit allows, or as much as has the first faulty line
-abbrev pub IsEndedAt : Ending → (before now : Option (List ℕ)) (fault : Option ReportFault) (bytes : List ℕ)
-    → Type 0
-IsEndedAt ending.Whole before now fault bytes = Consumes before now bytes × IsAtEnd now ×
+abbrev pub IsEndedAt : Ending → (before now : Option (List ℕ)) (faulty : Bool) (bytes : List ℕ) → Type 0
+IsEndedAt ending.Whole before now faulty bytes = Consumes before now bytes × IsAtEnd now ×
     (length bytes ≤ most_report_bytes)
-IsEndedAt ending.TooLong before now fault bytes = (more : List ℕ) × Consumes before now (bytes ++ more) ×
+IsEndedAt ending.TooLong before now faulty bytes = (more : List ℕ) × Consumes before now (bytes ++ more) ×
     (0 < length more) × (length bytes ≡ most_report_bytes)
-IsEndedAt ending.Faulty before now fault bytes = Consumes before now bytes ×
-    (length bytes ≤ most_report_bytes) × IsTrue (is_some fault)
+IsEndedAt ending.Faulty before now faulty bytes = Consumes before now bytes ×
+    (length bytes ≤ most_report_bytes) × IsTrue faulty
 
--- what an answer is worth
+-- ---- what an answer is worth
+
+-- an answer to a report
 abbrev pub IsWorth : Judgement → Worth → Type 0
 IsWorth (IsConfirmed verdict) w = IsSomeAnd (claim_of verdict) (λ claim. w ≡ worth.Confirmed claim)
 IsWorth (Faulty line word) w = w ≡ worth.Faulty line word
 IsWorth TooLong w = w ≡ worth.TooLong
 
+-- an answer to a sharp text
+abbrev pub IsSharpWorth : SharpJudgement → SharpWorth → Type 0
+IsSharpWorth (SharpConfirmed v) w = w ≡ sharp_worth.Confirmed
+IsSharpWorth (SharpFaulty line word) w = w ≡ sharp_worth.Faulty line word
+IsSharpWorth SharpTooLong w = w ≡ sharp_worth.TooLong
+
+-- an answer to a text that may be either, of the judge whose it is
+abbrev pub IsJudgedWorth : Judged → JudgedWorth → Type 0
+IsJudgedWorth (AsReport answer) (judged_worth.Report w) = IsWorth answer w
+IsJudgedWorth (AsSharp answer) (judged_worth.Sharp w) = IsSharpWorth answer w
+IsJudgedWorth _ _ = ⊥
+
 -- the file is held, and this is what its report is worth
 abbrev pub IsWorthOf : Question → Files → List ℕ → Worth → Type 0
 IsWorthOf study files name w = (held : List ℕ) × (files name ≡ Some held) ×
     IsWorth (answer_within most_report_bytes study held) w
+
+-- the same of a report or a sharp text, as its first line says
+abbrev pub IsJudgedWorthOf : Question → Files → List ℕ → JudgedWorth → Type 0
+IsJudgedWorthOf study files name w = (held : List ℕ) × (files name ≡ Some held) ×
+    IsJudgedWorth (judged_within most_report_bytes study held) w
 
 -- ---- what is confirmed of a file
 
@@ -57,16 +82,25 @@ pub record IsClaimedIn (study : Question) (files : Files) (name : List ℕ) (cla
   pub fits : length bytes ≤ most_report_bytes
   pub right : IsClaimed study bytes claim
 
--- what is confirmed is the claim of such a file
-abbrev pub FileIsRight : Question → Files → List ℕ → Result Worth FileFault → Type 0
-FileIsRight study files name result =
-    (claim : Confirmed) → result ≡ Ok (worth.Confirmed claim) → IsClaimedIn study files name claim
+-- the file is held, within the limit, and is the sharp text of a right sharp verdict
+pub record IsSharpIn (study : Question) (files : Files) (name : List ℕ) : Type 0 where
+  pub bytes : List ℕ
+  pub held : files name ≡ Some bytes
+  pub fits : length bytes ≤ most_report_bytes
+  pub verdict : Pointed
+  pub text : IsSharpText study verdict bytes
 
--- the claim of each such file is confirmed, unless the file is not read or memory is wanting
-abbrev pub FileIsConfirmed : Question → Files → List ℕ → Result Worth FileFault → Type 0
-FileIsConfirmed study files name result =
-    IsReportable study → (claim : Confirmed) → IsClaimedIn study files name claim →
-    IfOk result (λ w. w ≡ worth.Confirmed claim)
+-- what is confirmed is the claim of such a file, or such a sharp text
+abbrev pub FileIsRight : Question → Files → List ℕ → JudgedWorth → Type 0
+FileIsRight study files name w =
+    ((claim : Confirmed) → w ≡ judged_worth.Report (worth.Confirmed claim) → IsClaimedIn study files name claim)
+    × (w ≡ judged_worth.Sharp sharp_worth.Confirmed → IsSharpIn study files name)
+
+-- the claim of each such file is confirmed, and each such sharp text, unless the file is not read or memory is wanting
+abbrev pub FileIsConfirmed : Question → Files → List ℕ → Result JudgedWorth FileFault → Type 0
+FileIsConfirmed study files name result = IsReportable study →
+    ((claim : Confirmed) → IsClaimedIn study files name claim → IfOk result (λ w. w ≡ judged_worth.Report (worth.Confirmed claim)))
+    × (IsSharpIn study files name → IfOk result (λ w. w ≡ judged_worth.Sharp sharp_worth.Confirmed))
 
 -- where the file is confirmed, the reader has read all of it
 abbrev pub HasReadWhole : ReaderState → Files → List ℕ → Worth → Type 0
@@ -76,3 +110,12 @@ HasReadWhole r files name w = (claim : Confirmed) (held : List ℕ) → w ≡ wo
 -- what is confirmed holds: some rule satisfies all axioms, or none satisfies those of some core
 abbrev pub WorthHolds : Question → Worth → Type 0
 WorthHolds study w = (claim : Confirmed) → w ≡ worth.Confirmed claim → ClaimHolds study claim
+
+-- what a sharp text claims that is confirmed holds: it is of a right sharp verdict, and no rule makes the bodies of all instances true that this lists
+abbrev pub SharpWorthHolds : Question → SharpWorth → Type 0
+SharpWorthHolds study w = w ≡ sharp_worth.Confirmed → (v : Pointed) × IsSharpRight study v × SharpClaims study v
+
+-- the same of a report or a sharp text
+abbrev pub JudgedWorthHolds : Question → JudgedWorth → Type 0
+JudgedWorthHolds study (judged_worth.Report w) = WorthHolds study w
+JudgedWorthHolds study (judged_worth.Sharp w) = SharpWorthHolds study w

@@ -1,4 +1,5 @@
 -- In reading order.
 pub mod Cutting
+pub mod Lines
 pub mod Pieces
 pub mod Files

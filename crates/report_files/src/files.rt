@@ -1,52 +1,30 @@
-//! Checks the report in a file.
+//! Judges the report or the sharp text in a file.
 
-ghost use Rattle.std.specs.Prelude.{◌≡◌, ◌≤◌, List, ℕ, [], length, Option, Some, IfSome, Ok, Err, IfOk, OnErr, IsErrOf};
+ghost use Rattle.std.specs.Prelude.{◌≡◌, ◌≤◌, List, ℕ, [], length, Option, Some, None, IfSome, IfOk, IsErrOf, is_some, IsTrue, IsFalse};
 ghost use Rattle.edge.specs.Faults.{Rose};
 ghost use Rattle.edge.specs.Shelf.{OthersStay, NoneFell};
 ghost use Rattle.vocab.specs.Size.{IsSize};
 ghost use Rattle.vocab.specs.Study.{HasFewAxioms};
-ghost use Rattle.verdicts.specs.Judge.{Judgement, answer_within};
-ghost use Rattle.report.specs.Answers.{Concludes};
-ghost use Rattle.report_files.specs.Files.{IsEndedAt, IsWorth, IsWorthOf, FileIsRight, FileIsConfirmed, HasReadWhole, WorthHolds, most_report_bytes};
+ghost use Rattle.verdicts.specs.Judge.{answer_within};
+ghost use Rattle.sharp_verdicts.specs.SharpJudge.{sharp_answer_within};
+ghost use Rattle.sharp_verdicts.specs.Judged.{judged_within};
+ghost use Rattle.report_files.specs.Files.{IsEndedAt, IsWorth, IsSharpWorth, IsJudgedWorth, IsWorthOf, IsJudgedWorthOf, FileIsRight, FileIsConfirmed, HasReadWhole, WorthHolds, SharpWorthHolds, JudgedWorthHolds, most_report_bytes};
+ghost use Rattle.report_files.specs.Lines.{count_of, has_fault};
 ghost use Rattle.report_files.specs.Pieces.{StandsForText, HasTaken};
 
 use crate::reader::Reader;
+use crate::worths::{JudgedWorth, SharpWorth, Worth};
 use crew::Crew;
 use edge::{Failed, Gate, RewindFault, Shelf};
 use lists::NoMemory;
 use outcomes::OutcomeKind;
 use outcomes::laws::kinds_have_sizes;
-use report::ReportFault;
 use std::alloc::Global;
 use std::thread::Threads;
-use verdicts::{Confirmed, Refusal};
+use verdicts::Confirmed;
 use vocab::Study;
 
-/// What a report is worth: it is confirmed; a line, from 1, is its first faulty one; or it has more than
-/// 268,435,456 bytes, and no line that ends within them is faulty.
-#[derive(Clone, Copy, Debug, PartialEq, Eq)]
-pub enum Worth {
-    Confirmed(Confirmed),
-    Faulty { line: u32, refusal: Refusal },
-    TooLong,
-}
-
-impl Worth {
-    /// What a report is worth of which this is answered, unless memory was wanting.
-    fn of(answer: Result<Confirmed, ReportFault>) -> Result<Worth, NoMemory>
-        ensures worth { IfOk result (λ worth. (a : Judgement) → Concludes a answer → IsWorth a worth) }
-        ensures claimed { (claim : Confirmed) → result ≡ Ok (Worth.Confirmed claim) → answer ≡ Ok claim }
-        ensures wanting { OnErr result (answer ≡ Err ReportFault.NoMemory) }
-    {
-        match answer {
-            Ok(claim) => Ok(Worth::Confirmed(claim)),
-            Err(ReportFault::Line { line, refusal }) => Ok(Worth::Faulty { line, refusal }),
-            Err(ReportFault::NoMemory) => Err(NoMemory),
-        }
-    }
-}
-
-/// Why a report in a file was not checked: the shelf failed, and has counted the fault under the name, or no
+/// Why a file was not judged: the shelf failed, and has counted the fault under the name, or no
 /// memory was found.
 #[derive(Clone, Copy, Debug, PartialEq, Eq)]
 pub enum FileFault {
@@ -101,7 +79,7 @@ pub(crate) enum Ending {
 /// As many bytes are asked for in one read.
 const CHUNK: usize = 65_536;
 
-/// The most bytes of a report.
+/// The most bytes of a report or a sharp text.
 const MOST_BYTES: usize = 268_435_456;
 
 /// Gives the reader what is left under the name, piece by piece, up to the limit and no further than to the
@@ -112,12 +90,13 @@ fn read_pieces<R: Threads + Sync, S: Shelf, K: OutcomeKind, G: Gate>(
     shelf: &mut S,
     name: &str,
 ) -> Result<Ending, FileFault>
-    requires lines { reader.old.progress.lines ≡ 0 }
-    ensures study { reader.new.study ≡ reader.old.study }
-    ensures lines { IfOk result (λ _. reader.new.progress.lines ≤ 268435456) }
+    requires lines { count_of reader.old.checker ≡ 0 }
+    ensures study { reader.new.checker.study ≡ reader.old.checker.study }
+    ensures admits { reader.new.checker.admits ≡ reader.old.checker.admits }
+    ensures lines { IfOk result (λ _. count_of reader.new.checker ≤ 268435456) }
     ensures read { IfOk result (λ ending. (bytes : List ℕ) ×
         IsEndedAt ending (S.left shelf.old name.now) (S.left shelf.new name.now)
-        reader.new.progress.fault bytes × HasTaken reader.old reader.new bytes) }
+        (has_fault reader.new.checker) bytes × HasTaken reader.old reader.new bytes) }
     ensures failed { IsErrOf result FileFault.Failed →
         Rose (S.faults shelf.old name.now) (S.faults shelf.new name.now) }
     ensures same { S.files shelf.new ≡ S.files shelf.old }
@@ -145,13 +124,14 @@ fn read_pieces<R: Threads + Sync, S: Shelf, K: OutcomeKind, G: Gate>(
 
 /// What the report is worth whose reading ended so.
 fn worth_at<K: OutcomeKind>(reader: &Reader<K>, ending: Ending) -> Result<Worth, NoMemory>
-    requires { reader.now.progress.lines ≤ 268435456 }
+    requires lines { count_of reader.now.checker ≤ 268435456 }
+    requires reports { reader.now.checker.sharp ≡ None }
     ensures worth { IfOk result (λ worth. (known left : Option (List ℕ)) (bytes held : List ℕ) →
-        IsEndedAt ending known left reader.now.progress.fault bytes → known ≡ Some held →
+        IsEndedAt ending known left (has_fault reader.now.checker) bytes → known ≡ Some held →
         StandsForText reader.now bytes →
-        IsWorth (answer_within most_report_bytes reader.now.study held) worth) }
-    ensures holds { IfOk result (λ worth. (bytes : List ℕ) → IsSize reader.now.study.size →
-        StandsForText reader.now bytes → WorthHolds reader.now.study worth) }
+        IsWorth (answer_within most_report_bytes reader.now.checker.study held) worth) }
+    ensures holds { IfOk result (λ worth. (bytes : List ℕ) → IsSize reader.now.checker.study.size →
+        StandsForText reader.now bytes → WorthHolds reader.now.checker.study worth) }
     ensures whole { IfOk result (λ worth. (claim : Confirmed) →
         worth ≡ Worth.Confirmed claim → ending ≡ Ending.Whole) }
 {
@@ -164,8 +144,55 @@ fn worth_at<K: OutcomeKind>(reader: &Reader<K>, ending: Ending) -> Result<Worth,
     }
 }
 
-/// What the report under the name is worth to a reader that has read nothing. Where it is confirmed, the reader
-/// has then read all of it. It reads as far as `check_file` does.
+/// What the sharp text is worth whose reading ended so.
+fn sharp_worth_at<K: OutcomeKind>(
+    reader: &Reader<K>,
+    ending: Ending,
+) -> Result<SharpWorth, NoMemory>
+    requires lines { count_of reader.now.checker ≤ 268435456 }
+    requires texts { IsTrue reader.now.checker.admits }
+    requires sharp { IsTrue (is_some reader.now.checker.sharp) }
+    ensures worth { IfOk result (λ worth. (known left : Option (List ℕ)) (bytes held : List ℕ) →
+        IsEndedAt ending known left (has_fault reader.now.checker) bytes → known ≡ Some held →
+        StandsForText reader.now bytes →
+        IsSharpWorth (sharp_answer_within reader.now.checker.study most_report_bytes held) worth) }
+    ensures holds { IfOk result (λ worth. (bytes : List ℕ) → IsSize reader.now.checker.study.size →
+        StandsForText reader.now bytes → SharpWorthHolds reader.now.checker.study worth) }
+{
+    match ending {
+        Ending::Whole => SharpWorth::of(reader.end_sharp()),
+        _ => match reader.sharp_fault() {
+            None => Ok(SharpWorth::TooLong),
+            Some(fault) => SharpWorth::of(Err(fault)),
+        },
+    }
+}
+
+/// What the text is worth whose reading ended so, by the judge whose it is.
+fn judged_worth_at<K: OutcomeKind>(
+    reader: &Reader<K>,
+    ending: Ending,
+) -> Result<JudgedWorth, NoMemory>
+    requires lines { count_of reader.now.checker ≤ 268435456 }
+    requires texts { IsTrue reader.now.checker.admits }
+    ensures worth { IfOk result (λ worth. (known left : Option (List ℕ)) (bytes held : List ℕ) →
+        IsEndedAt ending known left (has_fault reader.now.checker) bytes → known ≡ Some held →
+        StandsForText reader.now bytes →
+        IsJudgedWorth (judged_within most_report_bytes reader.now.checker.study held) worth) }
+    ensures holds { IfOk result (λ worth. (bytes : List ℕ) → IsSize reader.now.checker.study.size →
+        StandsForText reader.now bytes → JudgedWorthHolds reader.now.checker.study worth) }
+{
+    if reader.is_sharp() {
+        let worth = sharp_worth_at(reader, ending)?;
+        Ok(JudgedWorth::Sharp(worth))
+    } else {
+        let worth = worth_at(reader, ending)?;
+        Ok(JudgedWorth::Report(worth))
+    }
+}
+
+/// What the report under the name is worth to a reader of reports alone that has read nothing. Where it is
+/// confirmed, the reader has then read all of it. It reads as far as `judge_file` does.
 pub fn worth_of<R: Threads + Sync, S: Shelf, K: OutcomeKind, G: Gate>(
     crew: &Crew<R, G>,
     reader: &mut Reader<K>,
@@ -173,11 +200,13 @@ pub fn worth_of<R: Threads + Sync, S: Shelf, K: OutcomeKind, G: Gate>(
     name: &str,
 ) -> Result<Worth, FileFault>
     requires unread { StandsForText reader.old [] }
+    requires reports { IsFalse reader.old.checker.admits }
     ensures worth { IfSome (S.files shelf.old) (λ files.
-        IfOk result (IsWorthOf reader.old.study files name.now)) }
-    ensures holds { IsSize reader.old.study.size → IfOk result (WorthHolds reader.old.study) }
-    ensures study { reader.new.study ≡ reader.old.study }
-    ensures lines { IfOk result (λ _. reader.new.progress.lines ≤ 268435456) }
+        IfOk result (IsWorthOf reader.old.checker.study files name.now)) }
+    ensures holds { IsSize reader.old.checker.study.size →
+        IfOk result (WorthHolds reader.old.checker.study) }
+    ensures study { reader.new.checker.study ≡ reader.old.checker.study }
+    ensures lines { IfOk result (λ _. count_of reader.new.checker ≤ 268435456) }
     ensures stands { IfOk result (λ _. (bytes : List ℕ) × StandsForText reader.new bytes) }
     ensures whole { IfSome (S.files shelf.old)
         (λ files. IfOk result (HasReadWhole reader.new files name.now)) }
@@ -193,11 +222,37 @@ pub fn worth_of<R: Threads + Sync, S: Shelf, K: OutcomeKind, G: Gate>(
     Ok(worth)
 }
 
-/// What the report under the name is worth over the study, which has at most 40 axioms. It is read in pieces
-/// of 65,536 bytes, and no further than to its first faulty line or to 268,435,456 bytes; of the report no
-/// more is held than a checker holds, and the front of a line that has not ended. The answer is the same for
-/// every number of workers, from 1 to 16.
-pub fn check_file<R: Threads + Sync, S: Shelf, K: OutcomeKind, G: Gate>(
+/// What the report or the sharp text under the name is worth to a reader of both that has read nothing.
+fn judged_worth_of<R: Threads + Sync, S: Shelf, K: OutcomeKind, G: Gate>(
+    crew: &Crew<R, G>,
+    reader: &mut Reader<K>,
+    shelf: &mut S,
+    name: &str,
+) -> Result<JudgedWorth, FileFault>
+    requires unread { StandsForText reader.old [] }
+    requires texts { IsTrue reader.old.checker.admits }
+    ensures worth { IfSome (S.files shelf.old) (λ files.
+        IfOk result (IsJudgedWorthOf reader.old.checker.study files name.now)) }
+    ensures holds { IsSize reader.old.checker.study.size →
+        IfOk result (JudgedWorthHolds reader.old.checker.study) }
+    ensures failed { IsErrOf result FileFault.Failed →
+        Rose (S.faults shelf.old name.now) (S.faults shelf.new name.now) }
+    ensures same { S.files shelf.new ≡ S.files shelf.old }
+    ensures others { OthersStay (S.left shelf.old) (S.left shelf.new) name.now }
+    ensures none_fell { NoneFell (S.faults shelf.old) (S.faults shelf.new) }
+{
+    shelf.rewind(name)?;
+    let ending = read_pieces(crew, reader, shelf, name)?;
+    let worth = judged_worth_at(reader, ending)?;
+    Ok(worth)
+}
+
+/// What the text under the name is worth over the study, which has at most 40 axioms: it is judged as a sharp
+/// text where its first line is `bench sharp 1`, and else as a report. It is read in pieces of 65,536 bytes,
+/// and no further than to its first faulty line or to 268,435,456 bytes; of the text no more is held than a
+/// checker holds, and the front of a line that has not ended. The answer is the same for every number of
+/// workers, from 1 to 16.
+pub fn judge_file<R: Threads + Sync, S: Shelf, K: OutcomeKind, G: Gate>(
     rt: &R,
     alloc: Global,
     gate: &G,
@@ -206,15 +261,17 @@ pub fn check_file<R: Threads + Sync, S: Shelf, K: OutcomeKind, G: Gate>(
     study: &Study,
     shelf: &mut S,
     name: &str,
-) -> Result<Worth, FileFault>
+) -> Result<JudgedWorth, FileFault>
     requires some { 1 ≤ workers }
     requires few { workers ≤ 16 }
     requires size { study.now.size ≡ K.size kind.now }
     requires listed { HasFewAxioms study.now }
-    ensures worth { IfSome (S.files shelf.old) (λ files. IfOk result (IsWorthOf study.now files name.now)) }
-    ensures right { IfSome (S.files shelf.old) (λ files. FileIsRight study.now files name.now result) }
+    ensures worth { IfSome (S.files shelf.old) (λ files.
+        IfOk result (IsJudgedWorthOf study.now files name.now)) }
+    ensures right { IfSome (S.files shelf.old) (λ files.
+        IfOk result (FileIsRight study.now files name.now)) }
     ensures all { IfSome (S.files shelf.old) (λ files. FileIsConfirmed study.now files name.now result) }
-    ensures holds { IfOk result (WorthHolds study.now) }
+    ensures holds { IfOk result (JudgedWorthHolds study.now) }
     ensures failed { IsErrOf result FileFault.Failed →
         Rose (S.faults shelf.old name.now) (S.faults shelf.new name.now) }
     ensures same { S.files shelf.new ≡ S.files shelf.old }
@@ -224,6 +281,6 @@ pub fn check_file<R: Threads + Sync, S: Shelf, K: OutcomeKind, G: Gate>(
     // Its contract says that the size of the study is one that the bench takes.
     kinds_have_sizes(kind);
     let crew = Crew { rt, gate, workers };
-    let mut reader = Reader::new(alloc, kind, study, workers)?;
-    worth_of(&crew, &mut reader, shelf, name)
+    let mut reader = Reader::of_texts(alloc, kind, study, workers)?;
+    judged_worth_of(&crew, &mut reader, shelf, name)
 }

@@ -1,9 +1,12 @@
-//! Checks a report in pieces of its bytes, or in a file.
+//! Checks a report or a sharp text in pieces of its bytes, or in a file.
 #![tactic(auto)]
 
 mod cutting;
 mod files;
+mod line_checker;
 mod reader;
+mod worths;
 
-pub use files::{FileFault, Worth, check_file, worth_of};
+pub use files::{FileFault, judge_file, worth_of};
 pub use reader::{Reader, check_report};
+pub use worths::{JudgedWorth, SharpWorth, Worth};

@@ -1,21 +1,25 @@
-//! Reads a report in pieces of its bytes.
+//! Reads a report or a sharp text in pieces of its bytes.
 
-ghost use Rattle.std.specs.Prelude.{◌≡◌, ◌+◌, ◌≤◌, ◌<◌, List, ℕ, [], ◌∷◌, ◌++◌, length, is_some, option_map, Err, IfOk, IfSome, IsTrue, OnOk, ◌⊎◌};
+ghost use Rattle.std.specs.Prelude.{◌≡◌, ◌+◌, ◌≤◌, ◌<◌, List, ℕ, [], ◌∷◌, ◌++◌, length, is_some, option_map, Err, IfOk, IfSome, IsTrue, IsFalse, OnOk, ◌⊎◌};
 ghost use Rattle.vocab.specs.Study.{HasFewAxioms};
 ghost use Rattle.verdicts.specs.declared.verdicts.Verdict.TheVariants.{Possible};
 ghost use Rattle.verdicts.specs.Judge.{answer, rule_of};
 ghost use Rattle.verdicts.specs.Report.{is_right};
 ghost use Rattle.report.specs.Answers.{Concludes, ConfirmsRight, ConfirmsAll, ConfirmsTrue};
-ghost use Rattle.report.specs.Stands.{StandsFor};
+ghost use Rattle.sharp_verdicts.specs.SharpJudge.{sharp_answer};
+ghost use Rattle.sharp_report.specs.SharpAnswers.{SharpConcludes};
+ghost use Rattle.report_files.specs.Lines.{count_of, has_fault, sharp_fault_of, StandsForLines};
 ghost use Rattle.report_files.specs.Pieces.{head_of, StandsForText, HasTaken};
 
 use crate::cutting::cut_line;
+use crate::line_checker::LineChecker;
 use crew::Crew;
 use edge::Gate;
 use lists::NoMemory;
 use outcomes::OutcomeKind;
 use outcomes::laws::kinds_have_sizes;
-use report::{Checker, ReportFault};
+use report::ReportFault;
+use sharp_report::SharpFault;
 use std::alloc::Global;
 use std::marker::Model;
 use std::thread::Threads;
@@ -25,18 +29,20 @@ use vocab::{Study, Table};
 /// As many bytes of a line as tell that it is too long.
 const HELD: usize = 4097;
 
-/// Checks a report that comes in pieces of its bytes, which may end anywhere. Of a line that has not ended it
-/// holds at most 4,097 bytes.
+/// Checks a report that comes in pieces of its bytes, which may end anywhere, or also a sharp text, if it
+/// admits these: then the first line tells which of both the text is. Of a line that has not ended it holds
+/// at most 4,097 bytes.
 #[derive(Drop)]
 pub struct Reader<'a, K: OutcomeKind> {
-    checker: Checker<'a, K>,
+    checker: LineChecker<'a, K>,
     held: Vec<u8>,
 }
 
 impl<'a, K: OutcomeKind> Model for Reader<'a, K> {
+    ghost use Rattle.std.specs.Prelude.{◌≤◌, length};
     ghost use Rattle.std.specs.Coded.{codes};
     ghost use Rattle.vocab.specs.TreeCode.{titled_code};
-    ghost use Rattle.report_files.specs.Pieces.{ReaderState, IsReader};
+    ghost use Rattle.report_files.specs.Pieces.{ReaderState};
 
     ghost Value = { ReaderState };
 
@@ -44,16 +50,16 @@ impl<'a, K: OutcomeKind> Model for Reader<'a, K> {
 
     ghost view = { λ r.
         record {
-          study = r.checker.subject.setting.study.now;
-          progress = r.checker.progress;
+          checker = r.checker;
           held = r.held.items;
         } };
 
-    ghost invariant = { λ r. IsReader r.checker.subject.setting.study.now r.checker.progress r.held.items };
+    ghost invariant = { λ r. length r.held.items ≤ 4097 };
 }
 
 impl<'a, K: OutcomeKind> Reader<'a, K> {
-    /// A reader that has read nothing. The study has at most 40 axioms.
+    /// A reader of reports alone that has read nothing: it refuses the title of a sharp text as a line of a
+    /// report. The study has at most 40 axioms.
     pub fn new(
         alloc: Global,
         kind: &'a K,
@@ -64,10 +70,33 @@ impl<'a, K: OutcomeKind> Reader<'a, K> {
         requires few { workers ≤ 16 }
         requires size { study.now.size ≡ K.size kind.now }
         requires listed { HasFewAxioms study.now }
-        ensures study { IfOk result (λ reader. reader.study ≡ study.now) }
+        ensures study { IfOk result (λ reader. reader.checker.study ≡ study.now) }
+        ensures reports { IfOk result (λ reader. IsFalse reader.checker.admits) }
         ensures stands { IfOk result (λ reader. StandsForText reader []) }
     {
-        let checker = Checker::new(alloc, kind, study, workers)?;
+        let checker = LineChecker::new(alloc, kind, study, workers, false)?;
+        Ok(Reader {
+            checker,
+            held: Vec::new(alloc),
+        })
+    }
+
+    /// A reader of reports and sharp texts that has read nothing. The study has at most 40 axioms.
+    pub fn of_texts(
+        alloc: Global,
+        kind: &'a K,
+        study: &'a Study,
+        workers: u8,
+    ) -> Result<Reader<'a, K>, NoMemory>
+        requires some { 1 ≤ workers }
+        requires few { workers ≤ 16 }
+        requires size { study.now.size ≡ K.size kind.now }
+        requires listed { HasFewAxioms study.now }
+        ensures study { IfOk result (λ reader. reader.checker.study ≡ study.now) }
+        ensures texts { IfOk result (λ reader. IsTrue reader.checker.admits) }
+        ensures stands { IfOk result (λ reader. StandsForText reader []) }
+    {
+        let checker = LineChecker::new(alloc, kind, study, workers, true)?;
         Ok(Reader {
             checker,
             held: Vec::new(alloc),
@@ -76,8 +105,7 @@ impl<'a, K: OutcomeKind> Reader<'a, K> {
 
     /// Holds the next bytes of a line that has not ended, as far as there is room.
     fn hold(&mut self, piece: &[u8]) -> Result<(), NoMemory>
-        ensures study { self.new.study ≡ self.old.study }
-        ensures progress { self.new.progress ≡ self.old.progress }
+        ensures checker { self.new.checker ≡ self.old.checker }
         ensures held { OnOk result (self.new.held ≡ head_of (self.old.held ++ piece.now)) }
     {
         let room = HELD - self.held.len();
@@ -92,19 +120,20 @@ impl<'a, K: OutcomeKind> Reader<'a, K> {
         crew: &Crew<R, G>,
         piece: &[u8],
     ) -> Result<(), NoMemory>
-        requires { self.old.progress.lines < 4294967294 }
-        ensures study { self.new.study ≡ self.old.study }
-        ensures lines { OnOk result (self.new.progress.lines ≡ self.old.progress.lines + 1) }
+        requires { count_of self.old.checker < 4294967294 }
+        ensures study { self.new.checker.study ≡ self.old.checker.study }
+        ensures admits { self.new.checker.admits ≡ self.old.checker.admits }
+        ensures lines { OnOk result (count_of self.new.checker ≡ count_of self.old.checker + 1) }
         ensures ended { OnOk result (self.new.held ≡ []) }
         ensures taken { OnOk result ((lines : List (List ℕ)) (rest : List ℕ) →
-            StandsFor self.old.study self.old.progress lines → self.old.held ≡ head_of rest →
-            StandsFor self.old.study self.new.progress (lines ++ (rest ++ piece.now) ∷ [])) }
+            StandsForLines self.old.checker lines → self.old.held ≡ head_of rest →
+            StandsForLines self.new.checker (lines ++ (rest ++ piece.now) ∷ [])) }
     {
         if self.held.is_empty() {
-            return self.checker.take(crew.rt, crew.gate, piece);
+            return self.checker.take(crew, piece);
         }
         self.hold(piece)?;
-        self.checker.take(crew.rt, crew.gate, self.held.as_slice())?;
+        self.checker.take(crew, self.held.as_slice())?;
         self.held.clear();
         Ok(())
     }
@@ -116,9 +145,11 @@ impl<'a, K: OutcomeKind> Reader<'a, K> {
         crew: &Crew<R, G>,
         bytes: &[u8],
     ) -> Result<(), NoMemory>
-        requires { self.old.progress.lines + length bytes.now < 4294967294 }
-        ensures study { self.new.study ≡ self.old.study }
-        ensures lines { OnOk result (self.new.progress.lines ≤ self.old.progress.lines + length bytes.now) }
+        requires { count_of self.old.checker + length bytes.now < 4294967294 }
+        ensures study { self.new.checker.study ≡ self.old.checker.study }
+        ensures admits { self.new.checker.admits ≡ self.old.checker.admits }
+        ensures lines { OnOk result
+            (count_of self.new.checker ≤ count_of self.old.checker + length bytes.now) }
         ensures taken { OnOk result (HasTaken self.old self.new bytes.now) }
     {
         let mut rest = bytes;
@@ -129,36 +160,60 @@ impl<'a, K: OutcomeKind> Reader<'a, K> {
         self.hold(rest)
     }
 
-    /// The first fault, if there was one.
-    pub fn fault(&self) -> Option<ReportFault>
-        ensures { result ≡ self.now.progress.fault }
+    /// Whether the text is a sharp text that is judged as one.
+    pub fn is_sharp(&self) -> bool
+        ensures { result ≡ is_some self.now.checker.sharp }
     {
-        self.checker.progress.fault
+        self.checker.is_sharp()
     }
 
     /// Whether a line was faulty, so that no byte after it plays a part.
     pub fn is_faulty(&self) -> bool
-        ensures { result ≡ is_some self.now.progress.fault }
+        ensures { result ≡ has_fault self.now.checker }
     {
-        self.checker.progress.fault.is_some()
+        self.checker.is_faulty()
     }
 
-    /// What is answered of the text: Ok exactly where it is confirmed.
+    /// The first fault of a report, if there was one.
+    pub fn fault(&self) -> Option<ReportFault>
+        ensures { result ≡ self.now.checker.report.fault }
+    {
+        self.checker.fault()
+    }
+
+    /// The first fault of a sharp text, if there was one.
+    pub fn sharp_fault(&self) -> Option<SharpFault>
+        ensures { result ≡ sharp_fault_of self.now.checker }
+    {
+        self.checker.sharp_fault()
+    }
+
+    /// What the judge of reports answers of the text: Ok exactly where it is a confirmed report.
     pub fn end(&self) -> Result<Confirmed, ReportFault>
-        requires { self.now.progress.lines ≤ 4294967294 }
+        requires { count_of self.now.checker ≤ 4294967294 }
         ensures { (text : List ℕ) → StandsForText self.now text →
-            Concludes (answer self.now.study text) result }
+            Concludes (answer self.now.checker.study text) result }
     {
         self.checker.conclude(self.held.as_slice())
     }
 
+    /// What the judge of sharp texts answers of the text, where these are admitted: Ok exactly where it is a
+    /// confirmed sharp text.
+    pub fn end_sharp(&self) -> Result<(), SharpFault>
+        requires { count_of self.now.checker ≤ 4294967294 }
+        ensures { (text : List ℕ) → IsTrue self.now.checker.admits → StandsForText self.now text →
+            SharpConcludes (sharp_answer self.now.checker.study text) result }
+    {
+        self.checker.conclude_sharp(self.held.as_slice())
+    }
+
     /// The table of the rule, where the text is a confirmed report with one.
     pub fn table(&self) -> Option<&Table>
-        requires { self.now.progress.lines ≤ 4294967294 }
+        requires { count_of self.now.checker ≤ 4294967294 }
         ensures value { (text : List ℕ) → StandsForText self.now text →
-            option_map (λ table. table.now) result ≡ rule_of (answer self.now.study text) }
+            option_map (λ table. table.now) result ≡ rule_of (answer self.now.checker.study text) }
         ensures right { (text : List ℕ) → StandsForText self.now text →
-            IfSome result (λ table. IsTrue (is_right self.now.study (Possible table.now))) }
+            IfSome result (λ table. IsTrue (is_right self.now.checker.study (Possible table.now))) }
     {
         if self.held.is_empty() {
             self.checker.table()

@@ -1,19 +1,27 @@
-use Rattle.std.proofs.Common.{sym, subst, []}
+use Rattle.std.proofs.Common.{sym, subst, [], ◌∙◌}
 use Rattle.vocab.specs.Size.{IsSize}
 use Rattle.vocab.specs.Study.{Question}
-use Rattle.verdicts.specs.Judge.{answer_within}
+use Rattle.verdicts.specs.Judge.{answer_within, pieces, front}
 use Rattle.report_files.specs.Files.{IsWorth, WorthHolds, most_report_bytes}
-use Rattle.report_files.proofs.WorthLemmas.{file_worth, read_whole}
+use Rattle.report_files.proofs.CheckerLemmas.{reports_alone, unread_count}
+use Rattle.report_files.proofs.JudgedLemmas.{file_worth, read_whole}
 use Rattle.report_files.proofs.files.worth_of.Goals as goal
 
 pub read_pieces-requires-clause-lines : goal.read_pieces-requires-clause-lines
-read_pieces-requires-clause-lines g c κs within = c.requires.unread.0.0
+read_pieces-requires-clause-lines g c κs within = unread_count c.args.reader.now.checker c.requires.unread.0
+
+pub worth_at-requires-clause-reports : goal.worth_at-requires-clause-reports
+worth_at-requires-clause-reports g c κs within =
+    let read = c.in_ok-ending.ensures.read in
+    let checker = c.read_pieces.new.reader.checker in
+    reports_alone checker (front (pieces read.0)) (c.read_pieces.ensures.admits ∙ c.requires.reports) (read.2 [] c.requires.unread).0
 
 pub returns-clause-worth : goal.returns-clause-worth
 returns-clause-worth g c =
     let left = g.S.Shelf.left c.rewind.new.self c.args.name.now in
     let read = c.in_ok-ending.ensures.read in
-    file_worth (g.S.Shelf.files c.args.shelf.now) c.args.reader.now.study c.args.name.now left c.in_ok-worth.worth c.in_ok-rewind.ensures.held c.in_ok-rewind.ensures.start
+    file_worth (λ held. IsWorth (answer_within most_report_bytes c.args.reader.now.checker.study held) c.in_ok-worth.worth)
+    (g.S.Shelf.files c.args.shelf.now) c.args.name.now left c.in_ok-rewind.ensures.held c.in_ok-rewind.ensures.start
     (λ held known. subst (λ (q : Question). IsWorth (answer_within most_report_bytes q held) c.in_ok-worth.worth) c.read_pieces.ensures.study
     (c.in_ok-worth.ensures.worth left (g.S.Shelf.left c.read_pieces.new.shelf c.args.name.now) read.0 held read.1 known (read.2 [] c.requires.unread)))
 

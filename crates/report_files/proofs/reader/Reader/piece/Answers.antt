@@ -6,6 +6,7 @@ use Rattle.report_files.proofs.reader.Reader.piece.Goals as goal
 pub loop-line-init : goal.loop-line-init
 loop-line-init g c = record {
   study = refl;
+  admits = refl;
   room = omega arith;
   read = [];
   cut = refl;
@@ -25,14 +26,15 @@ loop-line-preserved g c =
     let longer : length c.loop-line.rest.now ≡ length line + (1 + length after) = cut_shorter c.loop-line.rest.now line after c.in-Some.ensures.0 in
     record {
       study = c.end_line.ensures.study ∙ inv.study;
+      admits = c.end_line.ensures.admits ∙ inv.admits;
       room = omega (arith, longer, inv.room, c.in_ok-end_line.ensures.lines);
       read = inv.read ++ (line ++ 10 ∷ []);
       cut = cut_more c.args.bytes.now inv.read c.loop-line.rest.now line after inv.cut c.in-Some.ensures.0;
-      taken = λ text stands. piece_line c.loop-line.self c.end_line.new.self c.end_line.ensures.study text inv.read line c.in-Some.ensures.1 c.in_ok-end_line.ensures.taken c.in_ok-end_line.ensures.ended (inv.taken text stands);
+      taken = λ text stands. piece_line c.loop-line.self c.end_line.new.self text inv.read line c.in-Some.ensures.1 c.in_ok-end_line.ensures.taken c.in_ok-end_line.ensures.ended (inv.taken text stands);
     }
 
 pub returns-clause-taken : goal.returns-clause-taken
 returns-clause-taken g c =
     let inv = c.loop-line.invariant in
     on_ok c.hold.result c.hold.ensures.held (λ held text stands.
-    piece_rest c.loop-line.self c.hold.new.self c.hold.ensures.study text c.args.bytes.now inv.read c.loop-line.rest.now c.in_default.ensures inv.cut c.hold.ensures.progress held (inv.taken text stands))
+    piece_rest c.loop-line.self c.hold.new.self text c.args.bytes.now inv.read c.loop-line.rest.now c.in_default.ensures inv.cut c.hold.ensures.checker held (inv.taken text stands))

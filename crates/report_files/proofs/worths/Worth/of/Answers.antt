@@ -1,7 +1,7 @@
 use Rattle.std.proofs.Common.{◌∙◌, ap, subst, Err}
 use Rattle.report.specs.Answers.{Concludes}
 use Rattle.report_files.proofs.WorthLemmas.{concludes_ok, concludes_line}
-use Rattle.report_files.proofs.files.Worth.of.Goals as goal
+use Rattle.report_files.proofs.worths.Worth.of.Goals as goal
 
 pub returns-in-Ok-clause-worth : goal.returns-in-Ok-clause-worth
 returns-in-Ok-clause-worth c = λ a h. concludes_ok a c.in-Ok.claim (subst (λ r. Concludes a r) c.in-Ok.is h)

@@ -1,0 +1,102 @@
+-- Lines of a report: a faulty one stays the first faulty one, and of a line that is too long the front tells as much.
+use Rattle.std.proofs.Common.{◌≡◌, refl, sym, ap, ◌∙◌, subst, ℕ, suc, ◌+◌, inl, inr, true, false, true≢false, List, [], ◌∷◌, ◌++◌, length, arith, cond, Option, Some, None, lt-ltb}
+use Rattle.std.proofs.lemmas.Bool.{cases_lt}
+use Rattle.std.proofs.lemmas.Slice.Eq.{bytes_eq-Decides}
+use Rattle.std.specs.Prelude.{◌==◌, nat_lt, codes}
+use Rattle.vocab.specs.Study.{Question}
+use Rattle.verdicts.specs.declared.refusals.Refusal.{Refusal}
+use Rattle.verdicts.specs.declared.refusals.Refusal.TheVariants.{Form}
+use Rattle.verdicts.specs.Faults.{fault_of}
+use Rattle.verdicts.specs.Lines.{Line}
+use Rattle.verdicts.specs.Texts.{words_of}
+use Rattle.verdicts.specs.Places.{Place, Standing, start, wanted}
+use Rattle.verdicts.specs.Judge.{Told, Good, Refused, advance, read_line, settle_at, settle, judge_from, judge, pieces, front, final, Faulty, at_end, conclude, answer, rule_of}
+use Rattle.verdicts.proofs.StepLaws.{told_more, judge_snoc}
+use Rattle.report.specs.declared.progress.Progress.{Progress}
+use Rattle.report.specs.Stands.{StandsAt, StandsFor}
+use Rattle.report_files.specs.Lines.{has_title}
+use Rattle.report_files.specs.Pieces.{head_of}
+use Rattle.report_files.proofs.PieceLemmas.{length_take, take_all, pieces_count}
+
+-- ---- a line that is too long
+
+-- of a line that is too long the front tells as much
+pub head_read : (study : Question) (s : Standing) (line : List ℕ) → read_line study s (head_of line) ≡ read_line study s line
+head_read study s line = elim (cases_lt 4096 (length line)) [
+  | inl long ↦
+      let same : length (head_of line) ≡ 4097 = length_take 4097 line (omega (arith, long)) in
+      let cut : nat_lt 4096 (length (head_of line)) ≡ true = lt-ltb 4096 (length (head_of line)) (omega (arith, same)) in
+      ap (λ b. cond b None (wanted study s.place (length s.earlier + 1) (words_of (head_of line)))) cut
+      ∙ sym (ap (λ b. cond b None (wanted study s.place (length s.earlier + 1) (words_of line))) (lt-ltb 4096 (length line) long))
+  | inr short ↦ ap (read_line study s) (take_all 4097 line (omega (arith, short)))
+]
+
+head_judge : (study : Question) (lines : List (List ℕ)) (line : List ℕ) → judge study (lines ++ head_of line ∷ []) ≡ judge study (lines ++ line ∷ [])
+head_judge study lines line =
+    judge_snoc study 1 start lines (head_of line) ∙ by_told (judge study lines) ∙ sym (judge_snoc study 1 start lines line)
+  where
+    by_told : (told : Told) → told_more study (1 + length lines) told (head_of line) ≡ told_more study (1 + length lines) told line
+    by_told (Good s) = ap (λ o. settle study (1 + length lines) s o Good) (head_read study s line)
+    by_told (Refused n word) = refl
+
+pub same_length : (lines : List (List ℕ)) (x y : List ℕ) → length (lines ++ x ∷ []) ≡ length (lines ++ y ∷ [])
+same_length [] x y = refl
+same_length (l ∷ lines) x y = ap suc (same_length lines x y)
+
+-- a checker that was given the front of a line stands for the line
+pub head_stands : (study : Question) (p : Progress) (lines : List (List ℕ)) (line : List ℕ) → StandsFor study p (lines ++ head_of line ∷ []) → StandsFor study p (lines ++ line ∷ [])
+head_stands study p lines line h = (h.0 ∙ same_length lines (head_of line) line, subst (StandsAt study p) (head_judge study lines line) h.1)
+
+-- ---- a fault stays
+
+judge_more : (study : Question) (n : ℕ) (s : Standing) (xs ys : List (List ℕ)) (m : ℕ) (word : Refusal) → judge_from study n s xs ≡ Refused m word → judge_from study n s (xs ++ ys) ≡ Refused m word
+judge_more study n s [] ys m word e = absurd (cc)
+judge_more study n s (x ∷ xs) ys m word e = by_line (read_line study s x) e (λ next h. judge_more study (n + 1) next xs ys m word h)
+  where
+    by_fault : (l : Line) (o : Option Refusal) → settle_at study n s l o (λ next. judge_from study (n + 1) next xs) ≡ Refused m word → ((next : Standing) → judge_from study (n + 1) next xs ≡ Refused m word → judge_from study (n + 1) next (xs ++ ys) ≡ Refused m word) → settle_at study n s l o (λ next. judge_from study (n + 1) next (xs ++ ys)) ≡ Refused m word
+    by_fault l None h later = later (advance study s l) h
+    by_fault l (Some w) h later = h
+
+    by_line : (o : Option Line) → settle study n s o (λ next. judge_from study (n + 1) next xs) ≡ Refused m word → ((next : Standing) → judge_from study (n + 1) next xs ≡ Refused m word → judge_from study (n + 1) next (xs ++ ys) ≡ Refused m word) → settle study n s o (λ next. judge_from study (n + 1) next (xs ++ ys)) ≡ Refused m word
+    by_line None h later = h
+    by_line (Some l) h later = by_fault l (fault_of study s l) h later
+
+-- whatever lines follow a faulty one
+pub refused_more : (study : Question) (lines more : List (List ℕ)) (m : ℕ) (word : Refusal) → judge study lines ≡ Refused m word → judge study (lines ++ more) ≡ Refused m word
+refused_more study lines more m word e = judge_more study 1 start lines more m word e
+
+-- ---- the end of a text
+
+-- the title of a sharp text is no line of a report
+pub titled_refused : (study : Question) (lines : List (List ℕ)) (n : ℕ) (rest : List ℕ) → has_title lines ≡ true → conclude n rest (judge study lines) ≡ Faulty 1 Form
+titled_refused study [] n rest e = absurd (true≢false (sym e))
+titled_refused study (line ∷ lines) n rest e =
+    let same : line ≡ codes "bench sharp 1" = (bytes_eq-Decides line (codes "bench sharp 1")).0 e in
+    ap (λ t. conclude n rest (judge study (t ∷ lines))) same ∙ at_title
+  where
+    at_title : conclude n rest (judge study (codes "bench sharp 1" ∷ lines)) ≡ Faulty 1 Form
+    at_title = refl
+
+-- the end of a text is judged by the front of its last piece
+pub head_concludes : (study : Question) (text held : List ℕ) → held ≡ head_of (final (pieces text)) → conclude (length (front (pieces text)) + 1) held (judge study (front (pieces text))) ≡ answer study text
+head_concludes study text held e =
+    ap (λ n. conclude n held (judge study (front (pieces text)))) (sym (pieces_count text))
+    ∙ ap (λ rest. conclude (length (pieces text)) rest (judge study (front (pieces text)))) e
+    ∙ by_told (judge study (front (pieces text)))
+  where
+    by_rest : (n : ℕ) (rest : List ℕ) (p : Place) → at_end n (head_of rest) p ≡ at_end n rest p
+    by_rest n [] p = refl
+    by_rest n (x ∷ rest) p = refl
+
+    by_told : (told : Told) → conclude (length (pieces text)) (head_of (final (pieces text))) told ≡ conclude (length (pieces text)) (final (pieces text)) told
+    by_told (Good s) = by_rest (length (pieces text)) (final (pieces text)) s.place
+    by_told (Refused n word) = refl
+
+-- where a front is held, the text ends in no line end, and no rule is confirmed
+pub no_rule_held : (study : Question) (text held : List ℕ) → (length held == 0) ≡ false → held ≡ head_of (final (pieces text)) → None ≡ rule_of (answer study text)
+no_rule_held study text held some e = by_told (judge study (front (pieces text))) held some ∙ ap rule_of (head_concludes study text held e)
+  where
+    by_told : (told : Told) (rest : List ℕ) → (length rest == 0) ≡ false → None ≡ rule_of (conclude (length (front (pieces text)) + 1) rest told)
+    by_told (Refused n word) rest some = refl
+    by_told (Good s) [] some = absurd (true≢false some)
+    by_told (Good s) (x ∷ rest) some = refl
