@@ -2,8 +2,11 @@
 use Rattle.std.proofs.Common.{ap, ℕ, zero, suc, ◌<◌, length, List, [], ◌∷◌, get_or, slice_get, IsSomeAnd, arith}
 use Rattle.verdicts.specs.declared.verdicts.Verdict.TheVariants.{Possible, Impossible, Undecided}
 use Rattle.verdicts.specs.Judge.{Confirmed, Faulty, TooLong}
-use Rattle.answer_text.specs.Laws.{AreLinesOfAnswers}
-use Rattle.answer_text.specs.Said.{worth_text}
+use Rattle.sharp_verdicts.specs.Judged.{AsReport, AsSharp}
+use Rattle.sharp_verdicts.specs.SharpJudge.{SharpConfirmed, SharpFaulty, SharpTooLong}
+use Rattle.report_files.specs.declared.worths.JudgedWorth.TheVariants.{Report, Sharp}
+use Rattle.answer_text.specs.Laws.{AreLinesOfAnswers, AreLinesOfJudged}
+use Rattle.answer_text.specs.Said.{worth_text, sharp_worth_text}
 
 -- what holds of the item at a place
 pub at_place : {A : Type 0} (P : A → Type 0) (xs : List A) (i : ℕ) (d : A) → i < length xs → IsSomeAnd (slice_get xs i) P → P (get_or xs i d)
@@ -17,3 +20,11 @@ lines_of_answers (Confirmed (Impossible core story witnesses)) w is = ap worth_t
 lines_of_answers (Confirmed Undecided) w is = absurd is
 lines_of_answers (Faulty line word) w is = ap worth_text is
 lines_of_answers TooLong w is = ap worth_text is
+
+pub lines_of_judged : AreLinesOfJudged
+lines_of_judged (AsReport a) (Report w) is = lines_of_answers a w is
+lines_of_judged (AsSharp (SharpConfirmed v)) (Sharp w) is = ap sharp_worth_text is
+lines_of_judged (AsSharp (SharpFaulty line word)) (Sharp w) is = ap sharp_worth_text is
+lines_of_judged (AsSharp SharpTooLong) (Sharp w) is = ap sharp_worth_text is
+lines_of_judged (AsReport a) (Sharp w) is = absurd is
+lines_of_judged (AsSharp a) (Report w) is = absurd is

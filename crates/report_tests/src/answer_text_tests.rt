@@ -1,9 +1,11 @@
 //! The lines of answers by example, from docs/FORMATS.md.
 
-use answer_text::{LibraryLines, StudyLine, WorthLine, laws};
+use answer_text::{JudgedLine, LibraryLines, StudyLine, TotalLine, WorthLine, laws};
 use edge::{Failed, MemorySink, Sink};
 use lists::Items;
-use report_files::Worth;
+use meaning::Counts;
+use report_files::{JudgedWorth, SharpWorth, Worth};
+use sharp_verdicts::SharpRefusal;
 use sorts::SortFault;
 use std::alloc::Global;
 use std::test::Fail;
@@ -178,6 +180,64 @@ fn reports_are_judged(rt: HostRuntime) -> Result<(), Fail> {
             "{wanted}"
         );
     }
+    Ok(())
+}
+
+#[test]
+fn sharp_texts_are_judged(rt: HostRuntime) -> Result<(), Fail> {
+    laws::lines_are_of_judged();
+    let axiom = Name::new(b"unanimity").ok_or("name")?;
+    let fails = Refusal::Fails { axiom, instance: 3 };
+    let cases = [
+        (
+            JudgedWorth::Report(Worth::Confirmed(Confirmed::Possible)),
+            "confirmed possible\n",
+        ),
+        (
+            JudgedWorth::Sharp(SharpWorth::Confirmed),
+            "confirmed sharp\n",
+        ),
+        (
+            JudgedWorth::Sharp(SharpWorth::TooLong),
+            "refused: too long\n",
+        ),
+        (
+            JudgedWorth::Sharp(SharpWorth::Faulty {
+                line: 19,
+                refusal: SharpRefusal::Instance,
+            }),
+            "refused line 19: instance\n",
+        ),
+        (
+            JudgedWorth::Sharp(SharpWorth::Faulty {
+                line: 24,
+                refusal: SharpRefusal::Report(fails),
+            }),
+            "refused line 24: fails unanimity 3\n",
+        ),
+    ];
+    for (worth, wanted) in cases {
+        assert!(rt;
+            is_line(&JudgedLine(&worth), rt.alloc(), wanted)?,
+            "{wanted}"
+        );
+    }
+    Ok(())
+}
+
+#[test]
+fn totals_are_told(rt: HostRuntime) -> Result<(), Fail> {
+    let total = Counts {
+        clauses: 4_000_001,
+        literals: 18_446_744_073_709_551_615,
+    };
+    assert!(rt;
+        is_line(
+            &TotalLine(total),
+            rt.alloc(),
+            "study: total 4000001 18446744073709551615\n"
+        )?
+    );
     Ok(())
 }
 

@@ -1,60 +1,162 @@
-//! How far a report is read.
+//! How far a text is read, and by which judge it is judged.
 
-ghost use Rattle.std.specs.Prelude.{◌≡◌};
+ghost use Rattle.std.specs.Prelude.{◌≡◌, ◌≤◌};
 
 use crate::studies_by_text::choices;
 use edge::{MemoryShelf, Open};
 use outcomes::ChoiceKind;
 use profiles::Space;
-use report_files::{FileFault, Worth, check_file};
+use report::ReportFault;
+use report_files::{FileFault, JudgedWorth, SharpWorth, Worth, check_report, judge_file};
 use std::alloc::Global;
 use std::test::Fail;
 use std::thread::Threads;
 use verdicts::Refusal;
 
-static STUDY: &str = "kind = \"choice\"\nvoters = 1\nalternatives = 1\naxioms = [\"unanimity\"]\n";
+static STUDY: &str =
+    "kind = \"choice\"\nvoters = 2\nalternatives = 2\naxioms = [\"anonymity\", \"neutrality\"]\n";
 
-/// The first line is none of a report.
-static REPORT: &str = "x\nkind choice\nvoters 1\nalternatives 1\n";
+/// A sharp text of the study.
+static SHARP: &str =
+    "bench sharp 1\nkind choice\nvoters 2\nalternatives 2\naxioms anonymity neutrality\nverdict impossible\ncore anonymity neutrality\nlemmas 2\nlemma 1\nsuppose a@ab|ba\nso a@ba|ab by axiom anonymity ab|ba 1 2 a\nso b@ba|ab by axiom neutrality ab|ba a b a\nclash by outcome ba|ab\nlemma 2\nso !a@ab|ba by lemma 1\nso !a@ba|ab by axiom anonymity ab|ba 1 2 a\nso !b@ba|ab by axiom neutrality ab|ba a b a\nclash by outcome ba|ab\ninstances 2\nneeds anonymity ab|ba 1 2 a rule 4\nab|ab a\nab|ba a\nba|ab b\nba|ba b\nneeds neutrality ab|ba a b a rule 4\nab|ab a\nab|ba a\nba|ab a\nba|ba a\nend\n";
+
+/// Texts that are refused, whether each is judged as a sharp text, and its first faulty line.
+static REFUSED: [(&str, bool, u32); 11] = [
+    ("", false, 1),
+    ("bench", false, 1),
+    ("bench sharp 1", false, 1),
+    ("bench sharp 1 \nkind choice\n", false, 1),
+    ("bench sharp 2\nkind choice\n", false, 1),
+    ("bench report 1\nbench sharp 1\n", false, 2),
+    ("bench sharp 1\n", true, 2),
+    ("bench sharp 1\nkind choice", true, 2),
+    ("bench sharp 1\nbench sharp 1\n", true, 2),
+    ("bench sharp 1\nkind ranking\n", true, 2),
+    ("bench sharp 1\nkind choice\nvoters 2\nx\n", true, 4),
+];
 
 // Each text is handed out by a function, so that the proof of a test need not read it.
 fn study_text() -> &'static str {
     STUDY
 }
 
-fn report() -> &'static [u8] {
-    REPORT.as_bytes()
+fn sharp() -> &'static [u8] {
+    SHARP.as_bytes()
 }
 
-/// What the report is worth, of which each read gives one byte, where the call of this number fails.
-fn worth<R: Threads + Sync>(
+fn refused() -> &'static [(&'static str, bool, u32)] {
+    &REFUSED
+}
+
+/// What a text is worth, of which each read gives so many bytes, where the call of this number fails.
+fn judged<R: Threads + Sync>(
     rt: &R,
     alloc: Global,
+    text: &[u8],
+    most: u32,
     failing: u32,
-) -> Result<Result<Worth, FileFault>, Fail> {
-    let study = choices(alloc, study_text(), 1)?;
+) -> Result<Result<JudgedWorth, FileFault>, Fail>
+    requires { 1 ≤ most }
+{
+    let study = choices(alloc, study_text(), 2)?;
     let kind = ChoiceKind::new(Space::new(study.size()));
-    let mut shelf = MemoryShelf::short(alloc, 1, [failing].as_slice())?;
-    shelf.hold("report", report())?;
-    Ok(check_file(rt, alloc, &Open, 1, &kind, &study, &mut shelf, "report"))
+    let mut shelf = MemoryShelf::short(alloc, most, [failing].as_slice())?;
+    shelf.hold("text", text)?;
+    Ok(judge_file(rt, alloc, &Open, 1, &kind, &study, &mut shelf, "text"))
 }
 
-// The calls are a rewind and then a read for each byte: the line has two, and is answered though the next
-// read would fail. A failed call before it is what is answered.
+/// Whether a text that is refused was judged as a sharp text, and its first faulty line.
+fn refused_at(worth: Result<JudgedWorth, FileFault>) -> Option<(bool, u32)> {
+    match worth {
+        Ok(JudgedWorth::Report(Worth::Faulty { line, refusal: _ })) => Some((false, line)),
+        Ok(JudgedWorth::Sharp(SharpWorth::Faulty { line, refusal: _ })) => Some((true, line)),
+        _ => None,
+    }
+}
+
+// The pieces of one and of five bytes part the title of the text.
 #[test]
-fn first_faulty_line_is_answered_though_a_later_read_fails(rt: HostRuntime) -> Result<(), Fail> {
-    for failing in [0, 1, 2] {
+fn sharp_text_is_confirmed_in_any_pieces(rt: HostRuntime) -> Result<(), Fail> {
+    for most in [1, 5, 14, 4096] {
+        let worth = judged(&rt, rt.alloc(), sharp(), most, u32::MAX)?;
         assert!(rt;
-            worth(&rt, rt.alloc(), failing)? == Err(FileFault::Failed),
-            "{failing}"
+            worth == Ok(JudgedWorth::Sharp(SharpWorth::Confirmed)),
+            "{most}"
         );
     }
-    let line = Worth::Faulty {
+    Ok(())
+}
+
+/// Whether a text of which each read gives so many bytes is refused as a sharp text, and its first faulty line.
+fn refused_by<R: Threads + Sync>(
+    rt: &R,
+    alloc: Global,
+    text: &[u8],
+    most: u32,
+) -> Result<Option<(bool, u32)>, Fail>
+    requires { 1 ≤ most }
+{
+    let worth = judged(rt, alloc, text, most, u32::MAX)?;
+    Ok(refused_at(worth))
+}
+
+#[test]
+fn first_line_tells_by_which_judge_a_text_is_judged(rt: HostRuntime) -> Result<(), Fail> {
+    let alloc = rt.alloc();
+    for (text, is_sharp, line) in refused() {
+        let wanted = Some((*is_sharp, *line));
+        let by_byte = refused_by(&rt, alloc, text.as_bytes(), 1)?;
+        let whole = refused_by(&rt, alloc, text.as_bytes(), 4096)?;
+        assert!(rt; [by_byte, whole] == [wanted, wanted], "{text}");
+    }
+    Ok(())
+}
+
+/// Whether the first faulty line of a text is answered where the call of this number fails.
+fn is_answered<R: Threads + Sync>(
+    rt: &R,
+    alloc: Global,
+    text: &[u8],
+    failing: u32,
+) -> Result<bool, Fail> {
+    let worth = judged(rt, alloc, text, 1, failing)?;
+    Ok(worth != Err(FileFault::Failed))
+}
+
+// The calls are a rewind and then a read for each byte. The first line of the one text has two, and the first
+// two lines of the other have 27: the faulty line is answered though the next read would fail. A failed call
+// before it is what is answered.
+#[test]
+fn first_faulty_line_is_answered_though_a_later_read_fails(rt: HostRuntime) -> Result<(), Fail> {
+    let alloc = rt.alloc();
+    for (text, last) in [
+        ("x\nkind choice\nvoters 2\n", 2),
+        ("bench sharp 1\nkind ranking\nx\n", 27),
+    ] {
+        let bytes = text.as_bytes();
+        let found = [
+            is_answered(&rt, alloc, bytes, 0)?,
+            is_answered(&rt, alloc, bytes, 1)?,
+            is_answered(&rt, alloc, bytes, last)?,
+            is_answered(&rt, alloc, bytes, last + 1)?,
+            is_answered(&rt, alloc, bytes, last + 2)?,
+        ];
+        assert!(rt; found == [false, false, false, true, true], "{text}");
+    }
+    Ok(())
+}
+
+#[test]
+fn reader_of_reports_refuses_the_title_of_a_sharp_text(rt: HostRuntime) -> Result<(), Fail> {
+    let study = choices(rt.alloc(), study_text(), 2)?;
+    let kind = ChoiceKind::new(Space::new(study.size()));
+    let refused = Err(ReportFault::Line {
         line: 1,
         refusal: Refusal::Form,
-    };
-    for failing in [3, 4, 30] {
-        assert!(rt; worth(&rt, rt.alloc(), failing)? == Ok(line), "{failing}");
-    }
+    });
+    let text = sharp();
+    assert!(rt; text.len() < 1000);
+    let answer = check_report(&rt, rt.alloc(), &Open, 1, &kind, &study, text);
+    assert!(rt; answer == refused);
     Ok(())
 }
