@@ -5,26 +5,35 @@ use Rattle.vocab.specs.Study.{Question}
 use Rattle.verdicts.specs.declared.verdicts.Verdict.TheVariants.{Possible, Impossible, Undecided}
 use Rattle.verdicts.specs.Judge.{Judgement, Confirmed, Faulty, TooLong}
 use Rattle.verdicts.specs.Words.{answer_text}
-use Rattle.report_files.specs.declared.files.Worth.{Worth}
-use Rattle.report_files.specs.declared.files.Worth.TheVariants as worth
-use Rattle.report_files.specs.Files.{IsWorth, IsWorthOf}
+use Rattle.sharp_verdicts.specs.Judged.{Judged as OfEither, AsReport, AsSharp, judged_text, sharp_answer_text}
+use Rattle.sharp_verdicts.specs.SharpJudge.{SharpJudgement, SharpConfirmed, SharpFaulty, SharpTooLong}
+use Rattle.report_files.specs.declared.worths.Worth.{Worth}
+use Rattle.report_files.specs.declared.worths.Worth.TheVariants as worth
+use Rattle.report_files.specs.declared.worths.SharpWorth.{SharpWorth}
+use Rattle.report_files.specs.declared.worths.SharpWorth.TheVariants as sharp_worth
+use Rattle.report_files.specs.declared.worths.JudgedWorth.{JudgedWorth}
+use Rattle.report_files.specs.declared.worths.JudgedWorth.TheVariants as judged_worth
+use Rattle.report_files.specs.Files.{IsWorth, IsSharpWorth, IsJudgedWorth, IsJudgedWorthOf}
 use Rattle.words.specs.Words.{Check}
 use Rattle.answers.specs.Studies.{GivesStudy, study_refused, study_given}
-use Rattle.answers.specs.Check.{IsChecked, IsJudged, judgement, status_of as judged_status}
+use Rattle.answers.specs.Check.{IsChecked, IsJudged, judged, status_of, sharp_status_of, judged_status as answered_status}
 use Rattle.answers.specs.Call.{AreFiles, are_told, none_read}
 use Rattle.command_parts.specs.declared.answer.Answer.{Answer}
 use Rattle.command_parts.specs.declared.answer.Answer.TheVariants.{Judged}
 use Rattle.command_parts.specs.declared.answer.Stop.{Stop}
-use Rattle.answer_text.specs.Said.{worth_text}
-use Rattle.command_parts.specs.Answers.{run_of, text_of, worth_status}
+use Rattle.answer_text.specs.Said.{worth_text, sharp_worth_text, judged_worth_text}
+use Rattle.command_parts.specs.Answers.{run_of, text_of, worth_status, sharp_status, judged_status}
 use Rattle.command_parts.specs.Opened.{IsRead, Refuses}
 use Rattle.command_parts.proofs.OpenLemmas.{given, if_some}
 use Rattle.command_parts.proofs.PairLemmas.{IsPairCommand}
 
--- ---- what is said of a report
+-- ---- what is said of a report or a sharp text
 
 abbrev SaidAs : Judgement → Worth → Type 0
-SaidAs a w = (worth_status w ≡ judged_status a) × (worth_text w ≡ answer_text a)
+SaidAs a w = (worth_status w ≡ status_of a) × (worth_text w ≡ answer_text a)
+
+abbrev SharpSaidAs : SharpJudgement → SharpWorth → Type 0
+SharpSaidAs a w = (sharp_status w ≡ sharp_status_of a) × (sharp_worth_text w ≡ sharp_answer_text a)
 
 -- what is said for what a report is worth is what the judge answers
 by_judgement : (a : Judgement) (w : Worth) → IsWorth a w → SaidAs a w
@@ -34,19 +43,38 @@ by_judgement (Confirmed Undecided) w is = absurd is
 by_judgement (Faulty line word) w is = subst (λ (x : Worth). SaidAs (Faulty line word) x) (sym is) (refl, refl)
 by_judgement TooLong w is = subst (λ (x : Worth). SaidAs TooLong x) (sym is) (refl, refl)
 
--- the judgement of a report in a file that may be told
-pub judged_file : (told : Option Files) (study : Question) (report : List ℕ) (w : Worth) → IfSome told (λ files. IsWorthOf study files report w)
+-- the same of a sharp text
+by_sharp_judgement : (a : SharpJudgement) (w : SharpWorth) → IsSharpWorth a w → SharpSaidAs a w
+by_sharp_judgement (SharpConfirmed v) w is = subst (λ (x : SharpWorth). SharpSaidAs (SharpConfirmed v) x) (sym is) (refl, refl)
+by_sharp_judgement (SharpFaulty line word) w is = subst (λ (x : SharpWorth). SharpSaidAs (SharpFaulty line word) x) (sym is) (refl, refl)
+by_sharp_judgement SharpTooLong w is = subst (λ (x : SharpWorth). SharpSaidAs SharpTooLong x) (sym is) (refl, refl)
+
+-- the same of either
+by_either : (a : OfEither) (w : JudgedWorth) → IsJudgedWorth a w → (judged_status w ≡ answered_status a) × (judged_worth_text w ≡ judged_text a)
+by_either (AsReport a) (judged_worth.Report w) is = by_judgement a w is
+by_either (AsReport a) (judged_worth.Sharp w) is = absurd is
+by_either (AsSharp a) (judged_worth.Report w) is = absurd is
+by_either (AsSharp a) (judged_worth.Sharp w) is = by_sharp_judgement a w is
+
+-- the answer to a report or a sharp text in a file that may be told
+pub judged_file : (told : Option Files) (study : Question) (report : List ℕ) (w : JudgedWorth) → IfSome told (λ files. IsJudgedWorthOf study files report w)
     → (files : Files) → told ≡ Some files → IsJudged files report study (run_of (Judged w)) (text_of (Judged w))
 judged_file told study report w is files e =
-    let (bytes, held, worth_is) = if_some told (λ files. IsWorthOf study files report w) files is e in
-    let said = by_judgement (judgement study bytes) w worth_is in
-    record { bytes = bytes; held = held; ends = record { ends = said.0; no_verdict = refl; no_logs = refl }; is = said.1 }
+    let (bytes, held, worth_is) = if_some told (λ files. IsJudgedWorthOf study files report w) files is e in
+    let said = by_either (judged study bytes) w worth_is in
+    record { bytes = bytes; held = held; ends = record { ends = said.0; no_verdict = refl; no_logs = refl; no_sharp = refl }; is = said.1 }
 
 -- its status is at most 1
-pub judged_low : (w : Worth) → worth_status w ≤ 1
-judged_low (worth.Confirmed claim) = omega arith
-judged_low (worth.Faulty line word) = omega arith
-judged_low worth.TooLong = omega arith
+pub worth_low : (w : Worth) → worth_status w ≤ 1
+worth_low (worth.Confirmed claim) = omega arith
+worth_low (worth.Faulty line word) = omega arith
+worth_low worth.TooLong = omega arith
+
+pub judged_low : (w : JudgedWorth) → judged_status w ≤ 1
+judged_low (judged_worth.Report w) = worth_low w
+judged_low (judged_worth.Sharp sharp_worth.Confirmed) = omega arith
+judged_low (judged_worth.Sharp (sharp_worth.Faulty line word)) = omega arith
+judged_low (judged_worth.Sharp sharp_worth.TooLong) = omega arith
 
 -- ---- the command
 

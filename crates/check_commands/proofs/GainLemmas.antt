@@ -14,8 +14,9 @@ use Rattle.verdicts.specs.Claims.{claim_of}
 use Rattle.verdicts.specs.Report.{is_right}
 use Rattle.verdicts.specs.Judge.{Judgement, Confirmed, Faulty, TooLong, answer, rule_of}
 use Rattle.verdicts.proofs.ClaimLaws.{within_limit}
-use Rattle.report_files.specs.declared.files.Worth.{Worth}
-use Rattle.report_files.specs.declared.files.Worth.TheVariants as worth
+use Rattle.report_files.specs.declared.worths.Worth.{Worth}
+use Rattle.report_files.specs.declared.worths.Worth.TheVariants as worth
+use Rattle.report_files.specs.declared.worths.JudgedWorth.TheVariants as judged_worth
 use Rattle.report_files.specs.Files.{HasReadWhole, IsWorth, IsWorthOf}
 use Rattle.report_files.specs.Pieces.{ReaderState, StandsForText}
 use Rattle.words.specs.Words.{Gain}
@@ -52,11 +53,11 @@ module _ (study : Question) where
 
   pub refused_file : (told : Option Files) (report : List ℕ) (w : Worth) → ((claim : Claim) → w ≢ worth.Confirmed claim)
       → IfSome told (λ files. IsWorthOf study files report w)
-      → (files : Files) → told ≡ Some files → IsGainSaid files report study (run_of (Judged w)) (text_of (Judged w))
+      → (files : Files) → told ≡ Some files → IsGainSaid files report study (run_of (Judged (judged_worth.Report w))) (text_of (Judged (judged_worth.Report w)))
   refused_file told report w other is files e =
       let (bytes, held, worth_is) = if_some told (λ files. IsWorthOf study files report w) files is e in
       let said = by_judgement (judgement study bytes) w other worth_is in
-      record { bytes = bytes; held = held; ends = record { ends = said.0; no_verdict = refl; no_logs = refl }; is = said.1 }
+      record { bytes = bytes; held = held; ends = record { ends = said.0; no_verdict = refl; no_logs = refl; no_sharp = refl }; is = said.1 }
 
   -- of a confirmed one, what is said of its rule
   rule_said : (held : List ℕ) (claim : Claim) (w : Worth) (rule : Option (List ℕ)) (a : Judgement) → judgement study held ≡ a
@@ -70,7 +71,7 @@ module _ (study : Question) where
 
   pub confirmed_file : (told : Option Files) (report : List ℕ) (w : Worth) (claim : Claim) (said : Answer) (rule : Option (List ℕ)) → w ≡ worth.Confirmed claim
       → IfSome told (λ files. IsWorthOf study files report w) → IfSome told (λ files. (held : List ℕ) → files report ≡ Some held → rule ≡ rule_of (answer study held))
-      → run_of said ≡ record { status = 0; verdict = None; logs = [] } → text_of said ≡ rule_text study.size rule
+      → run_of said ≡ record { status = 0; verdict = None; logs = []; sharp = None } → text_of said ≡ rule_text study.size rule
       → (files : Files) → told ≡ Some files → IsGainSaid files report study (run_of said) (text_of said)
   confirmed_file told report w claim said rule same is rules run text files e =
       let (bytes, held, worth_is) = if_some told (λ files. IsWorthOf study files report w) files is e in
@@ -79,14 +80,14 @@ module _ (study : Question) where
       record {
         bytes = bytes;
         held = held;
-        ends = record { ends = ap (λ (r : Run). r.status) run ∙ found.0; no_verdict = ap (λ (r : Run). r.verdict) run; no_logs = ap (λ (r : Run). r.logs) run };
+        ends = record { ends = ap (λ (r : Run). r.status) run ∙ found.0; no_verdict = ap (λ (r : Run). r.verdict) run; no_logs = ap (λ (r : Run). r.logs) run; no_sharp = ap (λ (r : Run). r.sharp) run };
         is = text ∙ found.1;
       }
 
 -- what a reader of the whole file tells of its rule
 pub rules_told : (told : Option Files) (r : ReaderState) (study : Question) (report : List ℕ) (w : Worth) (claim : Claim) (rule : Option (List ℕ))
-    → w ≡ worth.Confirmed claim → r.study ≡ study → IfSome told (λ files. HasReadWhole r files report w)
-    → ((text : List ℕ) → StandsForText r text → rule ≡ rule_of (answer r.study text))
+    → w ≡ worth.Confirmed claim → r.checker.study ≡ study → IfSome told (λ files. HasReadWhole r files report w)
+    → ((text : List ℕ) → StandsForText r text → rule ≡ rule_of (answer r.checker.study text))
     → IfSome told (λ files. (held : List ℕ) → files report ≡ Some held → rule ≡ rule_of (answer study held))
 rules_told None r study report w claim rule same is whole tells = tt
 rules_told (Some files) r study report w claim rule same is whole tells = λ held at.
@@ -134,7 +135,7 @@ module _ (told : Option Files) (name report : List ℕ) where
   pub other_row : (study : Question) → study.size.kind ≢ Sets → IsRead told name study → (files : Files) → AreFiles told (name ∷ report ∷ []) files
       → IsGained files name report (run_of OtherKind) (text_of OtherKind)
   other_row study other read files (are_told e) =
-      study_given study (given told name study files read e) (other_kind other refl (record { ends = refl; no_verdict = refl; no_logs = refl }))
+      study_given study (given told name study files read e) (other_kind other refl (record { ends = refl; no_verdict = refl; no_logs = refl; no_sharp = refl }))
   other_row study other read files (none_read e) = absurd (cc)
 
   -- and so is the file of no study

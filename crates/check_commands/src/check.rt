@@ -1,9 +1,9 @@
-//! The command `check`: reads a study, and then a report over it.
+//! The command `check`: reads a study, and then a report or a sharp text over it.
 
 ghost use Rattle.std.specs.Prelude.{◌≡◌, ◌≤◌, Some, IfSome, IfOk, IsErrOf};
 ghost use Rattle.edge.specs.Faults.{Rose};
 ghost use Rattle.edge.specs.Shelf.{Files, OthersStay};
-ghost use Rattle.report_files.specs.Files.{IsWorthOf};
+ghost use Rattle.report_files.specs.Files.{IsJudgedWorthOf};
 ghost use Rattle.words.specs.Words.{Check};
 ghost use Rattle.answers.specs.Check.{IsJudged};
 ghost use Rattle.command_parts.specs.Answers.{HasText, run_of, status_of, text_of};
@@ -16,12 +16,12 @@ use crew::Crew;
 use edge::{Gate, Shelf};
 use outcomes::{ChoiceKind, OutcomeKind, RankingKind};
 use profiles::Space;
-use report_files::{FileFault, Worth, check_file};
+use report_files::{FileFault, JudgedWorth, judge_file};
 use std::alloc::Global;
 use std::thread::Threads;
 use vocab::{Kind, Study};
 
-/// What a report is worth over a study, beside its kind.
+/// What a text is worth over a study, beside its kind.
 fn worth_over<R: Threads + Sync, S: Shelf, G: Gate, K: OutcomeKind>(
     alloc: Global,
     crew: &Crew<R, G>,
@@ -29,15 +29,15 @@ fn worth_over<R: Threads + Sync, S: Shelf, G: Gate, K: OutcomeKind>(
     kind: &K,
     study: &Study,
     report: &str,
-) -> Result<Worth, FileFault>
+) -> Result<JudgedWorth, FileFault>
     requires size { study.now.size ≡ K.size kind.now }
     requires listed { HasFewAxioms study.now }
-    ensures worth { IfSome (S.files shelf.old) (λ files. IfOk result (IsWorthOf study.now files report.now)) }
+    ensures worth { IfSome (S.files shelf.old) (λ files. IfOk result (IsJudgedWorthOf study.now files report.now)) }
     ensures failed { IsErrOf result FileFault.Failed →
         Rose (S.faults shelf.old report.now) (S.faults shelf.new report.now) }
     ensures others { OthersStay (S.left shelf.old) (S.left shelf.new) report.now }
 {
-    check_file(
+    judge_file(
         crew.rt,
         alloc,
         crew.gate,
@@ -49,16 +49,16 @@ fn worth_over<R: Threads + Sync, S: Shelf, G: Gate, K: OutcomeKind>(
     )
 }
 
-/// What a report is worth over a study, by the study's kind.
+/// What a text is worth over a study, by the study's kind.
 fn check_by_kind<R: Threads + Sync, S: Shelf, G: Gate>(
     alloc: Global,
     crew: &Crew<R, G>,
     shelf: &mut S,
     study: &Study,
     report: &str,
-) -> Result<Worth, FileFault>
+) -> Result<JudgedWorth, FileFault>
     requires listed { HasFewAxioms study.now }
-    ensures worth { IfSome (S.files shelf.old) (λ files. IfOk result (IsWorthOf study.now files report.now)) }
+    ensures worth { IfSome (S.files shelf.old) (λ files. IfOk result (IsJudgedWorthOf study.now files report.now)) }
     ensures failed { IsErrOf result FileFault.Failed →
         Rose (S.faults shelf.old report.now) (S.faults shelf.new report.now) }
     ensures others { OthersStay (S.left shelf.old) (S.left shelf.new) report.now }
@@ -71,7 +71,7 @@ fn check_by_kind<R: Threads + Sync, S: Shelf, G: Gate>(
     }
 }
 
-/// Reads the report and judges it.
+/// Reads the text and judges it.
 fn judge_report<R: Threads + Sync, S: Shelf, G: Gate>(
     alloc: Global,
     crew: &Crew<R, G>,
@@ -92,10 +92,10 @@ fn judge_report<R: Threads + Sync, S: Shelf, G: Gate>(
     Ok(Answer::Judged(worth))
 }
 
-/// Reads the study, and then the report over it. Where the study is refused, what the shelf has left under
-/// the report's name stays as it was. The axioms of a rule are checked among 1 to 16 workers, which changes
-/// no answer; the gate is told of each piece of that work. Errors: `Stop::ReadFault` where the shelf fails,
-/// and `Stop::NoMemory`.
+/// Reads the study, and then the report or the sharp text over it. Where the study is refused, what the shelf
+/// has left under the report's name stays as it was. The axioms of a rule are checked among 1 to 16 workers,
+/// which changes no answer; the gate is told of each piece of that work. Errors: `Stop::ReadFault` where the
+/// shelf fails, and `Stop::NoMemory`.
 pub fn check<R: Threads + Sync, S: Shelf, G: Gate>(
     rt: &R,
     alloc: Global,

@@ -23,7 +23,7 @@ use edge::{Gate, Shelf};
 use outcomes::OutcomeKind;
 use outcomes::laws::kinds_have_sizes;
 use profiles::Space;
-use report_files::{Reader, Worth, worth_of};
+use report_files::{JudgedWorth, Reader, Worth, worth_of};
 use std::alloc::Global;
 use std::thread::Threads;
 use vocab::{Kind, Name, Study, Table};
@@ -62,7 +62,7 @@ fn said_of_rule(kind: &SetsKind, rule: Option<&Table>) -> Answer
     requires { IfSome rule (λ table. IsTrue (is_rule (⟦<SetsKind as OutcomeKind>⟧.size kind.now) table.now)) }
     ensures text { text_of result ≡
         rule_text (⟦<SetsKind as OutcomeKind>⟧.size kind.now) (option_map (λ table. table.now) rule.entry) }
-    ensures run { run_of result ≡ record { status = 0; verdict = None; logs = [] } }
+    ensures run { run_of result ≡ record { status = 0; verdict = None; logs = []; sharp = None } }
     ensures has_text { HasText result }
 {
     let Some(table) = rule else {
@@ -99,7 +99,7 @@ fn judge_gain<R: Threads + Sync, S: Shelf, G: Gate>(
     let worth = worth_of(crew, &mut reader, shelf, report)?;
     match worth {
         Worth::Confirmed(_) => Ok(said_of_rule(kind, reader.table())),
-        worth => Ok(Answer::Judged(worth)),
+        worth => Ok(Answer::Judged(JudgedWorth::Report(worth))),
     }
 }
 

@@ -3,7 +3,7 @@ use Rattle.std.proofs.Common.{refl, ℕ, ◌≤◌, List, Option, None, Some, Ok
 use Rattle.std.specs.Prelude.{◌==◌, IsTrue}
 use Rattle.std.specs.List.{list_any}
 use Rattle.edge.specs.Shelf.{Files}
-use Rattle.words.specs.Words.{Request, Decide, Check, Export, Proof, Lrat, Axioms, Sample, Adopt, Gain}
+use Rattle.words.specs.Words.{Request, Decide, Check, Export, Proof, Lrat, Axioms, Sample, Adopt, Gain, Sharpen}
 use Rattle.answers.specs.Lawful.{IsAnswer}
 use Rattle.answers.specs.Call.{statuses_of}
 use Rattle.command_parts.specs.declared.answer.Answer.{Answer}
@@ -25,6 +25,7 @@ may_want_memory (Some (Lrat cnf proof)) = refl
 may_want_memory (Some (Sample number)) = refl
 may_want_memory (Some (Adopt study proof workers)) = refl
 may_want_memory (Some (Gain study report)) = refl
+may_want_memory (Some (Sharpen study workers)) = refl
 
 module _ (request : Option Request) (told : Option Files) (left : Files) (faults : List ℕ → ℕ) where
   -- want of memory, where the shelf is as it was

@@ -2,8 +2,16 @@
 use Rattle.std.specs.Prelude.{ℕ, List, [], codes, Option, Some, None, IsTrue}
 use Rattle.report_files.specs.declared.files.FileFault.{FileFault}
 use Rattle.report_files.specs.declared.files.FileFault.TheVariants as file
-use Rattle.report_files.specs.declared.files.Worth.{Worth}
-use Rattle.report_files.specs.declared.files.Worth.TheVariants as worth
+use Rattle.report_files.specs.declared.worths.Worth.{Worth}
+use Rattle.report_files.specs.declared.worths.Worth.TheVariants as worth
+use Rattle.report_files.specs.declared.worths.SharpWorth.{SharpWorth}
+use Rattle.report_files.specs.declared.worths.SharpWorth.TheVariants as sharp
+use Rattle.report_files.specs.declared.worths.JudgedWorth.{JudgedWorth}
+use Rattle.report_files.specs.declared.worths.JudgedWorth.TheVariants as judged
+use Rattle.sharp_verdicts.specs.declared.sharp.Sharp.{Sharp}
+use Rattle.sharp_verdicts.specs.Right.{pointed}
+use Rattle.sharp_verdicts.specs.SharpLines.{sharp_text}
+use Rattle.sharp_text.specs.Conditions.{has_sharp_text}
 use Rattle.search_logs.specs.declared.logs.SearchLog.{SearchLog}
 use Rattle.verdicts.specs.declared.verdicts.Verdict.{Verdict}
 use Rattle.verdicts.specs.declared.verdicts.Verdict.TheVariants.{Undecided}
@@ -12,7 +20,7 @@ use Rattle.clause_form.specs.Sources.{clauses_in}
 use Rattle.clause_text.specs.Dimacs.{dimacs_text, size_text}
 use Rattle.clause_text.specs.Lrat.{lrat_text}
 use Rattle.answer_text.specs.Claims.{claim_line}
-use Rattle.answer_text.specs.Said.{worth_text}
+use Rattle.answer_text.specs.Said.{judged_worth_text}
 use Rattle.answer_text.specs.Gains.{words_text}
 use Rattle.answers.specs.declared.runs.Run.{Run}
 use Rattle.answers.specs.StudyLines.{study_line}
@@ -21,6 +29,7 @@ use Rattle.answers.specs.Lrat.{cnf_line, line_fault_text, proof_line, reading_te
 use Rattle.answers.specs.Usage.{usage_line}
 use Rattle.answers.specs.Axioms.{library_text}
 use Rattle.answers.specs.Sample.{summary_text}
+use Rattle.answers.specs.Sharpen.{total_line}
 use Rattle.command_parts.specs.declared.answer.Answer.{Answer}
 use Rattle.command_parts.specs.declared.answer.Answer.TheVariants as answer
 use Rattle.command_parts.specs.declared.answer.Stop.{Stop}
@@ -37,6 +46,17 @@ worth_status (worth.Confirmed claim) = 0
 worth_status (worth.Faulty line word) = 1
 worth_status worth.TooLong = 1
 
+-- what a sharp text is worth: 0 where it is confirmed, and 1 where it is refused
+abbrev pub sharp_status : SharpWorth → ℕ
+sharp_status sharp.Confirmed = 0
+sharp_status (sharp.Faulty line word) = 1
+sharp_status sharp.TooLong = 1
+
+-- what a text is worth that was judged
+abbrev pub judged_status : JudgedWorth → ℕ
+judged_status (judged.Report worth) = worth_status worth
+judged_status (judged.Sharp worth) = sharp_status worth
+
 -- the report of a verdict: 4 where the search spent its limit
 abbrev pub report_status : Verdict → ℕ
 report_status Undecided = 4
@@ -48,7 +68,9 @@ status_of answer.LongStudy = 3
 status_of (answer.NoStudy fault) = 3
 status_of (answer.NoClauses study fault) = 3
 status_of (answer.Report study verdict logs) = report_status verdict
-status_of (answer.Judged worth) = worth_status worth
+status_of (answer.OverTotal counts) = 3
+status_of (answer.Sharp study sharp logs) = 0
+status_of (answer.Judged worth) = judged_status worth
 status_of answer.OtherKind = 3
 status_of answer.NoRule = 0
 status_of answer.NoGain = 0
@@ -72,15 +94,21 @@ verdict_of (answer.Claim verdict logs) = Some verdict
 verdict_of (answer.Summary number study clauses verdict logs) = Some verdict
 verdict_of a = None
 
+-- what sharpening came to, where it tells of it
+abbrev pub sharp_of : Answer → Option Sharp
+sharp_of (answer.Sharp study sharp logs) = Some sharp
+sharp_of a = None
+
 -- the searches that spent their limit
 abbrev pub logs_of : Answer → List SearchLog
 logs_of (answer.Report study verdict logs) = logs
+logs_of (answer.Sharp study sharp logs) = logs
 logs_of (answer.Claim verdict logs) = logs
 logs_of (answer.Summary number study clauses verdict logs) = logs
 logs_of a = []
 
 abbrev pub run_of : Answer → Run
-run_of a = record { status = status_of a; verdict = verdict_of a; logs = logs_of a }
+run_of a = record { status = status_of a; verdict = verdict_of a; logs = logs_of a; sharp = sharp_of a }
 
 abbrev pub text_of : Answer → List ℕ
 text_of answer.Usage = usage_line
@@ -88,7 +116,9 @@ text_of answer.LongStudy = codes "study: too long\n"
 text_of (answer.NoStudy fault) = study_line fault
 text_of (answer.NoClauses study fault) = refusal_line study fault
 text_of (answer.Report study verdict logs) = report_text study verdict
-text_of (answer.Judged worth) = worth_text worth
+text_of (answer.OverTotal counts) = total_line counts
+text_of (answer.Sharp study sharp logs) = sharp_text study (pointed sharp)
+text_of (answer.Judged worth) = judged_worth_text worth
 text_of answer.OtherKind = codes "study: kind not sets\n"
 text_of answer.NoRule = codes "no rule\n"
 text_of answer.NoGain = codes "none\n"
@@ -105,7 +135,8 @@ text_of answer.GoodProof = codes "confirmed\n"
 text_of (answer.Library kind) = library_text kind
 text_of (answer.Summary number study clauses verdict logs) = summary_text number study clauses verdict
 
--- the report of a verdict has a text where all that the verdict names is in range
+-- the report of a verdict has a text where all that the verdict names is in range, and so has a sharp text
 abbrev pub HasText : Answer → Type 0
 HasText (answer.Report study verdict logs) = IsTrue (has_text study verdict)
+HasText (answer.Sharp study sharp logs) = IsTrue (has_sharp_text study (pointed sharp))
 HasText a = Unit {0}

@@ -1,13 +1,16 @@
 //! Answers, a variant for each row of the table, and why there may be none.
 
-ghost use Rattle.std.specs.Prelude.{◌≡◌, Some, IsTrue};
+ghost use Rattle.std.specs.Prelude.{◌≡◌, None, Some, IsTrue};
 ghost use Rattle.verdicts.specs.Report.{has_text, report_text};
 ghost use Rattle.texts.specs.Page.{Pours};
-ghost use Rattle.command_parts.specs.Answers.{HasText, report_status, run_of, text_of, worth_status};
+ghost use Rattle.sharp_verdicts.specs.Right.{pointed};
+ghost use Rattle.sharp_verdicts.specs.SharpLines.{sharp_text};
+ghost use Rattle.sharp_text.specs.Conditions.{has_sharp_text};
+ghost use Rattle.command_parts.specs.Answers.{HasText, judged_status, report_status, run_of, sharp_status, text_of, worth_status};
 
 use answer_text::{
-    ClaimLine, CnfLine, GainLine, GainWords, GroundLine, LibraryLines, LratLine, ProofLine,
-    StudyLine, SummaryLine, WorthLine,
+    ClaimLine, CnfLine, GainLine, GainWords, GroundLine, JudgedLine, LibraryLines, LratLine,
+    ProofLine, StudyLine, SummaryLine, TotalLine,
 };
 use answers::Run;
 use choice_sets::SetsKind;
@@ -16,11 +19,14 @@ use clause_text::{CnfFault, DimacsText, LratFault, LratText, SizeText};
 use cnf::{Derivation, LineFault};
 use edge::{Failed, Sink};
 use lists::NoMemory;
+use meaning::Counts;
 use outcomes::{ChoiceKind, RankingKind};
 use profiles::Space;
-use report_files::{FileFault, Worth};
+use report_files::{FileFault, JudgedWorth, SharpWorth, Worth};
 use report_text::pour_verdict;
 use search_logs::Logs;
+use sharp_text::pour_sharp;
+use sharp_verdicts::Sharp;
 use std::alloc::Global;
 use study::StudyFault;
 use texts::{Page, Text};
@@ -29,7 +35,7 @@ use vocab::{Kind, Size, Study};
 
 /// What is said to words that are no command.
 const USAGE: &[u8] =
-    b"usage: bench decide STUDY | check STUDY REPORT | export STUDY | proof STUDY | lrat CNF PROOF | axioms KIND | sample N | adopt STUDY PROOF | gain STUDY REPORT [--workers K]\n";
+    b"usage: bench decide STUDY | check STUDY REPORT | export STUDY | proof STUDY | lrat CNF PROOF | axioms KIND | sample N | adopt STUDY PROOF | gain STUDY REPORT | sharpen STUDY [--workers K]\n";
 
 /// What is answered: a row of the table, with what its text names.
 #[derive(Drop)]
@@ -44,8 +50,12 @@ pub enum Answer {
     NoClauses(Study, GroundFault),
     /// The verdict of a search on the study, with the searches that spent their limit.
     Report(Study, Verdict, Logs),
-    /// The report was judged.
-    Judged(Worth),
+    /// The instances of the axioms of the study have together too many clauses or literals, with the frames.
+    OverTotal(Counts),
+    /// What an impossibility was sharpened to, with the searches of the decision that spent their limit.
+    Sharp(Study, Sharp, Logs),
+    /// The report, or the sharp text, was judged.
+    Judged(JudgedWorth),
     /// The study is not one of set-valued rules.
     OtherKind,
     /// The confirmed report has no rule.
@@ -117,14 +127,39 @@ fn worth_status(worth: &Worth) -> u8
     }
 }
 
+/// The status of what a sharp text is worth: 0 where it is confirmed, and 1 where it is refused.
+fn sharp_status(worth: &SharpWorth) -> u8
+    ensures { result ≡ sharp_status worth.now }
+{
+    match worth {
+        SharpWorth::Confirmed => 0,
+        SharpWorth::Faulty {
+            line: _,
+            refusal: _,
+        } => 1,
+        SharpWorth::TooLong => 1,
+    }
+}
+
+/// The status of what a text is worth that was judged.
+fn judged_status(worth: &JudgedWorth) -> u8
+    ensures { result ≡ judged_status worth.now }
+{
+    match worth {
+        JudgedWorth::Report(report) => worth_status(report),
+        JudgedWorth::Sharp(sharp) => sharp_status(sharp),
+    }
+}
+
 /// The run of a verdict.
 fn found_run(verdict: Verdict, logs: Logs) -> Run
-    ensures { result ≡ record { status = report_status verdict; verdict = Some verdict; logs = logs } }
+    ensures { result ≡ record { status = report_status verdict; verdict = Some verdict; logs = logs; sharp = None } }
 {
     Run {
         status: report_status(&verdict),
         verdict: Some(verdict),
         logs,
+        sharp: None,
     }
 }
 
@@ -139,7 +174,14 @@ impl Answer {
             Answer::NoStudy(_) => Run::bare(alloc, 3),
             Answer::NoClauses(_, _) => Run::bare(alloc, 3),
             Answer::Report(_, verdict, logs) => found_run(verdict, logs),
-            Answer::Judged(worth) => Run::bare(alloc, worth_status(&worth)),
+            Answer::OverTotal(_) => Run::bare(alloc, 3),
+            Answer::Sharp(_, sharp, logs) => Run {
+                status: 0,
+                verdict: None,
+                logs,
+                sharp: Some(sharp),
+            },
+            Answer::Judged(worth) => Run::bare(alloc, judged_status(&worth)),
             Answer::OtherKind => Run::bare(alloc, 3),
             Answer::NoRule => Run::bare(alloc, 0),
             Answer::NoGain => Run::bare(alloc, 0),
@@ -188,6 +230,25 @@ fn pour_report<O: Sink>(
     }
 }
 
+/// Adds the text of what an impossibility of a study was sharpened to.
+fn pour_sharpened<O: Sink>(
+    study: &Study,
+    sharp: &Sharp,
+    page: &mut Page,
+    out: &mut O,
+) -> Result<(), Failed>
+    requires has_text { IsTrue (has_sharp_text study.now (pointed sharp.now)) }
+    ensures { Pours (O.taken out.old) (O.taken out.new) page.old page.new
+        (O.faults out.old) (O.faults out.new) result (sharp_text study.now (pointed sharp.now)) }
+{
+    let space = Space::new(study.size());
+    match study.size().kind() {
+        Kind::Choice => pour_sharp(&ChoiceKind::new(space), study, sharp, page, out),
+        Kind::Ranking => pour_sharp(&RankingKind::new(space), study, sharp, page, out),
+        Kind::Sets => pour_sharp(&SetsKind::new(space), study, sharp, page, out),
+    }
+}
+
 impl Text for Answer {
     ghost can = { λ answer. HasText answer };
 
@@ -204,7 +265,9 @@ impl Text for Answer {
             }
             .pour(page, out),
             Answer::Report(study, verdict, _) => pour_report(study, verdict, page, out),
-            Answer::Judged(worth) => WorthLine(worth).pour(page, out),
+            Answer::OverTotal(counts) => TotalLine(*counts).pour(page, out),
+            Answer::Sharp(study, sharp, _) => pour_sharpened(study, sharp, page, out),
+            Answer::Judged(worth) => JudgedLine(worth).pour(page, out),
             Answer::OtherKind => page.put(out, b"study: kind not sets\n"),
             Answer::NoRule => page.put(out, b"no rule\n"),
             Answer::NoGain => page.put(out, b"none\n"),

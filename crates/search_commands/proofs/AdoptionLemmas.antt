@@ -53,7 +53,7 @@ module _ (study : Question) (lines : List Line) (a : Adopted) (taken : IsAdopted
     core = a.core;
     story = a.story;
     witnesses = a.witnesses;
-    found = record { ends = refl; told = refl; claims_some = refl; right = right; backed = (taken.told.tidy, taken.told.logged); logs = taken.told.logs };
+    found = record { ends = refl; told = refl; claims_some = refl; right = right; backed = (taken.told.tidy, taken.told.logged); logs = taken.told.logs; no_sharp = refl };
     cited = taken.cited;
     is = refl;
   }

@@ -27,7 +27,7 @@ refused_as NoMemory wanted known is = absurd (known refl)
 pub no_clauses : (study : Question) (fault : GroundFault) (P : Type 0) → fault ≢ NoMemory → IsRefused fault (fault_of study)
     → OverClauses study (run_of (answer.NoClauses study fault)) (text_of (answer.NoClauses study fault)) P
 no_clauses study fault P known is =
-    clauses_refused fault (refused_as fault (fault_of study) known is) refl (record { ends = refl; no_verdict = refl; no_logs = refl })
+    clauses_refused fault (refused_as fault (fault_of study) known is) refl (record { ends = refl; no_verdict = refl; no_logs = refl; no_sharp = refl })
 
 -- the clauses are written
 pub clauses_written : (study : Question) (clauses : List Sourced) (variables : ℕ) → fault_of study ≡ None
@@ -36,7 +36,7 @@ pub clauses_written : (study : Question) (clauses : List Sourced) (variables : �
     (IsWritten study (run_of (answer.Clauses study.size variables clauses)) (text_of (answer.Clauses study.size variables clauses)))
 clauses_written study clauses variables none are count =
     clauses_made none (
-      record { ends = refl; no_verdict = refl; no_logs = refl },
+      record { ends = refl; no_verdict = refl; no_logs = refl; no_sharp = refl },
       ap (λ (n : ℕ). dimacs_text (size_text study.size) n (clauses_in clauses)) count
           ∙ ap (λ (made : List Sourced). dimacs_text (size_text study.size) (variable_count study.size) (clauses_in made)) are,
     )

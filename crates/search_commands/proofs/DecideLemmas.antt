@@ -1,5 +1,5 @@
 -- `decide`, from what a search found to what is reported.
-use Rattle.std.proofs.Common.{refl, ℕ, List, Option, Some, arith}
+use Rattle.std.proofs.Common.{refl, ℕ, List, Option, Some, None, arith}
 use Rattle.std.specs.Prelude.{IsTrue}
 use Rattle.vocab.specs.Study.{Question}
 use Rattle.words.specs.Words.{Request, Decide}
@@ -21,12 +21,12 @@ use Rattle.command_parts.proofs.StudyLemmas.{IsStudyCommand, IsLow, low_at, over
 
 -- a verdict that was found decides the study, in every run that has it with its status and its logs
 pub decided : (study : Question) (logs : List SearchLog) (verdict : Verdict) → IsVerdict study logs verdict → AreSpentLogs study logs
-    → Decides study (record { status = report_status verdict; verdict = Some verdict; logs = logs }) verdict
+    → Decides study (record { status = report_status verdict; verdict = Some verdict; logs = logs; sharp = None }) verdict
 decided study logs (Possible table) v spent =
-    by_verdict (record { ends = refl; told = refl; claims_some = refl; right = v.0; backed = v.1; logs = spent })
+    by_verdict (record { ends = refl; told = refl; claims_some = refl; right = v.0; backed = v.1; logs = spent; no_sharp = refl })
 decided study logs (Impossible core story witnesses) v spent =
-    by_verdict (record { ends = refl; told = refl; claims_some = refl; right = v.0; backed = v.1; logs = spent })
-decided study logs Undecided v spent = by_limit (record { ends = refl; told = refl; spent = v; logs = spent }) refl
+    by_verdict (record { ends = refl; told = refl; claims_some = refl; right = v.0; backed = v.1; logs = spent; no_sharp = refl })
+decided study logs Undecided v spent = by_limit (record { ends = refl; told = refl; spent = v; logs = spent; no_sharp = refl }) refl
 
 -- the report of a verdict that was found
 pub reported : (study : Question) (logs : List SearchLog) (verdict : Verdict) → IsVerdict study logs verdict → AreSpentLogs study logs

@@ -4,3 +4,4 @@ mod DecideLemmas
 mod ProofLemmas
 pub mod SampleLemmas
 mod AdoptionLemmas
+mod SharpenLemmas

@@ -19,16 +19,16 @@ module _ (study : Question) where
   pub rule_shown : (table : List ℕ) (logs : List SearchLog) → IsShown study logs (found.Possible table) → AreSpentLogs study logs
       → Proves study (run_of (answer.Claim (Possible table) logs)) (text_of (answer.Claim (Possible table) logs))
   rule_shown table logs right spent =
-      possible table (record { ends = refl; told = refl; claims_some = refl; right = right; backed = tt; logs = spent }) refl
+      possible table (record { ends = refl; told = refl; claims_some = refl; right = right; backed = tt; logs = spent; no_sharp = refl }) refl
 
   pub refutation_shown : (lines : List Line) (logs : List SearchLog) → IsShown study logs (found.Refuted lines)
       → Proves study (run_of (answer.Refutation lines)) (text_of (answer.Refutation lines))
   refutation_shown lines logs right =
-      refuted lines (record { trimmed = right.0; over = right.1 }) (record { ends = refl; no_verdict = refl; no_logs = refl }) refl
+      refuted lines (record { trimmed = right.0; over = right.1 }) (record { ends = refl; no_verdict = refl; no_logs = refl; no_sharp = refl }) refl
 
   pub limit_shown : (logs : List SearchLog) → IsShown study logs found.Undecided → AreSpentLogs study logs
       → Proves study (run_of (answer.Claim Undecided logs)) (text_of (answer.Claim Undecided logs))
-  limit_shown logs among spent = undecided (record { ends = refl; told = refl; spent = among; logs = spent }) refl
+  limit_shown logs among spent = undecided (record { ends = refl; told = refl; spent = among; logs = spent; no_sharp = refl }) refl
 
 -- `proof` is a command over a study
 abbrev IsRest : Question → Run → List ℕ → Type 0

@@ -1,4 +1,4 @@
-//! The commands over the clauses of a study: `decide`, `export`, `proof`, `sample` and `adopt`.
+//! The commands over the clauses of a study: `decide`, `export`, `proof`, `sample`, `adopt` and `sharpen`.
 #![tactic(auto)]
 
 pub mod adoption;
@@ -6,3 +6,4 @@ pub mod decide;
 pub mod export;
 pub mod proof;
 pub mod sample;
+pub mod sharpening;

@@ -8,7 +8,7 @@ use Rattle.edge.specs.Shelf.{Files}
 use Rattle.edge.specs.Faults.{Rose}
 use Rattle.edge.specs.Told.{AppendsPrefix}
 use Rattle.vocab.specs.declared.kinds.Kind.{Kind}
-use Rattle.words.specs.Words.{Request, Decide, Check, Export, Proof, Lrat, Axioms, Sample, Adopt, Gain, request_of}
+use Rattle.words.specs.Words.{Request, Decide, Check, Export, Proof, Lrat, Axioms, Sample, Adopt, Gain, Sharpen, request_of}
 use Rattle.answers.specs.declared.runs.Run.{Run}
 use Rattle.answers.specs.Runs.{IsBare, with_status}
 use Rattle.answers.specs.Devices.{Devices}
@@ -35,19 +35,20 @@ may_be_cut (Some (Lrat cnf proof)) = refl
 may_be_cut (Some (Sample number)) = refl
 may_be_cut (Some (Adopt study proof workers)) = refl
 may_be_cut (Some (Gain study report)) = refl
+may_be_cut (Some (Sharpen study workers)) = refl
 
 module _ (request : Option Request) (told : Option Files) (left : Files) (faults : List ℕ → ℕ) where
   -- the library, for the words that ask for it
   pub library_answer : (kind : Kind) → request ≡ Some (Axioms kind) → Answers request told left left faults faults (Ok (Library kind))
   library_answer kind asked =
       subst (λ (r : Option Request). Answers r told left left faults faults (Ok (Library kind))) (sym asked)
-      (bare_answer (Some (Axioms kind)) told left faults (Library kind) (omega arith) tt refl (λ files. (record { ends = refl; no_verdict = refl; no_logs = refl }, refl)))
+      (bare_answer (Some (Axioms kind)) told left faults (Library kind) (omega arith) tt refl (λ files. (record { ends = refl; no_verdict = refl; no_logs = refl; no_sharp = refl }, refl)))
 
   -- the usage line, for words that are no command
   pub usage_answer : request ≡ None → Answers request told left left faults faults (Ok Usage)
   usage_answer asked =
       subst (λ (r : Option Request). Answers r told left left faults faults (Ok Usage)) (sym asked)
-      (bare_answer None told left faults Usage (omega arith) tt refl (λ files. (record { ends = refl; no_verdict = refl; no_logs = refl }, refl)))
+      (bare_answer None told left faults Usage (omega arith) tt refl (λ files. (record { ends = refl; no_verdict = refl; no_logs = refl; no_sharp = refl }, refl)))
 
 -- what a command promises of its answer is promised of the words that are that command
 pub asked_answer : (request asked : Option Request) (told : Option Files) (left_before left_now : Files) (faults_before faults_now : List ℕ → ℕ) (result : Result Answer Stop)
@@ -117,7 +118,7 @@ module _ (words : List (List ℕ)) (d : Devices) where
     status = subst (λ (n : ℕ). IsTrue (list_any (λ m. m == n) (statuses_of (request_of words)))) (sym bare.ends) one;
     lawful = λ files h low. let e = bare.ends in absurd (omega (arith, low, e, high));
     cut_short = λ files h six. absurd (other (sym bare.ends ∙ six));
-    silent = λ e. record { kept = subst (λ (o : Option (List ℕ)). Keeps d.taken_before o) (sym same) (keeps d.taken_before); no_verdict = bare.no_verdict; no_logs = bare.no_logs };
+    silent = λ e. record { kept = subst (λ (o : Option (List ℕ)). Keeps d.taken_before o) (sym same) (keeps d.taken_before); no_verdict = bare.no_verdict; no_logs = bare.no_logs; no_sharp = bare.no_sharp };
     read_fault = λ five. cause (sym bare.ends ∙ five);
     write_fault = λ six. absurd (other (sym bare.ends ∙ six));
     untouched = λ name free. untouched name (subst (λ (n : ℕ). IsFalse (list_any (bytes_eq name) (touched_at n (files_of (request_of words))))) bare.ends free);

@@ -3,8 +3,8 @@
 
 use crate::bench_calmly;
 use crate::test_calls::{
-    ARROW, SYMMETRIC, SYMMETRIC_STORY, Told, UNANIMITY, answered, answered_into, answered_over,
-    shelf_of, with_files, words_of,
+    ARROW, SYMMETRIC, SYMMETRIC_SHARP, SYMMETRIC_STORY, Told, UNANIMITY, answered, answered_into,
+    answered_over, shelf_of, with_files, words_of,
 };
 use edge::{CalmShelf, MemoryShelf, MemorySink, Open};
 use std::alloc::Global;
@@ -132,7 +132,7 @@ const CONTRARY: &str =
 /// Words, the files that they name, the status, how many calls of the shelf are made, and how many bytes the
 /// text has at least. Each file that is read takes three calls: a rewind, a read that gives its bytes, and one
 /// that finds the end; an empty one takes two.
-static CALLS: [(&[&str], &str, &str, u8, u32, usize); 15] = [
+static CALLS: [(&[&str], &str, &str, u8, u32, usize); 18] = [
     (
         &["check", "first", "second"],
         SYMMETRIC,
@@ -141,7 +141,17 @@ static CALLS: [(&[&str], &str, &str, u8, u32, usize); 15] = [
         6,
         1,
     ),
+    (
+        &["check", "first", "second"],
+        SYMMETRIC,
+        SYMMETRIC_SHARP,
+        0,
+        6,
+        1,
+    ),
     (&["decide", "first"], SYMMETRIC, "", 0, 3, 1),
+    (&["sharpen", "first"], SYMMETRIC, "", 0, 3, 1),
+    (&["sharpen", "first"], UNANIMITY, "", 0, 3, 1),
     (&["decide", "first"], UNANIMITY, "", 0, 3, 1),
     (&["export", "first"], UNANIMITY, "", 0, 3, 1),
     (&["proof", "first"], SYMMETRIC, "", 0, 3, 1),
@@ -256,7 +266,7 @@ fn reports_are_read_to_their_first_faulty_line(rt: HostRuntime) -> Result<(), Fa
 }
 
 /// Words of which one names a file that is not held.
-static ABSENT: [&[&str]; 8] = [
+static ABSENT: [&[&str]; 9] = [
     &["check", "first", "absent"],
     &["check", "absent", "second"],
     &["decide", "absent"],
@@ -265,6 +275,7 @@ static ABSENT: [&[&str]; 8] = [
     &["lrat", "absent", "second"],
     &["adopt", "absent", "second"],
     &["gain", "absent", "second"],
+    &["sharpen", "absent"],
 ];
 
 fn absent() -> &'static [&'static [&'static str]] {

@@ -18,6 +18,10 @@ pub const SYMMETRIC: &str =
 pub const SYMMETRIC_STORY: &str =
     "bench report 1\nkind choice\nvoters 2\nalternatives 2\naxioms anonymity neutrality\nverdict impossible\ncore anonymity neutrality\nlemmas 2\nlemma 1\nsuppose a@ab|ba\nso a@ba|ab by axiom anonymity ab|ba 1 2 a\nso b@ba|ab by axiom neutrality ab|ba a b a\nclash by outcome ba|ab\nlemma 2\nso !a@ab|ba by lemma 1\nso b@ab|ba by outcome ab|ba\nso b@ba|ab by axiom anonymity ab|ba 1 2 b\nso a@ba|ab by axiom neutrality ab|ba a b b\nclash by outcome ba|ab\nwithout anonymity rule 4\nab|ab a\nab|ba a\nba|ab b\nba|ba b\nwithout neutrality rule 4\nab|ab a\nab|ba a\nba|ab a\nba|ba a\nend\n";
 
+/// A sharp text of the same, with a story of two instances.
+pub const SYMMETRIC_SHARP: &str =
+    "bench sharp 1\nkind choice\nvoters 2\nalternatives 2\naxioms anonymity neutrality\nverdict impossible\ncore anonymity neutrality\nlemmas 2\nlemma 1\nsuppose a@ab|ba\nso a@ba|ab by axiom anonymity ab|ba 1 2 a\nso b@ba|ab by axiom neutrality ab|ba a b a\nclash by outcome ba|ab\nlemma 2\nso !a@ab|ba by lemma 1\nso !a@ba|ab by axiom anonymity ab|ba 1 2 a\nso !b@ba|ab by axiom neutrality ab|ba a b a\nclash by outcome ba|ab\ninstances 2\nneeds anonymity ab|ba 1 2 a rule 4\nab|ab a\nab|ba a\nba|ab b\nba|ba b\nneeds neutrality ab|ba a b a rule 4\nab|ab a\nab|ba a\nba|ab a\nba|ba a\nend\n";
+
 /// Arrow's axioms for two voters and three alternatives.
 pub const ARROW: &str =
     "kind = \"ranking\"\nvoters = 2\nalternatives = 3\naxioms = [\"pareto\", \"independence\", \"non_dictatorship\"]\n";

@@ -16,6 +16,7 @@ use search_commands::decide::decide;
 use search_commands::export::export;
 use search_commands::proof::proof;
 use search_commands::sample::sample;
+use search_commands::sharpening::sharpen;
 use std::alloc::Global;
 use std::thread::Threads;
 use texts::write_text;
@@ -64,6 +65,9 @@ fn answer<R: Threads + Sync, S: Shelf, G: Gate>(
             ),
         ) => adopt(rt, alloc, gate, workers, shelf, study, proof),
         Ok(Some(Command::Gain { study, report })) => { gain(rt, alloc, gate, shelf, study, report) }
+        Ok(Some(Command::Sharpen { study, workers })) => {
+            sharpen(rt, alloc, gate, workers, shelf, study)
+        }
         Ok(None) => Ok(Answer::Usage),
         Err(_) => Err(Stop::NoMemory),
     }

@@ -30,7 +30,7 @@ returns-in-Ok-Study g c =
     let read = rw c.in-Ok-Study.field-0-is at c.in-Ok-Study.ensures.opened in
     let other : question.size.kind ≡ Sets → ⊥ = λ e. c.in_default.not-Sets (c.kind.ensures ∙ ap (λ (s : Extent). s.kind) c.size.ensures ∙ e) in
     first_refused _ c.args.study.now c.args.report.now (gain_command c.args.study.now c.args.report.now) told _ _ _ _ c.open_study.ensures.others
-    OtherKind (record { ends = refl; no_verdict = refl; no_logs = refl }) tt (other_row told c.args.study.now c.args.report.now question other read)
+    OtherKind (record { ends = refl; no_verdict = refl; no_logs = refl; no_sharp = refl }) tt (other_row told c.args.study.now c.args.report.now question other read)
 
 pub returns-in-Ok-Refused : goal.returns-in-Ok-Refused
 returns-in-Ok-Refused g c =

@@ -4,7 +4,7 @@ use Rattle.vocab.specs.Size.{Extent}
 use Rattle.vocab.specs.Study.{Question}
 use Rattle.report_files.specs.Files.{IsWorthOf}
 use Rattle.answers.specs.Gain.{rule_text}
-use Rattle.check_commands.proofs.CheckLemmas.{judged_low}
+use Rattle.check_commands.proofs.CheckLemmas.{worth_low}
 use Rattle.check_commands.proofs.GainLemmas.{confirmed_file, refused_file, rules_told}
 use Rattle.check_commands.proofs.gain.judge_gain.Goals as goal
 
@@ -31,7 +31,7 @@ returns g c =
     record {
       said = refused_file c.args.study.now told report worth c.in_default.not-Confirmed
           (subst (λ (q : Question). IfSome told (λ files. IsWorthOf q files report worth)) c.in_ok-reader.ensures.study c.in_ok-worth.ensures.worth);
-      status = judged_low worth;
+      status = worth_low worth;
       has_text = tt;
       fault = λ e. absurd (cc);
       others = c.in_ok-worth.ensures.others;

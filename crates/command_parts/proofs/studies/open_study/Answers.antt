@@ -4,7 +4,7 @@ use Rattle.command_parts.proofs.studies.open_study.Goals as goal
 
 pub returns-clause-opened : goal.returns-clause-opened
 returns-clause-opened g c = record {
-  bare = record { ends = refl; no_verdict = refl; no_logs = refl };
+  bare = record { ends = refl; no_verdict = refl; no_logs = refl; no_sharp = refl };
   has_text = tt;
   line = refuses_bytes (g.S.Shelf.files c.args.shelf.now) c.args.name.now c.in-Ok.bytes _ c.in-Err.fault c.in-Ok.ensures.bytes c.in-Ok.ensures.within
       (rw c.as_slice.ensures at (c.in-Err.ensures.refused (λ e. search rules))) refl;

@@ -37,5 +37,5 @@ returns-in-Err-ground_study g c =
     let told = g.S.Shelf.files c.args.shelf.now in
     let read = rw c.in-Ok-Study.field-0-is at c.in-Ok-Study.ensures.opened in
     first_refused _ c.args.study.now c.args.proof.now (adopt_command c.args.study.now c.args.proof.now c.args.workers) told _ _ _ _ c.open_study.ensures.others
-    (answer.NoClauses c.in-Ok-Study.question c.in-Err-ground_study.fault) (record { ends = refl; no_verdict = refl; no_logs = refl }) tt
+    (answer.NoClauses c.in-Ok-Study.question c.in-Err-ground_study.fault) (record { ends = refl; no_verdict = refl; no_logs = refl; no_sharp = refl }) tt
     (clauses_row told c.args.study.now c.args.proof.now c.in-Ok-Study.question c.in-Err-ground_study.fault read (λ e. search rules) c.in-Err-ground_study.ensures.fault)

@@ -43,6 +43,10 @@ pub returns-in-Ok-Some-Gain : goal.returns-in-Ok-Some-Gain
 returns-in-Ok-Some-Gain g c =
     asked_answer _ _ _ _ _ _ _ _ (rw (c.in-Ok-Some-Gain.field-0-is, c.in-Ok-Some-Gain.field-0-0-is) at c.in-Ok-Some-Gain.ensures.command) c.gain.ensures
 
+pub returns-in-Ok-Some-Sharpen : goal.returns-in-Ok-Some-Sharpen
+returns-in-Ok-Some-Sharpen g c =
+    asked_answer _ _ _ _ _ _ _ _ (rw (c.in-Ok-Some-Sharpen.field-0-is, c.in-Ok-Some-Sharpen.field-0-0-is) at c.in-Ok-Some-Sharpen.ensures.command) c.sharpen.ensures
+
 pub returns-in-Ok-None : goal.returns-in-Ok-None
 returns-in-Ok-None g c =
     usage_answer (request_of (texts c.args.words.now)) (g.S.Shelf.files c.args.shelf.now) _ _ (sym (rw c.in-Ok-None.field-0-is at c.in-Ok-None.ensures.command))
