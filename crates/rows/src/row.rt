@@ -1,5 +1,6 @@
 //! A row: the words of a call, and what the call comes to.
 
+use answers::Run;
 use edge::{FileShelf, MemorySink, Open};
 use std::io::{ErrorKind, Write};
 use std::rt::Files;
@@ -30,6 +31,20 @@ impl Told {
     }
 }
 
+/// How many clauses the spent searches of a call learned, those of sharpening too.
+fn learned_by(run: &Run) -> usize {
+    let mut learned: usize = 0;
+    for log in run.logs.as_slice() {
+        learned = learned.saturating_add(log.lines.len());
+    }
+    if let Some(sharp) = &run.sharp {
+        for log in sharp.logs.as_slice() {
+            learned = learned.saturating_add(log.lines.len());
+        }
+    }
+    learned
+}
+
 /// What the words behind `run` come to, over the files that they name.
 fn answer<R: Files + Print + AllocGlobal + Threads + Sync>(rt: &R, line: &str) -> io::Result<Told> {
     let alloc = rt.alloc();
@@ -42,10 +57,7 @@ fn answer<R: Files + Print + AllocGlobal + Threads + Sync>(rt: &R, line: &str) -
     };
     let mut shelf = FileShelf::new(rt);
     let run = bench(rt, alloc, &words, &mut shelf, &mut out, &Open);
-    let mut learned: usize = 0;
-    for log in run.logs.as_slice() {
-        learned = learned.saturating_add(log.lines.len());
-    }
+    let learned = learned_by(&run);
     let bytes = out.bytes().to_vec(alloc)?;
     Ok(Told {
         status: run.status,
@@ -109,7 +121,7 @@ fn print_text<R: Print>(rt: &R, text: &[u8]) -> io::Result<()> {
     let mut place = 0u32;
     for line in text.split(|byte| *byte == b'\n') {
         place = place.saturating_add(1);
-        if place <= 10 || line.starts_with(b"without ") {
+        if place <= 10 || line.starts_with(b"without ") || line.starts_with(b"needs ") {
             out.write_all(line)?;
             out.write_all(b"\n")?;
         }
