@@ -103,7 +103,7 @@ with multiprocessing.get_context("fork").Pool(os.cpu_count()) as pool:
     each(status=2)
     each("elect", unanimity, status=2)
     for words in (("check", unanimity, absent), ("check", absent, unanimity), ("decide", absent), ("export", absent), ("proof", absent),
-                  ("lrat", absent, unanimity), ("adopt", absent, unanimity)):
+                  ("lrat", absent, unanimity), ("adopt", absent, unanimity), ("sharpen", absent)):
         each(*words, status=5)
     # No study: the second file is not opened.
     each("check", hold("cut.toml", "voters = 2"), story, status=3)
@@ -112,7 +112,7 @@ with multiprocessing.get_context("fork").Pool(os.cpu_count()) as pool:
     far = hold("far.toml", head(2, 3, "far") + """[sentences]
 far = "some p: profile. (wins(@a, p) & wins(@b, with(p, #1, <bac>)))"
 """)
-    for words in (("decide", far), ("export", far), ("proof", far), ("adopt", far, absent)):
+    for words in (("decide", far), ("export", far), ("proof", far), ("adopt", far, absent), ("sharpen", far)):
         each(*words, status=3)
     each("lrat", hold("count.cnf", "p cnf 1 2\n1 0\n"), absent, status=3)
     # Reports and proofs that the program did not write.
@@ -126,21 +126,26 @@ far = "some p: profile. (wins(@a, p) & wins(@b, with(p, #1, <bac>)))"
     spent = hold("spent.toml", head(2, 3, "onto strategyproof non_dictatorship", "conflicts = 1\n"))
     each("decide", spent, status=4)
     each("proof", spent, status=4)
-    each("decide", hold("favour.toml", head(2, 2, "favour anonymity neutrality", "conflicts = 1\n") + """[sentences]
+    each("sharpen", spent, status=4)
+    favour = hold("favour.toml", head(2, 2, "favour anonymity neutrality", "conflicts = 1\n") + """[sentences]
 favour = "all p: profile. ((casts(#1, <ab>, p) & casts(#2, <ba>, p)) -> wins(@a, p))"
-"""))
+""")
+    each("decide", favour)
+    each("sharpen", favour)
     for name in ("anonymity_neutrality", "unanimity", "paretian_liberal"):
         study, texts = "%s/%s.toml" % (studies, name), {}
         refuted = 1 if name == "unanimity" else 0 # there is a rule: what `proof` says is then no refutation
         each("check", study, study[:-5] + ".report")
         each("decide", study)
+        each("sharpen", study)
+        if refuted == 0: each("check", study, hold("%s.sharp" % name, run(["sharpen", study])[1].decode()))
         for command in ("export", "proof"):
             each(command, study)
             texts[command] = hold("%s.%s" % (name, command), run([command, study])[1].decode())
         each("lrat", texts["export"], texts["proof"], status=refuted)
         each("adopt", study, texts["proof"], status=refuted)
         if name != "paretian_liberal": continue # no thread is started over the smaller ones
-        for command in ("decide", "export", "proof"):
+        for command in ("decide", "export", "proof", "sharpen"):
             each(command, study, "--workers", "2")
         each("adopt", study, texts["proof"], "--workers", "2")
     for command in ("export", "proof"):

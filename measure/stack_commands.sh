@@ -54,7 +54,7 @@ least() { # WORDS: the least stack by halving, to 16 KB
     echo "$high"
 }
 status=0
-for command in decide check export proof adopt; do
+for command in decide check export proof adopt sharpen; do
     most=0
     for name in "${names[@]}"; do
         words=("$command" "$work/$name.toml")

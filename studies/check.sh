@@ -2,17 +2,20 @@
 # Holds the program against the reports beside the studies: over each study `decide` writes its report byte for byte and `check`
 # confirms it, as it does another rule over studies/median_voter.toml, and over studies/anonymity_neutrality.toml each report in
 # studies/refused/ is refused with the line that docs/FORMATS.md shows. Over each study without a rule `adopt` takes what `proof`
-# writes, and `check` confirms its report. Over each study of sets `gain` writes what stands beside it, as NAME.gain, and it refuses
-# every other study. docs/START.md shows the studies and reports that stand here, and a sentence is answered as it shows. Where all is so,
-# nothing is written; else a line for each fault, and the status is 1.
+# writes, and `check` confirms its report; `sharpen` writes the sharp text beside it, NAME.sharp, byte for byte, and `check` confirms it, but
+# for arrow_four, of which sharpening takes more than ten seconds. Over each study of sets `gain` writes what stands beside it, as
+# NAME.gain, and it refuses every other study. docs/START.md shows the studies and reports that stand here, and a sentence is answered as
+# it shows. Where all is so, nothing is written; else a line for each fault, and the status is 1.
 # `export` of Arrow's axioms for four alternatives is the same with 1, 2 and 16 workers, and takes an axiom of 21,233,664 instances but
 # none of 84,934,656; a sample is the same line at each run, no words end with status 2, as does a word that is not UTF-8, an absent study
 # with status 5, and a full device with 6. Each front of a report is refused at the line that it lacks, and a study of one byte too many and
 # a list of one clause too many are refused.
 # The launcher, over this program or over one that only ends, has the program's status and standard output, and says in one line on
 # standard error what a status without an answer means, and where the toolchain is missing.
-# docs/PHRASES.md is held by studies/phrases.py, with what it shows of instances, rules and many studies, and the sizes of docs/START.md are
-# tried. The clauses of library axioms, and the rules of the reports, are those of measure/encode.py, which shares nothing with the program.
+# docs/PHRASES.md is held by studies/phrases.py, with what it shows of instances, rules and many studies; the sizes of docs/START.md and the
+# values that it lists of axioms are tried, as are the story that docs/STORIES.md writes by hand, known rules, and a copy of the program that
+# stands alone. The clauses of library axioms, and the rules of the reports, are those of measure/encode.py, which shares nothing with the
+# program.
 # The program is the one that the launcher runs, which is proved and built first where a source is newer; with --built, as after `rt ci`,
 # the one that stands there. No proof rests on this.
 set -u
@@ -67,6 +70,12 @@ for study in "$root"/studies/*.toml; do
     mv "$work/written" "$work/report"
     answer check "$study" "$work/report"
     is_line 0 "confirmed impossible" || fault "check does not confirm what adopt writes of $name"
+    sharp=${study%.toml}.sharp
+    [ "$name" != arrow_four ] || continue
+    answer sharpen "$study"
+    [ "$status" -eq 0 ] && cmp -s "$sharp" "$work/written" || fault "sharpen does not write $name.sharp"
+    answer check "$study" "$sharp"
+    is_line 0 "confirmed sharp" || fault "check does not confirm $name.sharp"
 done
 
 # The median of the three favourites, which is not the rule that `decide` writes.
@@ -82,6 +91,19 @@ answer decide $'\xff'
 "$program" axioms choice >/dev/full
 status=$?
 [ "$status" -eq 6 ] || fault "a full device ends with status $status"
+
+# The program stands alone, takes of the machine what README.md names, and runs many times at once.
+mkdir "$work/alone"
+cp "$program" "$work/alone/bench"
+cp "$root/studies/arrow.toml" "$root/studies/arrow.report" "$work/alone"
+for run in {1..8}; do
+    (cd "$work/alone" && exec env -i ./bench check arrow.toml arrow.report) >"$work/alone/$run" &
+done
+wait
+cat "$work"/alone/[1-8] | uniq -c | grep -qx ' *8 confirmed impossible' || fault "copies of the program do not all confirm arrow.report"
+for library in $(ldd "$program" | sed -nE 's/^\s*(\S*\/)?(lib[a-z_]*|ld-linux-x86-64)\.so.*/\2/p'); do
+    grep -qF "\`$library\`" "$root/README.md" || fault "the program takes $library, which README.md does not name"
+done
 
 # The launcher stands in a tree of its own, so that its program is never built anew here.
 tree=$work/tree
@@ -229,6 +251,23 @@ for limit in 5 10; do
     has $'\nverdict '"$wanted" || fault "gibbard_satterthwaite with conflicts = $limit is not $wanted, as docs/START.md says"
 done
 
+# The values that docs/START.md lists for each axiom of the library, and the story that docs/STORIES.md writes by hand.
+for kind in choice ranking sets; do
+    answer axioms "$kind"
+    while read -r name sorts; do
+        grep -qE "^\\| [^|]*\`$kind\`[^|]* \\| [^|]*\`$name\`[^|]* \\| \`$sorts\` \\|" "$root/docs/START.md" ||
+            fault "docs/START.md does not list the values of $name of $kind: $sorts"
+    done < <(sed -E 's/^([^:]*): ((all [a-z]+: [a-z]+\. )*).*/\1 \2/; s/all [a-z]+: ([a-z]+)\. /\1 /g; s/ $//' "$work/written")
+done
+by_hand() { # STATUS LINE EDIT: of the story with that edit
+    sed -n '/^    bench report 1$/,/^    end$/s/^    //p' "$root/docs/STORIES.md" | sed -e "$3" >"$work/hand.report"
+    answer check "$root/studies/anonymity_neutrality.toml" "$work/hand.report"
+    is_line "$1" "$2" && grep -qF "\`$2\`" "$root/docs/STORIES.md" || fault "check does not say $2 of the story in docs/STORIES.md"
+}
+by_hand 0 'confirmed impossible' ''
+by_hand 1 'refused line 16: not_forced' '/^so a@ab|ba by outcome/d'
+by_hand 1 'refused line 19: open' 's/open 100000/open 7/'
+
 # The sizes in docs/START.md: the most voters with which a study is taken, and one more. A study that is taken lets its report be opened.
 takes() { # VOTERS ALTERNATIVES KIND AXIOM MORE
     printf '%s\n' "voters = $1" "alternatives = $2" "kind = \"$3\"" "axioms = [\"$4\"]" "${5-}" >"$work/size.toml"
@@ -277,20 +316,52 @@ while IFS='`' read -r _ study _ counted _; do
     answer export "$root/$study"
     python3 "$root/studies/rules.py" <"$work/written" | grep -qxF "$counted" || fault "docs/PHRASES.md says $counted of $study"
 done < <(grep -E '^\| `studies/.*` \| `[0-9]+ rules?` \|$' "$root/docs/PHRASES.md")
-[ "$rows" -eq 3 ] || fault "docs/PHRASES.md counts the rules of $rows studies"
-python3 -B - "$root/studies" >"$work/borda.report" <<'PY'
-import sys
-sys.path.insert(0, sys.argv[1])
-import phrases
-print(phrases.Size("choice", 3, 3).report("strategyproof", phrases.RULES["choice"]["borda"]), end="")
-PY
-takes 3 3 choice strategyproof
-answer check "$work/size.toml" "$work/borda.report"
-is_line 1 'refused line 223: fails strategyproof 2280' && grep -qF "\`$(<"$work/written")\`" "$root/docs/PHRASES.md" ||
-    fault "Borda's rule is not refused as docs/PHRASES.md shows"
-begins 1 instance.py PHRASES.md < <(
-    python3 "$root/studies/instance.py" "$program" "$root/studies/condorcet_strategyproof.toml" strategyproof 2280
-)
+[ "$rows" -eq 4 ] || fault "docs/PHRASES.md counts the rules of $rows studies"
+
+# Known rules as studies/rule.py writes them, and an instance at which one fails, as docs/PHRASES.md shows these.
+known() { # COMMAND STATUS LINE STUDY RULE.., where KIND:AXIOM is a study of that axiom for 3 voters and 3 alternatives
+    local study=$4
+    if [[ $study == *:* ]]; then
+        takes 3 3 "${study%:*}" "${study#*:}"
+        study=$work/size.toml
+    fi
+    python3 "$root/studies/rule.py" "$study" "${@:5}" >"$work/known.report" || fault "rule.py does not write ${*:5}"
+    answer "$1" "$study" "$work/known.report"
+    is_line "$2" "$3" || fault "$1 says of the rule ${*:5}: $(head -n 1 "$work/written")"
+}
+phrased() { # LINE
+    grep -qF "\`$1\`" "$root/docs/PHRASES.md" || fault "docs/PHRASES.md does not show: $1"
+}
+known gain 0 'voter 1 at abc|bac|bac gains by acb: a over b' sets:resolute borda abc
+phrased "$(<"$work/written")"
+known gain 0 'voter 3 at abc|abc|bac gains by bca: ab over a' sets:anonymity borda
+phrased "$(<"$work/written")"
+known check 1 'refused line 223: fails resolute 28' sets:resolute borda
+known check 0 'confirmed possible' sets:condorcet condorcet
+known check 0 'confirmed possible' choice:condorcet condorcet bca
+known check 0 'confirmed possible' choice:pareto plurality cab
+known check 0 'confirmed possible' "$root/studies/median_voter.toml" condorcet
+known check 1 'refused line 351: fails participation 22627' "$root/studies/no_show.toml" condorcet
+known check 0 'confirmed possible' "$root/studies/may_ties.toml" plurality
+known check 0 'confirmed possible' choice:strategyproof dictator=2
+known check 1 'refused line 223: fails strategyproof 2280' choice:strategyproof borda
+phrased "$(<"$work/written")"
+begins 1 instance.py PHRASES.md < <(python3 "$root/studies/instance.py" "$program" "$work/size.toml" strategyproof 2280)
+
+said_by() { # LINE SCRIPT WORDS..
+    [ "$(python3 "$root/studies/$2" "${@:3}" 2>&1)" = "$1" ] || fault "$2 does not say: $1"
+}
+known_rules='borda, plurality, condorcet and dictator=I, for a voter I of the study'
+said_by "rule: copeland is none of $known_rules" rule.py "$work/size.toml" copeland
+said_by "rule: dictator=4 is none of $known_rules" rule.py "$work/size.toml" dictator=4
+said_by 'rule: ca is no order of the alternatives' rule.py "$work/size.toml" borda ca
+said_by 'cba|cba|cba 3 cba c c' instance.py "$program" "$work/size.toml" strategyproof 34991
+said_by 'instance: strategyproof has 34992 instances, numbered from 0' instance.py "$program" "$work/size.toml" strategyproof 34992
+said_by 'this is no study: kind, voters or alternatives is missing' rule.py "$work/known.report" borda
+sed 's/^voters.*/voters = 8/' "$work/size.toml" >"$work/large.toml"
+said_by 'the study has too many profiles' instance.py "$program" "$work/large.toml" strategyproof 0
+said_by 'rules: no clauses' rules.py </dev/null
+said_by 'study: not toml' rules.py < <(echo kind | "$program" export /dev/stdin)
 begins 99 domains.py PHRASES.md < <(python3 "$root/studies/domains.py" "$program" "$root/studies/gibbard_satterthwaite.toml")
 
 # The clauses of the library's axioms, as an encoder writes them that shares nothing with the program.
