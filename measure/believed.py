@@ -2,8 +2,9 @@
 """Counts the definitions that a claim rests on, for the table in docs/PROVED.md: python3 measure/believed.py [FILE.NAME ..]
 
 From the names that a claim is stated in it follows each definition of crates/*/specs to the ones that it is stated in, and counts their
-lines, with their comments, file by file. Definitions of the kit and the types of the program (`declared`) are not followed. Each row counts
-what the rows that it names do not. With words it follows these names alone, as verdicts/Claims.HasNoRule.
+lines, with their comments, file by file. Types of the program (`declared`) are not followed, nor definitions of the kit, of which it says how
+many names are used. Each row counts what the rows that it names do not; then comes all that laws give, and that a call promises. With words it
+follows these names alone, as verdicts/Claims.HasNoRule.
 """
 import collections
 import glob
@@ -16,13 +17,28 @@ HEAD = re.compile(r"^( *)(?:pub )?(?:abbrev|unfoldable|record|data)(?: mutual)?(
 USE = re.compile(r"^(?:pub )?use Rattle\.(\w+)\.specs\.([\w.]+)\.\{([^}]*)\}$")
 # What a claim says, the names that say it, and the rows whose definitions are counted there.
 CLAIMS = [
-    ("truth", ["verdicts/Claims.HasNoRule", "verdicts/Claims.IsRuleFor"], []),
-    ("the study of a file", ["answers/Studies.GivesStudy"], ["truth"]),
-    ("the text of a verdict", ["verdicts/Report.report_text"], ["truth"]),
-    ("the words and devices of a call", ["words/Words.request_of", "answers/Devices.Devices"], ["truth", "the study of a file"]),
-    ("right reports", ["verdicts/Report.IsReport"], ["truth", "the study of a file", "the text of a verdict"]),
-    ("clauses that say a study", ["answers/RowLaws.SaysStudy"], ["truth", "the study of a file"]),
+    ("a rule", ["verdicts/Claims.IsRuleFor"], []),
+    ("an impossibility", ["verdicts/Claims.HasNoRule", "meaning/Cores.is_core_right"], ["a rule"]),
+    ("the study of a file", ["answers/Studies.GivesStudy"], ["an impossibility"]),
+    ("the text of a verdict", ["verdicts/Report.report_text"], ["an impossibility"]),
+    ("the words and devices of a call", ["words/Words.request_of", "answers/Devices.Devices"], ["an impossibility", "the study of a file"]),
+    ("right reports", ["verdicts/Report.IsReport"], ["an impossibility", "the study of a file", "the text of a verdict"]),
+    ("right sharp texts", ["sharp_laws/Laws.IsSharpText"], ["right reports", "the study of a file"]),
+    ("instances that are all needed", ["answers/SharpenLaws.AreAllNeeded"], ["an impossibility", "the study of a file"]),
+    ("a core that a proof names", ["answers/RowLaws.AreCited"], ["an impossibility", "the study of a file"]),
+    ("clauses that say a study", ["answers/RowLaws.SaysStudy"], ["an impossibility", "the study of a file"]),
+    ("a refutation of a study", ["answers/RowLaws.IsProofRight"], ["clauses that say a study", "an impossibility", "the study of a file"]),
     ("clauses of a file that no assignment satisfies", ["cnf/Sat.IsUnsatisfiable", "answers/Lrat.GivesFormula"], []),
+]
+# What laws give as a whole, and what they begin with.
+WHOLES = [
+    ("decide", ["answers/RowLaws.IsPrinted"]),
+    ("check", ["answers/Laws.IsConfirmedRight"]),
+    ("sharpen", ["answers/SharpenLaws.IsSharpPrinted"]),
+    ("adopt", ["answers/RowLaws.IsAdoptedRight"]),
+    ("export", ["answers/RowLaws.SaysStudy"]),
+    ("proof", ["answers/RowLaws.IsProofRight"]),
+    ("a call", ["answers/Call.IsCall"]),
 ]
 
 
@@ -93,12 +109,19 @@ def followed(names):
     return seen
 
 
+def of_kit(definitions):
+    """How many names of each crate of the kit these definitions use, without its types and its signs."""
+    used = {FILES[place].uses.get(word, ("/declared", word)) for place, name in definitions for word in words_of(FILES[place].lines[name])}
+    return collections.Counter(place.split("/")[0] for place, _ in used if place not in FILES and "/declared" not in place)
+
+
 def tell(claim, definitions):
     counts = collections.Counter()
     for place, name in definitions:
         counts[place] += len(FILES[place].lines[name])
     print(f"{claim}: {sum(counts.values())} lines in {len(counts)} files")
     print("    " + ", ".join(f"{place} {count}" for place, count in sorted(counts.items())))
+    print("    names of the kit: " + ", ".join(f"{crate} {count}" for crate, count in sorted(of_kit(definitions).items())))
 
 
 if sys.argv[1:]:
@@ -107,3 +130,5 @@ else:
     found = {claim: followed(names) for claim, names, _ in CLAIMS}
     for claim, _, others in CLAIMS:
         tell(claim, found[claim].difference(*[found[other] for other in others]))
+    for whole, names in WHOLES:
+        tell(f"all of {whole}", followed(names))

@@ -2,9 +2,10 @@
 """Writes the clauses of a study as `bench export` does: measure/encode.py STUDY. It shares nothing with the program and reads no
 sentence: each axiom of the library is a function below that says in Python what the axiom asks. So where its text is that of `export`,
 byte for byte, the clauses say the study, and the sentences say the axioms, as far as this page is right; no prover comes into it.
-A study with sentences of its own is not taken.
+A study that lists a sentence of its own is not taken, and no sharp text is.
 
-    measure/encode.py STUDY REPORT      holds each rule in a report against the clauses of the axioms that it is to satisfy
+    measure/encode.py STUDY REPORT      holds a report against the study: its head, that each axiom of its core has a rule or an open mark,
+                                        and each rule against the clauses of the axioms that it is to satisfy; its story is not tried
     measure/encode.py --hold PROGRAM    compares with `PROGRAM export` over studies of all axioms and kinds, and writes the first difference
 """
 import ast
@@ -19,7 +20,7 @@ class Study:
     """A study of library axioms, and what its sentences speak of. A profile is a tuple with the number of each voter's ballot."""
 
     def __init__(self, text):
-        keys = dict(re.findall(r"^(\w+) *= *(.*)$", text, re.M))
+        keys = dict(re.findall(r"^(\w+) *= *(.*)$", re.split(r"^\[", text, flags=re.M)[0], re.M))
         self.kind, self.axioms = ast.literal_eval(keys["kind"]), ast.literal_eval(keys["axioms"])
         self.voters, self.alts = range(int(keys["voters"])), range(int(keys["alternatives"]))
         letters = "abcde"[: len(self.alts)]
@@ -28,9 +29,11 @@ class Study:
         self.place = [[ballot.index(letter) for letter in letters] for ballot in self.ballots]
         self.casts = range(len(self.ballots))
         self.gone = len(self.ballots)
-        absent = keys.get("absent") == "true"
-        self.profiles = list(itertools.product(range(self.gone + absent), repeat=len(self.voters)))
-        if absent:
+        self.full = len(self.ballots) == len(ast.literal_eval(every))
+        self.absent = keys.get("absent") == "true"
+        self.conflicts = int(keys.get("conflicts", "100000"))
+        self.profiles = list(itertools.product(range(self.gone + self.absent), repeat=len(self.voters)))
+        if self.absent:
             self.profiles.pop()
         self.number = {profile: number for number, profile in enumerate(self.profiles)}
         self.pairs = list(itertools.combinations(self.alts, 2))
@@ -215,26 +218,109 @@ def bits_of(s, table):
             yield from (s.wins(x, p) if at[x] >= 0 else -s.wins(x, p) for x in s.alts)
 
 
-def rules_in(s, lines):
-    """The tables of a report, each with the axioms that it is to satisfy."""
-    core = next((line.split()[1:] for line in lines if line.startswith("core")), s.axioms)
-    for at, line in enumerate(lines):
-        head = re.fullmatch(r"(?:without (\w+) )?rule (\d+)", line)
-        if head:
-            rows = [row.split() for row in lines[at + 1 : at + 1 + int(head[2])]]
-            assert [row[0].split("|") for row in rows] == [[[*s.ballots, "-"][c] for c in p] for p in s.profiles]
-            yield [axiom for axiom in core if axiom != head[1]], [row[1] for row in rows]
+def is_outcome(s, text):
+    letters = "abcde"[: len(s.alts)]
+    if s.kind == "ranking":
+        return sorted(text) == list(letters)
+    return text != "" and all(x < y for x, y in zip(text, text[1:])) and set(text) <= set(letters) and (s.kind == "sets" or len(text) == 1)
 
 
-def hold_rules(s, lines):
-    count = 0
-    for axioms, table in rules_in(s, lines):
+def head_of(s, version):
+    """The lines of a head after the first."""
+    yield from (f"kind {s.kind}", f"voters {len(s.voters)}", f"alternatives {len(s.alts)}")
+    if version == "2":
+        yield from (" ".join(["ballots", *s.ballots]), f"absent {'yes' if s.absent else 'no'}")
+    yield " ".join(["axioms", *s.axioms])
+
+
+class Report:
+    """A report over a study, read line by line. The lemmas of its story are passed over."""
+
+    def __init__(self, study, text):
+        self.study, self.lines, self.at = study, text.split("\n"), 0
+        self.core, self.marks = None, 0
+
+    def refuse(self, why):
+        sys.exit(f"line {self.at} of the report: {why}")
+
+    def next(self):
+        self.at += 1
+        if self.at > len(self.lines):
+            self.refuse("the text ends here")
+        return self.lines[self.at - 1]
+
+    def want(self, line):
+        if self.next() != line:
+            self.refuse(f"the line should be {line!r}")
+
+    def head(self):
+        first = self.next()
+        if first == "bench sharp 1":
+            self.refuse("this is a sharp text: its rules satisfy instances of axioms, and here only whole axioms are said")
+        if first != "bench report 2" and not (first == "bench report 1" and self.study.full and not self.study.absent):
+            self.refuse("no first line of a report over this study")
+        for line in head_of(self.study, first[-1]):
+            self.want(line)
+
+    def names(self):
+        names = self.next().split(" ")
+        if names[0] != "core" or not names[1:] or names[1:] != [axiom for axiom in self.study.axioms if axiom in names[1:]]:
+            self.refuse("here should be a core: some axioms of the study, in its order")
+        return names[1:]
+
+    def table(self, line, name):
+        if line != f"{name} {len(self.study.profiles)}":
+            mark = ", or an open mark with the limit of the study" if self.core else ""
+            self.refuse(f"the line should be '{name} {len(self.study.profiles)}'{mark}")
+        table = []
+        for profile in self.study.profiles:
+            row = self.next().split(" ")
+            if row[0] != "|".join([*self.study.ballots, "-"][c] for c in profile) or len(row) != 2 or not is_outcome(self.study, row[1]):
+                self.refuse("this is no row of the next profile with an outcome")
+            table.append(row[1])
+        return table
+
+    def rules(self):
+        """The tables, each with the axioms that it is to satisfy; each axiom of a core has one, or an open mark."""
+        self.head()
+        verdict = self.next()
+        if verdict == "verdict possible":
+            yield self.study.axioms, self.table(self.next(), "rule")
+        elif verdict == "verdict impossible":
+            core = self.core = self.names()
+            line = self.next()
+            while not line.startswith("without "):
+                if line == "end":
+                    self.refuse(f"no rule and no open mark without {core[0]} stands before it")
+                line = self.next()
+            for axiom in core:
+                if line == f"without {axiom} open {self.study.conflicts}":
+                    self.marks += 1
+                else:
+                    yield [other for other in core if other != axiom], self.table(line, f"without {axiom} rule")
+                line = self.next()
+            self.at -= 1
+        else:
+            self.refuse("this is no verdict that has a rule")
+        self.want("end")
+        self.want("")
+        if self.at != len(self.lines):
+            self.refuse("the text goes on after its end")
+
+
+def hold_rules(s, text):
+    count, report = 0, Report(s, text)
+    for axioms, table in report.rules():
         true = set(bits_of(s, table))
         for part in [frame, *(globals()[name] for name in axioms)]:
             if any(true.isdisjoint(clause) for clause in part(s)):
                 sys.exit(f"rule {count + 1} of the report does not satisfy {part.__name__}")
         count += 1
-    print(f"rules {count}: each satisfies its axioms")
+    if report.core is None:
+        print("possible: the rule satisfies all axioms")
+    else:
+        core = " ".join(report.core)
+        print(f"impossible, core {core}: rules {count}, each satisfies the other axioms, open marks {report.marks}; story not tried")
 
 
 LIBRARY = {
@@ -270,15 +356,30 @@ def hold(program):
 
 
 def text_of(path):
-    with open(path, encoding="utf-8") as file:
-        return file.read()
+    try:
+        with open(path, encoding="utf-8") as file:
+            return file.read()
+    except (OSError, UnicodeDecodeError) as fault:
+        sys.exit(f"{path}: {fault}")
+
+
+def study_of(path):
+    try:
+        study = Study(text_of(path))
+        known = LIBRARY[study.kind].split()
+    except (KeyError, SyntaxError, TypeError, ValueError):
+        sys.exit(f"{path}: no study as it is read here, with each key and its value on one line and no comment behind it")
+    own = [axiom for axiom in study.axioms if axiom not in known]
+    if own:
+        sys.exit(f"{path}: {own[0]} is no axiom of the library, and a study that lists a sentence of its own is not taken")
+    return study
 
 
 if sys.argv[1:2] == ["--hold"] and len(sys.argv) == 3:
     hold(sys.argv[2])
 elif len(sys.argv) == 2:
-    print("\n".join(export(Study(text_of(sys.argv[1])))))
+    print("\n".join(export(study_of(sys.argv[1]))))
 elif len(sys.argv) == 3:
-    hold_rules(Study(text_of(sys.argv[1])), text_of(sys.argv[2]).split("\n"))
+    hold_rules(study_of(sys.argv[1]), text_of(sys.argv[2]))
 else:
     sys.exit(__doc__)

@@ -17,12 +17,28 @@ ABSENT = "-"
 
 
 class Size:
-    """Kind, size and whether voters may be absent, as the heading of a table says."""
+    """Kind, size, whether voters may be absent, and the ballots that they may cast, as a study or the heading of a table says."""
 
-    def __init__(self, kind, voters, alternatives, absent=False):
+    def __init__(self, kind, voters, alternatives, absent=False, ballots=None):
         self.kind, self.voters, self.alternatives, self.absent = kind, voters, alternatives, absent
         self.letters = "abcde"[:alternatives]
-        self.ballots = ["".join(order) for order in itertools.permutations(self.letters)]
+        rankings = ["".join(order) for order in itertools.permutations(self.letters)]
+        self.ballots = sorted(ballots or rankings)
+        self.whole = self.ballots == rankings and not absent
+
+    @classmethod
+    def of(cls, study):
+        """That of the text of a study, which the program takes."""
+        found = [re.search(rf"^{key} *= *[\"']?(\w+)", study, re.M) for key in ("kind", "voters", "alternatives")]
+        if not all(found):
+            sys.exit("this is no study: kind, voters or alternatives is missing")
+        kind, voters, alternatives = (word.group(1) for word in found)
+        ballots = re.search(r"^ballots *= *\[([^]]*)\]", study, re.M)
+        absent = re.search(r"^absent *= *true", study, re.M)
+        size = cls(kind, int(voters), int(alternatives), bool(absent), re.findall(r"\w+", ballots.group(1)) if ballots else None)
+        if (len(size.ballots) + size.absent) ** size.voters > 20001:
+            sys.exit("the study has too many profiles")
+        return size
 
     def study(self, name, sentence):
         absent = "absent = true\n" if self.absent else ""
@@ -36,12 +52,21 @@ class Size:
         every = itertools.product(casts, repeat=self.voters)
         return [profile for profile in every if set(profile) != {ABSENT}]
 
-    def report(self, name, rule):
+    def report(self, axioms, rule):
         head = ["bench report 1", f"kind {self.kind}", f"voters {self.voters}", f"alternatives {self.alternatives}"]
-        if self.absent:
-            head = ["bench report 2", *head[1:], "ballots " + " ".join(self.ballots), "absent yes"]
-        table = [f"{'|'.join(profile)} {rule(self, present(profile))}" for profile in self.profiles()]
-        return "\n".join([*head, f"axioms {name}", "verdict possible", f"rule {len(table)}", *table, "end", ""])
+        if not self.whole:
+            head = ["bench report 2", *head[1:], "ballots " + " ".join(self.ballots), "absent " + ("yes" if self.absent else "no")]
+        table = [f"{'|'.join(profile)} {rule(profile)}" for profile in self.profiles()]
+        return "\n".join([*head, f"axioms {axioms}", "verdict possible", f"rule {len(table)}", *table, "end", ""])
+
+
+def read(path):
+    """The text of a study."""
+    try:
+        with open(path, encoding="utf-8") as file:
+            return file.read()
+    except (OSError, UnicodeDecodeError) as error:
+        sys.exit(f"the study can't be read: {error}")
 
 
 def present(profile):
@@ -115,13 +140,13 @@ class Bench:
         if said != "verdict possible":
             self.fault(f"{said}, of the part {part}")
 
-    def slip(self, wrong, refusal, right):
+    def slip(self, wrong, refusal, right, answer="verdict "):
         size = Size("choice", 2, 2)
         said = self.decided(size.study("mine", wrong))
         if said != refusal:
             self.fault(f"{said}, where {refusal} is shown, of {wrong}")
         said = self.decided(size.study("mine", right))
-        if not said.startswith("verdict "):
+        if not said.startswith(answer):
             self.fault(f"{said}, of {right}")
 
     def phrase(self, size, name, sentence, true_of, false_of):
@@ -131,7 +156,8 @@ class Bench:
         if said != f"verdict {wanted}":
             self.fault(f"{said}, of {name}")
         for rule, holds in [(rule, True) for rule in true_of if rule != "no rule"] + [(rule, False) for rule in false_of]:
-            said = self.answer("check", study, size.report(name, RULES[size.kind][rule]))
+            known = RULES[size.kind][rule]
+            said = self.answer("check", study, size.report(name, lambda profile: known(size, present(profile))))
             right = said == "confirmed possible\n" if holds else re.fullmatch(rf"refused line \d+: fails {name} \d+\n", said)
             if not right:
                 self.fault(f"{said.strip()}, of {name} and the rule {rule}")
@@ -185,7 +211,7 @@ def hold(bench, page, word):
             for part in re.findall(r"`([^`]*)`", said[0][1]):
                 bench.part(part)
         elif head[1] == "Printed":
-            bench.slip(*[cell.strip("`") for cell in said[0]])
+            bench.slip(*[word for cell in said[0] for word in re.findall(r"`([^`]*)`", cell)])
         elif head[1] == "Write":
             name, sentence = re.match(r"`(\w+)`", said[0][0]).group(1), said[0][1].strip("`")
             bench.phrase(size, name, sentence, listed(said[0][2]), listed(said[0][3]))

@@ -2,19 +2,24 @@
 """Counts the rules of a study: ./bench export STUDY | python3 studies/rules.py [LIMIT]
 
 Each assignment of the clauses that `export` writes is a rule, so the assignments are counted, by a plain search with unit propagation.
-It is for small studies, stops at LIMIT rules (1000 where none is given), and nothing of it is proved.
+It is for small studies, stops at LIMIT rules (1000 where none is given), and nothing of it is proved. Where `export` refuses the study, its
+line is passed on.
 """
 import sys
 
 
 class Clauses:
     def __init__(self, lines):
-        self.clauses = []
+        self.clauses, self.variables = [], None
         for line in lines:
             if line.startswith("p cnf"):
                 self.variables = int(line.split()[2])
+            elif self.variables is None and not line.startswith("c "):
+                sys.exit(line.strip())
             elif not line.startswith("c"):
                 self.clauses.append([int(word) for word in line.split()[:-1]])
+        if self.variables is None:
+            sys.exit("rules: no clauses")
         self.having = {}
         for clause in self.clauses:
             for literal in clause:
