@@ -10,16 +10,15 @@ ghost use Rattle.command_parts.specs.Answers.{HasText, run_of, status_of, text_o
 ghost use Rattle.command_parts.specs.Answered.{Answers};
 ghost use Rattle.vocab.specs.Study.{HasFewAxioms};
 
-use choice_sets::SetsKind;
 use command_parts::{Answer, Opened, Stop, open_study};
 use crew::Crew;
 use edge::{Gate, Shelf};
-use outcomes::{ChoiceKind, OutcomeKind, RankingKind};
-use profiles::Space;
+use kinds::over_kind;
+use outcomes::OutcomeKind;
 use report_files::{FileFault, JudgedWorth, judge_file};
 use std::alloc::Global;
 use std::thread::Threads;
-use vocab::{Kind, Study};
+use vocab::Study;
 
 /// What a text is worth over a study, beside its kind.
 fn worth_over<R: Threads + Sync, S: Shelf, G: Gate, K: OutcomeKind>(
@@ -32,7 +31,8 @@ fn worth_over<R: Threads + Sync, S: Shelf, G: Gate, K: OutcomeKind>(
 ) -> Result<JudgedWorth, FileFault>
     requires size { study.now.size ≡ K.size kind.now }
     requires listed { HasFewAxioms study.now }
-    ensures worth { IfSome (S.files shelf.old) (λ files. IfOk result (IsJudgedWorthOf study.now files report.now)) }
+    ensures worth { IfSome (S.files shelf.old)
+        (λ files. IfOk result (IsJudgedWorthOf study.now files report.now)) }
     ensures failed { IsErrOf result FileFault.Failed →
         Rose (S.faults shelf.old report.now) (S.faults shelf.new report.now) }
     ensures others { OthersStay (S.left shelf.old) (S.left shelf.new) report.now }
@@ -58,17 +58,17 @@ fn check_by_kind<R: Threads + Sync, S: Shelf, G: Gate>(
     report: &str,
 ) -> Result<JudgedWorth, FileFault>
     requires listed { HasFewAxioms study.now }
-    ensures worth { IfSome (S.files shelf.old) (λ files. IfOk result (IsJudgedWorthOf study.now files report.now)) }
+    ensures worth { IfSome (S.files shelf.old)
+        (λ files. IfOk result (IsJudgedWorthOf study.now files report.now)) }
     ensures failed { IsErrOf result FileFault.Failed →
         Rose (S.faults shelf.old report.now) (S.faults shelf.new report.now) }
     ensures others { OthersStay (S.left shelf.old) (S.left shelf.new) report.now }
 {
-    let space = Space::new(study.size());
-    match study.size().kind() {
-        Kind::Choice => worth_over(alloc, crew, shelf, &ChoiceKind::new(space), study, report),
-        Kind::Ranking => worth_over(alloc, crew, shelf, &RankingKind::new(space), study, report),
-        Kind::Sets => worth_over(alloc, crew, shelf, &SetsKind::new(space), study, report),
-    }
+    over_kind!(
+        study.size(),
+        kind,
+        worth_over(alloc, crew, shelf, &kind, study, report)
+    )
 }
 
 /// Reads the text and judges it.

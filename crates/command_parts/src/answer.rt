@@ -13,15 +13,13 @@ use answer_text::{
     ProofLine, StudyLine, SummaryLine, TotalLine,
 };
 use answers::Run;
-use choice_sets::SetsKind;
 use clause_form::{Ground, GroundFault};
 use clause_text::{CnfFault, DimacsText, LratFault, LratText, SizeText};
 use cnf::{Derivation, LineFault};
 use edge::{Failed, Sink};
+use kinds::over_kind;
 use lists::NoMemory;
 use meaning::Counts;
-use outcomes::{ChoiceKind, RankingKind};
-use profiles::Space;
 use report_files::{FileFault, JudgedWorth, SharpWorth, Worth};
 use report_text::pour_verdict;
 use search_logs::Logs;
@@ -153,7 +151,8 @@ fn judged_status(worth: &JudgedWorth) -> u8
 
 /// The run of a verdict.
 fn found_run(verdict: Verdict, logs: Logs) -> Run
-    ensures { result ≡ record { status = report_status verdict; verdict = Some verdict; logs = logs; sharp = None } }
+    ensures { result ≡
+        record { status = report_status verdict; verdict = Some verdict; logs = logs; sharp = None } }
 {
     Run {
         status: report_status(&verdict),
@@ -222,12 +221,11 @@ fn pour_report<O: Sink>(
     ensures { Pours (O.taken out.old) (O.taken out.new) page.old page.new
         (O.faults out.old) (O.faults out.new) result (report_text study.now verdict.now) }
 {
-    let space = Space::new(study.size());
-    match study.size().kind() {
-        Kind::Choice => pour_verdict(&ChoiceKind::new(space), study, verdict, page, out),
-        Kind::Ranking => pour_verdict(&RankingKind::new(space), study, verdict, page, out),
-        Kind::Sets => pour_verdict(&SetsKind::new(space), study, verdict, page, out),
-    }
+    over_kind!(
+        study.size(),
+        kind,
+        pour_verdict(&kind, study, verdict, page, out)
+    )
 }
 
 /// Adds the text of what an impossibility of a study was sharpened to.
@@ -241,12 +239,11 @@ fn pour_sharpened<O: Sink>(
     ensures { Pours (O.taken out.old) (O.taken out.new) page.old page.new
         (O.faults out.old) (O.faults out.new) result (sharp_text study.now (pointed sharp.now)) }
 {
-    let space = Space::new(study.size());
-    match study.size().kind() {
-        Kind::Choice => pour_sharp(&ChoiceKind::new(space), study, sharp, page, out),
-        Kind::Ranking => pour_sharp(&RankingKind::new(space), study, sharp, page, out),
-        Kind::Sets => pour_sharp(&SetsKind::new(space), study, sharp, page, out),
-    }
+    over_kind!(
+        study.size(),
+        kind,
+        pour_sharp(&kind, study, sharp, page, out)
+    )
 }
 
 impl Text for Answer {

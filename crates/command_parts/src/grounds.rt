@@ -6,17 +6,16 @@ ghost use Rattle.meaning.specs.StudyClauses.{study_clauses};
 ghost use Rattle.search_logs.specs.Spent.{all_places};
 ghost use Rattle.answers.specs.Grounding.{fault_of};
 
-use choice_sets::SetsKind;
 use clause_form::{Ground, GroundFault};
 use crew::Crew;
 use edge::Gate;
 use grounding::ground;
-use outcomes::{ChoiceKind, OutcomeKind, RankingKind};
-use profiles::Space;
+use kinds::over_kind;
+use outcomes::OutcomeKind;
 use search_logs::all_places;
 use std::alloc::Global;
 use std::thread::Threads;
-use vocab::{Kind, Study};
+use vocab::Study;
 
 /// The clauses of all axioms of a study, over a kind of its size, made among workers, which changes none of
 /// them. Error: the first refusal, or want of memory.
@@ -49,10 +48,5 @@ pub fn ground_study<R: Threads + Sync, G: Gate>(
     ensures none { IfOk result (λ made. fault_of study.now ≡ None) }
     ensures fault { IfErr result (λ fault. IsRefused fault (fault_of study.now)) }
 {
-    let space = Space::new(study.size());
-    match study.size().kind() {
-        Kind::Choice => ground_all(alloc, crew, &ChoiceKind::new(space), study),
-        Kind::Ranking => ground_all(alloc, crew, &RankingKind::new(space), study),
-        Kind::Sets => ground_all(alloc, crew, &SetsKind::new(space), study),
-    }
+    over_kind!(study.size(), kind, ground_all(alloc, crew, &kind, study))
 }

@@ -18,19 +18,18 @@ ghost use Rattle.command_parts.specs.Answered.{Answers};
 ghost use Rattle.search_commands.specs.Retold.{IsDerivationJudged};
 
 use adopt::{AdoptFault, Adopted};
-use choice_sets::SetsKind;
 use clause_form::{Ground, GroundFault};
 use cnf::Derivation;
 use command_parts::{Answer, GivenProof, Opened, Stop, ground_study, open_derivation, open_study};
 use core_reduce::variables;
 use crew::Crew;
 use edge::{Gate, Shelf};
-use outcomes::{ChoiceKind, OutcomeKind, RankingKind};
-use profiles::Space;
+use kinds::over_kind;
+use outcomes::OutcomeKind;
 use std::alloc::Global;
 use std::thread::Threads;
 use verdicts::Verdict;
-use vocab::{Kind, Study};
+use vocab::Study;
 
 /// The report of a proof that was adopted.
 fn report_of(study: Study, adopted: Adopted, lines: &Derivation) -> Answer
@@ -125,19 +124,11 @@ fn judge_proof<S: Shelf>(
         Rose (S.faults shelf.old proof.now) (S.faults shelf.new proof.now) }
     ensures others { OthersStay (S.left shelf.old) (S.left shelf.new) proof.now }
 {
-    let space = Space::new(study.size());
-    match study.size().kind() {
-        Kind::Choice => judge_over(alloc, shelf, &ChoiceKind::new(space), study, clauses, proof),
-        Kind::Ranking => judge_over(
-            alloc,
-            shelf,
-            &RankingKind::new(space),
-            study,
-            clauses,
-            proof,
-        ),
-        Kind::Sets => judge_over(alloc, shelf, &SetsKind::new(space), study, clauses, proof),
-    }
+    over_kind!(
+        study.size(),
+        kind,
+        judge_over(alloc, shelf, &kind, study, clauses, proof)
+    )
 }
 
 /// Reads the study and makes its clauses, and then reads a refutation of them, whoever found it: this becomes

@@ -10,21 +10,20 @@ ghost use Rattle.command_parts.specs.Answers.{HasText, run_of, text_of};
 ghost use Rattle.command_parts.specs.Answered.{Answers};
 ghost use Rattle.search_commands.specs.Found.{IsVerdict};
 
-use choice_sets::SetsKind;
 use clause_form::GroundFault;
 use command_parts::{Answer, Opened, Stop, ground_all, open_study};
 use core_reduce::{Decision, Finding, Refutation};
 use crew::Crew;
 use edge::{Gate, Shelf};
+use kinds::over_kind;
 use lists::NoMemory;
-use outcomes::{ChoiceKind, OutcomeKind, RankingKind, Setting};
-use profiles::Space;
+use outcomes::{OutcomeKind, Setting};
 use retell::retell_simply;
 use search_logs::Logs;
 use std::alloc::Global;
 use std::thread::Threads;
 use verdicts::Verdict;
-use vocab::{Kind, Study};
+use vocab::Study;
 
 /// The verdict of a refutation, with the story that its proof tells.
 fn impossible<K: OutcomeKind>(
@@ -125,12 +124,7 @@ fn decide_study<R: Threads + Sync, G: Gate>(
     ensures has_text { IfOk result HasText }
     ensures read { result ≢ Err Stop.ReadFault }
 {
-    let space = Space::new(study.size());
-    match study.size().kind() {
-        Kind::Choice => decide_over(alloc, crew, &ChoiceKind::new(space), study),
-        Kind::Ranking => decide_over(alloc, crew, &RankingKind::new(space), study),
-        Kind::Sets => decide_over(alloc, crew, &SetsKind::new(space), study),
-    }
+    over_kind!(study.size(), kind, decide_over(alloc, crew, &kind, study))
 }
 
 /// Reads the study, and decides it: a rule that satisfies all its axioms, or a core of them with a story that

@@ -7,17 +7,16 @@ ghost use Rattle.answers.specs.Grounding.{OverClauses};
 ghost use Rattle.command_parts.specs.Answers.{HasText, run_of, text_of};
 ghost use Rattle.command_parts.specs.Answered.{Answers};
 
-use choice_sets::SetsKind;
 use clause_form::GroundFault;
 use command_parts::{Answer, Opened, Stop, ground_all, open_study};
 use core_reduce::variables;
 use crew::Crew;
 use edge::{Gate, Shelf};
-use outcomes::{ChoiceKind, OutcomeKind, RankingKind};
-use profiles::Space;
+use kinds::over_kind;
+use outcomes::OutcomeKind;
 use std::alloc::Global;
 use std::thread::Threads;
-use vocab::{Kind, Study};
+use vocab::Study;
 
 /// The clauses of a study of a kind, or why they are refused.
 fn export_over<R: Threads + Sync, K: OutcomeKind, G: Gate>(
@@ -54,12 +53,7 @@ fn export_study<R: Threads + Sync, G: Gate>(
     ensures has_text { IfOk result HasText }
     ensures read { result ≢ Err Stop.ReadFault }
 {
-    let space = Space::new(study.size());
-    match study.size().kind() {
-        Kind::Choice => export_over(alloc, crew, &ChoiceKind::new(space), study),
-        Kind::Ranking => export_over(alloc, crew, &RankingKind::new(space), study),
-        Kind::Sets => export_over(alloc, crew, &SetsKind::new(space), study),
-    }
+    over_kind!(study.size(), kind, export_over(alloc, crew, &kind, study))
 }
 
 /// Reads the study, and makes the clauses of all its axioms. These are made among 1 to 16 workers, which

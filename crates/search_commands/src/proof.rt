@@ -8,18 +8,17 @@ ghost use Rattle.answers.specs.Grounding.{OverClauses};
 ghost use Rattle.command_parts.specs.Answers.{HasText, run_of, text_of};
 ghost use Rattle.command_parts.specs.Answered.{Answers};
 
-use choice_sets::SetsKind;
 use clause_form::GroundFault;
 use command_parts::{Answer, Opened, Stop, ground_all, open_study};
 use core_reduce::{Proved, Shown};
 use crew::Crew;
 use edge::{Gate, Shelf};
-use outcomes::{ChoiceKind, OutcomeKind, RankingKind};
-use profiles::Space;
+use kinds::over_kind;
+use outcomes::OutcomeKind;
 use std::alloc::Global;
 use std::thread::Threads;
 use verdicts::Verdict;
-use vocab::{Kind, Study};
+use vocab::Study;
 
 /// What is shown of a search over the clauses of a study.
 fn answer_of(study: &Study, proved: Proved) -> Answer
@@ -69,12 +68,7 @@ fn prove_study<R: Threads + Sync, G: Gate>(
     ensures has_text { IfOk result HasText }
     ensures read { result ≢ Err Stop.ReadFault }
 {
-    let space = Space::new(study.size());
-    match study.size().kind() {
-        Kind::Choice => prove_over(alloc, crew, &ChoiceKind::new(space), study),
-        Kind::Ranking => prove_over(alloc, crew, &RankingKind::new(space), study),
-        Kind::Sets => prove_over(alloc, crew, &SetsKind::new(space), study),
-    }
+    over_kind!(study.size(), kind, prove_over(alloc, crew, &kind, study))
 }
 
 /// Reads the study, and searches over the clauses that `export` writes of it: a trimmed refutation of them,

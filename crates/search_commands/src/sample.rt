@@ -7,18 +7,17 @@ ghost use Rattle.answers.specs.Sample.{IsSampled, IsSummed};
 ghost use Rattle.command_parts.specs.Answers.{HasText, run_of, text_of};
 
 use crate::decide::verdict_of;
-use choice_sets::SetsKind;
 use clause_form::GroundFault;
 use command_parts::{Answer, Stop, ground_all};
 use core_reduce::Decision;
 use crew::Crew;
 use edge::Gate;
+use kinds::over_kind;
 use lists::NoMemory;
-use outcomes::{ChoiceKind, OutcomeKind, RankingKind, Setting};
-use profiles::Space;
+use outcomes::{OutcomeKind, Setting};
 use std::alloc::Global;
 use std::thread::Threads;
-use vocab::{Kind, Study};
+use vocab::Study;
 
 /// The summary of what a decision came to.
 fn summary_of<K: OutcomeKind>(
@@ -86,12 +85,11 @@ fn sample_study<R: Threads + Sync, G: Gate>(
     ensures has_text { IfOk result HasText }
     ensures read { result ≢ Err Stop.ReadFault }
 {
-    let space = Space::new(study.size());
-    match study.size().kind() {
-        Kind::Choice => sample_over(alloc, crew, &ChoiceKind::new(space), number, study),
-        Kind::Ranking => sample_over(alloc, crew, &RankingKind::new(space), number, study),
-        Kind::Sets => sample_over(alloc, crew, &SetsKind::new(space), number, study),
-    }
+    over_kind!(
+        study.size(),
+        kind,
+        sample_over(alloc, crew, &kind, number, study)
+    )
 }
 
 /// Decides the study of a number with one worker; the gate is told of each piece of its work. No file is

@@ -13,22 +13,21 @@ ghost use Rattle.answers.specs.Sharpen.{Sharpens};
 ghost use Rattle.command_parts.specs.Answers.{HasText, run_of, text_of};
 ghost use Rattle.command_parts.specs.Answered.{Answers};
 
-use choice_sets::SetsKind;
 use clause_form::GroundFault;
 use command_parts::{Answer, Opened, Stop, ground_all, open_study};
 use core_reduce::{Decision, Finding, Refutation};
 use crew::Crew;
 use edge::{Gate, Shelf};
 use instance_totals::{TotalFault, check_total};
+use kinds::over_kind;
 use lists::NoMemory;
-use outcomes::{ChoiceKind, OutcomeKind, RankingKind};
-use profiles::Space;
+use outcomes::OutcomeKind;
 use search_logs::Logs;
 use sharp_text::laws::right_sharp_verdicts_have_texts;
 use std::alloc::Global;
 use std::thread::Threads;
 use verdicts::Verdict;
-use vocab::{Kind, Study};
+use vocab::Study;
 
 /// What a refutation is sharpened to, with the logs of the decision that found it.
 fn sharpened<R: Threads + Sync, K: OutcomeKind, G: Gate>(
@@ -123,12 +122,7 @@ fn sharpen_study<R: Threads + Sync, G: Gate>(
     ensures has_text { IfOk result HasText }
     ensures read { result ≢ Err Stop.ReadFault }
 {
-    let space = Space::new(study.size());
-    match study.size().kind() {
-        Kind::Choice => sharpen_over(alloc, crew, &ChoiceKind::new(space), study),
-        Kind::Ranking => sharpen_over(alloc, crew, &RankingKind::new(space), study),
-        Kind::Sets => sharpen_over(alloc, crew, &SetsKind::new(space), study),
-    }
+    over_kind!(study.size(), kind, sharpen_over(alloc, crew, &kind, study))
 }
 
 /// Reads the study, and decides it as `decide` does; of an impossibility it tells a story in which each
