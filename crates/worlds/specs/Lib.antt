@@ -1,6 +1,6 @@
 pub mod Boards
 pub mod Conditions
+pub mod Evaluations
 pub mod Laws
 pub mod Meanings
-pub mod Shapes
 pub mod Walk

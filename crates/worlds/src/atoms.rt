@@ -1,14 +1,14 @@
 //! Atoms, evaluated: a truth value where the rule does not matter, and else a literal.
 
-ghost use Rattle.std.specs.Prelude.{◌≡◌, IsTrue, IfOk, IfErr, ◌==◌};
+ghost use Rattle.std.specs.Prelude.{◌≡◌, IsTrue, ◌==◌};
 ghost use Rattle.vocab.specs.declared.literals.Literal.{Literal};
-ghost use Rattle.vocab.specs.Tree.{AtomTree, Equal, Prefers, Better, Casts, Majority, WinsAt, Ranks, atom_tree, term_tree};
+ghost use Rattle.vocab.specs.Tree.{AtomTree, Leaf, Equal, Prefers, Better, Casts, Majority, WinsAt, Ranks, atom_tree, term_tree};
 ghost use Rattle.meaning.specs.Literals.{is_literal};
 ghost use Rattle.meaning.specs.Space.{prefers, better, casts, majority};
 ghost use Rattle.meaning.specs.Truth.{value};
 ghost use Rattle.meaning.specs.Written.{write_atom};
 ghost use Rattle.worlds.specs.Conditions.{IsAtomAt};
-ghost use Rattle.worlds.specs.Meanings.{SameMeaning};
+ghost use Rattle.worlds.specs.Evaluations.{CanEvaluate, Evaluates};
 
 use crate::algebra::Algebra;
 use crate::terms::value;
@@ -22,13 +22,9 @@ pub(crate) fn eval_atom<A: Algebra>(
     env: &Env,
     algebra: &mut A,
 ) -> Result<A::V, A::Stop>
-    requires fits { IsAtomAt space.now (atom_tree atom.now) env.now }
-    requires takes { (l : Literal) → IsTrue (is_literal space.now l) → A.takes algebra.old l }
-    ensures ok { IfOk result (λ v. A.stands algebra.old v
-        (write_atom space.now env.now (atom_tree atom.now))) }
-    ensures err { IfErr result A.may_stop }
-    ensures same { SameMeaning (A.stands algebra.old) (A.stands algebra.new) (A.takes algebra.old)
-        (A.takes algebra.new) }
+    requires { CanEvaluate space.now (A.takes algebra.old) (Leaf (atom_tree atom.now)) env.now }
+    ensures { Evaluates A.stands A.takes A.may_stop algebra.old algebra.new
+        (write_atom space.now env.now (atom_tree atom.now)) result }
 {
     match atom {
         Atom::Equal(s, t) => algebra.known(are_equal(space, s, t, env)),
@@ -123,13 +119,10 @@ fn eval_ranks<A: Algebra>(
     env: &Env,
     algebra: &mut A,
 ) -> Result<A::V, A::Stop>
-    requires fits { IsAtomAt space.now (Ranks (term_tree x.now) (term_tree y.now) (term_tree p.now)) env.now }
-    requires takes { (l : Literal) → IsTrue (is_literal space.now l) → A.takes algebra.old l }
-    ensures ok { IfOk result (λ v. A.stands algebra.old v
-        (write_atom space.now env.now (Ranks (term_tree x.now) (term_tree y.now) (term_tree p.now)))) }
-    ensures err { IfErr result A.may_stop }
-    ensures same { SameMeaning (A.stands algebra.old) (A.stands algebra.new) (A.takes algebra.old)
-        (A.takes algebra.new) }
+    requires { CanEvaluate space.now (A.takes algebra.old)
+        (Leaf (Ranks (term_tree x.now) (term_tree y.now) (term_tree p.now))) env.now }
+    ensures { Evaluates A.stands A.takes A.may_stop algebra.old algebra.new
+        (write_atom space.now env.now (Ranks (term_tree x.now) (term_tree y.now) (term_tree p.now))) result }
 {
     let above = value(space, x, env);
     let below = value(space, y, env);

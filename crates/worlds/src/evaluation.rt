@@ -1,19 +1,20 @@
 //! The one recursion over sentences.
 
-ghost use Rattle.std.specs.Prelude.{◌≡◌, ◌+◌, ◌≤◌, IsTrue, IfOk, IfErr};
+ghost use Rattle.std.specs.Prelude.{◌≡◌, ◌+◌, IsTrue, IfOk, IfErr};
 ghost use Rattle.vocab.specs.declared.literals.Literal.{Literal};
-ghost use Rattle.vocab.specs.Size.{IsSize, sort_count};
-ghost use Rattle.vocab.specs.Tree.{tree_of};
+ghost use Rattle.vocab.specs.Size.{sort_count};
+ghost use Rattle.vocab.specs.Tree.{Not, Both, Either, Implies, Same, All, Exists, tree_of};
 ghost use Rattle.meaning.specs.Literals.{is_literal};
 ghost use Rattle.meaning.specs.Written.{write_out};
-ghost use Rattle.worlds.specs.Conditions.{IsFormulaAt, IsEvaluable};
+ghost use Rattle.worlds.specs.Conditions.{IsFormulaAt};
+ghost use Rattle.worlds.specs.Evaluations.{CanEvaluate, Evaluates};
 ghost use Rattle.worlds.specs.Meanings.{SameMeaning};
-ghost use Rattle.worlds.specs.Shapes.{is_negation, is_conjunction, is_disjunction, is_implication, is_equivalence, is_universal, is_existential};
 
 use crate::algebra::Algebra;
 use crate::atoms::eval_atom;
 use profiles::Space;
-use vocab::{Env, Formula, Size, Sort};
+use profiles::laws::spaces_have_sizes;
+use vocab::{Env, Formula, Sort};
 
 /// The value of a formula, where its free variables have the values of the environment: one that stands for
 /// the formula written out, or a stop that the algebra may answer. Sides and values that cannot matter any
@@ -44,23 +45,19 @@ pub(crate) fn eval_formula<A: Algebra>(
     env: &Env,
     algebra: &mut A,
 ) -> Result<A::V, A::Stop>
-    requires fits { IsEvaluable space.now (tree_of formula.now) env.now }
-    requires takes { (l : Literal) → IsTrue (is_literal space.now l) → A.takes algebra.old l }
-    ensures ok { IfOk result (λ v. A.stands algebra.old v
-        (write_out space.now (tree_of formula.now) env.now)) }
-    ensures err { IfErr result A.may_stop }
-    ensures same { SameMeaning (A.stands algebra.old) (A.stands algebra.new) (A.takes algebra.old)
-        (A.takes algebra.new) }
+    requires { CanEvaluate space.now (A.takes algebra.old) (tree_of formula.now) env.now }
+    ensures { Evaluates A.stands A.takes A.may_stop algebra.old algebra.new
+        (write_out space.now (tree_of formula.now) env.now) result }
 {
     match formula {
         Formula::Leaf(atom) => eval_atom(space, atom, env, algebra),
-        Formula::Not(_) => eval_not(space, formula, env, algebra),
-        Formula::Both(_, _) => eval_both(space, formula, env, algebra),
-        Formula::Either(_, _) => eval_either(space, formula, env, algebra),
-        Formula::Implies(_, _) => eval_implies(space, formula, env, algebra),
-        Formula::Same(_, _) => eval_same(space, formula, env, algebra),
-        Formula::All(_, _) => eval_all(space, formula, env, algebra),
-        Formula::Exists(_, _) => eval_exists(space, formula, env, algebra),
+        Formula::Not(inner) => eval_not(space, inner, env, algebra),
+        Formula::Both(left, right) => eval_both(space, left, right, env, algebra),
+        Formula::Either(left, right) => eval_either(space, left, right, env, algebra),
+        Formula::Implies(left, right) => eval_implies(space, left, right, env, algebra),
+        Formula::Same(left, right) => eval_same(space, left, right, env, algebra),
+        Formula::All(sort, inner) => eval_all(space, *sort, inner, env, algebra),
+        Formula::Exists(sort, inner) => eval_exists(space, *sort, inner, env, algebra),
     }
 }
 
@@ -68,144 +65,102 @@ pub(crate) fn eval_formula<A: Algebra>(
 #[cycle(eval)]
 fn eval_not<A: Algebra>(
     space: &Space,
-    formula: &Formula,
+    inner: &Formula,
     env: &Env,
     algebra: &mut A,
 ) -> Result<A::V, A::Stop>
-    requires shape { IsTrue (is_negation (tree_of formula.now)) }
-    requires fits { IsEvaluable space.now (tree_of formula.now) env.now }
-    requires takes { (l : Literal) → IsTrue (is_literal space.now l) → A.takes algebra.old l }
-    ensures ok { IfOk result (λ v. A.stands algebra.old v
-        (write_out space.now (tree_of formula.now) env.now)) }
-    ensures err { IfErr result A.may_stop }
-    ensures same { SameMeaning (A.stands algebra.old) (A.stands algebra.new) (A.takes algebra.old)
-        (A.takes algebra.new) }
+    requires { CanEvaluate space.now (A.takes algebra.old) (Not (tree_of inner.now)) env.now }
+    ensures { Evaluates A.stands A.takes A.may_stop algebra.old algebra.new
+        (write_out space.now (Not (tree_of inner.now)) env.now) result }
 {
-    match formula {
-        Formula::Not(f) => {
-            let a = eval_formula(space, f, env, algebra)?;
-            algebra.not(a)
-        }
-        _ => unreachable!(),
-    }
+    let a = eval_formula(space, inner, env, algebra)?;
+    algebra.not(a)
 }
 
 /// A conjunction. Where its first side is false, the other is left out.
 #[cycle(eval)]
 fn eval_both<A: Algebra>(
     space: &Space,
-    formula: &Formula,
+    left: &Formula,
+    right: &Formula,
     env: &Env,
     algebra: &mut A,
 ) -> Result<A::V, A::Stop>
-    requires shape { IsTrue (is_conjunction (tree_of formula.now)) }
-    requires fits { IsEvaluable space.now (tree_of formula.now) env.now }
-    requires takes { (l : Literal) → IsTrue (is_literal space.now l) → A.takes algebra.old l }
-    ensures ok { IfOk result (λ v. A.stands algebra.old v
-        (write_out space.now (tree_of formula.now) env.now)) }
-    ensures err { IfErr result A.may_stop }
-    ensures same { SameMeaning (A.stands algebra.old) (A.stands algebra.new) (A.takes algebra.old)
-        (A.takes algebra.new) }
+    requires { CanEvaluate space.now (A.takes algebra.old)
+        (Both (tree_of left.now) (tree_of right.now)) env.now }
+    ensures { Evaluates A.stands A.takes A.may_stop algebra.old algebra.new
+        (write_out space.now (Both (tree_of left.now) (tree_of right.now)) env.now) result }
 {
-    match formula {
-        Formula::Both(f, g) => {
-            let a = eval_formula(space, f, env, algebra)?;
-            if algebra.is_known(&a, false) {
-                return Ok(a);
-            }
-            let b = eval_formula(space, g, env, algebra)?;
-            algebra.and(a, b)
-        }
-        _ => unreachable!(),
+    let a = eval_formula(space, left, env, algebra)?;
+    if algebra.is_known(&a, false) {
+        return Ok(a);
     }
+    let b = eval_formula(space, right, env, algebra)?;
+    algebra.and(a, b)
 }
 
 /// A disjunction. Where its first side is true, the other is left out.
 #[cycle(eval)]
 fn eval_either<A: Algebra>(
     space: &Space,
-    formula: &Formula,
+    left: &Formula,
+    right: &Formula,
     env: &Env,
     algebra: &mut A,
 ) -> Result<A::V, A::Stop>
-    requires shape { IsTrue (is_disjunction (tree_of formula.now)) }
-    requires fits { IsEvaluable space.now (tree_of formula.now) env.now }
-    requires takes { (l : Literal) → IsTrue (is_literal space.now l) → A.takes algebra.old l }
-    ensures ok { IfOk result (λ v. A.stands algebra.old v
-        (write_out space.now (tree_of formula.now) env.now)) }
-    ensures err { IfErr result A.may_stop }
-    ensures same { SameMeaning (A.stands algebra.old) (A.stands algebra.new) (A.takes algebra.old)
-        (A.takes algebra.new) }
+    requires { CanEvaluate space.now (A.takes algebra.old)
+        (Either (tree_of left.now) (tree_of right.now)) env.now }
+    ensures { Evaluates A.stands A.takes A.may_stop algebra.old algebra.new
+        (write_out space.now (Either (tree_of left.now) (tree_of right.now)) env.now) result }
 {
-    match formula {
-        Formula::Either(f, g) => {
-            let a = eval_formula(space, f, env, algebra)?;
-            if algebra.is_known(&a, true) {
-                return Ok(a);
-            }
-            let b = eval_formula(space, g, env, algebra)?;
-            algebra.or(a, b)
-        }
-        _ => unreachable!(),
+    let a = eval_formula(space, left, env, algebra)?;
+    if algebra.is_known(&a, true) {
+        return Ok(a);
     }
+    let b = eval_formula(space, right, env, algebra)?;
+    algebra.or(a, b)
 }
 
 /// An implication. Where its first side is false, the other is left out.
 #[cycle(eval)]
 fn eval_implies<A: Algebra>(
     space: &Space,
-    formula: &Formula,
+    left: &Formula,
+    right: &Formula,
     env: &Env,
     algebra: &mut A,
 ) -> Result<A::V, A::Stop>
-    requires shape { IsTrue (is_implication (tree_of formula.now)) }
-    requires fits { IsEvaluable space.now (tree_of formula.now) env.now }
-    requires takes { (l : Literal) → IsTrue (is_literal space.now l) → A.takes algebra.old l }
-    ensures ok { IfOk result (λ v. A.stands algebra.old v
-        (write_out space.now (tree_of formula.now) env.now)) }
-    ensures err { IfErr result A.may_stop }
-    ensures same { SameMeaning (A.stands algebra.old) (A.stands algebra.new) (A.takes algebra.old)
-        (A.takes algebra.new) }
+    requires { CanEvaluate space.now (A.takes algebra.old)
+        (Implies (tree_of left.now) (tree_of right.now)) env.now }
+    ensures { Evaluates A.stands A.takes A.may_stop algebra.old algebra.new
+        (write_out space.now (Implies (tree_of left.now) (tree_of right.now)) env.now) result }
 {
-    match formula {
-        Formula::Implies(f, g) => {
-            let a = eval_formula(space, f, env, algebra)?;
-            let not_a = algebra.not(a)?;
-            if algebra.is_known(&not_a, true) {
-                return Ok(not_a);
-            }
-            let b = eval_formula(space, g, env, algebra)?;
-            algebra.or(not_a, b)
-        }
-        _ => unreachable!(),
+    let a = eval_formula(space, left, env, algebra)?;
+    let not_a = algebra.not(a)?;
+    if algebra.is_known(&not_a, true) {
+        return Ok(not_a);
     }
+    let b = eval_formula(space, right, env, algebra)?;
+    algebra.or(not_a, b)
 }
 
 /// An equivalence.
 #[cycle(eval)]
 fn eval_same<A: Algebra>(
     space: &Space,
-    formula: &Formula,
+    left: &Formula,
+    right: &Formula,
     env: &Env,
     algebra: &mut A,
 ) -> Result<A::V, A::Stop>
-    requires shape { IsTrue (is_equivalence (tree_of formula.now)) }
-    requires fits { IsEvaluable space.now (tree_of formula.now) env.now }
-    requires takes { (l : Literal) → IsTrue (is_literal space.now l) → A.takes algebra.old l }
-    ensures ok { IfOk result (λ v. A.stands algebra.old v
-        (write_out space.now (tree_of formula.now) env.now)) }
-    ensures err { IfErr result A.may_stop }
-    ensures same { SameMeaning (A.stands algebra.old) (A.stands algebra.new) (A.takes algebra.old)
-        (A.takes algebra.new) }
+    requires { CanEvaluate space.now (A.takes algebra.old)
+        (Same (tree_of left.now) (tree_of right.now)) env.now }
+    ensures { Evaluates A.stands A.takes A.may_stop algebra.old algebra.new
+        (write_out space.now (Same (tree_of left.now) (tree_of right.now)) env.now) result }
 {
-    match formula {
-        Formula::Same(f, g) => {
-            let a = eval_formula(space, f, env, algebra)?;
-            let b = eval_formula(space, g, env, algebra)?;
-            algebra.same(a, b)
-        }
-        _ => unreachable!(),
-    }
+    let a = eval_formula(space, left, env, algebra)?;
+    let b = eval_formula(space, right, env, algebra)?;
+    algebra.same(a, b)
 }
 
 /// A universal, from the last value of its sort to the first. Where a value makes it false, those before are
@@ -213,34 +168,25 @@ fn eval_same<A: Algebra>(
 #[cycle(eval)]
 fn eval_all<A: Algebra>(
     space: &Space,
-    formula: &Formula,
+    sort: Sort,
+    inner: &Formula,
     env: &Env,
     algebra: &mut A,
 ) -> Result<A::V, A::Stop>
-    requires shape { IsTrue (is_universal (tree_of formula.now)) }
-    requires fits { IsEvaluable space.now (tree_of formula.now) env.now }
-    requires takes { (l : Literal) → IsTrue (is_literal space.now l) → A.takes algebra.old l }
-    ensures ok { IfOk result (λ v. A.stands algebra.old v
-        (write_out space.now (tree_of formula.now) env.now)) }
-    ensures err { IfErr result A.may_stop }
-    ensures same { SameMeaning (A.stands algebra.old) (A.stands algebra.new) (A.takes algebra.old)
-        (A.takes algebra.new) }
+    requires { CanEvaluate space.now (A.takes algebra.old) (All sort (tree_of inner.now)) env.now }
+    ensures { Evaluates A.stands A.takes A.may_stop algebra.old algebra.new
+        (write_out space.now (All sort (tree_of inner.now)) env.now) result }
 {
-    match formula {
-        Formula::All(sort, f) => {
-            let last = last_value(space, *sort);
-            let mut value = eval_formula(space, f, &env.with(last), algebra)?;
-            for v in (0..last).rev() {
-                if algebra.is_known(&value, false) {
-                    return Ok(value);
-                }
-                let first = eval_formula(space, f, &env.with(v), algebra)?;
-                value = algebra.and(first, value)?;
-            }
-            Ok(value)
+    let last = last_value(space, sort);
+    let mut value = eval_formula(space, inner, &env.with(last), algebra)?;
+    for v in (0..last).rev() {
+        if algebra.is_known(&value, false) {
+            return Ok(value);
         }
-        _ => unreachable!(),
+        let first = eval_formula(space, inner, &env.with(v), algebra)?;
+        value = algebra.and(first, value)?;
     }
+    Ok(value)
 }
 
 /// An existential, from the last value of its sort to the first. Where a value makes it true, those before
@@ -248,47 +194,31 @@ fn eval_all<A: Algebra>(
 #[cycle(eval)]
 fn eval_exists<A: Algebra>(
     space: &Space,
-    formula: &Formula,
+    sort: Sort,
+    inner: &Formula,
     env: &Env,
     algebra: &mut A,
 ) -> Result<A::V, A::Stop>
-    requires shape { IsTrue (is_existential (tree_of formula.now)) }
-    requires fits { IsEvaluable space.now (tree_of formula.now) env.now }
-    requires takes { (l : Literal) → IsTrue (is_literal space.now l) → A.takes algebra.old l }
-    ensures ok { IfOk result (λ v. A.stands algebra.old v
-        (write_out space.now (tree_of formula.now) env.now)) }
-    ensures err { IfErr result A.may_stop }
-    ensures same { SameMeaning (A.stands algebra.old) (A.stands algebra.new) (A.takes algebra.old)
-        (A.takes algebra.new) }
+    requires { CanEvaluate space.now (A.takes algebra.old) (Exists sort (tree_of inner.now)) env.now }
+    ensures { Evaluates A.stands A.takes A.may_stop algebra.old algebra.new
+        (write_out space.now (Exists sort (tree_of inner.now)) env.now) result }
 {
-    match formula {
-        Formula::Exists(sort, f) => {
-            let last = last_value(space, *sort);
-            let mut value = eval_formula(space, f, &env.with(last), algebra)?;
-            for v in (0..last).rev() {
-                if algebra.is_known(&value, true) {
-                    return Ok(value);
-                }
-                let first = eval_formula(space, f, &env.with(v), algebra)?;
-                value = algebra.or(first, value)?;
-            }
-            Ok(value)
+    let last = last_value(space, sort);
+    let mut value = eval_formula(space, inner, &env.with(last), algebra)?;
+    for v in (0..last).rev() {
+        if algebra.is_known(&value, true) {
+            return Ok(value);
         }
-        _ => unreachable!(),
+        let first = eval_formula(space, inner, &env.with(v), algebra)?;
+        value = algebra.or(first, value)?;
     }
+    Ok(value)
 }
 
-/// The last value of a sort.
+/// The last value of a sort, of which each has one.
 fn last_value(space: &Space, sort: Sort) -> u32
     ensures { result + 1 ≡ sort_count space.now sort }
 {
-    last_of(space.size(), sort)
-}
-
-/// The last value of a sort of a size, of which each has one.
-fn last_of(size: Size, sort: Sort) -> u32
-    requires { IsSize size }
-    ensures { result + 1 ≡ sort_count size sort }
-{
-    size.sort_len(sort) - 1
+    spaces_have_sizes(space);
+    space.size().sort_len(sort) - 1
 }

@@ -14,6 +14,14 @@ use cnf::Lit;
 use outcomes::OutcomeKind;
 use outcomes::laws::kinds_have_sizes;
 
+/// A board of the size of a kind.
+#[derive(Drop)]
+struct KindBoard<'a, K: OutcomeKind> {
+    kind: &'a K,
+    board: &'a Board,
+    ghost same: { board.now.size ≡ K.size kind.now },
+}
+
 /// Whether no outcome at profile p makes all literals of the board there hold. However many literals the
 /// board has, only those of the profile are looked at. No memory is taken.
 pub fn excludes<K: OutcomeKind>(kind: &K, board: &Board, p: u32) -> bool
@@ -25,8 +33,9 @@ pub fn excludes<K: OutcomeKind>(kind: &K, board: &Board, p: u32) -> bool
     if p >= kind.space().count() {
         return false;
     }
+    let known = KindBoard { kind, board };
     for outcome in 0..kind.outcomes() {
-        if allows(kind, board, p, outcome) {
+        if allows(&known, p, outcome) {
             return false;
         }
     }
@@ -34,23 +43,23 @@ pub fn excludes<K: OutcomeKind>(kind: &K, board: &Board, p: u32) -> bool
 }
 
 /// Whether all literals of the board at a profile hold of an outcome.
-fn allows<K: OutcomeKind>(kind: &K, board: &Board, p: u32, outcome: u32) -> bool
-    requires size { board.now.size ≡ K.size kind.now }
-    requires profile { p < sort_count (K.size kind.now) Profile }
-    requires outcome { outcome < outcome_count (K.size kind.now).kind (K.size kind.now).alternatives }
-    ensures { result ≡ list_all (holds_of (K.size kind.now) outcome)
-        (filter (λ l. profile_of l == p) board.now.literals) }
+fn allows<K: OutcomeKind>(known: &KindBoard<K>, p: u32, outcome: u32) -> bool
+    requires profile { p < sort_count (K.size known.now.kind.now) Profile }
+    requires outcome { let size = K.size known.now.kind.now in
+        outcome < outcome_count size.kind size.alternatives }
+    ensures { result ≡ list_all (holds_of (K.size known.now.kind.now) outcome)
+        (filter (λ l. profile_of l == p) known.now.board.now.literals) }
 {
-    kinds_have_sizes(kind);
-    let _known = board.as_slice();
-    let _profiles = kind.space().count();
-    let bits = kind.bits();
+    kinds_have_sizes(known.kind);
+    let _known = known.board.as_slice();
+    let _profiles = known.kind.space().count();
+    let bits = known.kind.bits();
     for place in 0..bits {
         let variable = variable_at(p, bits, place);
-        if is_broken(kind, board, outcome, Lit::new(variable, true)) {
+        if is_broken(known, outcome, Lit::new(variable, true)) {
             return false;
         }
-        if is_broken(kind, board, outcome, Lit::new(variable, false)) {
+        if is_broken(known, outcome, Lit::new(variable, false)) {
             return false;
         }
     }
@@ -67,15 +76,16 @@ fn variable_at(p: u32, bits: u32, place: u32) -> u32
 }
 
 /// Whether a literal is on the board that does not hold of an outcome.
-fn is_broken<K: OutcomeKind>(kind: &K, board: &Board, outcome: u32, lit: Lit) -> bool
-    requires size { board.now.size ≡ K.size kind.now }
-    requires outcome { outcome < outcome_count (K.size kind.now).kind (K.size kind.now).alternatives }
+fn is_broken<K: OutcomeKind>(known: &KindBoard<K>, outcome: u32, lit: Lit) -> bool
+    requires outcome { let size = K.size known.now.kind.now in
+        outcome < outcome_count size.kind size.alternatives }
     requires low { 1 ≤ lit.variable }
-    requires high { lit.variable ≤ variable_count (K.size kind.now) }
-    ensures { result ≡ (has board.now.literals (literal_of (K.size kind.now) lit) && not
-        (holds_of (K.size kind.now) outcome (literal_of (K.size kind.now) lit))) }
+    requires high { lit.variable ≤ variable_count (K.size known.now.kind.now) }
+    ensures { let size = K.size known.now.kind.now in
+        result ≡ (has known.now.board.now.literals (literal_of size lit) && not
+        (holds_of size outcome (literal_of size lit))) }
 {
-    kinds_have_sizes(kind);
-    let literal = kind.literal(lit);
-    board.has(&literal) && !kind.holds(outcome, &literal)
+    kinds_have_sizes(known.kind);
+    let literal = known.kind.literal(lit);
+    known.board.has(&literal) && !known.kind.holds(outcome, &literal)
 }

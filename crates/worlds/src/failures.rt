@@ -9,7 +9,7 @@ ghost use Rattle.meaning.specs.Truth.{is_rule};
 ghost use Rattle.worlds.specs.Conditions.{IsEvaluable};
 ghost use Rattle.worlds.specs.Walk.{AreTrueIn, IsFirstFalseIn};
 
-use crate::tarski::is_true;
+use crate::tarski::{KindRule, is_true};
 use outcomes::OutcomeKind;
 use profiles::Space;
 use vocab::{Axiom, Env, Formula, Table};
@@ -31,20 +31,19 @@ pub fn instance_count(space: &Space, formula: &Formula) -> u64
 /// formula have the values of the environment. The instances of one value of the outermost universal are a
 /// block, and follow those of the value before it.
 fn first_false<K: OutcomeKind>(
-    kind: &K,
+    rule: &KindRule<K>,
     space: &Space,
-    table: &Table,
     formula: &Formula,
     env: &Env,
     from: u64,
     to: u64,
 ) -> Option<u64>
-    requires same { space.now ≡ K.size kind.now }
-    requires rule { IsTrue (is_rule space.now table.now) }
+    requires same { space.now ≡ K.size rule.now.kind.now }
     requires fits { IsEvaluable space.now (tree_of formula.now) env.now }
     requires within { to ≤ instance_count space.now (tree_of formula.now) }
-    ensures { MatchOption result (AreTrueIn space.now table.now (tree_of formula.now) env.now from to)
-        (IsFirstFalseIn space.now table.now (tree_of formula.now) env.now from to) }
+    ensures { let table = rule.now.table.now in
+        MatchOption result (AreTrueIn space.now table (tree_of formula.now) env.now from to)
+        (IsFirstFalseIn space.now table (tree_of formula.now) env.now from to) }
 {
     if from >= to {
         return None;
@@ -60,14 +59,14 @@ fn first_false<K: OutcomeKind>(
                 }
                 let (low, high) = (from.saturating_sub(start), block.min(to - start));
                 let values = env.with(value);
-                if let Some(instance) = first_false(kind, space, table, inner, &values, low, high) {
+                if let Some(instance) = first_false(rule, space, inner, &values, low, high) {
                     return Some(start + instance);
                 }
             }
             None
         }
         _ => {
-            if is_true(kind, table, formula, env) {
+            if is_true(rule, formula, env) {
                 None
             } else {
                 Some(from)
@@ -90,10 +89,10 @@ pub fn first_failure<K: OutcomeKind>(
     ensures { MatchOption result (AreInstancesTrue (K.size kind.now) table.now named.now.sentence from to)
         (IsFirstFailure (K.size kind.now) table.now named.now.sentence from to) }
 {
+    let rule = KindRule { kind, table };
     first_false(
-        kind,
+        &rule,
         kind.space(),
-        table,
         named.sentence(),
         &Env::none(),
         from,

@@ -14,14 +14,15 @@ use outcomes::OutcomeKind;
 use std::convert::Infallible;
 use vocab::{Env, Formula, Literal, Table};
 
-/// Truth values: a literal has that of the rule's outcome at its profile.
+/// A rule of a kind, as the algebra of truth values: a literal has that of the outcome at its profile.
 #[derive(Drop)]
-struct TruthAlgebra<'a, K> {
-    kind: &'a K,
-    table: &'a Table,
+pub(crate) struct KindRule<'a, K: OutcomeKind> {
+    pub kind: &'a K,
+    pub table: &'a Table,
+    pub ghost rule: { IsTrue (is_rule (K.size kind.now) table.now) },
 }
 
-impl<K: OutcomeKind> Algebra for TruthAlgebra<'_, K> {
+impl<K: OutcomeKind> Algebra for KindRule<'_, K> {
     type V = bool;
 
     type Stop = Infallible;
@@ -30,8 +31,7 @@ impl<K: OutcomeKind> Algebra for TruthAlgebra<'_, K> {
 
     ghost may_stop = { λ _. ⊥ };
 
-    ghost takes = { λ a l. IsTrue (is_rule (K.size a.kind.now) a.table.now) ×
-        IsTrue (is_literal (K.size a.kind.now) l) };
+    ghost takes = { λ a l. IsTrue (is_literal (K.size a.kind.now) l) };
 
     fn known(&mut self, truth: bool) -> Result<bool, Infallible> {
         Ok(truth)
@@ -70,17 +70,20 @@ pub fn truth<K: OutcomeKind>(kind: &K, table: &Table, formula: &Formula, env: &E
     requires fits { IsFormulaAt (K.size kind.now) (tree_of formula.now) env.now }
     ensures { result ≡ is_true_at (K.size kind.now) table.now (tree_of formula.now) env.now }
 {
-    is_true(kind, table, formula, env)
+    is_true(&KindRule { kind, table }, formula, env)
 }
 
 /// What `truth` says, part by part.
-pub(crate) fn is_true<K: OutcomeKind>(kind: &K, table: &Table, formula: &Formula, env: &Env) -> bool
-    requires rule { IsTrue (is_rule (K.size kind.now) table.now) }
-    requires fits { IsEvaluable (K.size kind.now) (tree_of formula.now) env.now }
-    ensures { result ≡ is_true_at (K.size kind.now) table.now (tree_of formula.now) env.now }
+pub(crate) fn is_true<K: OutcomeKind>(rule: &KindRule<K>, formula: &Formula, env: &Env) -> bool
+    requires fits { IsEvaluable (K.size rule.now.kind.now) (tree_of formula.now) env.now }
+    ensures { result ≡ is_true_at (K.size rule.now.kind.now) rule.now.table.now (tree_of formula.now)
+        env.now }
 {
-    let mut algebra = TruthAlgebra { kind, table };
-    match eval_formula(kind.space(), formula, env, &mut algebra) {
+    let mut algebra = KindRule {
+        kind: rule.kind,
+        table: rule.table,
+    };
+    match eval_formula(rule.kind.space(), formula, env, &mut algebra) {
         Ok(value) => value,
     }
 }

@@ -1,4 +1,6 @@
 use Rattle.worlds.proofs.atoms.eval_atom.Goals as goal
 
-pub returns-in-Majority-clause-ok : goal.returns-in-Majority-clause-ok
-returns-in-Majority-clause-ok g c = rw (c.in-Majority.is, ← c.has_majority.ensures) c.known-in-Majority.ensures.ok
+pub returns-in-Majority : goal.returns-in-Majority
+returns-in-Majority g c =
+    let given = c.known-in-Majority.ensures in
+    record { ok = rw (c.in-Majority.is, ← c.has_majority.ensures) given.ok; err = given.err; same = given.same }

@@ -49,8 +49,8 @@ returns-in-Some g t c =
     let count : c.sort_len-count.result ≡ n = rw (← c.size.ensures) c.sort_len-count.ensures in
     let start : c.saturating_mul-start.result ≡ min (c.loop-value.value * c.instance_count-block.result) most = rw (← c.from.ensures) c.saturating_mul-start.ensures in
     let is : IsBlock n p c.loop-value.value c.saturating_mul-start.result = is_block n p c.loop-value.value c.saturating_mul-start.result c.args.to c.instance_count-block.result cut start c.if-start-to.false fits within in
-    let before : AreTrueBefore c.args.space.now c.args.table.now (All c.in-All.sort (tree_of c.in-All.inner.value)) c.args.env.now c.args.from c.args.to p c.loop-value.value = rw c.in-All.is at c.loop-value.invariant in
-    rw c.in-All.is (found_in_block c.args.space.now c.args.table.now c.in-All.sort (tree_of c.in-All.inner.value) c.args.env.now n c.args.from c.args.to c.loop-value.value c.saturating_mul-start.result c.instance_count-block.result c.in-Some.instance is cut before
+    let before : AreTrueBefore c.args.space.now c.args.rule.now.table.now (All c.in-All.sort (tree_of c.in-All.inner.value)) c.args.env.now c.args.from c.args.to p c.loop-value.value = rw c.in-All.is at c.loop-value.invariant in
+    rw c.in-All.is (found_in_block c.args.space.now c.args.rule.now.table.now c.in-All.sort (tree_of c.in-All.inner.value) c.args.env.now n c.args.from c.args.to c.loop-value.value c.saturating_mul-start.result c.instance_count-block.result c.in-Some.instance is cut before
     (rw (c.deref-in-loop-value.ensures, c.with-values.ensures, c.saturating_sub-low.ensures, c.min-high.ensures) at c.in-Some.ensures))
 
 pub loop-value-preserved : goal.loop-value-preserved
@@ -63,8 +63,8 @@ loop-value-preserved g t c =
     let count : c.sort_len-count.result ≡ n = rw (← c.size.ensures) c.sort_len-count.ensures in
     let start : c.saturating_mul-start.result ≡ min (c.loop-value.value * c.instance_count-block.result) most = rw (← c.from.ensures) c.saturating_mul-start.ensures in
     let is : IsBlock n p c.loop-value.value c.saturating_mul-start.result = is_block n p c.loop-value.value c.saturating_mul-start.result c.args.to c.instance_count-block.result cut start c.if-start-to.false fits within in
-    let before : AreTrueBefore c.args.space.now c.args.table.now (All c.in-All.sort (tree_of c.in-All.inner.value)) c.args.env.now c.args.from c.args.to p c.loop-value.value = rw c.in-All.is at c.loop-value.invariant in
-    rw c.in-All.is (walk_goes_on c.args.space.now c.args.table.now c.in-All.sort (tree_of c.in-All.inner.value) c.args.env.now n c.args.from c.args.to c.loop-value.value c.saturating_mul-start.result c.instance_count-block.result is cut fits before
+    let before : AreTrueBefore c.args.space.now c.args.rule.now.table.now (All c.in-All.sort (tree_of c.in-All.inner.value)) c.args.env.now c.args.from c.args.to p c.loop-value.value = rw c.in-All.is at c.loop-value.invariant in
+    rw c.in-All.is (walk_goes_on c.args.space.now c.args.rule.now.table.now c.in-All.sort (tree_of c.in-All.inner.value) c.args.env.now n c.args.from c.args.to c.loop-value.value c.saturating_mul-start.result c.instance_count-block.result is cut fits before
     (rw (c.deref-in-loop-value.ensures, c.with-values.ensures, c.saturating_sub-low.ensures, c.min-high.ensures) at c.in_default-first_false.ensures))
 
 pub returns-after-loop-value : goal.returns-after-loop-value

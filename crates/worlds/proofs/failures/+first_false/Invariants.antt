@@ -7,4 +7,4 @@ abbrev pub decreases-first_false : goal.decreases-first_false
 decreases-first_false g l = goal.size-first_false g l
 
 abbrev pub invariant-loop-value : goal.invariant-loop-value
-invariant-loop-value g l = AreTrueBefore l.space l.table (tree_of l.formula) l.env l.from l.to (instance_count l.space (tree_of l.inner.value)) l.value
+invariant-loop-value g l = AreTrueBefore l.space l.rule.table.now (tree_of l.formula) l.env l.from l.to (instance_count l.space (tree_of l.inner.value)) l.value

@@ -3,10 +3,10 @@ use Rattle.std.specs.Prelude.{slice_index}
 use Rattle.std.proofs.lemmas.Option.{get_or_from_slice_get}
 use Rattle.meaning.specs.Truth.{holds_of}
 use Rattle.worlds.proofs.RuleLemmas.{rule_outcome}
-use Rattle.worlds.proofs.tarski.TruthAlgebraAlgebra.literal.Goals as goal
+use Rattle.worlds.proofs.tarski.KindRuleAlgebra.literal.Goals as goal
 
 pub holds-requires-clause-outcome : goal.holds-requires-clause-outcome
-holds-requires-clause-outcome g c = rw c.from.ensures (rule_outcome (g.K.OutcomeKind.size c.args.self.now.kind.now) c.args.self.now.table.now c.profile_of.result c.get-outcome.result.now c.requires.0 c.get-outcome.ensures)
+holds-requires-clause-outcome g c = rw c.from.ensures (rule_outcome (g.K.OutcomeKind.size c.args.self.now.kind.now) c.args.self.now.table.now c.profile_of.result c.get-outcome.result.now c.args.self.now.rule c.get-outcome.ensures)
 
 pub returns-clause-ok : goal.returns-clause-ok
 returns-clause-ok g c =
