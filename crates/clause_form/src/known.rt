@@ -87,15 +87,25 @@ impl Algebra for KnownAlgebra {
     }
 }
 
-/// Whether the formula is known to be true whatever the rule, where its free variables have the values of the
+/// What is known of the formula whatever the rule, where its free variables have the values of the
 /// environment. No memory is taken.
+pub fn what_is_known<K: OutcomeKind>(kind: &K, body: &Formula, env: &Env) -> Three
+    requires { IsFormulaAt (K.size kind.now) (tree_of body.now) env.now }
+    ensures { result ≡ known_truth (write_out (K.size kind.now) (tree_of body.now) env.now) }
+{
+    match eval(kind.space(), body, env, &mut KnownAlgebra) {
+        Ok(truth) => truth,
+    }
+}
+
+/// Whether the formula is known to be true.
 pub(crate) fn is_known_true<K: OutcomeKind>(kind: &K, body: &Formula, env: &Env) -> bool
     requires { IsFormulaAt (K.size kind.now) (tree_of body.now) env.now }
     ensures { IsTrue result →
         known_truth (write_out (K.size kind.now) (tree_of body.now) env.now) ≡ Three.True }
 {
-    match eval(kind.space(), body, env, &mut KnownAlgebra) {
-        Ok(Three::True) => true,
-        Ok(_) => false,
+    match what_is_known(kind, body, env) {
+        Three::True => true,
+        _ => false,
     }
 }

@@ -3,10 +3,10 @@ pub mod RisingLaws
 pub mod MergedLaws
 pub mod SortLaws
 pub mod PairLaws
-pub mod InstanceLemmas
 pub mod PieceLaws
 pub mod KeptLaws
 pub mod SourceLemmas
 pub mod WideLemmas
 pub mod ChosenLemmas
 pub mod FrameLemmas
+pub mod ToldLaws

@@ -2,7 +2,6 @@
 #![tactic(auto)]
 
 mod distinct;
-mod instances;
 mod making;
 mod measuring;
 mod merging;

@@ -6,12 +6,14 @@ ghost use Rattle.vocab.specs.Study.{is_sentence};
 ghost use Rattle.crew.specs.Right.{AreRight};
 ghost use Rattle.grounding.specs.Pieces.{AreInstances, IsFirstWide, IsFirstWideOfPiece, end_of, measure_at, start_of};
 ghost use Rattle.clause_form.specs.Wide.{is_wide};
+ghost use Rattle.lanes.specs.Lanes.{IsPlan};
 
 use crate::parts::{Measured, WideInstance, measure_all};
 use crate::pieces::{MOST_CLAUSES, MOST_LITERALS, PIECE, ROUND, Round};
 use clause_form::most_counts;
 use crew::{Crew, Job, Parts, map_pieces};
 use edge::Gate;
+use lanes::plan_of;
 use lists::NoMemory;
 use meaning::Counts;
 use outcomes::OutcomeKind;
@@ -80,16 +82,18 @@ fn measure_round<R: Threads + Sync, K: OutcomeKind, G: Gate>(
     requires instances { AreInstances
         (K.size round.now.kind.now) round.now.named.now round.now.from round.now.to }
     requires short { round.now.to ≤ round.now.from + 16384 }
+    requires plan { IsPlan (K.size round.now.kind.now) round.now.named.now.sentence round.now.plan.now }
     ensures { IfOk result
         (λ found. IsFirstWide
         (K.size round.now.kind.now) round.now.named.now.sentence round.now.from round.now.to found) }
 {
     let (from, to) = (round.from, round.to);
     let measure = |start: u64, end: u64| -> Measured
-        requires { AreInstances (K.size round.now.kind.now) round.now.named.now start end }
+        requires { AreInstances (K.size round.now.kind.now) round.now.named.now start end ×
+            IsPlan (K.size round.now.kind.now) round.now.named.now.sentence round.now.plan.now }
         ensures { IsFirstWide
             (K.size round.entry.now.kind.now) round.entry.now.named.now.sentence start end result.wide }
-    { measure_all(round.kind, round.named, start, end) };
+    { measure_all(round.kind, round.named, round.plan, start, end) };
     let job = Measuring {
         measure: &measure,
         from,
@@ -131,6 +135,7 @@ pub(crate) fn measure_axiom<R: Threads + Sync, K: OutcomeKind, G: Gate>(
     if has_small_rounds(kind, named) {
         return Ok(None);
     }
+    let plan = plan_of(alloc, kind, named)?;
     let count = instance_count(kind.space(), named.sentence());
     let mut from = 0;
     while from < count {
@@ -138,6 +143,7 @@ pub(crate) fn measure_axiom<R: Threads + Sync, K: OutcomeKind, G: Gate>(
         let round = Round {
             kind,
             named,
+            plan: &plan,
             from,
             to,
         };

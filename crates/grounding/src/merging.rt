@@ -7,6 +7,7 @@ ghost use Rattle.crew.specs.Right.{AreRight};
 ghost use Rattle.meaning.specs.StudyClauses.{from_axiom};
 ghost use Rattle.clause_form.specs.Refusals.{is_over_limits};
 ghost use Rattle.clause_form.specs.Sources.{clauses_in, sourced};
+ghost use Rattle.lanes.specs.Lanes.{IsPlan};
 ghost use Rattle.grounding.specs.Distinct.{codes_seen};
 ghost use Rattle.grounding.specs.Kept.{Keeps, Overfills};
 ghost use Rattle.grounding.specs.Pieces.{AreNarrow, AreNarrowInstances, IsPart, IsPartOfPiece, end_of, sources_of, start_of};
@@ -20,6 +21,7 @@ use cnf::{Clauses, PushFault};
 use crew::{Crew, Job, Parts, map_pieces};
 use edge::Gate;
 use indexmap::IndexSet;
+use lanes::plan_of;
 use lists::NoMemory;
 use meaning::Counts;
 use outcomes::OutcomeKind;
@@ -115,6 +117,7 @@ fn add_round<R: Threads + Sync, K: OutcomeKind, G: Gate>(
         (K.size round.now.kind.now) round.now.named.now round.now.from round.now.to }
     requires base { base ≤ 2 ^ 60 }
     requires short { round.now.to ≤ round.now.from + 16384 }
+    requires plan { IsPlan (K.size round.now.kind.now) round.now.named.now.sentence round.now.plan.now }
     ensures kept { OnOk result (Keeps (codes_seen seen.old.keys) out.old (codes_seen seen.new.keys) out.new
         (sources_of (K.size round.now.kind.now) round.now.named.now.sentence base
         round.now.from round.now.to)) }
@@ -125,10 +128,11 @@ fn add_round<R: Threads + Sync, K: OutcomeKind, G: Gate>(
     let (from, to) = (round.from, round.to);
     let make = |start: u64, end: u64| -> Result<Part, NoMemory>
         requires { AreNarrowInstances (K.size round.now.kind.now) round.now.named.now start end ×
-            (base ≤ 2 ^ 60) }
+            (base ≤ 2 ^ 60) ×
+            IsPlan (K.size round.now.kind.now) round.now.named.now.sentence round.now.plan.now }
         ensures { IfOk result
             (IsPart (K.size round.entry.now.kind.now) round.entry.now.named.now.sentence base start end) }
-    { clauses_of_all(alloc, round.kind, round.named, base, start, end) };
+    { clauses_of_all(alloc, round.kind, round.named, round.plan, base, start, end) };
     let job = Making {
         make: &make,
         from,
@@ -191,6 +195,9 @@ pub(crate) fn add_axiom<R: Threads + Sync, K: OutcomeKind, G: Gate>(
     let _kept = out.len();
     let count = instance_count(kind.space(), named.sentence());
     let base = (u64::from(place) + 1) * 4_294_967_296;
+    let Ok(plan) = plan_of(alloc, kind, named) else {
+        return Err(PushFault::NoMemory);
+    };
     let mut seen: Seen = IndexSet::new(alloc);
     let mut from = 0;
     while from < count {
@@ -198,6 +205,7 @@ pub(crate) fn add_axiom<R: Threads + Sync, K: OutcomeKind, G: Gate>(
         let round = Round {
             kind,
             named,
+            plan: &plan,
             from,
             to,
         };

@@ -1,14 +1,16 @@
 //! The measures and the clauses of some instances of an axiom, one after another.
 
-ghost use Rattle.std.specs.Prelude.{◌≡◌, ◌≤◌, ◌-◌, ◌^◌, IfOk, IsTrue};
+ghost use Rattle.std.specs.Prelude.{◌≡◌, ◌<◌, ◌≤◌, ◌-◌, ◌^◌, ◌++◌, IfOk, OnOk, IsFalse, IsTrue};
 ghost use Rattle.vocab.specs.Limits.{instance_count};
 ghost use Rattle.vocab.specs.Study.{is_sentence};
-ghost use Rattle.grounding.specs.Pieces.{AreNarrow, IsFirstWide, origins_at, rows_at, rows_from};
+ghost use Rattle.clause_form.specs.Wide.{is_wide};
+ghost use Rattle.lanes.specs.Lanes.{IsPlan, IsToldFrom};
+ghost use Rattle.grounding.specs.Pieces.{AreNarrow, IsFirstWide, measure_at, origins_at, rows_at, rows_from};
 
-use crate::instances::values_of;
 use crate::sorting::{Part, push_sorted};
 use clause_form::{ClauseList, is_wide, measure, narrow_clauses, sum};
-use cnf::Store;
+use cnf::{Lit, Store};
+use lanes::{Plan, is_told, told, values_of};
 use lists::NoMemory;
 use meaning::Counts;
 use outcomes::OutcomeKind;
@@ -29,20 +31,54 @@ pub(crate) struct Measured {
     pub(crate) wide: Option<WideInstance>,
 }
 
+/// Lists that are used again for each clause that is sorted.
+#[derive(Drop)]
+struct Sorter {
+    codes: Vec<u32>,
+    merged: Vec<u32>,
+    clause: Vec<Lit>,
+}
+
+/// The measure of an instance, where it may be told to be true whatever the rule: it then has none.
+fn measure_at<K: OutcomeKind>(kind: &K, named: &Axiom, known: u64, from: u64, number: u64) -> Counts
+    requires sentence { IsTrue (is_sentence (K.size kind.now) named.now) }
+    requires few { instance_count (K.size kind.now) named.now.sentence ≤ 40000000 }
+    requires within { number < instance_count (K.size kind.now) named.now.sentence }
+    requires told { IsToldFrom (K.size kind.now) named.now.sentence from known }
+    requires rising { from ≤ number }
+    ensures { result ≡ measure_at (K.size kind.now) named.now.sentence number }
+{
+    if number - from < 64 && is_told(known, number - from) {
+        return Counts {
+            clauses: 0,
+            literals: 0,
+        };
+    }
+    let values = values_of(kind, named, number);
+    measure(kind, named.sentence().body(), &values)
+}
+
 /// The measures of the instances from `from` up to `to`.
-pub(crate) fn measure_all<K: OutcomeKind>(kind: &K, named: &Axiom, from: u64, to: u64) -> Measured
+pub(crate) fn measure_all<K: OutcomeKind>(
+    kind: &K,
+    named: &Axiom,
+    plan: &Plan,
+    from: u64,
+    to: u64,
+) -> Measured
     requires sentence { IsTrue (is_sentence (K.size kind.now) named.now) }
     requires few { instance_count (K.size kind.now) named.now.sentence ≤ 40000000 }
     requires within { to ≤ instance_count (K.size kind.now) named.now.sentence }
+    requires plan { IsPlan (K.size kind.now) named.now.sentence plan.now }
     ensures { IsFirstWide (K.size kind.now) named.now.sentence from to result.wide }
 {
     let mut total = Counts {
         clauses: 0,
         literals: 0,
     };
+    let known = told(kind, named, plan, from);
     for number in from..to {
-        let values = values_of(kind, named, number);
-        let measure = measure(kind, named.sentence().body(), &values);
+        let measure = measure_at(kind, named, known, from, number);
         if is_wide(measure) {
             return Measured {
                 sum: total,
@@ -57,12 +93,56 @@ pub(crate) fn measure_all<K: OutcomeKind>(kind: &K, named: &Axiom, from: u64, to
     }
 }
 
+/// Appends the clauses of an instance that is not too wide, where it may be told to be true whatever the
+/// rule: it then has none.
+fn push_instance<K: OutcomeKind>(
+    alloc: Global,
+    kind: &K,
+    named: &Axiom,
+    base: u64,
+    known: u64,
+    from: u64,
+    number: u64,
+    sorter: &mut Sorter,
+    part: &mut Part,
+) -> Result<(), NoMemory>
+    requires sentence { IsTrue (is_sentence (K.size kind.now) named.now) }
+    requires few { instance_count (K.size kind.now) named.now.sentence ≤ 40000000 }
+    requires within { number < instance_count (K.size kind.now) named.now.sentence }
+    requires base { base ≤ 2 ^ 60 }
+    requires narrow { IsFalse (is_wide (measure_at (K.size kind.now) named.now.sentence number)) }
+    requires told { IsToldFrom (K.size kind.now) named.now.sentence from known }
+    requires rising { from ≤ number }
+    ensures clauses { OnOk result
+        (part.new.clauses ≡ part.old.clauses ++ rows_at (K.size kind.now) named.now.sentence number) }
+    ensures origins { OnOk result
+        (part.new.origins.items ≡ part.old.origins.items ++
+        origins_at (K.size kind.now) named.now.sentence base number) }
+{
+    if number - from < 64 && is_told(known, number - from) {
+        return Ok(());
+    }
+    let values = values_of(kind, named, number);
+    let mut rows: ClauseList = Store::new(alloc);
+    narrow_clauses(alloc, kind, named.sentence().body(), &values, &mut rows)?;
+    push_sorted(
+        &rows,
+        base + number,
+        &mut sorter.codes,
+        &mut sorter.merged,
+        &mut sorter.clause,
+        part,
+    )?;
+    Ok(())
+}
+
 /// The clauses of the instances from `from` up to `to`, of which none is too wide. The number of an instance
 /// is added to `base`.
 pub(crate) fn clauses_of_all<K: OutcomeKind>(
     alloc: Global,
     kind: &K,
     named: &Axiom,
+    plan: &Plan,
     base: u64,
     from: u64,
     to: u64,
@@ -70,6 +150,7 @@ pub(crate) fn clauses_of_all<K: OutcomeKind>(
     requires sentence { IsTrue (is_sentence (K.size kind.now) named.now) }
     requires few { instance_count (K.size kind.now) named.now.sentence ≤ 40000000 }
     requires within { to ≤ instance_count (K.size kind.now) named.now.sentence }
+    requires plan { IsPlan (K.size kind.now) named.now.sentence plan.now }
     requires rising { from ≤ to }
     requires base { base ≤ 2 ^ 60 }
     requires narrow { AreNarrow (K.size kind.now) named.now.sentence from to }
@@ -79,23 +160,26 @@ pub(crate) fn clauses_of_all<K: OutcomeKind>(
         (λ part. part.origins.items ≡
         rows_from (origins_at (K.size kind.now) named.now.sentence base) from (to - from)) }
 {
+    let known = told(kind, named, plan, from);
     let mut part = Part {
         clauses: Store::new(alloc),
         origins: Vec::new(alloc),
     };
-    let mut codes = Vec::new(alloc);
-    let mut merged = Vec::new(alloc);
-    let mut clause = Vec::new(alloc);
+    let mut sorter = Sorter {
+        codes: Vec::new(alloc),
+        merged: Vec::new(alloc),
+        clause: Vec::new(alloc),
+    };
     for number in from..to {
-        let values = values_of(kind, named, number);
-        let mut rows: ClauseList = Store::new(alloc);
-        narrow_clauses(alloc, kind, named.sentence().body(), &values, &mut rows)?;
-        push_sorted(
-            &rows,
-            base + number,
-            &mut codes,
-            &mut merged,
-            &mut clause,
+        push_instance(
+            alloc,
+            kind,
+            named,
+            base,
+            known,
+            from,
+            number,
+            &mut sorter,
             &mut part,
         )?;
     }

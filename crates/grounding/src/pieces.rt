@@ -1,5 +1,6 @@
 //! Rounds of pieces.
 
+use lanes::Plan;
 use vocab::Axiom;
 
 /// How many instances a piece has.
@@ -19,6 +20,7 @@ pub(crate) const MOST_LITERALS: u64 = 60_000_000;
 pub(crate) struct Round<'a, K> {
     pub(crate) kind: &'a K,
     pub(crate) named: &'a Axiom,
+    pub(crate) plan: &'a Plan,
     pub(crate) from: u64,
     pub(crate) to: u64,
 }

@@ -37,7 +37,7 @@ loop-from-preserved g c =
     let base = (c.from.result + 1) * 4294967296 in
     record {
       within = omega arith;
-      kept = kept-as (next-round size sentence base c.loop-from.from c.min-to.result (omega arith)) (c.in-Ok.ensures.kept _ _ c.loop-from.invariant.kept);
+      kept = kept-as (next-round size sentence base c.loop-from.from c.min-to.result (omega arith)) (c.in-Ok-add_round.ensures.kept _ _ c.loop-from.invariant.kept);
     }
 
 pub returns-clause-made : goal.returns-clause-made

@@ -35,7 +35,7 @@ fn values_after(space: &Space, formula: &Formula, env: &Env, number: u64) -> Env
 }
 
 /// The values that an instance of an axiom gives its leading universals.
-pub(crate) fn values_of<K: OutcomeKind>(kind: &K, named: &Axiom, number: u64) -> Env
+pub fn values_of<K: OutcomeKind>(kind: &K, named: &Axiom, number: u64) -> Env
     requires sentence { IsTrue (is_sentence (K.size kind.now) named.now) }
     requires few { instance_count (K.size kind.now) named.now.sentence ≤ 40000000 }
     requires within { number < instance_count (K.size kind.now) named.now.sentence }

@@ -1,0 +1,9 @@
+pub mod MarkLaws
+pub mod InstanceLemmas
+pub mod CoverLaws
+pub mod PlaceLaws
+pub mod ListLaws
+pub mod TableLaws
+pub mod UnderLaws
+pub mod LaneLaws
+pub mod PlanLaws

@@ -1,0 +1,76 @@
+//! What is known of an atom at the lanes, by the values of the other variables that it reads.
+
+ghost use Rattle.std.specs.Prelude.{◌≡◌, ℕ, ◌<◌, ◌≤◌, ◌+◌, length, slice_index, slice_index_or, IsTrue};
+ghost use Rattle.vocab.specs.Limits.{product};
+ghost use Rattle.vocab.specs.Size.{Extent};
+ghost use Rattle.vocab.specs.Tree.{Tree};
+ghost use Rattle.meaning.specs.Written.{write_out};
+ghost use Rattle.lanes.specs.Lanes.{AreSameAt, IsTable, lane_values};
+ghost use Rattle.lanes.specs.Marks.{IsTold};
+
+use crate::marks::{Marks, nothing};
+use crate::shapes::Shape;
+use vocab::Env;
+
+/// What is known at the lanes of a chunk, where the other variables have these values. The first lane has
+/// this number within the group.
+#[derive(Clone, Copy)]
+pub(crate) struct Entry {
+    pub(crate) values: Env,
+    pub(crate) first: u64,
+    pub(crate) marks: Marks,
+}
+
+/// The entries of an atom: by the values at some levels, each with its step, and then by the chunk.
+#[derive(Drop)]
+pub(crate) struct Table {
+    pub(crate) levels: Vec<u8>,
+    pub(crate) steps: Vec<u64>,
+    pub(crate) chunk_step: u64,
+    pub(crate) entries: Vec<Entry>,
+}
+
+/// Whether two environments have the same values at some levels.
+fn are_same_at(levels: &[u8], a: &Env, b: &Env) -> bool
+    ensures { IsTrue result → AreSameAt levels.now a.now b.now }
+{
+    for k in 0..levels.len() {
+        let level = levels[k];
+        if level >= a.len() || level >= b.len() || a.get(level) != b.get(level) {
+            return false;
+        }
+    }
+    true
+}
+
+/// The place where an entry of a table stands, if it is there.
+fn place_of(table: &Table, env: &Env, first: u64) -> u64 {
+    let mut place = (first / 64).saturating_mul(table.chunk_step);
+    for k in 0..table.levels.len() {
+        let level = table.levels[k];
+        if k < table.steps.len() && level < env.len() {
+            let step = u64::from(env.get(level)).saturating_mul(table.steps[k]);
+            place = place.saturating_add(step);
+        }
+    }
+    place
+}
+
+/// What a table tells of its atom at the lanes of a chunk.
+pub(crate) fn table_marks(table: &Table, env: &Env, first: u64) -> Marks
+    ensures { (size : Extent) (shape : Shape) (f : Tree) → IsTable size shape f table.now →
+        shape.outer + length shape.bases ≤ length env.now →
+        (k : ℕ) → first + k < product shape.bases →
+        IsTold result k (write_out size f (lane_values shape first k env.now)) }
+{
+    let place = place_of(table, env, first);
+    if place >= table.entries.len() as u64 {
+        return nothing();
+    }
+    let entry = table.entries[place as usize];
+    if entry.first == first && are_same_at(&table.levels, &entry.values, env) {
+        entry.marks
+    } else {
+        nothing()
+    }
+}
