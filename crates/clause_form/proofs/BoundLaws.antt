@@ -1,14 +1,14 @@
 -- Bounds of the counts of formulas.
-use Rattle.std.proofs.Common.{◌≡◌, refl, sym, ◌∙◌, ap, ap₂, subst, ℕ, zero, suc, ◌+◌, ◌*◌, ◌≤◌, ◌^◌, ◌-◌, min, max, Bool, true, false, List, [], ◌∷◌, ◌++◌, map, length, sum_by, arith, length-append}
+use Rattle.std.proofs.Common.{◌≡◌, refl, sym, ◌∙◌, ap, subst, ℕ, suc, ◌+◌, ◌*◌, ◌≤◌, min, Bool, true, false, List, [], ◌∷◌, ◌++◌, map, length, sum_by, arith, length-append}
 use Rattle.std.proofs.Math.Nat.{mul-le-mul_left}
 use Rattle.std.proofs.lemmas.List.Sums.{sum_by-append}
 use Rattle.meaning.specs.Clauses.{Disjunction, for_falsity, for_truth, joined, known_truth, minus, plus}
 use Rattle.meaning.specs.declared.clauses.Counts.{Counts}
 use Rattle.meaning.specs.declared.three.Three.{Three}
 use Rattle.meaning.specs.declared.three.Three.TheVariants.{True, False, Unknown}
-use Rattle.meaning.specs.Kleene.{three_and, three_not, three_of, three_or, three_same}
+use Rattle.meaning.specs.Kleene.{three_and, three_not, three_of, three_or}
 use Rattle.meaning.specs.Measure.{largest, measure_of}
-use Rattle.meaning.specs.Written.{And, Fact, Iff, Known as Truth, Neg, Or, Written, and_chain, or_chain}
+use Rattle.meaning.specs.Written.{And, Iff, Known as Truth, Neg, Or, Written, and_chain, or_chain}
 use Rattle.meaning.proofs.MeasureLaws.{length-joined, literals-joined}
 use Rattle.clause_form.specs.Bounds.{AreBounded, AreWithin, IsBound, IsWithin}
 use Rattle.clause_form.specs.Wide.{capped_counts}

@@ -1,5 +1,5 @@
 -- How many clauses a formula has at most.
-use Rattle.std.specs.Prelude.{◌≡◌, ℕ, ◌≤◌, Bool, List, [], ◌∷◌}
+use Rattle.std.specs.Prelude.{◌≡◌, ◌≤◌, Bool, List, [], ◌∷◌}
 use Rattle.meaning.specs.declared.clauses.Counts.{Counts}
 use Rattle.meaning.specs.Clauses.{Disjunction, known_truth, minus, plus}
 use Rattle.meaning.specs.Kleene.{three_of}

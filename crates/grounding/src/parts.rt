@@ -3,19 +3,24 @@
 ghost use Rattle.std.specs.Prelude.{◌≡◌, ◌<◌, ◌≤◌, ◌-◌, ◌^◌, ◌++◌, IfOk, OnOk, IsFalse, IsTrue};
 ghost use Rattle.vocab.specs.Limits.{instance_count};
 ghost use Rattle.vocab.specs.Study.{is_sentence};
-ghost use Rattle.clause_form.specs.Wide.{is_wide};
+ghost use Rattle.vocab.specs.Tree.{tree_of};
+ghost use Rattle.meaning.specs.Clauses.{plus};
+ghost use Rattle.meaning.specs.Measure.{measure_of};
+ghost use Rattle.meaning.specs.Written.{write_out};
+ghost use Rattle.worlds.specs.Conditions.{IsFormulaAt};
+ghost use Rattle.clause_form.specs.Wide.{is_wide, numbered};
 ghost use Rattle.lanes.specs.Lanes.{IsPlan, IsToldFrom};
 ghost use Rattle.grounding.specs.Pieces.{AreNarrow, IsFirstWide, measure_at, origins_at, rows_at, rows_from};
 
 use crate::sorting::{Part, push_sorted};
-use clause_form::{ClauseList, is_wide, measure, narrow_clauses, sum};
+use clause_form::{ClauseList, is_wide, measure, narrow_clauses, open_clauses, sum};
 use cnf::{Lit, Store};
 use lanes::{Plan, is_told, told, values_of};
 use lists::NoMemory;
 use meaning::Counts;
 use outcomes::OutcomeKind;
 use std::alloc::Global;
-use vocab::Axiom;
+use vocab::{Axiom, Env, Formula};
 
 /// An instance that is too wide, with its measure.
 #[derive(Clone, Copy)]
@@ -93,6 +98,31 @@ pub(crate) fn measure_all<K: OutcomeKind>(
     }
 }
 
+/// Appends the clauses of an instance that was not told to be true. Where nearly all is told that is known,
+/// it is not asked again.
+fn untold_clauses<K: OutcomeKind>(
+    alloc: Global,
+    kind: &K,
+    body: &Formula,
+    env: &Env,
+    whole: bool,
+    out: &mut ClauseList,
+) -> Result<(), NoMemory>
+    requires fits { IsFormulaAt (K.size kind.now) (tree_of body.now) env.now }
+    requires narrow { IsFalse
+        (is_wide (measure_of (write_out (K.size kind.now) (tree_of body.now) env.now))) }
+    ensures { OnOk result
+        (out.new ≡ out.old ++ numbered (K.size kind.now)
+        (plus (write_out (K.size kind.now) (tree_of body.now) env.now))) }
+{
+    if whole {
+        open_clauses(alloc, kind, body, env, out)?;
+        return Ok(());
+    }
+    narrow_clauses(alloc, kind, body, env, out)?;
+    Ok(())
+}
+
 /// Appends the clauses of an instance that is not too wide, where it may be told to be true whatever the
 /// rule: it then has none.
 fn push_instance<K: OutcomeKind>(
@@ -101,6 +131,7 @@ fn push_instance<K: OutcomeKind>(
     named: &Axiom,
     base: u64,
     known: u64,
+    whole: bool,
     from: u64,
     number: u64,
     sorter: &mut Sorter,
@@ -124,7 +155,14 @@ fn push_instance<K: OutcomeKind>(
     }
     let values = values_of(kind, named, number);
     let mut rows: ClauseList = Store::new(alloc);
-    narrow_clauses(alloc, kind, named.sentence().body(), &values, &mut rows)?;
+    untold_clauses(
+        alloc,
+        kind,
+        named.sentence().body(),
+        &values,
+        whole,
+        &mut rows,
+    )?;
     push_sorted(
         &rows,
         base + number,
@@ -177,6 +215,7 @@ pub(crate) fn clauses_of_all<K: OutcomeKind>(
             named,
             base,
             known,
+            plan.is_whole(),
             from,
             number,
             &mut sorter,

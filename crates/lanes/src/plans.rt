@@ -16,7 +16,7 @@ use lists::NoMemory;
 use outcomes::OutcomeKind;
 use profiles::Space;
 use std::alloc::Global;
-use vocab::{Env, Formula, Size, Sort};
+use vocab::{Atom, Env, Formula, Size, Sort};
 
 /// What is there for a formula: nothing; the table of an atom; or what is there for its one or its two parts.
 #[derive(Drop)]
@@ -129,6 +129,28 @@ pub(crate) fn part_of<K: OutcomeKind>(
             let part = part_of(alloc, setting, f, &more)?;
             one(alloc, part)
         }
+    }
+}
+
+/// Whether each atom that needs no rule has a table.
+pub(crate) fn is_whole(part: &Part, formula: &Formula) -> bool {
+    match formula {
+        Formula::Leaf(Atom::Wins(_, _)) => true,
+        Formula::Leaf(_) => match part {
+            Part::Known(_) => true,
+            _ => false,
+        },
+        Formula::Not(f) | Formula::All(_, f) | Formula::Exists(_, f) => match part {
+            Part::One(p) => is_whole(p, f),
+            _ => false,
+        },
+        Formula::Both(f, g)
+        | Formula::Either(f, g)
+        | Formula::Implies(f, g)
+        | Formula::Same(f, g) => match part {
+            Part::Two(p, q) => is_whole(p, f) && is_whole(q, g),
+            _ => false,
+        },
     }
 }
 

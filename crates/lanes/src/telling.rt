@@ -8,7 +8,7 @@ ghost use Rattle.lanes.specs.Lanes.{AreMoved, IsPlan, IsToldFrom};
 use crate::building::Setting;
 use crate::instances::values_of;
 use crate::marks::{is_told, with_bit};
-use crate::plans::{Part, marks_of, part_of};
+use crate::plans::{Part, is_whole, marks_of, part_of};
 use crate::shapes::{Shape, atoms_in, group_of, place_in, shape_of};
 use lists::NoMemory;
 use meaning::laws::numbers_are_digits;
@@ -24,6 +24,14 @@ pub struct Plan {
     shape: Shape,
     group: u64,
     part: Box<Part>,
+    whole: bool,
+}
+
+impl Plan {
+    /// Whether nearly all that is known of the instances is told.
+    pub fn is_whole(&self) -> bool {
+        self.whole
+    }
 }
 
 /// The plan of a sentence.
@@ -53,6 +61,7 @@ pub fn plan_of<'a, K: OutcomeKind>(
         work: count.saturating_mul(atoms),
     };
     let part = part_of(alloc, &setting, named.sentence().body(), &Env::none())?;
+    let whole = is_whole(&part, named.sentence().body());
     let Setting {
         kind: _,
         named: _,
@@ -61,7 +70,12 @@ pub fn plan_of<'a, K: OutcomeKind>(
         count: _,
         work: _,
     } = setting;
-    Ok(Plan { shape, group, part })
+    Ok(Plan {
+        shape,
+        group,
+        part,
+        whole,
+    })
 }
 
 /// The word with the bits from `shift` on of another one, as so many bits from `done` on.

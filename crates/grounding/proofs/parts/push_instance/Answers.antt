@@ -27,11 +27,11 @@ returns-clause-clauses g c =
     let size = g.K.OutcomeKind.size c.args.kind.now in
     let sentence = c.args.named.now.sentence in
     let number = c.args.number in
-    let rows : c.narrow_clauses.new.out ≡ numbered size (plus (instance_of size sentence number)) =
-    c.in_ok-narrow_clauses.ensures
+    let rows : c.untold_clauses.new.out ≡ numbered size (plus (instance_of size sentence number)) =
+    c.in_ok-untold_clauses.ensures
     ∙ ap (λ (r : List Clause). r ++ numbered size (plus (write_out size (tree_of c.body.result.now) c.values_of-values.result))) c.new-rows.ensures
     ∙ ap₂ (λ (f : Tree) (v : List ℕ). numbered size (plus (write_out size f v))) (c.body.ensures ∙ ap body_of c.sentence.ensures) c.values_of-values.ensures.values in
-    let plain : plain_rows c.narrow_clauses.new.out ≡ rows_at size sentence number = ap plain_rows rows ∙ plain_numbered size (plus (instance_of size sentence number)) in
+    let plain : plain_rows c.untold_clauses.new.out ≡ rows_at size sentence number = ap plain_rows rows ∙ plain_numbered size (plus (instance_of size sentence number)) in
     c.in_ok-push_sorted.ensures.clauses ∙ ap (λ (r : List Clause). c.args.part.now.clauses ++ r) plain
 
 pub returns-clause-origins : goal.returns-clause-origins
@@ -39,9 +39,9 @@ returns-clause-origins g c =
     let size = g.K.OutcomeKind.size c.args.kind.now in
     let sentence = c.args.named.now.sentence in
     let number = c.args.number in
-    let rows : c.narrow_clauses.new.out ≡ numbered size (plus (instance_of size sentence number)) =
-    c.in_ok-narrow_clauses.ensures
+    let rows : c.untold_clauses.new.out ≡ numbered size (plus (instance_of size sentence number)) =
+    c.in_ok-untold_clauses.ensures
     ∙ ap (λ (r : List Clause). r ++ numbered size (plus (write_out size (tree_of c.body.result.now) c.values_of-values.result))) c.new-rows.ensures
     ∙ ap₂ (λ (f : Tree) (v : List ℕ). numbered size (plus (write_out size f v))) (c.body.ensures ∙ ap body_of c.sentence.ensures) c.values_of-values.ensures.values in
-    let plain : plain_rows c.narrow_clauses.new.out ≡ rows_at size sentence number = ap plain_rows rows ∙ plain_numbered size (plus (instance_of size sentence number)) in
+    let plain : plain_rows c.untold_clauses.new.out ≡ rows_at size sentence number = ap plain_rows rows ∙ plain_numbered size (plus (instance_of size sentence number)) in
     c.in_ok-push_sorted.ensures.origins ∙ ap (λ (r : List Clause). c.args.part.now.origins.items ++ map (λ _. c.args.base + number) r) plain
