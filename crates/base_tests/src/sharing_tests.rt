@@ -1,12 +1,13 @@
 //! What workers on several threads read and give is Send and Sync. A type that is not would not compile here.
 
+use crate::vocab_tests::{axiom_of, study_of};
 use cnf::{Clauses, Lit, Store};
 use crew::Crew;
 use edge::Open;
 use meaning::{Counts, Origin};
 use profiles::Space;
 use std::test::Fail;
-use vocab::{Atom, Axiom, Axioms, Formula, Kind, Name, Places, Size, Study, Table, Term};
+use vocab::{Axiom, Kind, Name, Places, Size, Study, Table};
 
 /// Takes what workers on several threads may read.
 fn share<T: Send + Sync>(_shared: &T) {}
@@ -14,19 +15,28 @@ fn share<T: Send + Sync>(_shared: &T) {}
 /// Takes what they read by reference alone, as a crew, whose runtime is theirs.
 fn lend<T: Sync>(_lent: &T) {}
 
+/// Shares an axiom and its parts.
+fn share_axiom(axiom: &Axiom) {
+    share(&axiom.name());
+    share(axiom.sentence());
+    share(axiom);
+}
+
+/// Shares a study and its size.
+fn share_study(study: &Study) {
+    share(&study.size());
+    share(&Space::new(study.size()));
+    share(study);
+}
+
 #[test]
 fn studies_and_their_parts_are_shared(rt: HostRuntime) -> Result<(), Fail> {
     let name = Name::new(b"a_wins").ok_or("a name")?;
-    let wins = Formula::Leaf(Atom::Wins(Term::Const(0), Term::Const(3)));
-    let axiom = Axiom::new(name, wins);
     let size = Size::check(Kind::Choice, 2, 2).ok().ok_or("a size")?;
-    let study = Study::new(size, 1, Axioms::new(rt.alloc()));
-    share(&name);
-    share(&size);
-    share(&Space::new(size));
-    share(axiom.sentence());
-    share(&axiom);
-    share(&study);
+    let axiom = axiom_of(rt.alloc(), name)?;
+    share_axiom(&axiom);
+    let study = study_of(rt.alloc(), size)?;
+    share_study(&study);
     Ok(())
 }
 

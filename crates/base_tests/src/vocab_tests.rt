@@ -1,5 +1,11 @@
 //! The edges of names and sizes, and each call once.
 
+ghost use Rattle.std.specs.Prelude.{◌≡◌, IfOk};
+ghost use Rattle.vocab.specs.declared.kinds.Sort.TheVariants.{Profile, Voter};
+ghost use Rattle.vocab.specs.Tree.{tree_of, All, Exists, Leaf, Var, WinsAt};
+
+use lists::NoMemory;
+use std::alloc::Global;
 use std::test::Fail;
 use vocab::{
     Atom, Axiom, Axioms, Env, Formula, Kind, Literal, Name, Named, NamedTerm, Size, SizeFault,
@@ -245,40 +251,80 @@ fn environments_grow_at_the_end(rt: HostRuntime) {
     assert!(rt; env.len() == 2 && [env.get(0), env.get(1)] == [30, 10]);
 }
 
+/// The value of the second quantifier wins at that of the first. In a box, as what follows, so that a test drops it
+/// by one call.
+fn winner(alloc: Global) -> Result<Box<Formula>, NoMemory>
+    ensures { IfOk result (λ f. tree_of f.value ≡ Leaf (WinsAt (Var 1) (Var 0))) }
+{
+    let atom = Atom::Wins(Term::Var(1), Term::Var(0));
+    Ok(Box::new(alloc, Formula::Leaf(atom))?)
+}
+
+/// That, for some voter.
+fn some_winner(alloc: Global) -> Result<Box<Formula>, NoMemory>
+    ensures { IfOk result (λ f. tree_of f.value ≡ Exists Voter (Leaf (WinsAt (Var 1) (Var 0)))) }
+{
+    let winner = winner(alloc)?;
+    Ok(Box::new(alloc, Formula::Exists(Sort::Voter, winner))?)
+}
+
+/// That, for all profiles.
+fn two_quantifiers(alloc: Global) -> Result<Box<Formula>, NoMemory>
+    ensures { IfOk result
+        (λ f. tree_of f.value ≡ All Profile (Exists Voter (Leaf (WinsAt (Var 1) (Var 0))))) }
+{
+    let inner = some_winner(alloc)?;
+    Ok(Box::new(alloc, Formula::All(Sort::Profile, inner))?)
+}
+
 #[test]
 fn leading_universals_are_counted(rt: HostRuntime) -> Result<(), Fail> {
-    let alloc = rt.alloc();
-    let atom = Formula::Leaf(Atom::Wins(Term::Var(1), Term::Var(0)));
-    let inner = Formula::Exists(Sort::Voter, Box::new(alloc, atom)?);
-    let sentence = Formula::All(Sort::Profile, Box::new(alloc, inner)?);
-    assert!(rt; sentence.prefix() == 1);
-    assert!(rt; matches!(sentence.body(), Formula::Exists(Sort::Voter, _)));
+    let sentence = two_quantifiers(rt.alloc())?;
+    let one = sentence.prefix() == 1;
+    assert!(rt; one && matches!(sentence.body(), Formula::Exists(Sort::Voter, _)));
     Ok(())
+}
+
+/// The axiom of this name that the first alternative wins at profile 3.
+pub fn axiom_of(alloc: Global, name: Name) -> Result<Box<Axiom>, NoMemory> {
+    let atom = Atom::Wins(Term::Const(0), Term::Const(3));
+    Ok(Box::new(alloc, Axiom::new(name, Formula::Leaf(atom)))?)
+}
+
+/// Whether that axiom has its name and its sentence.
+fn has_parts(axiom: &Axiom, name: Name) -> bool {
+    axiom.name() == name && matches!(axiom.sentence(), Formula::Leaf(Atom::Wins(_, _)))
+}
+
+/// The study of this size without axioms, of which a search may learn one clause.
+pub fn study_of(alloc: Global, size: Size) -> Result<Box<Study>, NoMemory> {
+    Ok(Box::new(alloc, Study::new(size, 1, Axioms::new(alloc)))?)
 }
 
 #[test]
 fn studies_keep_their_parts(rt: HostRuntime) -> Result<(), Fail> {
     let name = Name::new(b"a_wins").ok_or("a name")?;
-    let axiom = Axiom::new(
-        name,
-        Formula::Leaf(Atom::Wins(Term::Const(0), Term::Const(3))),
-    );
-    assert!(rt; axiom.name() == name);
-    assert!(rt; matches!(axiom.sentence(), Formula::Leaf(Atom::Wins(_, _))));
+    let axiom = axiom_of(rt.alloc(), name)?;
+    assert!(rt; has_parts(&axiom, name));
     let size = size_of(Kind::Choice, 2, 2).ok().ok_or("a size")?;
-    let study = Study::new(size, 1, Axioms::new(rt.alloc()));
+    let study = study_of(rt.alloc(), size)?;
     assert!(rt; study.size() == size && study.conflicts() == 1 && study.axioms().is_empty());
     Ok(())
+}
+
+/// The alternative a and voter 1, as arguments.
+fn arguments(alloc: Global) -> Result<Terms, NoMemory> {
+    let mut terms = Terms::new(alloc);
+    terms.push(NamedTerm::Alt(0))?;
+    terms.push(NamedTerm::Voter(1))?;
+    Ok(terms)
 }
 
 #[test]
 fn calls_keep_their_arguments(rt: HostRuntime) -> Result<(), Fail> {
     let wins = Name::new(b"wins").ok_or("a name")?;
-    let mut terms = Terms::new(rt.alloc());
-    terms.push(NamedTerm::Alt(0))?;
-    terms.push(NamedTerm::Voter(1))?;
-    assert!(rt; terms.len() == 2);
-    assert!(rt; matches!(terms.get(1), NamedTerm::Voter(1)));
-    let _sentence = Named::Pred(wins, terms);
+    let terms = arguments(rt.alloc())?;
+    assert!(rt; terms.len() == 2 && matches!(terms.get(1), NamedTerm::Voter(1)));
+    let _sentence = Box::new(rt.alloc(), Named::Pred(wins, terms))?;
     Ok(())
 }
