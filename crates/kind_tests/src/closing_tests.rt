@@ -6,18 +6,31 @@ use std::alloc::Global;
 use std::test::Fail;
 use vocab::{Atom, Axiom, Env, Formula, Name, Sort, Term};
 
-/// For all profiles p and alternatives x: some alternative y is x, or x wins at p with voter 0's ballot
-/// replaced by ballot 1.
-fn sentence(alloc: Global) -> Result<Formula, NoMemory> {
+/// Some alternative is the value of the second quantifier. In a box, as is each part, so that an exit drops it by
+/// one call.
+fn some_is_same(alloc: Global) -> Result<Box<Formula>, NoMemory> {
     let same = Atom::Equal(Term::Var(1), Term::Var(2));
-    let some = Formula::Exists(Sort::Alt, Box::new(alloc, Formula::Leaf(same))?);
+    let leaf = Box::new(alloc, Formula::Leaf(same))?;
+    Ok(Box::new(alloc, Formula::Exists(Sort::Alt, leaf))?)
+}
+
+/// The value of the second quantifier wins at that of the first, with voter 0's ballot replaced by ballot 1.
+fn wins_elsewhere(alloc: Global) -> Result<Box<Formula>, NoMemory> {
     let p = Box::new(alloc, Term::Var(0))?;
     let i = Box::new(alloc, Term::Const(0))?;
     let b = Box::new(alloc, Term::Const(1))?;
-    let wins = Formula::Leaf(Atom::Wins(Term::Var(1), Term::With(p, i, b)));
-    let either = Formula::Either(Box::new(alloc, some)?, Box::new(alloc, wins)?);
-    let alts = Formula::All(Sort::Alt, Box::new(alloc, either)?);
-    Ok(Formula::All(Sort::Profile, Box::new(alloc, alts)?))
+    let wins = Atom::Wins(Term::Var(1), Term::With(p, i, b));
+    Ok(Box::new(alloc, Formula::Leaf(wins))?)
+}
+
+/// For all profiles p and alternatives x: some alternative y is x, or x wins at p with voter 0's ballot
+/// replaced by ballot 1.
+fn sentence(alloc: Global) -> Result<Formula, NoMemory> {
+    let some = some_is_same(alloc)?;
+    let wins = wins_elsewhere(alloc)?;
+    let either = Box::new(alloc, Formula::Either(some, wins))?;
+    let alts = Box::new(alloc, Formula::All(Sort::Alt, either))?;
+    Ok(Formula::All(Sort::Profile, alts))
 }
 
 fn named(alloc: Global) -> Result<Box<Axiom>, Fail> {

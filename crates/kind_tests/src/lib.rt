@@ -1,5 +1,5 @@
-//! Tests of profiles, of kinds of outcomes and of sentences under a rule, each module of the crate that it is
-//! named for. The library itself is empty.
+//! Tests of kinds of outcomes and of sentences under a rule, each module of the crate that it is named for. The
+//! library itself is empty.
 #![tactic(auto)]
 
 #[cfg(test)]
@@ -10,7 +10,5 @@ mod closing_tests;
 mod kind_checks;
 #[cfg(test)]
 mod outcomes_tests;
-#[cfg(test)]
-mod profiles_tests;
 #[cfg(test)]
 mod worlds_tests;

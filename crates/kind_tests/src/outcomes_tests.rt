@@ -151,17 +151,11 @@ fn rankings(rt: &impl Abort, voters: i64, alternatives: i64) -> RankingKind {
 fn frames_have_their_clauses(rt: HostRuntime) {
     for (voters, alternatives, p, want) in choice_frames() {
         let kind = choices(&rt, *voters, *alternatives);
-        assert!(rt;
-            has_frame(rt.alloc(), &kind, *p, want),
-            "choices of {alternatives}"
-        );
+        assert!(rt; has_frame(rt.alloc(), &kind, *p, want));
     }
     for (voters, alternatives, p, want) in ranking_frames() {
         let kind = rankings(&rt, *voters, *alternatives);
-        assert!(rt;
-            has_frame(rt.alloc(), &kind, *p, want),
-            "rankings of {alternatives}"
-        );
+        assert!(rt; has_frame(rt.alloc(), &kind, *p, want));
     }
 }
 
@@ -170,18 +164,12 @@ fn variables_stand_for_literals(rt: HostRuntime) {
     for (voters, alternatives, variable, literal) in choice_variables() {
         let kind = choices(&rt, *voters, *alternatives);
         share(&kind);
-        assert!(rt;
-            stands_for(&kind, *variable, *literal),
-            "variable {variable}"
-        );
+        assert!(rt; stands_for(&kind, *variable, *literal));
     }
     for (voters, alternatives, variable, literal) in ranking_variables() {
         let kind = rankings(&rt, *voters, *alternatives);
         share(&kind);
-        assert!(rt;
-            stands_for(&kind, *variable, *literal),
-            "variable {variable}"
-        );
+        assert!(rt; stands_for(&kind, *variable, *literal));
     }
 }
 
