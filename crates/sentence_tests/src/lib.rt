@@ -1,5 +1,5 @@
-//! Tests of the crates of sentences, studies and words, from `syntax` to `words`: a module for each. The library
-//! itself is empty, so that each of those crates is proved once, and without its tests.
+//! Tests of the crates of sentences, `syntax`, `sorts` and `axiom_library`: a module for each. The library itself
+//! is empty, so that each of those crates is proved once, and without its tests.
 #![tactic(auto)]
 
 #[cfg(test)]
@@ -7,12 +7,6 @@ mod axiom_library_tests;
 #[cfg(test)]
 mod fixtures;
 #[cfg(test)]
-mod samples_tests;
-#[cfg(test)]
 mod sorts_tests;
 #[cfg(test)]
-mod study_tests;
-#[cfg(test)]
 mod syntax_tests;
-#[cfg(test)]
-mod words_tests;

@@ -288,18 +288,35 @@ fn only_the_grammar_is_read(rt: HostRuntime) {
     }
 }
 
+// Whether this is why such a text is no sentence, if it is none.
+fn is_limited(
+    alloc: Global,
+    head: &[u8],
+    piece: &[u8],
+    times: u16,
+    tail: &[u8],
+    wanted: Option<SyntaxFault>,
+) -> Result<bool, Fail> {
+    let text = repeated(alloc, head, piece, times, tail)?;
+    Ok(is_answer(alloc, text.as_slice(), wanted))
+}
+
+// Whether this is why calls in calls, `x = f(..f(x)..)` with so many signs, are no sentence, if they are none.
+fn is_nested(alloc: Global, times: u16, wanted: Option<SyntaxFault>) -> Result<bool, Fail> {
+    let open = repeated(alloc, b"x = ", b"f(", times, b"x")?;
+    let text = repeated(alloc, open.as_slice(), b")", times, b"")?;
+    Ok(is_answer(alloc, text.as_slice(), wanted))
+}
+
 #[test]
 fn limits_are_kept(rt: HostRuntime) -> Result<(), Fail> {
     for (head, piece, times, tail, wanted) in limits() {
-        let text = repeated(rt.alloc(), head, piece, *times, tail)?;
-        assert!(rt; is_answer(rt.alloc(), text.as_slice(), *wanted));
+        assert!(rt; is_limited(rt.alloc(), head, piece, *times, tail, *wanted)?);
     }
-    // Calls in calls: `x = f(..f(x)..)` with 62 and 63 signs has depth 64 and 65.
-    for (times, wanted) in [(62, None), (63, Some(SyntaxFault::Deep))] {
-        let open = repeated(rt.alloc(), b"x = ", b"f(", times, b"x")?;
-        let text = repeated(rt.alloc(), open.as_slice(), b")", times, b"")?;
-        assert!(rt; is_answer(rt.alloc(), text.as_slice(), wanted));
-    }
+    // With 62 and 63 signs the depth is 64 and 65.
+    let least = is_nested(rt.alloc(), 62, None)?;
+    let most = is_nested(rt.alloc(), 63, Some(SyntaxFault::Deep))?;
+    assert!(rt; least && most);
     Ok(())
 }
 

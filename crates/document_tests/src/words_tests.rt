@@ -157,7 +157,7 @@ fn is_told(alloc: Global, line: &str, wanted: &str) -> Result<bool, AllocError> 
 #[test]
 fn words_are_commands(rt: HostRuntime) -> Result<(), Fail> {
     for (line, wanted) in commands() {
-        assert!(rt; is_told(rt.alloc(), line, wanted)?, "{line}");
+        assert!(rt; is_told(rt.alloc(), line, wanted)?);
     }
     Ok(())
 }
@@ -165,7 +165,7 @@ fn words_are_commands(rt: HostRuntime) -> Result<(), Fail> {
 #[test]
 fn workers_that_are_none(rt: HostRuntime) -> Result<(), Fail> {
     for line in no_workers() {
-        assert!(rt; is_told(rt.alloc(), line, "none")?, "{line}");
+        assert!(rt; is_told(rt.alloc(), line, "none")?);
     }
     Ok(())
 }
@@ -173,7 +173,7 @@ fn workers_that_are_none(rt: HostRuntime) -> Result<(), Fail> {
 #[test]
 fn words_that_are_none(rt: HostRuntime) -> Result<(), Fail> {
     for line in no_commands() {
-        assert!(rt; is_told(rt.alloc(), line, "none")?, "{line}");
+        assert!(rt; is_told(rt.alloc(), line, "none")?);
     }
     Ok(())
 }

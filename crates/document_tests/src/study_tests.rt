@@ -432,7 +432,7 @@ fn is_given(alloc: Global, part: &str, other: &str, wanted: &str) -> Result<bool
 #[test]
 fn documents_give_studies(rt: HostRuntime) -> Result<(), Fail> {
     for (part, other, wanted) in cases() {
-        assert!(rt; is_given(rt.alloc(), part, other, wanted)?, "{other}");
+        assert!(rt; is_given(rt.alloc(), part, other, wanted)?);
     }
     assert!(rt; answer(rt.alloc(), b"kind = 'choice\xff'")?.as_str() == "toml");
     Ok(())
@@ -441,7 +441,7 @@ fn documents_give_studies(rt: HostRuntime) -> Result<(), Fail> {
 #[test]
 fn studies_may_list_ballots(rt: HostRuntime) -> Result<(), Fail> {
     for (part, other, wanted) in ballots() {
-        assert!(rt; is_given(rt.alloc(), part, other, wanted)?, "{other}");
+        assert!(rt; is_given(rt.alloc(), part, other, wanted)?);
     }
     Ok(())
 }
@@ -474,10 +474,7 @@ fn limited(alloc: Global, quantifiers: &str, body: &str) -> Result<String, Alloc
 #[test]
 fn sentences_have_limits(rt: HostRuntime) -> Result<(), Fail> {
     for (quantifiers, body, wanted) in sizes() {
-        assert!(rt;
-            limited(rt.alloc(), quantifiers, body)?.as_str() == *wanted,
-            "{quantifiers}"
-        );
+        assert!(rt; limited(rt.alloc(), quantifiers, body)?.as_str() == *wanted);
     }
     Ok(())
 }

@@ -56,7 +56,7 @@ fn is_shown(alloc: Global, number: u32, wanted: &str) -> Result<bool, Fail> {
 #[test]
 fn numbers_have_studies(rt: HostRuntime) -> Result<(), Fail> {
     for (number, wanted) in samples_of() {
-        assert!(rt; is_shown(rt.alloc(), *number, wanted)?, "{number}");
+        assert!(rt; is_shown(rt.alloc(), *number, wanted)?);
     }
     Ok(())
 }
