@@ -149,7 +149,7 @@ fn is_wanted(answer: &Result<Adopted, AdoptFault>, wanted: Option<(u32, LineFaul
 fn refutations_of_both_are_adopted(rt: HostRuntime) -> Result<(), Fail> {
     for (text, wanted) in proofs() {
         let answer = answer(&rt, rt.alloc(), symmetric(), text)?;
-        assert!(rt; is_wanted(&answer, *wanted), "{text}");
+        assert!(rt; is_wanted(&answer, *wanted));
     }
     Ok(())
 }

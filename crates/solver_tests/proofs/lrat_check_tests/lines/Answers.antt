@@ -4,7 +4,7 @@ use Rattle.std.proofs.lemmas.Bool.{and_from}
 use Rattle.std.proofs.lemmas.List.Folds.{list_all-append}
 use Rattle.cnf.specs.declared.derivations.Line.{Line}
 use Rattle.lrat_check.specs.Ranges.{has_next}
-use Rattle.search_tests.proofs.lrat_check_tests.lines.Goals as goal
+use Rattle.solver_tests.proofs.lrat_check_tests.lines.Goals as goal
 
 pub loop-row-preserved : goal.loop-row-preserved
 loop-row-preserved c =

@@ -236,7 +236,7 @@ fn agreed(rt: &impl Abort, alloc: Global, seed: u32) -> Result<&'static str, Fai
     let clauses = random(alloc, 56, seed)?;
     let want = enumerated(&clauses);
     let got = answer(alloc, &clauses, 12, 1000)?;
-    assert!(rt; got == want, "at {seed}");
+    assert!(rt; got == want);
     Ok(want)
 }
 

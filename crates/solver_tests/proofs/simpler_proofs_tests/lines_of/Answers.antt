@@ -2,7 +2,7 @@ use Rattle.std.proofs.Common.{List, sym, subst}
 use Rattle.cnf.specs.Fresh.{AreOver, added_by, is_over}
 use Rattle.cnf.specs.declared.derivations.Line.{Line}
 use Rattle.simpler_proofs.proofs.Passing.{all_more}
-use Rattle.search_tests.proofs.simpler_proofs_tests.lines_of.Goals as goal
+use Rattle.solver_tests.proofs.simpler_proofs_tests.lines_of.Goals as goal
 
 pub loop-row-preserved : goal.loop-row-preserved
 loop-row-preserved c =

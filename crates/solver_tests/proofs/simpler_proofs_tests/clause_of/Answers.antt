@@ -5,7 +5,7 @@ use Rattle.std.proofs.lemmas.List.Folds.{list_all-append}
 use Rattle.cnf.specs.Fresh.{is_over}
 use Rattle.cnf.specs.Signed.{Signed}
 use Rattle.simpler_proofs.proofs.Passing.{over_one}
-use Rattle.search_tests.proofs.simpler_proofs_tests.clause_of.Goals as goal
+use Rattle.solver_tests.proofs.simpler_proofs_tests.clause_of.Goals as goal
 
 pub loop-number-preserved : goal.loop-number-preserved
 loop-number-preserved c =
