@@ -1,11 +1,7 @@
-//! Tests of stories, reports and answers, each module of the crate that it is named for. The library itself
-//! is empty.
+//! Tests of stories, of the lines of reports and of rules, each module of the crate that it is named for. The
+//! library itself is empty.
 #![tactic(auto)]
 
-#[cfg(test)]
-mod answer_text_tests;
-#[cfg(test)]
-mod report_files_tests;
 #[cfg(test)]
 mod report_lines_tests;
 #[cfg(test)]

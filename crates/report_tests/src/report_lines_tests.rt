@@ -102,30 +102,18 @@ fn heads_are_read(rt: HostRuntime) -> Result<(), Fail> {
     let whole = choices(rt.alloc(), study(), 1)?;
     let whole = IndexedStudy::new(rt.alloc(), &whole)?;
     for (text, version) in titles() {
-        assert!(rt;
-            reads(&whole, Place::AtTitle, text, version.map(Line::Title)),
-            "{text}"
-        );
+        assert!(rt; reads(&whole, Place::AtTitle, text, version.map(Line::Title)));
     }
     for (text, all) in ballots() {
-        assert!(rt;
-            reads(&whole, Place::AtBallots, text, all.map(Line::BallotsAre)),
-            "{text}"
-        );
+        assert!(rt; reads(&whole, Place::AtBallots, text, all.map(Line::BallotsAre)));
     }
     for (text, absent) in absences() {
-        assert!(rt;
-            reads(&whole, Place::AtAbsent, text, absent.map(Line::AbsentIs)),
-            "{text}"
-        );
+        assert!(rt; reads(&whole, Place::AtAbsent, text, absent.map(Line::AbsentIs)));
     }
     let few = choices(rt.alloc(), one_ballot(), 1)?;
     let few = IndexedStudy::new(rt.alloc(), &few)?;
     for (text, all) in ballots_of_one() {
-        assert!(rt;
-            reads(&few, Place::AtBallots, text, all.map(Line::BallotsAre)),
-            "{text}"
-        );
+        assert!(rt; reads(&few, Place::AtBallots, text, all.map(Line::BallotsAre)));
     }
     Ok(())
 }
@@ -135,7 +123,7 @@ fn other_lines_are_not_read(rt: HostRuntime) -> Result<(), Fail> {
     let whole = choices(rt.alloc(), study(), 1)?;
     let study = IndexedStudy::new(rt.alloc(), &whole)?;
     for (place, text) in not_read() {
-        assert!(rt; reads(&study, *place, text, None), "{text}");
+        assert!(rt; reads(&study, *place, text, None));
     }
     Ok(())
 }

@@ -89,7 +89,7 @@ fn faults_are_the_same_for_every_number_of_workers(rt: HostRuntime) -> Result<()
     for workers in [1, 2, 16] {
         let none = fault(&rt, rt.alloc(), &Open, workers, &[0, 0])?;
         let found = fault(&rt, rt.alloc(), &Open, workers, &[0, 1])?;
-        assert!(rt; none.is_none() && found == fails, "{workers} workers");
+        assert!(rt; none.is_none() && found == fails);
     }
     Ok(())
 }

@@ -8,8 +8,6 @@ mod faults;
 mod judging;
 mod places;
 mod progress;
-#[cfg(test)]
-mod tests;
 
 pub use checker::SharpChecker;
 pub use faults::SharpFault;

@@ -8,8 +8,6 @@ pub use top::{bench, bench_calmly};
 #[cfg(test)]
 mod fault_tests;
 #[cfg(test)]
-mod report_tests;
-#[cfg(test)]
 mod test_calls;
 #[cfg(test)]
 mod worker_tests;

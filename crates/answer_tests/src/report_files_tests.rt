@@ -2,7 +2,7 @@
 
 ghost use Rattle.std.specs.Prelude.{◌≡◌, ◌≤◌};
 
-use crate::studies_by_text::choices;
+use crate::symmetry::{symmetric, symmetric_sharp};
 use edge::{MemoryShelf, Open};
 use outcomes::ChoiceKind;
 use profiles::Space;
@@ -12,13 +12,6 @@ use std::alloc::Global;
 use std::test::Fail;
 use std::thread::Threads;
 use verdicts::Refusal;
-
-static STUDY: &str =
-    "kind = \"choice\"\nvoters = 2\nalternatives = 2\naxioms = [\"anonymity\", \"neutrality\"]\n";
-
-/// A sharp text of the study.
-static SHARP: &str =
-    "bench sharp 1\nkind choice\nvoters 2\nalternatives 2\naxioms anonymity neutrality\nverdict impossible\ncore anonymity neutrality\nlemmas 2\nlemma 1\nsuppose a@ab|ba\nso a@ba|ab by axiom anonymity ab|ba 1 2 a\nso b@ba|ab by axiom neutrality ab|ba a b a\nclash by outcome ba|ab\nlemma 2\nso !a@ab|ba by lemma 1\nso !a@ba|ab by axiom anonymity ab|ba 1 2 a\nso !b@ba|ab by axiom neutrality ab|ba a b a\nclash by outcome ba|ab\ninstances 2\nneeds anonymity ab|ba 1 2 a rule 4\nab|ab a\nab|ba a\nba|ab b\nba|ba b\nneeds neutrality ab|ba a b a rule 4\nab|ab a\nab|ba a\nba|ab a\nba|ba a\nend\n";
 
 /// Texts that are refused, whether each is judged as a sharp text, and its first faulty line.
 static REFUSED: [(&str, bool, u32); 11] = [
@@ -35,13 +28,15 @@ static REFUSED: [(&str, bool, u32); 11] = [
     ("bench sharp 1\nkind choice\nvoters 2\nx\n", true, 4),
 ];
 
-// Each text is handed out by a function, so that the proof of a test need not read it.
-fn study_text() -> &'static str {
-    STUDY
-}
+/// Texts that are refused, and the last call of the shelf that comes before the answer.
+static ANSWERED: [(&str, u32); 2] = [
+    ("x\nkind choice\nvoters 2\n", 2),
+    ("bench sharp 1\nkind ranking\nx\n", 27),
+];
 
-fn sharp() -> &'static [u8] {
-    SHARP.as_bytes()
+// Each table is handed out as a slice, so that the proof of a test need not read it.
+fn answered() -> &'static [(&'static str, u32)] {
+    &ANSWERED
 }
 
 fn refused() -> &'static [(&'static str, bool, u32)] {
@@ -58,7 +53,7 @@ fn judged<R: Threads + Sync>(
 ) -> Result<Result<JudgedWorth, FileFault>, Fail>
     requires { 1 ≤ most }
 {
-    let study = choices(alloc, study_text(), 2)?;
+    let study = symmetric(alloc)?;
     let kind = ChoiceKind::new(Space::new(study.size()));
     let mut shelf = MemoryShelf::short(alloc, most, [failing].as_slice())?;
     shelf.hold("text", text)?;
@@ -78,11 +73,8 @@ fn refused_at(worth: Result<JudgedWorth, FileFault>) -> Option<(bool, u32)> {
 #[test]
 fn sharp_text_is_confirmed_in_any_pieces(rt: HostRuntime) -> Result<(), Fail> {
     for most in [1, 5, 14, 4096] {
-        let worth = judged(&rt, rt.alloc(), sharp(), most, u32::MAX)?;
-        assert!(rt;
-            worth == Ok(JudgedWorth::Sharp(SharpWorth::Confirmed)),
-            "{most}"
-        );
+        let worth = judged(&rt, rt.alloc(), symmetric_sharp(), most, u32::MAX)?;
+        assert!(rt; worth == Ok(JudgedWorth::Sharp(SharpWorth::Confirmed)));
     }
     Ok(())
 }
@@ -107,7 +99,7 @@ fn first_line_tells_by_which_judge_a_text_is_judged(rt: HostRuntime) -> Result<(
         let wanted = Some((*is_sharp, *line));
         let by_byte = refused_by(&rt, alloc, text.as_bytes(), 1)?;
         let whole = refused_by(&rt, alloc, text.as_bytes(), 4096)?;
-        assert!(rt; [by_byte, whole] == [wanted, wanted], "{text}");
+        assert!(rt; [by_byte, whole] == [wanted, wanted]);
     }
     Ok(())
 }
@@ -129,32 +121,29 @@ fn is_answered<R: Threads + Sync>(
 #[test]
 fn first_faulty_line_is_answered_though_a_later_read_fails(rt: HostRuntime) -> Result<(), Fail> {
     let alloc = rt.alloc();
-    for (text, last) in [
-        ("x\nkind choice\nvoters 2\n", 2),
-        ("bench sharp 1\nkind ranking\nx\n", 27),
-    ] {
+    for (text, last) in answered() {
         let bytes = text.as_bytes();
         let found = [
             is_answered(&rt, alloc, bytes, 0)?,
             is_answered(&rt, alloc, bytes, 1)?,
-            is_answered(&rt, alloc, bytes, last)?,
-            is_answered(&rt, alloc, bytes, last + 1)?,
-            is_answered(&rt, alloc, bytes, last + 2)?,
+            is_answered(&rt, alloc, bytes, *last)?,
+            is_answered(&rt, alloc, bytes, last.saturating_add(1))?,
+            is_answered(&rt, alloc, bytes, last.saturating_add(2))?,
         ];
-        assert!(rt; found == [false, false, false, true, true], "{text}");
+        assert!(rt; found == [false, false, false, true, true]);
     }
     Ok(())
 }
 
 #[test]
 fn reader_of_reports_refuses_the_title_of_a_sharp_text(rt: HostRuntime) -> Result<(), Fail> {
-    let study = choices(rt.alloc(), study_text(), 2)?;
+    let study = symmetric(rt.alloc())?;
     let kind = ChoiceKind::new(Space::new(study.size()));
     let refused = Err(ReportFault::Line {
         line: 1,
         refusal: Refusal::Form,
     });
-    let text = sharp();
+    let text = symmetric_sharp();
     assert!(rt; text.len() < 1000);
     let answer = check_report(&rt, rt.alloc(), &Open, 1, &kind, &study, text);
     assert!(rt; answer == refused);

@@ -1,37 +1,29 @@
-//! What the program itself does not call: a report in memory that is checked by one call, and one that is
-//! checked line by line.
+//! A report in memory that is checked by one call, and one that is checked line by line. The program calls
+//! neither.
 
 ghost use Rattle.std.specs.Prelude.{◌≤◌};
 ghost use Rattle.report.specs.Stands.{IsReady};
 
-use crate::test_calls::{SYMMETRIC, SYMMETRIC_STORY};
+use crate::symmetry::{symmetric, symmetric_story};
 use edge::Open;
-use lists::NoMemory;
 use outcomes::{ChoiceKind, OutcomeKind};
 use profiles::Space;
 use report::{Checker, ReportFault};
 use report_files::check_report;
 use std::test::Fail;
 use std::thread::Threads;
-use study::read_study;
 use verdicts::{Confirmed, Refusal};
-use vocab::Kind;
 
 #[test]
 fn texts_are_checked_by_one_call(rt: HostRuntime) -> Result<(), Fail> {
     let alloc = rt.alloc();
-    let study = read_study(alloc, SYMMETRIC.as_bytes()).ok().ok_or("study")?;
-    let Kind::Choice = study.size().kind() else {
-        return Err(Fail::from(NoMemory));
-    };
-    if study.axioms().len() > 40 {
-        return Err(Fail::from(NoMemory));
-    }
+    let study = symmetric(alloc)?;
     let kind = ChoiceKind::new(Space::new(study.size()));
-    let story = SYMMETRIC_STORY.as_bytes();
+    let story = symmetric_story().as_bytes();
+    let front = story.get(..100).ok_or("front")?;
+    assert!(rt; story.len() < 1000 && front.len() < 1000);
     let confirmed = check_report(&rt, alloc, &Open, 1, &kind, &study, story);
     assert!(rt; confirmed == Ok(Confirmed::Impossible));
-    let front = story.get(..100).ok_or("front")?;
     let cut = check_report(&rt, alloc, &Open, 16, &kind, &study, front);
     assert!(rt; cut.is_err());
     Ok(())
@@ -93,14 +85,8 @@ fn checks_to_the_end<R: Threads + Sync, K: OutcomeKind>(
 #[test]
 fn lines_are_checked_one_by_one(rt: HostRuntime) -> Result<(), Fail> {
     let alloc = rt.alloc();
-    let front = SYMMETRIC_STORY.strip_suffix("end\n").ok_or("end")?;
-    let study = read_study(alloc, SYMMETRIC.as_bytes()).ok().ok_or("study")?;
-    let Kind::Choice = study.size().kind() else {
-        return Err(Fail::from(NoMemory));
-    };
-    if study.axioms().len() > 40 {
-        return Err(Fail::from(NoMemory));
-    }
+    let front = symmetric_story().strip_suffix("end\n").ok_or("end")?;
+    let study = symmetric(alloc)?;
     let kind = ChoiceKind::new(Space::new(study.size()));
     let checker = Checker::new(alloc, &kind, &study, 1)?;
     assert!(rt; checks_to_the_end(&rt, checker, front));

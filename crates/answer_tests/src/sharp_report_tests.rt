@@ -1,19 +1,18 @@
 //! Anonymity and neutrality, for two voters and two alternatives: a sharp text with one line changed at a time.
 
-ghost use Rattle.std.specs.Prelude.{◌≡◌, length, IfOk};
-ghost use Rattle.vocab.specs.Tree.{tree_of, atom_tree, All, Same, Leaf};
-ghost use Rattle.meaning.proofs.WorkedExamples.{choice, anonymity, neutrality};
+ghost use Rattle.std.specs.Prelude.{◌≡◌, length};
 ghost use Rattle.sharp_report.specs.SharpStands.{IsSharpReady};
 
-use crate::{SharpChecker, SharpFault, SharpRefusal};
+use crate::symmetry::symmetric;
 use edge::Open;
 use outcomes::ChoiceKind;
 use profiles::Space;
+use sharp_report::{SharpChecker, SharpFault, SharpRefusal};
 use std::alloc::Global;
 use std::test::Fail;
 use std::thread::Threads;
 use verdicts::Refusal;
-use vocab::{Atom, Axiom, Axioms, Formula, Kind, Name, Size, Sort, Study, Term};
+use vocab::Study;
 
 /// The lines of a sharp text of the study.
 static LINES: [&[u8]; 30] = [
@@ -97,65 +96,6 @@ fn rows() -> &'static [(u32, &'static [u8], u32, &'static [u8])] {
     &ROWS
 }
 
-fn two_and_two() -> Result<Size, Fail>
-    ensures { IfOk result (λ size. size ≡ choice 2 2) }
-{
-    Ok(Size::check(Kind::Choice, 2, 2).ok().ok_or("size")?)
-}
-
-fn all(alloc: Global, sort: Sort, inner: Formula) -> Result<Formula, Fail>
-    ensures { IfOk result (λ f. tree_of f ≡ All sort (tree_of inner)) }
-{
-    Ok(Formula::All(sort, Box::new(alloc, inner)?))
-}
-
-fn same(alloc: Global, a: Atom, b: Atom) -> Result<Formula, Fail>
-    ensures { IfOk result (λ f. tree_of f ≡ Same (Leaf (atom_tree a)) (Leaf (atom_tree b))) }
-{
-    let left = Box::new(alloc, Formula::Leaf(a))?;
-    Ok(Formula::Same(left, Box::new(alloc, Formula::Leaf(b))?))
-}
-
-fn anonymous(alloc: Global) -> Result<Formula, Fail>
-    ensures { IfOk result (λ f. tree_of f ≡ anonymity) }
-{
-    let p = Box::new(alloc, Term::Var(0))?;
-    let i = Box::new(alloc, Term::Var(1))?;
-    let j = Box::new(alloc, Term::Var(2))?;
-    let here = Atom::Wins(Term::Var(3), Term::Var(0));
-    let there = Atom::Wins(Term::Var(3), Term::SwapVoters(p, i, j));
-    let body = all(alloc, Sort::Alt, same(alloc, here, there)?)?;
-    let voters = all(alloc, Sort::Voter, all(alloc, Sort::Voter, body)?)?;
-    all(alloc, Sort::Profile, voters)
-}
-
-fn neutral(alloc: Global) -> Result<Formula, Fail>
-    ensures { IfOk result (λ f. tree_of f ≡ neutrality) }
-{
-    let p = Box::new(alloc, Term::Var(0))?;
-    let x = Box::new(alloc, Term::Var(1))?;
-    let y = Box::new(alloc, Term::Var(2))?;
-    let moved = Term::SwapAlts(p, x, y);
-    let v = Box::new(alloc, Term::Var(1))?;
-    let w = Box::new(alloc, Term::Var(2))?;
-    let z = Box::new(alloc, Term::Var(3))?;
-    let here = Atom::Wins(Term::Var(3), Term::Var(0));
-    let there = Atom::Wins(Term::Swap(v, w, z), moved);
-    let body = all(alloc, Sort::Alt, same(alloc, here, there)?)?;
-    let alts = all(alloc, Sort::Alt, all(alloc, Sort::Alt, body)?)?;
-    all(alloc, Sort::Profile, alts)
-}
-
-fn study(alloc: Global) -> Result<Study, Fail>
-    ensures size { IfOk result (λ study. study.size ≡ choice 2 2) }
-    ensures axioms { IfOk result (λ study. length study.axioms ≡ 2) }
-{
-    let mut axioms = Axioms::new(alloc);
-    axioms.push(Axiom::new(Name::new(b"anonymity").ok_or("name")?, anonymous(alloc)?))?;
-    axioms.push(Axiom::new(Name::new(b"neutrality").ok_or("name")?, neutral(alloc)?))?;
-    Ok(Study::new(two_and_two()?, 100_000, axioms))
-}
-
 /// The word of a refusal. The two axioms have names of 9 and 10 letters.
 fn word_of(refusal: &SharpRefusal) -> &[u8] {
     match refusal {
@@ -227,8 +167,8 @@ fn is_right<R: Threads + Sync>(
 
 #[test]
 fn first_faulty_lines_are_named(rt: HostRuntime) -> Result<(), Fail> {
-    let study = study(rt.alloc())?;
-    let kind = ChoiceKind::new(Space::new(two_and_two()?));
+    let study = symmetric(rt.alloc())?;
+    let kind = ChoiceKind::new(Space::new(study.size()));
     let mut wrong = 0;
     for row in rows() {
         if !is_right(rt.alloc(), &rt, &kind, &study, row)? {
