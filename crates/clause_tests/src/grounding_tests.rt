@@ -184,10 +184,7 @@ fn are_as_of_one<R: Threads + Sync>(rt: &R, alloc: Global, workers: u8) -> Resul
 #[test]
 fn clauses_are_the_same_for_every_number_of_workers(rt: HostRuntime) -> Result<(), Fail> {
     for workers in [1, 2, 3, 16] {
-        assert!(rt;
-            are_as_of_one(&rt, rt.alloc(), workers)?,
-            "{workers} workers"
-        );
+        assert!(rt; are_as_of_one(&rt, rt.alloc(), workers)?);
     }
     Ok(())
 }
@@ -259,10 +256,7 @@ fn begun<R: Threads + Sync>(rt: &R, alloc: Global, text: &str, before: u64) -> R
 #[test]
 fn two_workers_share_each_pass(rt: HostRuntime) -> Result<(), Fail> {
     for (text, before, all) in shared() {
-        assert!(rt;
-            begun(&rt, rt.alloc(), text, *before)? == *all,
-            "after {before}"
-        );
+        assert!(rt; begun(&rt, rt.alloc(), text, *before)? == *all);
     }
     Ok(())
 }

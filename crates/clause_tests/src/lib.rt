@@ -1,10 +1,8 @@
-//! Tests of clauses, of how they are made and of their texts, each module of the crate that it is named for.
-//! The library itself is empty.
+//! Tests of clauses and of how they are made, each module of the crate that it is named for. The library itself is
+//! empty.
 #![tactic(auto)]
 
 #[cfg(test)]
 mod clause_form_tests;
-#[cfg(test)]
-mod clause_text_tests;
 #[cfg(test)]
 mod grounding_tests;

@@ -176,11 +176,11 @@ fn refused_lines() -> &'static [(&'static str, LratFault)] {
 #[test]
 fn clauses_are_read_and_written(rt: HostRuntime) -> Result<(), Fail> {
     for (text, wanted) in written_clauses() {
-        assert!(rt; are_clauses_written(rt.alloc(), text, wanted)?, "{text}");
+        assert!(rt; are_clauses_written(rt.alloc(), text, wanted)?);
     }
     let mut out = MemorySink::new(rt.alloc(), MOST, &[])?;
     for (text, fault) in refused_clauses() {
-        assert!(rt; are_no_clauses(rt.alloc(), text, fault, &mut out), "{text}");
+        assert!(rt; are_no_clauses(rt.alloc(), text, fault, &mut out));
     }
     Ok(())
 }
@@ -188,11 +188,11 @@ fn clauses_are_read_and_written(rt: HostRuntime) -> Result<(), Fail> {
 #[test]
 fn derivations_are_read_and_written(rt: HostRuntime) -> Result<(), Fail> {
     for (text, wanted) in written_lines() {
-        assert!(rt; are_lines_written(rt.alloc(), text, wanted)?, "{text}");
+        assert!(rt; are_lines_written(rt.alloc(), text, wanted)?);
     }
     let mut out = MemorySink::new(rt.alloc(), MOST, &[])?;
     for (text, fault) in refused_lines() {
-        assert!(rt; are_no_lines(rt.alloc(), text, fault, &mut out), "{text}");
+        assert!(rt; are_no_lines(rt.alloc(), text, fault, &mut out));
     }
     Ok(())
 }
