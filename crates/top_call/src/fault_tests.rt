@@ -4,7 +4,7 @@
 use crate::bench_calmly;
 use crate::test_calls::{
     ARROW, SYMMETRIC, SYMMETRIC_SHARP, SYMMETRIC_STORY, Told, UNANIMITY, answered, answered_into,
-    answered_over, shelf_of, with_files, words_of,
+    answered_over, counts, shelf_of, with_files, words_of,
 };
 use edge::{CalmShelf, MemoryShelf, MemorySink, Open};
 use std::alloc::Global;
@@ -80,7 +80,19 @@ fn moves_single_bytes<R: Threads + Sync>(
     Ok(told.is(whole.status, whole.bytes.as_slice()))
 }
 
-/// The status of a command over devices that never fail.
+/// The status of a command over a shelf that never fails.
+fn calm_status<R: Threads + Sync>(
+    rt: &R,
+    alloc: Global,
+    words: &[&str],
+    shelf: &mut CalmShelf,
+) -> Result<u8, Fail> {
+    let words = words_of(alloc, words)?;
+    let (status, _) = counts(bench_calmly(rt, alloc, &words, shelf, &Open));
+    Ok(status)
+}
+
+/// The status of a command over these files, on a shelf that never fails.
 fn over_calm<R: Threads + Sync>(
     rt: &R,
     alloc: Global,
@@ -91,8 +103,7 @@ fn over_calm<R: Threads + Sync>(
     let mut shelf = CalmShelf::new(alloc);
     shelf.hold("first", first)?;
     shelf.hold("second", second)?;
-    let words = words_of(alloc, words)?;
-    Ok(bench_calmly(rt, alloc, &words, &mut shelf, &Open).status)
+    calm_status(rt, alloc, words, &mut shelf)
 }
 
 /// Whether a command over these files makes so many calls of the shelf, and answers each fault of a device,
@@ -215,7 +226,7 @@ fn commands_withstand_devices(rt: HostRuntime) -> Result<(), Fail> {
             *calls,
             *least,
         )?;
-        assert!(rt; right, "at {words:?}");
+        assert!(rt; right);
     }
     Ok(())
 }
@@ -246,7 +257,7 @@ fn texts_without_room_are_cut(rt: HostRuntime) -> Result<(), Fail> {
     let study = UNANIMITY.as_bytes();
     for (words, room, front) in rooms() {
         let said = answered(&rt, rt.alloc(), &Open, words, study, b"", *room)?;
-        assert!(rt; said.is(6, front.as_bytes()), "at {words:?}");
+        assert!(rt; said.is(6, front.as_bytes()));
     }
     Ok(())
 }
@@ -287,11 +298,11 @@ fn files_that_are_not_held_are_failed_reads(rt: HostRuntime) -> Result<(), Fail>
     let study = UNANIMITY.as_bytes();
     for words in absent() {
         let told = answered(&rt, rt.alloc(), &Open, words, study, study, 1_000)?;
-        assert!(rt; told.is(5, b""), "at {words:?}");
+        assert!(rt; told.is(5, b""));
     }
     // A shelf that never fails holds each name, and a file that nobody gave it is empty.
-    let words = words_of(rt.alloc(), &["check", "first", "second"])?;
+    let words = ["check", "first", "second"];
     let mut shelf = CalmShelf::new(rt.alloc());
-    assert!(rt; bench_calmly(&rt, rt.alloc(), &words, &mut shelf, &Open).status == 3);
+    assert!(rt; calm_status(&rt, rt.alloc(), &words, &mut shelf)? == 3);
     Ok(())
 }

@@ -72,7 +72,7 @@ pub fn shelf_of(
 }
 
 /// The status of a run, and how many clauses its spent searches learned.
-fn counts(run: Run) -> (u8, usize) {
+pub fn counts(run: Run) -> (u8, usize) {
     let mut learned: usize = 0;
     for log in run.logs.as_slice() {
         learned = learned.saturating_add(log.lines.len());
