@@ -6,3 +6,5 @@
 mod clause_form_tests;
 #[cfg(test)]
 mod grounding_tests;
+#[cfg(test)]
+mod lanes_tests;
