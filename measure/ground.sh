@@ -1,18 +1,38 @@
 #!/usr/bin/env bash
-# Seconds and peak memory of `export` for Arrow's axioms with 2 voters and 4 alternatives (studies/arrow_four.toml: 31,850,496
-# atoms, 500,546 clauses), with one worker and with as many as there are processors, each against the same algorithm in plain
-# Rust on one thread, built by `rustc -O` (measure/ground.rs). Both write the clauses as text, into a file; the texts are compared,
-# byte for byte. Each runs 3 times, and the shortest run counts. A run into /dev/full ends at its first page, so that it is the grounding
-# alone. `writes` are the system calls by which the text was written, where `strace` is installed: at most one for 4,096 bytes, and two.
-# The last lines are the speed-up by four workers, and `ratio R`: the seconds of the bench with one worker by those of plain Rust.
+# Seconds and peak memory of `export`, for Arrow's axioms with 2 voters and 4 alternatives and with 4 and 3, the axioms of Muller and
+# Satterthwaite with 3 and 3 and with 2 and 4, `strategyproof` with 2 and 4, a sentence that has its profiles innermost, and a study over
+# five ballots with absent voters: with one worker and with four, against two programs in plain Rust, built by `rustc -O`
+# (measure/masks.rs): `passes`, the same recursion twice over each instance, on one thread, and `masks`, with one worker and with four. These know
+# neither ballots nor absence. `measure/ground.sh PROGRAM` times an earlier bench beside them. All write the clauses as text, into a file;
+# the texts are compared, byte for byte. Each runs 3 times, and the shortest run counts. `writes` are the system calls by which the
+# text of the first study was written, where `strace` is installed: at most one for 4,096 bytes, and two.
+# The last lines are, of the first study, the speed-up by four workers, `before R` where an earlier program is given, the seconds of the
+# bench with one worker by that one's, and `ratio R`, the same by those of `masks` with one worker.
 set -eu
 . "$(dirname -- "$(readlink -f -- "${BASH_SOURCE[0]}")")/setup.sh"
 build_program
-rustc -O --edition 2021 -o "$work/baseline" "$root/measure/ground.rs" 2>/dev/null
-python3 - "$program" "$root/studies/arrow_four.toml" "$work" <<'PY'
-import os, resource, shutil, subprocess, sys, time
-program, study, work = sys.argv[1:]
-def run(name, *words, ends=0): # the shortest seconds of 3 runs, and the peak memory in KB
+rustc -O --edition 2021 -o "$work/plain" "$root/measure/masks.rs"
+python3 - "$program" "$root/studies/arrow_four.toml" "$work" "${1-}" <<'PY'
+import os, shutil, subprocess, sys, time
+program, arrow_four, work, before = sys.argv[1:]
+def study(name, kind, voters, alternatives, axioms, more="", sentences=""):
+    path = "%s/%s.toml" % (work, name)
+    with open(path, "w") as out:
+        listed = ", ".join('"%s"' % it for it in axioms)
+        print('kind = "%s"\nvoters = %d\nalternatives = %d\n%saxioms = [%s]\n%s' % (kind, voters, alternatives, more, listed, sentences), file=out)
+    return name, path
+innermost = "all x: alt. all y: alt. all p: profile. all q: profile. (all i: voter. (prefers(i, x, y, p) <-> prefers(i, x, y, q)) -> (ranks(x, y, p) <-> ranks(x, y, q)))"
+arrow, muller = ("pareto", "independence", "non_dictatorship"), ("unanimity", "maskin", "non_dictatorship")
+studies = [
+    ("arrow_four", arrow_four),
+    study("arrow_4_3", "ranking", 4, 3, arrow),
+    study("muller_3_3", "choice", 3, 3, muller),
+    study("muller_2_4", "choice", 2, 4, muller),
+    study("strategyproof_2_4", "choice", 2, 4, ("strategyproof",)),
+    study("innermost_2_4", "ranking", 2, 4, ("inner",), sentences='[sentences]\ninner = "%s"' % innermost),
+]
+restricted = study("absence_3_3", "choice", 3, 3, ("strategyproof", "participation", "anonymity"), 'absent = true\nballots = ["abc", "acb", "bac", "bca", "cab"]\n')
+def run(name, *words): # the shortest seconds of 3 runs, the peak memory in KB, and the text
     best, peak = None, 0
     for _ in range(3):
         with open(os.path.join(work, name), "wb") as out:
@@ -20,30 +40,37 @@ def run(name, *words, ends=0): # the shortest seconds of 3 runs, and the peak me
             child = subprocess.Popen(words, stdout=out, stderr=subprocess.DEVNULL)
             _, status, usage = os.wait4(child.pid, 0)
             spent = time.perf_counter() - start
-        assert os.waitstatus_to_exitcode(status) == ends, (words, status)
+        assert os.waitstatus_to_exitcode(status) == 0, (words, status)
         best, peak = spent if best is None else min(best, spent), max(peak, usage.ru_maxrss)
-    return best, peak
-workers = max(2, min(16, os.cpu_count() or 2))
-one, one_peak = run("one", program, "export", study, "--workers", "1")
-four, four_peak = run("four", program, "export", study, "--workers", "4")
-many, many_peak = run("many", program, "export", study, "--workers", str(workers))
-ground, _ = run("/dev/full", program, "export", study, "--workers", "1", ends=6)
-plain, plain_peak = run("plain", work + "/baseline", "2", "4")
-texts = [open(work + "/" + name, "rb").read() for name in ("one", "four", "many", "plain")]
-assert all(text == texts[0] for text in texts), "the texts differ"
-assert texts[0].split(b"\n")[2] == b"p cnf 3456 500546", texts[0][:80]
-print("1 worker: %.3f s, %d KB; the grounding alone %.3f s" % (one, one_peak, ground))
-print("4 workers: %.3f s, %d KB" % (four, four_peak))
-print("%d workers: %.3f s, %d KB" % (workers, many, many_peak))
-print("plain: %.3f s, %d KB" % (plain, plain_peak))
-print("%d bytes" % len(texts[0]))
+    return best, peak, open(os.path.join(work, name), "rb").read()
+def rows(path, is_plain):
+    yield "1 worker", (program, "export", path, "--workers", "1")
+    yield "4 workers", (program, "export", path, "--workers", "4")
+    if before:
+        yield "before", (before, "export", path, "--workers", "1")
+    if is_plain:
+        yield "passes", (work + "/plain", "passes", "1", path)
+        yield "masks", (work + "/plain", "masks", "1", path)
+        yield "masks of 4", (work + "/plain", "masks", "4", path)
+first = {}
+for name, path in studies + [restricted]:
+    text, told = None, []
+    for row, words in rows(path, (name, path) != restricted):
+        spent, peak, came = run("text", *words)
+        assert text in (None, came), "the texts of %s differ: %s" % (name, row)
+        text = came
+        told.append("%s %.3f s %d KB" % (row, spent, peak))
+        if path == arrow_four: first[row] = spent
+    print("%s, %d bytes: %s" % (name, len(text), ", ".join(told)), flush=True)
+    if path == arrow_four: size = len(text)
 if shutil.which("strace"):
-    traced = subprocess.run(["strace", "-f", "-c", "-e", "trace=write", program, "export", study], stdout=subprocess.DEVNULL, stderr=subprocess.PIPE, text=True)
-    rows = [row.split() for row in traced.stderr.splitlines() if row.rstrip().endswith("write")]
-    print("%s writes, %.1f for each 4,096 bytes" % (rows[0][3], int(rows[0][3]) * 4096 / len(texts[0])))
-    assert int(rows[0][3]) <= len(texts[0]) // 4096 + 2
+    traced = subprocess.run(["strace", "-f", "-c", "-e", "trace=write", program, "export", arrow_four], stdout=subprocess.DEVNULL, stderr=subprocess.PIPE, text=True)
+    lines = [line.split() for line in traced.stderr.splitlines() if line.rstrip().endswith("write")]
+    print("%s writes, %.1f for each 4,096 bytes" % (lines[0][3], int(lines[0][3]) * 4096 / size))
+    assert int(lines[0][3]) <= size // 4096 + 2
 else:
     print("writes are not counted: no strace")
-print("speed-up %.2f" % (one / four))
-print("ratio %.2f" % (one / plain))
+print("speed-up %.2f" % (first["1 worker"] / first["4 workers"]))
+if before: print("before %.2f" % (first["1 worker"] / first["before"]))
+print("ratio %.2f" % (first["1 worker"] / first["masks"]))
 PY
