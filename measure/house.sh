@@ -34,7 +34,6 @@ def renamed(statement): # a statement with its bound names numbered in the order
     return " ".join(bound.get(word, word) for word in words)
 def counts(root):
     functions = conditions = kinds = unreachable = lines = 0
-    worst = ("", 0.0)
     each = collections.Counter()
     of = collections.Counter()
     for crate, text in texts(root, "src", "rt"):
@@ -84,5 +83,5 @@ for place, (name, number) in enumerate(here):
         print("%s: %s" % (name, told(number)))
     else:
         before = there[place][1]
-        print("%s: %s, %s%s" % (there[place][0] if there[place][0] == name else name, told(before), told(number), ", %.2f" % (number / before) if before else ""))
+        print("%s: %s, %s%s" % (name, told(before), told(number), ", %.2f" % (number / before) if before else ""))
 PY
