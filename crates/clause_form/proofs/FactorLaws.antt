@@ -3,6 +3,7 @@ use Rattle.std.proofs.Common.{◌≡◌, refl, sym, ◌∙◌, ap, ap₂, List, 
 use Rattle.std.specs.Prelude.{slice_index_or}
 use Rattle.std.proofs.lemmas.List.{append-nil, map-append, reverse-append, reverse-reverse}
 use Rattle.cnf.specs.Sat.{Clause}
+use Rattle.cnf.specs.Signed.{Signed}
 use Rattle.clause_form.specs.Factors.{each_joined, prefixed}
 
 pub prefixed-none : (cs : List Clause) → prefixed [] cs ≡ cs
@@ -40,3 +41,11 @@ each-one a b p xs ys h e =
     ∙ sym (prefixed-twice (reverse a ++ c) (reverse b) ys)
     ∙ sym (append-nil (prefixed (reverse a ++ c) (prefixed (reverse b) ys)))
     ∙ ap (λ us. each_joined (prefixed (reverse a) us) (prefixed (reverse b) ys)) (sym (only xs h))
+
+-- one literal more before all clauses
+pub after-literal : (l : Signed) (p q : Clause) (cs ds : List Clause) → q ≡ p ++ l ∷ [] → prefixed (reverse p) cs ≡ ds → prefixed (reverse q) cs ≡ each_joined ((l ∷ []) ∷ []) ds
+after-literal l p q cs ds e h =
+    ap (λ r. prefixed r cs) (ap reverse e ∙ reverse-append p (l ∷ []))
+    ∙ sym (prefixed-twice (l ∷ []) (reverse p) cs)
+    ∙ ap (prefixed (l ∷ [])) h
+    ∙ sym (append-nil (prefixed (l ∷ []) ds))

@@ -10,3 +10,5 @@ pub mod FactorLaws
 pub mod RowLaws
 pub mod FormLaws
 pub mod BoundLaws
+pub mod SideLaws
+pub mod SoundLaws

@@ -158,7 +158,7 @@ fn atom_bound(space: &Space, atom: &Atom) -> Bound
 }
 
 /// How many values a sort has.
-fn values(space: &Space, sort: Sort) -> u32
+pub(crate) fn values(space: &Space, sort: Sort) -> u32
     ensures count { result ≡ sort_count space.now sort }
     ensures some { 1 ≤ result }
 {

@@ -164,6 +164,15 @@ impl Factored {
         Ok(clauses)
     }
 
+    /// These clauses with one literal before each. None is copied.
+    pub(crate) fn after_one(self, lit: Lit) -> Result<Factored, NoMemory>
+        ensures { IfOk result (λ f. f ≡ each_joined ((lit ∷ []) ∷ []) self) }
+    {
+        let Factored { mut prefix, rests } = self;
+        prefix.push(lit)?;
+        Ok(Factored { prefix, rests })
+    }
+
     /// Each clause of `first` joined with each of these. Of these none is copied where `first` is one clause.
     pub(crate) fn after(self, alloc: Global, first: &Factored) -> Result<Factored, NoMemory>
         ensures { IfOk result (λ f. f ≡ each_joined first.now self) }

@@ -1,6 +1,6 @@
-//! Clauses of which one short one takes no memory.
+//! Clauses of which a few short ones take no memory.
 
-ghost use Rattle.std.specs.Prelude.{◌≡◌, [], ◌∷◌, ◌++◌, OnOk, IfOk};
+ghost use Rattle.std.specs.Prelude.{◌≡◌, [], ◌∷◌, ◌++◌, reverse, OnOk, IfOk};
 ghost use Rattle.clause_form.specs.Factors.{each_joined};
 ghost use Rattle.clause_form.specs.Listed.{clauses_kept};
 
@@ -10,10 +10,11 @@ use lists::NoMemory;
 use std::alloc::Global;
 use std::marker::Model;
 
-/// One clause of one or two literals in place, or any clauses in memory.
+/// One clause of one or two literals in place, or two of two literals; or any clauses in memory.
 enum Kept {
     One(Lit),
     Two(Lit, Lit),
+    Pair(Lit, Lit, Lit, Lit),
     Many(Factored),
 }
 
@@ -23,13 +24,14 @@ impl Drop for Kept {
         match self {
             Kept::One(_) => {}
             Kept::Two(_, _) => {}
+            Kept::Pair(_, _, _, _) => {}
             Kept::Many(_) => {}
         }
     }
 }
 
-/// Clauses. One clause of one or two literals takes no memory: most parts of most sentences are a literal, or
-/// two joined.
+/// Clauses. One clause of one or two literals takes no memory, nor do two of two: most parts of most sentences
+/// are a literal, or two joined, or an equivalence of two.
 #[derive(Drop)]
 pub(crate) struct Listed {
     kept: Kept,
@@ -57,7 +59,39 @@ impl Kept {
                 clauses.push(&[first, second])?;
                 Ok(Factored::of(alloc, clauses))
             }
+            Kept::Pair(a, b, c, d) => {
+                let mut clauses = Store::new(alloc);
+                clauses.push(&[a, b])?;
+                clauses.push(&[c, d])?;
+                Ok(Factored::of(alloc, clauses))
+            }
             Kept::Many(clauses) => Ok(clauses),
+        }
+    }
+
+    /// Appends the clauses to a list, from the last to the first.
+    fn push_backwards(self, alloc: Global, out: &mut Store) -> Result<(), NoMemory>
+        ensures { OnOk result (out.new ≡ out.old ++ reverse (clauses_kept self)) }
+    {
+        match self {
+            Kept::One(lit) => {
+                out.push(&[lit])?;
+                Ok(())
+            }
+            Kept::Two(first, second) => {
+                out.push(&[first, second])?;
+                Ok(())
+            }
+            Kept::Pair(a, b, c, d) => {
+                out.push(&[c, d])?;
+                out.push(&[a, b])?;
+                Ok(())
+            }
+            Kept::Many(clauses) => {
+                let written = clauses.written(alloc)?;
+                push_backwards(&written, out)?;
+                Ok(())
+            }
         }
     }
 }
@@ -69,6 +103,7 @@ fn copied(alloc: Global, kept: &Kept) -> Result<Kept, NoMemory>
     match kept {
         Kept::One(lit) => Ok(Kept::One(*lit)),
         Kept::Two(first, second) => Ok(Kept::Two(*first, *second)),
+        Kept::Pair(a, b, c, d) => Ok(Kept::Pair(*a, *b, *c, *d)),
         Kept::Many(clauses) => {
             let copy = clauses.copy(alloc)?;
             Ok(Kept::Many(copy))
@@ -98,9 +133,62 @@ fn each(alloc: Global, first: &Kept, rest: Kept) -> Result<Kept, NoMemory>
 {
     match (first, &rest) {
         (Kept::One(l), Kept::One(k)) => Ok(Kept::Two(*l, *k)),
+        (Kept::One(l), _) => {
+            let clauses = rest.factored(alloc)?;
+            let clauses = clauses.after_one(*l)?;
+            Ok(Kept::Many(clauses))
+        }
         _ => {
             let clauses = joined(alloc, first, rest)?;
             Ok(Kept::Many(clauses))
+        }
+    }
+}
+
+/// Appends clauses to a list.
+fn push_kept(alloc: Global, kept: &Kept, out: &mut Store) -> Result<(), NoMemory>
+    ensures { OnOk result (out.new ≡ out.old ++ clauses_kept kept.now) }
+{
+    match kept {
+        Kept::One(lit) => {
+            out.push(&[*lit])?;
+            Ok(())
+        }
+        Kept::Two(first, second) => {
+            out.push(&[*first, *second])?;
+            Ok(())
+        }
+        Kept::Pair(a, b, c, d) => {
+            out.push(&[*a, *b])?;
+            out.push(&[*c, *d])?;
+            Ok(())
+        }
+        Kept::Many(clauses) => clauses.push_to(alloc, out),
+    }
+}
+
+/// Appends clauses from the last to the first.
+fn push_backwards(rows: &Store, out: &mut Store) -> Result<(), NoMemory>
+    ensures { OnOk result (out.new ≡ out.old ++ reverse rows.now) }
+{
+    for k in (0..rows.len()).rev() {
+        out.push(rows.get(k))?;
+    }
+    Ok(())
+}
+
+/// The clauses and then those of others, in memory.
+fn followed(alloc: Global, first: Kept, rest: &Kept) -> Result<Kept, NoMemory>
+    ensures { IfOk result
+        (λ k. clauses_kept k ≡ clauses_kept first ++ clauses_kept rest.now) }
+{
+    match (&first, rest) {
+        (Kept::Two(a, b), Kept::Two(c, d)) => Ok(Kept::Pair(*a, *b, *c, *d)),
+        _ => {
+            let clauses = first.factored(alloc)?;
+            let mut written = clauses.written(alloc)?;
+            push_kept(alloc, rest, &mut written)?;
+            Ok(Kept::Many(Factored::of(alloc, written)))
         }
     }
 }
@@ -115,30 +203,21 @@ impl Listed {
         }
     }
 
-    /// These clauses.
-    pub(crate) fn of(alloc: Global, clauses: Store) -> Listed
-        ensures { result ≡ clauses }
+    /// Two clauses of two literals.
+    pub(crate) fn pair(a: Lit, b: Lit, c: Lit, d: Lit) -> Listed
+        ensures { result ≡ (a ∷ b ∷ []) ∷ (c ∷ d ∷ []) ∷ [] }
     {
         Listed {
-            kept: Kept::Many(Factored::of(alloc, clauses)),
+            kept: Kept::Pair(a, b, c, d),
         }
     }
 
-    /// Appends the clauses to a list.
-    pub(crate) fn push_to(&self, alloc: Global, out: &mut Store) -> Result<(), NoMemory>
-        ensures { OnOk result (out.new ≡ out.old ++ self.now) }
+    /// Appends the clauses to a list, from the last to the first.
+    pub(crate) fn push_backwards(self, alloc: Global, out: &mut Store) -> Result<(), NoMemory>
+        ensures { OnOk result (out.new ≡ out.old ++ reverse self) }
     {
-        match &self.kept {
-            Kept::One(lit) => {
-                out.push(&[*lit])?;
-                Ok(())
-            }
-            Kept::Two(first, second) => {
-                out.push(&[*first, *second])?;
-                Ok(())
-            }
-            Kept::Many(clauses) => clauses.push_to(alloc, out),
-        }
+        let Listed { kept } = self;
+        kept.push_backwards(alloc, out)
     }
 
     /// The same clauses.
@@ -149,13 +228,13 @@ impl Listed {
         Ok(Listed { kept })
     }
 
-    /// The clauses, written out.
-    pub(crate) fn written(self, alloc: Global) -> Result<Store, NoMemory>
-        ensures { IfOk result (λ clauses. clauses ≡ self) }
+    /// These clauses and then others.
+    pub(crate) fn before(self, alloc: Global, rest: &Listed) -> Result<Listed, NoMemory>
+        ensures { IfOk result (λ l. l ≡ self ++ rest.now) }
     {
         let Listed { kept } = self;
-        let clauses = kept.factored(alloc)?;
-        clauses.written(alloc)
+        let kept = followed(alloc, kept, &rest.kept)?;
+        Ok(Listed { kept })
     }
 
     /// Each clause of `first` joined with each of these.
