@@ -31,46 +31,46 @@ known_ranks : (x y p : ℕ) (b : Bool) → known_truth (if b then Known false el
 known_ranks x y p true = refl
 known_ranks x y p false = refl
 
-module _ (size : Extent) (shape : Shape) (levels : List ℕ) (e e' : List ℕ) (same : (l : ℕ) → is_kept shape levels l ≡ true → slice_index e l ≡ slice_index e' l) where
-  same_value : (t : TermTree) → covers_term shape levels t ≡ true → value size e t ≡ value size e' t
+module _ (size : Extent) (shape : Shape) (skip : ℕ) (levels : List ℕ) (e e' : List ℕ) (same : (l : ℕ) → is_kept shape skip levels l ≡ true → slice_index e l ≡ slice_index e' l) where
+  same_value : (t : TermTree) → covers_term shape skip levels t ≡ true → value size e t ≡ value size e' t
   same_value (Var level) h = same level h
   same_value (Const c) h = refl
   same_value (With p i b) h =
-      let q = three_parts (covers_term shape levels p) (covers_term shape levels i) (covers_term shape levels b) h in
+      let q = three_parts (covers_term shape skip levels p) (covers_term shape skip levels i) (covers_term shape skip levels b) h in
       ap₃ (with_ballot size) (same_value p q.0) (same_value i q.1) (same_value b q.2)
   same_value (SwapVoters p i b) h =
-      let q = three_parts (covers_term shape levels p) (covers_term shape levels i) (covers_term shape levels b) h in
+      let q = three_parts (covers_term shape skip levels p) (covers_term shape skip levels i) (covers_term shape skip levels b) h in
       ap₃ (with_voters_swapped size) (same_value p q.0) (same_value i q.1) (same_value b q.2)
   same_value (SwapAlts p i b) h =
-      let q = three_parts (covers_term shape levels p) (covers_term shape levels i) (covers_term shape levels b) h in
+      let q = three_parts (covers_term shape skip levels p) (covers_term shape skip levels i) (covers_term shape skip levels b) h in
       ap₃ (with_alts_swapped size) (same_value p q.0) (same_value i q.1) (same_value b q.2)
   same_value (Swap p i b) h =
-      let q = three_parts (covers_term shape levels p) (covers_term shape levels i) (covers_term shape levels b) h in
+      let q = three_parts (covers_term shape skip levels p) (covers_term shape skip levels i) (covers_term shape skip levels b) h in
       ap₃ exchanged (same_value p q.0) (same_value i q.1) (same_value b q.2)
 
-  same_three : {D : Type 0} (f : ℕ → ℕ → ℕ → D) (p i b : TermTree) → (covers_term shape levels p && covers_term shape levels i && covers_term shape levels b) ≡ true → f (value size e p) (value size e i) (value size e b) ≡ f (value size e' p) (value size e' i) (value size e' b)
+  same_three : {D : Type 0} (f : ℕ → ℕ → ℕ → D) (p i b : TermTree) → (covers_term shape skip levels p && covers_term shape skip levels i && covers_term shape skip levels b) ≡ true → f (value size e p) (value size e i) (value size e b) ≡ f (value size e' p) (value size e' i) (value size e' b)
   same_three f p i b h =
-      let q = three_parts (covers_term shape levels p) (covers_term shape levels i) (covers_term shape levels b) h in
+      let q = three_parts (covers_term shape skip levels p) (covers_term shape skip levels i) (covers_term shape skip levels b) h in
       ap₃ f (same_value p q.0) (same_value i q.1) (same_value b q.2)
 
-  same_atom : (a : AtomTree) → covers_atom shape levels a ≡ true → known_truth (write_atom size e a) ≡ known_truth (write_atom size e' a)
+  same_atom : (a : AtomTree) → covers_atom shape skip levels a ≡ true → known_truth (write_atom size e a) ≡ known_truth (write_atom size e' a)
   same_atom (Equal s t) h =
-      let p = and_parts (covers_term shape levels s) (covers_term shape levels t) h in
+      let p = and_parts (covers_term shape skip levels s) (covers_term shape skip levels t) h in
       ap₂ (λ (x y : ℕ). known_truth (Known (x == y))) (same_value s p.0) (same_value t p.1)
   same_atom (Prefers i x y p) h =
-      let one = and_parts (covers_term shape levels i && covers_term shape levels x && covers_term shape levels y) (covers_term shape levels p) h in
+      let one = and_parts (covers_term shape skip levels i && covers_term shape skip levels x && covers_term shape skip levels y) (covers_term shape skip levels p) h in
       ap₂ (λ (f : ℕ → Bool) (v : ℕ). known_truth (Known (f v))) (same_three (λ a b c. prefers size a b c) i x y one.0) (same_value p one.1)
   same_atom (Better b x y) h = same_three (λ u v w. known_truth (Known (better size u v w))) b x y h
   same_atom (Casts i b p) h = same_three (λ u v w. known_truth (Known (casts size u v w))) i b p h
   same_atom (Majority x y p) h = same_three (λ u v w. known_truth (Known (majority size u v w))) x y p h
   same_atom (WinsAt x p) h = refl
   same_atom (Ranks x y p) h =
-      let q = and_parts (covers_term shape levels x) (covers_term shape levels y) h in
+      let q = and_parts (covers_term shape skip levels x) (covers_term shape skip levels y) h in
       known_ranks (value size e x) (value size e y) (value size e p) (value size e x == value size e y)
       ∙ ap₂ (λ (u v : ℕ). known_equal (u == v)) (same_value x q.0) (same_value y q.1)
       ∙ sym (known_ranks (value size e' x) (value size e' y) (value size e' p) (value size e' x == value size e' y))
 
-  pub same_known : (f : Tree) → covers_leaf shape levels f ≡ true → known_truth (write_out size f e) ≡ known_truth (write_out size f e')
+  pub same_known : (f : Tree) → covers_leaf shape skip levels f ≡ true → known_truth (write_out size f e) ≡ known_truth (write_out size f e')
   same_known (Leaf a) h = same_atom a h
   same_known (Not f) h = absurd (true≢false (sym h))
   same_known (Both f g) h = absurd (true≢false (sym h))

@@ -3,6 +3,8 @@ pub mod InstanceLemmas
 pub mod CoverLaws
 pub mod PlaceLaws
 pub mod ListLaws
+pub mod PeriodLaws
+pub mod StrideLaws
 pub mod TableLaws
 pub mod UnderLaws
 pub mod LaneLaws

@@ -41,12 +41,12 @@ module _ (size : Extent) where
   under_at f (c ∷ cs) (v ∷ vs) env b h = subst (λ e. IsEvaluable size f e) (append_assoc env (v ∷ []) vs) (under_at f cs vs (env ++ v ∷ []) b.1 (h v b.0))
 
   -- an atom
-  pub leaf_at : (shape : Shape) (levels : List ℕ) (f : Tree) → covers_leaf shape levels f ≡ true → (env : List ℕ) → IsEvaluable size f env → length env ≤ 12 → IsFormulaAt size f env
-  leaf_at shape levels (Leaf a) c env h l = record { sorts = h.sorts; in_range = h.in_range; sorted = h.sorted; room = omega (arith, l) }
-  leaf_at shape levels (Not f) c env h l = absurd (true≢false (sym c))
-  leaf_at shape levels (Both f g) c env h l = absurd (true≢false (sym c))
-  leaf_at shape levels (Either f g) c env h l = absurd (true≢false (sym c))
-  leaf_at shape levels (Implies f g) c env h l = absurd (true≢false (sym c))
-  leaf_at shape levels (Same f g) c env h l = absurd (true≢false (sym c))
-  leaf_at shape levels (All s f) c env h l = absurd (true≢false (sym c))
-  leaf_at shape levels (Exists s f) c env h l = absurd (true≢false (sym c))
+  pub leaf_at : (shape : Shape) (skip : ℕ) (levels : List ℕ) (f : Tree) → covers_leaf shape skip levels f ≡ true → (env : List ℕ) → IsEvaluable size f env → length env ≤ 12 → IsFormulaAt size f env
+  leaf_at shape skip levels (Leaf a) c env h l = record { sorts = h.sorts; in_range = h.in_range; sorted = h.sorted; room = omega (arith, l) }
+  leaf_at shape skip levels (Not f) c env h l = absurd (true≢false (sym c))
+  leaf_at shape skip levels (Both f g) c env h l = absurd (true≢false (sym c))
+  leaf_at shape skip levels (Either f g) c env h l = absurd (true≢false (sym c))
+  leaf_at shape skip levels (Implies f g) c env h l = absurd (true≢false (sym c))
+  leaf_at shape skip levels (Same f g) c env h l = absurd (true≢false (sym c))
+  leaf_at shape skip levels (All s f) c env h l = absurd (true≢false (sym c))
+  leaf_at shape skip levels (Exists s f) c env h l = absurd (true≢false (sym c))

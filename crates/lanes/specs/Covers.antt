@@ -4,10 +4,18 @@ use Rattle.std.specs.List.{list_any}
 use Rattle.vocab.specs.Tree.{TermTree, AtomTree, Tree, Leaf, Var, Const, With, SwapVoters, SwapAlts, Swap, Equal, Prefers, Better, Casts, Majority, WinsAt, Ranks}
 use Rattle.lanes.specs.declared.shapes.Shape.{Shape}
 
-module _ (shape : Shape) (levels : List ℕ) where
-  -- a level is that of a lane, or among some
+-- a level is that of no lane
+abbrev pub is_no_lane : Shape → ℕ → Bool
+is_no_lane shape level = nat_lt level shape.outer || nat_le (length shape.bases) (level - shape.outer)
+
+-- a level is that of a lane, but for so many of the first
+abbrev pub is_lane : Shape → ℕ → ℕ → Bool
+is_lane shape skip level = nat_le shape.outer level && nat_le skip (level - shape.outer) && nat_lt (level - shape.outer) (length shape.bases)
+
+module _ (shape : Shape) (skip : ℕ) (levels : List ℕ) where
+  -- a level is that of such a lane, or among some and that of no lane
   abbrev pub is_kept : ℕ → Bool
-  is_kept level = (nat_le shape.outer level && nat_lt (level - shape.outer) (length shape.bases)) || list_any (nat_eq level) levels
+  is_kept level = is_lane shape skip level || (is_no_lane shape level && list_any (nat_eq level) levels)
 
   -- each variable of a term is kept
   abbrev pub covers_term : TermTree → Bool

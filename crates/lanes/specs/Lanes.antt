@@ -39,6 +39,11 @@ place_in zero bases n = n
 place_in (suc outer) [] n = n
 place_in (suc outer) (b ∷ bases) n = place_in outer bases (n % product bases)
 
+-- how many instances each value of some universals is worth
+abbrev pub strides : List ℕ → List ℕ
+strides [] = []
+strides (b ∷ bases) = product bases ∷ strides bases
+
 -- each bit of a word was set in an earlier one, or is one of some bits of another word, moved
 abbrev pub AreMoved : (word done lanes other shift all : ℕ) → Type 0
 AreMoved word done lanes other shift all = (j : ℕ) → bit_at all j ≡ 1 →
@@ -61,9 +66,10 @@ module _ (size : Extent) where
   AreEntries shape f [] = Unit {0}
   AreEntries shape f (e ∷ es) = IsEntry shape f e × AreEntries shape f es
 
-  -- a table keeps what its atom reads, and its entries tell of it
+  -- a table keeps what its atom reads, of the lanes those that repeat with its period, and its entries tell of it
   pub record IsTable (shape : Shape) (f : Tree) (t : Table) : Type 0 where
-    pub covered : IsTrue (covers_leaf shape t.levels.items f)
+    pub covered : IsTrue (covers_leaf shape t.skip t.levels.items f)
+    pub period : t.period ≡ product (drop t.skip shape.bases)
     pub entries : AreEntries shape f t.entries.items
 
   -- the tables of the atoms of a formula
@@ -101,6 +107,7 @@ module _ (size : Extent) where
   pub record IsPlan (sentence : Tree) (plan : Plan) : Type 0 where
     pub shape : IsShape sentence plan.shape
     pub group : plan.group ≤ product plan.shape.bases
+    pub strides : plan.strides ≡ strides (bases_of size sentence)
     pub part : IsPart plan.shape plan.part.value (body_of sentence)
 
   -- a sentence, its lanes, and how many lanes and instances there are

@@ -10,6 +10,7 @@ use crate::covers::{covers_leaf, rests_on};
 use crate::instances::values_of;
 use crate::marks::{marked, nothing};
 use crate::shapes::{Shape, bases_of, place_in};
+use crate::sizes::{chunks_of, pays, product_after, skipped, values_at};
 use crate::tables::{Entry, Table};
 use clause_form::what_is_known;
 use lists::NoMemory;
@@ -98,7 +99,7 @@ fn entry_of<K: OutcomeKind>(
     let Some(values) = joined(&values_of(setting.kind, setting.named, number), inner) else {
         return None;
     };
-    let lanes = (setting.group - first).min(64);
+    let lanes = (setting.group - first).min(setting.shape.chunk());
     let mut marks = nothing();
     for k in 0..lanes {
         if k >= setting.count - number {
@@ -141,18 +142,6 @@ fn levels_of(
     Ok(levels)
 }
 
-/// How many values there are at a level.
-fn values_at(bases: &Env, counts: &Env, level: u8) -> u64 {
-    if level < bases.len() {
-        return u64::from(bases.get(level));
-    }
-    let inner = level - bases.len();
-    if inner < counts.len() {
-        return u64::from(counts.get(inner));
-    }
-    1
-}
-
 /// How many instances one value at a level is worth.
 fn weight_of(bases: &Env, level: u8) -> u64 {
     let mut total: u64 = 1;
@@ -165,7 +154,7 @@ fn weight_of(bases: &Env, level: u8) -> u64 {
 }
 
 /// The instance and the values of the quantifiers around an atom that the place of an entry says.
-fn chosen(bases: &Env, counts: &Env, levels: &[u8], place: u64) -> Option<(u64, Env)>
+fn chosen(bases: &Env, counts: &Env, levels: &[u8], chunk: u64, place: u64) -> Option<(u64, Env)>
     ensures { IfSome result (λ pair. AreBelow pair.1 counts.now) }
 {
     let mut rest = place;
@@ -182,7 +171,7 @@ fn chosen(bases: &Env, counts: &Env, levels: &[u8], place: u64) -> Option<(u64, 
             digits[level as usize] = (digit % 4_294_967_296) as u32;
         }
     }
-    number = number.saturating_add(rest.saturating_mul(64));
+    number = number.saturating_add(rest.saturating_mul(chunk));
     match inner_values(counts, &digits, bases.len()) {
         Some(inner) => Some((number, inner)),
         None => None,
@@ -210,7 +199,8 @@ fn entries_of<K: OutcomeKind>(
     let bases = bases_of(setting.kind, setting.named);
     let mut entries = Vec::new(alloc);
     for place in 0..total {
-        let Some((number, inner)) = chosen(&bases, counts, levels, place) else {
+        let Some((number, inner)) = chosen(&bases, counts, levels, setting.shape.chunk(), place)
+        else {
             return Ok(entries);
         };
         if number >= setting.count {
@@ -222,6 +212,14 @@ fn entries_of<K: OutcomeKind>(
         entries.push(entry)?;
     }
     Ok(entries)
+}
+
+/// Whether nothing is ever known of an atom whatever the rule.
+fn is_free(atom: &Atom) -> bool {
+    match atom {
+        Atom::Wins(_, _) => true,
+        _ => false,
+    }
 }
 
 /// The table of an atom, if it is worth its making.
@@ -238,29 +236,38 @@ pub(crate) fn table_of<K: OutcomeKind>(
     ensures { IfOk result (λ found. IfSome found
         (IsTable (K.size setting.now.kind.now) setting.now.shape (tree_of leaf.now))) }
 {
-    if let Formula::Leaf(Atom::Wins(_, _)) = leaf {
+    let Formula::Leaf(atom) = leaf else {
+        return Ok(None);
+    };
+    let shape = &setting.shape;
+    let skip = skipped(shape, atom);
+    let levels = levels_of(alloc, shape, counts, leaf)?;
+    let Some(period) = product_after(&shape.bases, skip) else {
+        return Ok(None);
+    };
+    if is_free(atom) || !covers_leaf(shape, skip, &levels, leaf) {
         return Ok(None);
     }
     let bases = bases_of(setting.kind, setting.named);
-    let levels = levels_of(alloc, &setting.shape, counts, leaf)?;
-    if !covers_leaf(&setting.shape, &levels, leaf) {
-        return Ok(None);
-    }
     let mut steps = Vec::new(alloc);
     let mut total: u64 = 1;
     for k in 0..levels.len() {
         steps.push(total)?;
         total = total.saturating_mul(values_at(&bases, counts, levels[k]));
     }
-    let chunk_step = total;
-    total = total.saturating_mul(setting.group.div_ceil(64));
-    if total > 400_000 || total.saturating_mul(setting.group.min(64)) > setting.work / 8 {
+    let chunks = chunks_of(shape, setting.group, period);
+    let chunk_step = if chunks > 1 { total } else { 0 };
+    total = total.saturating_mul(chunks);
+    if !pays(shape, setting.group, total, setting.work) {
         return Ok(None);
     }
     let entries = entries_of(alloc, setting, leaf, counts, &levels, total)?;
     Ok(Some(Table {
+        skip,
+        period,
         levels,
         steps,
+        chunk: shape.chunk(),
         chunk_step,
         entries,
     }))

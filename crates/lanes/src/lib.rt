@@ -7,9 +7,10 @@ mod instances;
 mod marks;
 mod plans;
 mod shapes;
+mod sizes;
 mod tables;
 mod telling;
 
-pub use instances::values_of;
+pub use instances::{values_at, values_of};
 pub use marks::is_told;
 pub use telling::{Plan, plan_of, told};

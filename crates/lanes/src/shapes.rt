@@ -6,16 +6,29 @@ ghost use Rattle.vocab.specs.Study.{is_sentence};
 ghost use Rattle.vocab.specs.Tree.{tree_of};
 ghost use Rattle.lanes.specs.Lanes.{IsShape, place_in};
 
+use crate::sizes::{product_of, tables_cost};
 use outcomes::OutcomeKind;
 use profiles::Space;
 use vocab::{Axiom, Env, Formula};
 use worlds::instance_count;
 
-/// How many leading universals are no lanes, and over how many values each of the others ranges.
+/// How many leading universals are no lanes, over how many values each of the others ranges, and how many lanes
+/// a chunk has, where it has from 1 to 64.
 #[derive(Clone, Copy)]
 pub struct Shape {
     pub(crate) outer: u8,
     pub(crate) bases: Env,
+    pub(crate) chunk: u64,
+}
+
+impl Shape {
+    /// How many lanes a chunk has.
+    pub(crate) fn chunk(&self) -> u64
+        ensures some { 1 ≤ result }
+        ensures few { result ≤ 64 }
+    {
+        self.chunk.max(1).min(64)
+    }
 }
 
 /// The values over which the leading universals of a formula range, after some others.
@@ -55,58 +68,65 @@ pub(crate) fn bases_of<K: OutcomeKind>(kind: &K, named: &Axiom) -> Env
     bases_after(kind.space(), named.sentence(), &Env::none())
 }
 
-/// The product of some values from one place up to another.
-fn product_of(all: &Env, from: u8, to: u8) -> u64 {
-    let mut total: u64 = 1;
-    for k in from..to {
-        if k < all.len() {
-            total = total.saturating_mul(u64::from(all.get(k)));
+/// How many lanes a chunk has best: whole rounds of the last universals, of as many as have at most 64 values.
+fn chunk_for(bases: &Env) -> u64 {
+    let mut round: u64 = 1;
+    for k in (0..bases.len()).rev() {
+        let more = round.saturating_mul(u64::from(bases.get(k)));
+        if more > 64 || more == 0 {
+            return 64 / round.max(1) * round;
         }
+        round = more;
     }
-    total
+    round
 }
 
-/// How many leading universals are best no lanes: the number with the fewest masks, those of tables among them.
-fn best_outer(all: &Env, atoms: u64) -> u8 {
-    let len = all.len();
-    let mut best = len;
-    let mut least = u64::MAX;
-    for outer in 0..len {
-        let group = product_of(all, outer, len);
-        if group <= 100_000 {
-            let blocks = product_of(all, 0, outer).saturating_mul(group.div_ceil(64));
-            let mut widest: u64 = 1;
-            for k in 0..outer {
-                if k < len {
-                    widest = widest.max(u64::from(all.get(k)));
-                }
-            }
-            let tables = if group > 64 {
-                group.saturating_mul(widest)
-            } else {
-                1
-            };
-            let cost = blocks.saturating_mul(atoms).saturating_add(tables);
-            if cost < least {
-                least = cost;
-                best = outer;
-            }
-        }
+/// The shape with so many leading universals that are no lanes.
+fn shape_with<K: OutcomeKind>(kind: &K, named: &Axiom, outer: u8) -> Shape
+    requires sentence { IsTrue (is_sentence (K.size kind.now) named.now) }
+    requires outer { outer ≤ length (bases_of (K.size kind.now) named.now.sentence) }
+    ensures { IsShape (K.size kind.now) named.now.sentence result }
+{
+    let _few = bases_of(kind, named);
+    let bases = bases_from(kind.space(), named.sentence(), outer);
+    Shape {
+        outer,
+        bases,
+        chunk: chunk_for(&bases),
     }
-    best
 }
 
-/// The shape for a sentence whose body has so many atoms.
+/// What it costs to tell what is known of all instances by a shape: the masks of the blocks, and the tables.
+fn cost_of<K: OutcomeKind>(kind: &K, named: &Axiom, all: &Env, shape: &Shape, atoms: u64) -> u64 {
+    let group = product_of(&shape.bases);
+    let count = product_of(all);
+    if group > 100_000 {
+        return u64::MAX;
+    }
+    let blocks = (count / group.max(1)).saturating_mul(group.div_ceil(shape.chunk()));
+    let work = count.saturating_mul(atoms);
+    let body = named.sentence().body();
+    let tables = tables_cost(kind.space(), shape, all, work, body, &Env::none());
+    blocks.saturating_mul(atoms).saturating_add(tables)
+}
+
+/// The shape for a sentence whose body has so many atoms: the one that costs least.
 pub(crate) fn shape_of<K: OutcomeKind>(kind: &K, named: &Axiom, atoms: u64) -> Shape
     requires { IsTrue (is_sentence (K.size kind.now) named.now) }
     ensures { IsShape (K.size kind.now) named.now.sentence result }
 {
     let all = bases_of(kind, named);
-    let outer = best_outer(&all, atoms).min(all.len());
-    Shape {
-        outer,
-        bases: bases_from(kind.space(), named.sentence(), outer),
+    let mut best = shape_with(kind, named, all.len());
+    let mut least = cost_of(kind, named, &all, &best, atoms);
+    for outer in 0..all.len() {
+        let shape = shape_with(kind, named, outer);
+        let cost = cost_of(kind, named, &all, &shape, atoms);
+        if cost < least {
+            least = cost;
+            best = shape;
+        }
     }
+    best
 }
 
 /// How many lanes there are for a formula of which so many leading universals are none.

@@ -1,6 +1,6 @@
 //! What is known of an atom at the lanes, by the values of the other variables that it reads.
 
-ghost use Rattle.std.specs.Prelude.{◌≡◌, ℕ, ◌<◌, ◌≤◌, ◌+◌, length, slice_index, slice_index_or, IsTrue};
+ghost use Rattle.std.specs.Prelude.{◌≡◌, ℕ, ◌<◌, ◌≤◌, ◌+◌, ◌-◌, ◌%◌, length, slice_index, slice_index_or, IsTrue};
 ghost use Rattle.vocab.specs.Limits.{product};
 ghost use Rattle.vocab.specs.Size.{Extent};
 ghost use Rattle.vocab.specs.Tree.{Tree};
@@ -21,11 +21,16 @@ pub(crate) struct Entry {
     pub(crate) marks: Marks,
 }
 
-/// The entries of an atom: by the values at some levels, each with its step, and then by the chunk.
+/// The entries of an atom: by the values at some levels, each with its step, and then by the chunk. The atom does
+/// not rest on so many of the first lanes' universals; the values of the others repeat with the period, so that
+/// one entry serves for each chunk where a chunk has whole periods.
 #[derive(Drop)]
 pub(crate) struct Table {
+    pub(crate) skip: u8,
+    pub(crate) period: u64,
     pub(crate) levels: Vec<u8>,
     pub(crate) steps: Vec<u64>,
+    pub(crate) chunk: u64,
     pub(crate) chunk_step: u64,
     pub(crate) entries: Vec<Entry>,
 }
@@ -45,7 +50,7 @@ fn are_same_at(levels: &[u8], a: &Env, b: &Env) -> bool
 
 /// The place where an entry of a table stands, if it is there.
 fn place_of(table: &Table, env: &Env, first: u64) -> u64 {
-    let mut place = (first / 64).saturating_mul(table.chunk_step);
+    let mut place = (first / table.chunk.max(1)).saturating_mul(table.chunk_step);
     for k in 0..table.levels.len() {
         let level = table.levels[k];
         if k < table.steps.len() && level < env.len() {
@@ -54,6 +59,13 @@ fn place_of(table: &Table, env: &Env, first: u64) -> u64 {
         }
     }
     place
+}
+
+/// Whether an entry that begins at a lane serves at another lane: whole periods lie between them.
+fn serves(period: u64, own: u64, first: u64) -> bool
+    ensures { IsTrue result → (own ≤ first) × (0 < period) × ((first - own) % period ≡ 0) }
+{
+    own <= first && period > 0 && (first - own) % period == 0
 }
 
 /// What a table tells of its atom at the lanes of a chunk.
@@ -68,7 +80,7 @@ pub(crate) fn table_marks(table: &Table, env: &Env, first: u64) -> Marks
         return nothing();
     }
     let entry = table.entries[place as usize];
-    if entry.first == first && are_same_at(&table.levels, &entry.values, env) {
+    if serves(table.period, entry.first, first) && are_same_at(&table.levels, &entry.values, env) {
         entry.marks
     } else {
         nothing()

@@ -6,7 +6,7 @@ ghost use Rattle.vocab.specs.Study.{is_sentence};
 ghost use Rattle.lanes.specs.Lanes.{AreMoved, IsPlan, IsToldFrom};
 
 use crate::building::Setting;
-use crate::instances::values_of;
+use crate::instances::{strides_of, values_of};
 use crate::marks::{is_told, with_bit};
 use crate::plans::{Part, is_whole, marks_of, part_of};
 use crate::shapes::{Shape, atoms_in, group_of, place_in, shape_of};
@@ -25,6 +25,7 @@ pub struct Plan {
     group: u64,
     part: Box<Part>,
     whole: bool,
+    pub(crate) strides: Env,
 }
 
 impl Plan {
@@ -62,6 +63,7 @@ pub fn plan_of<'a, K: OutcomeKind>(
     };
     let part = part_of(alloc, &setting, named.sentence().body(), &Env::none())?;
     let whole = is_whole(&part, named.sentence().body());
+    let strides = strides_of(kind, named);
     let Setting {
         kind: _,
         named: _,
@@ -75,6 +77,7 @@ pub fn plan_of<'a, K: OutcomeKind>(
         group,
         part,
         whole,
+        strides,
     })
 }
 
@@ -113,8 +116,9 @@ pub fn told<K: OutcomeKind>(kind: &K, named: &Axiom, plan: &Plan, number: u64) -
         if place >= plan.group {
             return word;
         }
-        let shift = place % 64;
-        let lanes = (64 - shift)
+        let chunk = plan.shape.chunk();
+        let shift = place % chunk;
+        let lanes = (chunk - shift)
             .min(plan.group - place)
             .min(64 - done)
             .min(count - at);

@@ -39,5 +39,6 @@ returns g c =
     record {
       shape = shaped;
       group = let e = ap product shaped.bases in omega (arith, group, e);
+      strides = c.strides_of-strides.ensures;
       part = rw body at c.in_ok-part.ensures;
     }

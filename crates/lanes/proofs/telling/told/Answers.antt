@@ -31,7 +31,7 @@ loop-done-preserved g c =
             let inside : at + m.0 < instance_count size sentence = let k = m.1 in let d = c.if-done-count.true in omega (arith, k, d, count, m0, m1, m2) in (
               subst (λ n. n < instance_count size sentence) (sym next) inside,
               ap (λ n. known_truth (instance_of size sentence n)) next
-                  ∙ told_here size sentence plan c.requires.plan at place (place % 64) m.0 c.values_of-env.result c.marks_of-marks.result (omega (arith, inside)) here (omega arith)
+                  ∙ told_here size sentence plan c.requires.plan at place (place % c.chunk-chunk.result) m.0 c.values_of-env.result c.marks_of-marks.result (omega (arith, inside)) here (omega arith)
                   (let k = m.1 in let p = c.if-place-plan.false in omega (arith, k, p, m0, m1, m2)) c.values_of-env.ensures.values marks m.3,
             ))
       ];
