@@ -8,10 +8,11 @@ use Rattle.cnf.specs.ClauseList.{ClauseList, IsFullFor, with_clause}
 use Rattle.cnf.specs.Sat.{Clause}
 use Rattle.meaning.specs.StudyClauses.{Sourced}
 use Rattle.clause_form.specs.Refusals.{is_over_limits}
-use Rattle.clause_form.specs.Sources.{clauses_in, origin_of_number, sourced}
+use Rattle.clause_form.specs.Sources.{clauses_in, sourced}
 use Rattle.clause_form.proofs.SourceLaws.{clauses-sourced, sourced-append}
-use Rattle.grounding.specs.Distinct.{code_of, is_seen, kept_with}
+use Rattle.grounding.specs.Distinct.{Codes, HasSeen, is_seen, kept_with, seen_with}
 use Rattle.grounding.specs.Kept.{IsKept}
+use Rattle.grounding.specs.Parts.{with_origin}
 
 -- ---- limits
 
@@ -56,18 +57,15 @@ over-grows before kept (s ∷ more) h = over-grows before (kept_with kept s) mor
     by true = h
     by false = subst (λ (cs : List Clause). is_over_limits cs ≡ true) (sym (clauses-push before kept s)) (over-append (clauses_in (before ++ kept)) (s.clause ∷ []) h)
 
-abbrev pub with_origin : Clause → ℕ → Sourced
-with_origin clause origin = record { clause = clause; origin = origin_of_number origin }
-
-module _ (seen : List (List ℕ)) (out : ClauseList) (before kept : List Sourced) (clause : Clause) (origin : ℕ) where
-  pub kept-step : IsKept seen out before kept → (seen_after : List (List ℕ)) (out_after : ClauseList)
+module _ (seen : Codes) (out : ClauseList) (before kept : List Sourced) (clause : Clause) (origin : ℕ) where
+  pub kept-step : IsKept seen out before kept → (seen_after : Codes) (out_after : ClauseList)
       → out_after ≡ (if is_seen (clauses_in kept) clause then out else with_clause out clause origin)
-      → seen_after ≡ map (λ c. map code_of c) (if is_seen (clauses_in kept) clause then clauses_in kept else clauses_in kept ++ clause ∷ [])
+      → HasSeen seen_after (seen_with (clauses_in kept) clause)
       → IsKept seen_after out_after before (kept_with kept (with_origin clause origin))
   kept-step is seen_after out_after = by (is_seen (clauses_in kept) clause)
     where
       by : (b : Bool) → out_after ≡ (if b then out else with_clause out clause origin)
-          → seen_after ≡ map (λ c. map code_of c) (if b then clauses_in kept else clauses_in kept ++ clause ∷ [])
+          → HasSeen seen_after (if b then clauses_in kept else clauses_in kept ++ clause ∷ [])
           → IsKept seen_after out_after before (if b then kept else kept ++ with_origin clause origin ∷ [])
       by true e f = record {
         codes = f;
@@ -78,7 +76,7 @@ module _ (seen : List (List ℕ)) (out : ClauseList) (before kept : List Sourced
           let origins = length-append out.origins (origin ∷ []) in
           let clauses = length-append out.clauses (clause ∷ []) in
           record {
-            codes = f ∙ ap (λ (cs : List Clause). map (λ c. map code_of c) cs) (sym (map-append (λ (k : Sourced). k.clause) kept (with_origin clause origin ∷ [])));
+            codes = subst (HasSeen seen_after) (sym (map-append (λ (k : Sourced). k.clause) kept (with_origin clause origin ∷ []))) f;
             pairs = ap (λ (o : ClauseList). length o.origins) e ∙ (let both : length (out.origins ++ origin ∷ []) ≡ length (out.clauses ++ clause ∷ []) = omega (arith, origins, clauses, is.pairs) in both) ∙ sym (ap (λ (o : ClauseList). length o.clauses) e);
             sources =
                 ap (λ (o : ClauseList). sourced o.clauses o.origins) e
@@ -103,20 +101,13 @@ module _ (seen : List (List ℕ)) (out : ClauseList) (before kept : List Sourced
       by (inr h) = inr (omega (arith, h, sum_by-append length out.clauses (clause ∷ [])))
 
 -- what is kept, written another way
-pub kept-as : {seen : List (List ℕ)} {out : ClauseList} {before ss ts : List Sourced} → ss ≡ ts → IsKept seen out before ss → IsKept seen out before ts
+pub kept-as : {seen : Codes} {out : ClauseList} {before ss ts : List Sourced} → ss ≡ ts → IsKept seen out before ss → IsKept seen out before ts
 kept-as {seen} {out} {before} e is = subst (IsKept seen out before) e is
 
 pub over-as : (before : List Sourced) {ss ts : List Sourced} → ss ≡ ts → is_over_limits (clauses_in (before ++ ss)) ≡ true → is_over_limits (clauses_in (before ++ ts)) ≡ true
 over-as before e over = subst (λ (ss : List Sourced). is_over_limits (clauses_in (before ++ ss)) ≡ true) e over
 
--- ---- the clauses of a part
-
-pub source-at : (clauses : List Clause) (numbers : List ℕ) (k : ℕ) (d : Sourced) → length numbers ≡ length clauses → k < length clauses
-    → get_or (sourced clauses numbers) k d ≡ with_origin (slice_index_or clauses k []) (slice_index numbers k)
-source-at [] numbers k d e h = absurd (omega arith)
-source-at (c ∷ clauses) [] k d e h = absurd (omega arith)
-source-at (c ∷ clauses) (n ∷ numbers) zero d e h = refl
-source-at (c ∷ clauses) (n ∷ numbers) (suc k) d e h = source-at clauses numbers k d (omega (arith, e)) (omega (arith, h))
+-- ---- a part
 
 -- what is over a limit after some clauses of a part is so after all
 pub over-part : (before kept more : List Sourced) (k : ℕ) → is_over_limits (clauses_in (before ++ fold kept_with kept (take k more))) ≡ true

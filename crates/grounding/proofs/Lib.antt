@@ -5,6 +5,9 @@ pub mod SortLaws
 pub mod PairLaws
 pub mod PieceLaws
 pub mod KeptLaws
+pub mod PartLaws
+pub mod SeenLaws
+pub mod TwoLaws
 pub mod SourceLemmas
 pub mod WideLemmas
 pub mod ChosenLemmas

@@ -16,11 +16,11 @@ use Rattle.meaning.specs.declared.clauses.Origin.TheVariants.{Frame, Instance}
 use Rattle.meaning.specs.StudyClauses.{Sourced, from_axiom, from_instance}
 use Rattle.clause_form.specs.Refusals.{is_over_limits}
 use Rattle.clause_form.specs.Sources.{clauses_in, origin_of_number, sourced}
-use Rattle.grounding.specs.declared.sorting.Part.{Part}
 use Rattle.grounding.specs.Distinct.{kept_with}
-use Rattle.grounding.specs.Pieces.{IsPart, end_of, origins_at, rows_at, rows_from, sources_at, sources_of, start_of}
+use Rattle.grounding.specs.Parts.{with_origin}
+use Rattle.grounding.specs.Pieces.{IsPart, end_of, rows_at, rows_from, sources_at, sources_of, start_of}
 use Rattle.grounding.proofs.FirstsLaws.{kept_are_firsts}
-use Rattle.grounding.proofs.KeptLaws.{over-as, over-grows, with_origin}
+use Rattle.grounding.proofs.KeptLaws.{over-as, over-grows}
 use Rattle.grounding.proofs.PieceLaws.{rows_from-add}
 
 -- ---- lists of clauses, one after another
@@ -35,6 +35,9 @@ sourced-both (c ∷ cs) ds (m ∷ ms) ns e = ap (λ (ss : List Sourced). with_or
 pub sourced-same : (rows : List Clause) (n : ℕ) (o : Origin) → origin_of_number n ≡ o → sourced rows (map (λ _. n) rows) ≡ map (λ (c : Clause). record { clause = c; origin = o }) rows
 sourced-same [] n o e = refl
 sourced-same (c ∷ rows) n o e = ap₂ (λ (p : Origin) (ss : List Sourced). record { clause = c; origin = p } ∷ ss) e (sourced-same rows n o e)
+
+origin-same : (rows : List Clause) (n : ℕ) (o : Origin) → origin_of_number n ≡ o → map (λ (c : Clause). with_origin c n) rows ≡ map (λ (c : Clause). record { clause = c; origin = o }) rows
+origin-same rows n o e = ap (λ (p : Origin). map (λ (c : Clause). record { clause = c; origin = p }) rows) e
 
 rows-agree : {A : Type 0} (f g : ℕ → List A) (i n : ℕ) → ((k : ℕ) → k < i + n → f k ≡ g k) → rows_from f i n ≡ rows_from g i n
 rows-agree f g i zero h = refl
@@ -54,26 +57,6 @@ instance-here n place k e h =
     ∙ ap₂ Instance first second
 
 module _ (size : Extent) (sentence : Tree) (base : ℕ) where
-  pairs-from : (i n : ℕ) → length (rows_from (origins_at size sentence base) i n) ≡ length (rows_from (rows_at size sentence) i n)
-  pairs-from i zero = refl
-  pairs-from i (suc n) =
-      length-append (origins_at size sentence base i) (rows_from (origins_at size sentence base) (suc i) n)
-      ∙ ap₂ (λ a b. a + b) (length-map (rows_at size sentence i) (λ _. base + i)) (pairs-from (suc i) n)
-      ∙ sym (length-append (rows_at size sentence i) (rows_from (rows_at size sentence) (suc i) n))
-
-  rows-sourced : (i n : ℕ) → sourced (rows_from (rows_at size sentence) i n) (rows_from (origins_at size sentence base) i n) ≡ rows_from (sources_at size sentence base) i n
-  rows-sourced i zero = refl
-  rows-sourced i (suc n) =
-      sourced-both (rows_at size sentence i) (rows_from (rows_at size sentence) (suc i) n) (origins_at size sentence base i) (rows_from (origins_at size sentence base) (suc i) n) (length-map (rows_at size sentence i) (λ _. base + i))
-      ∙ ap (λ (ss : List Sourced). sources_at size sentence base i ++ ss) (rows-sourced (suc i) n)
-
-  module _ (from to : ℕ) (part : Part) where
-    pub part-pairs : IsPart size sentence base from to part → length part.origins.items ≡ length part.clauses
-    part-pairs is = ap length is.origins ∙ pairs-from from (to - from) ∙ sym (ap length is.clauses)
-
-    part-sources : IsPart size sentence base from to part → sourced part.clauses part.origins.items ≡ sources_of size sentence base from to
-    part-sources is = ap₂ sourced is.clauses is.origins ∙ rows-sourced from (to - from)
-
   -- the clauses up to a number, and those from there on
   sources-add : (from middle to : ℕ) → from ≤ middle → middle ≤ to →
       sources_of size sentence base from to ≡ sources_of size sentence base from middle ++ sources_of size sentence base middle to
@@ -105,12 +88,12 @@ module _ (size : Extent) (sentence : Tree) (base : ℕ) where
   ]
 
   -- what is kept with the part of one piece more
-  pub next-part : (from to : ℕ) → from ≤ to → (piece : ℕ) (part : Part) (kept : List Sourced) → IsPart size sentence base (start_of from piece) (end_of from to piece) part
-      → fold kept_with (fold kept_with kept (sources_of size sentence base from (min (start_of from piece) to))) (sourced part.clauses part.origins.items)
+  pub next-part : (from to : ℕ) → from ≤ to → (piece : ℕ) (part : List Sourced) (kept : List Sourced) → IsPart size sentence base (start_of from piece) (end_of from to piece) part
+      → fold kept_with (fold kept_with kept (sources_of size sentence base from (min (start_of from piece) to))) part
       ≡ fold kept_with kept (sources_of size sentence base from (min (start_of from (piece + 1)) to))
   next-part from to rising piece part kept is =
       let before = sources_of size sentence base from (min (start_of from piece) to) in
-      ap (fold kept_with (fold kept_with kept before)) (part-sources (start_of from piece) (end_of from to piece) part is)
+      is (fold kept_with kept before)
       ∙ sym (fold-append kept_with kept before (sources_of size sentence base (start_of from piece) (end_of from to piece)))
       ∙ ap (fold kept_with kept) (next-piece from to piece rising)
 
@@ -133,7 +116,7 @@ module _ (size : Extent) (sentence : Tree) (base : ℕ) where
       (over-grows before (fold kept_with kept first) rest over)
 
   instance-sources : (place k : ℕ) → base ≡ (place + 1) * 4294967296 → k < 4294967296 → sources_at size sentence base k ≡ from_instance size place sentence k
-  instance-sources place k e h = sourced-same (rows_at size sentence k) (base + k) (Instance place k) (instance-here (base + k) place k (omega (arith, e)) h)
+  instance-sources place k e h = origin-same (rows_at size sentence k) (base + k) (Instance place k) (instance-here (base + k) place k (omega (arith, e)) h)
 
 -- of the clauses of all instances of an axiom the first of equal ones
 pub axiom-sources : (size : Extent) (a : Titled) (base place count : ℕ) → base ≡ (place + 1) * 4294967296 → count ≡ instance_count size a.sentence → count ≤ 40000000 →

@@ -11,17 +11,18 @@ use Rattle.meaning.specs.StudyClauses.{clauses_of, instance_of}
 use Rattle.clause_form.proofs.KnownLaws.{plus_true}
 use Rattle.clause_form.proofs.WeightLaws.{measure_true}
 use Rattle.lanes.specs.Lanes.{IsToldFrom}
-use Rattle.grounding.specs.Pieces.{measure_at, origins_at, rows_at}
+use Rattle.grounding.specs.Parts.{with_origin}
+use Rattle.grounding.specs.Pieces.{measure_at, rows_at, sources_at}
 
 module _ (size : Extent) (sentence : Tree) (from number word : ℕ) (told : IsToldFrom size sentence from word) (rising : from ≤ number) (bit : bit_at word (number - from) ≡ 1) where
   known : known_truth (instance_of size sentence number) ≡ True
   known = subst (λ n. known_truth (instance_of size sentence n) ≡ True) (let e : from + (number - from) ≡ number = omega (arith, rising) in e) (told (number - from) bit).1
 
-  pub told_rows : rows_at size sentence number ≡ []
+  told_rows : rows_at size sentence number ≡ []
   told_rows = ap (clauses_of size) (plus_true (instance_of size sentence number) known)
 
-  pub told_origins : (base : ℕ) → origins_at size sentence base number ≡ []
-  told_origins base = ap (λ (rows : List Clause). map (λ _. base + number) rows) told_rows
+  pub told_sources : (base : ℕ) → sources_at size sentence base number ≡ []
+  told_sources base = ap (λ (rows : List Clause). map (λ (c : Clause). with_origin c (base + number)) rows) told_rows
 
   pub told_measure : (c : Counts) → c ≡ record { clauses = 0; literals = 0 } → c ≡ measure_at size sentence number
   told_measure c e = e ∙ measure_true (instance_of size sentence number) known

@@ -1,4 +1,5 @@
 pub mod Distinct
 pub mod Rising
+pub mod Parts
 pub mod Pieces
 pub mod Kept

@@ -12,11 +12,10 @@ use Rattle.meaning.specs.declared.clauses.Counts.{Counts}
 use Rattle.meaning.specs.Clauses.{plus}
 use Rattle.meaning.specs.Measure.{measure_of}
 use Rattle.meaning.specs.StudyClauses.{Sourced, clauses_of, instance_of}
-use Rattle.clause_form.specs.Sources.{sourced}
 use Rattle.clause_form.specs.Wide.{is_wide}
 use Rattle.grounding.specs.declared.parts.Measured.{Measured}
 use Rattle.grounding.specs.declared.parts.WideInstance.{WideInstance}
-use Rattle.grounding.specs.declared.sorting.Part.{Part}
+use Rattle.grounding.specs.Parts.{KeepSame, with_origin}
 
 -- where a piece of the instances from `from` on begins
 abbrev pub start_of : ℕ → ℕ → ℕ
@@ -39,26 +38,21 @@ module _ (size : Extent) (sentence : Tree) where
   abbrev pub rows_at : ℕ → List Clause
   rows_at k = clauses_of size (plus (instance_of size sentence k))
 
-  -- for each of them the number of the instance, added to a base
-  abbrev pub origins_at : ℕ → ℕ → List ℕ
-  origins_at base k = map (λ _. base + k) (rows_at k)
-
-  -- the clauses of an instance with their origins
+  -- the clauses of an instance with their origin, the number of the instance added to a base
   abbrev pub sources_at : ℕ → ℕ → List Sourced
-  sources_at base k = sourced (rows_at k) (origins_at base k)
-
-  -- a part has the clauses of the instances from one number up to another, and their origins
-  pub record IsPart (base from to : ℕ) (part : Part) : Type 0 where
-    pub clauses : part.clauses ≡ rows_from rows_at from (to - from)
-    pub origins : part.origins.items ≡ rows_from (origins_at base) from (to - from)
-
-  -- a part has those of a piece
-  abbrev pub IsPartOfPiece : ℕ → ℕ → ℕ → ℕ → Part → Type 0
-  IsPartOfPiece base from to piece part = IsPart base (start_of from piece) (end_of from to piece) part
+  sources_at base k = map (λ c. with_origin c (base + k)) (rows_at k)
 
   -- the clauses of the instances from one number up to another, with their origins
   abbrev pub sources_of : ℕ → ℕ → ℕ → List Sourced
   sources_of base from to = rows_from (sources_at base) from (to - from)
+
+  -- of a part the same is kept as of the clauses of the instances from one number up to another
+  abbrev pub IsPart : ℕ → ℕ → ℕ → List Sourced → Type 0
+  IsPart base from to part = KeepSame part (sources_of base from to)
+
+  -- as of those of a piece
+  abbrev pub IsPartOfPiece : ℕ → ℕ → ℕ → ℕ → List Sourced → Type 0
+  IsPartOfPiece base from to piece part = IsPart base (start_of from piece) (end_of from to piece) part
 
   -- no instance from one number up to another is too wide
   abbrev pub AreNarrow : ℕ → ℕ → Type 0

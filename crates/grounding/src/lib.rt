@@ -5,6 +5,7 @@ mod distinct;
 mod making;
 mod measuring;
 mod merging;
+mod part;
 mod parts;
 mod pieces;
 mod sorting;

@@ -8,19 +8,17 @@ ghost use Rattle.meaning.specs.StudyClauses.{from_axiom};
 ghost use Rattle.clause_form.specs.Refusals.{is_over_limits};
 ghost use Rattle.clause_form.specs.Sources.{clauses_in, sourced};
 ghost use Rattle.lanes.specs.Lanes.{IsPlan};
-ghost use Rattle.grounding.specs.Distinct.{codes_seen};
 ghost use Rattle.grounding.specs.Kept.{Keeps, Overfills};
 ghost use Rattle.grounding.specs.Pieces.{AreNarrow, AreNarrowInstances, IsPart, IsPartOfPiece, end_of, sources_of, start_of};
 
 use crate::distinct::{Seen, keep};
+use crate::part::Part;
 use crate::parts::clauses_of_all;
 use crate::pieces::{MOST_CLAUSES, MOST_LITERALS, PIECE, ROUND, Round};
-use crate::sorting::Part;
 use clause_form::sum;
 use cnf::{Clauses, PushFault};
 use crew::{Crew, Job, Parts, map_pieces};
 use edge::Gate;
-use indexmap::IndexSet;
 use lanes::plan_of;
 use lists::NoMemory;
 use meaning::Counts;
@@ -56,14 +54,11 @@ impl<F: Fn(u64, u64) -> Result<Part, NoMemory> + Sync> Job for Making<'_, F> {
 
 /// Appends the clauses of a part, each unless an equal one was kept.
 fn keep_all(alloc: Global, seen: &mut Seen, part: &Part, out: &mut Clauses) -> Result<(), PushFault>
-    requires pairs { length part.now.origins.items ≡ length part.now.clauses }
-    ensures kept { OnOk result (Keeps (codes_seen seen.old.keys) out.old (codes_seen seen.new.keys) out.new
-        (sourced part.now.clauses part.now.origins.items)) }
-    ensures full { result ≡ Err PushFault.Full → Overfills (codes_seen seen.old.keys) out.old
-        (sourced part.now.clauses part.now.origins.items) }
+    ensures kept { OnOk result (Keeps seen.old out.old seen.new out.new part.now) }
+    ensures full { result ≡ Err PushFault.Full → Overfills seen.old out.old part.now }
 {
-    for k in 0..part.clauses.len() {
-        match keep(alloc, seen, part.clauses.get(k), part.origins[k], out) {
+    for k in 0..part.len() {
+        match keep(alloc, seen, part.clause(k), part.origin(k), out) {
             Ok(()) => {}
             Err(fault) => return Err(fault),
         }
@@ -85,10 +80,10 @@ fn keep_parts<K: OutcomeKind>(
         round.now.to) 0 parts.now }
     requires rising { round.now.from ≤ round.now.to }
     requires whole { round.now.to ≤ start_of round.now.from (length parts.now) }
-    ensures kept { OnOk result (Keeps (codes_seen seen.old.keys) out.old (codes_seen seen.new.keys) out.new
+    ensures kept { OnOk result (Keeps seen.old out.old seen.new out.new
         (sources_of (K.size round.now.kind.now) round.now.named.now.sentence base
         round.now.from round.now.to)) }
-    ensures full { result ≡ Err PushFault.Full → Overfills (codes_seen seen.old.keys) out.old
+    ensures full { result ≡ Err PushFault.Full → Overfills seen.old out.old
         (sources_of (K.size round.now.kind.now) round.now.named.now.sentence base
         round.now.from round.now.to) }
 {
@@ -118,10 +113,10 @@ fn add_round<R: Threads + Sync, K: OutcomeKind, G: Gate>(
     requires base { base ≤ 2 ^ 60 }
     requires short { round.now.to ≤ round.now.from + 16384 }
     requires plan { IsPlan (K.size round.now.kind.now) round.now.named.now.sentence round.now.plan.now }
-    ensures kept { OnOk result (Keeps (codes_seen seen.old.keys) out.old (codes_seen seen.new.keys) out.new
+    ensures kept { OnOk result (Keeps seen.old out.old seen.new out.new
         (sources_of (K.size round.now.kind.now) round.now.named.now.sentence base
         round.now.from round.now.to)) }
-    ensures full { result ≡ Err PushFault.Full → Overfills (codes_seen seen.old.keys) out.old
+    ensures full { result ≡ Err PushFault.Full → Overfills seen.old out.old
         (sources_of (K.size round.now.kind.now) round.now.named.now.sentence base
         round.now.from round.now.to) }
 {
@@ -198,7 +193,7 @@ pub(crate) fn add_axiom<R: Threads + Sync, K: OutcomeKind, G: Gate>(
     let Ok(plan) = plan_of(alloc, kind, named) else {
         return Err(PushFault::NoMemory);
     };
-    let mut seen: Seen = IndexSet::new(alloc);
+    let mut seen = Seen::new(alloc);
     let mut from = 0;
     while from < count {
         let to = count.min(from + PIECE * round_len(sums, from / PIECE));

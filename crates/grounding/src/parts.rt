@@ -1,6 +1,6 @@
 //! The measures and the clauses of some instances of an axiom, one after another.
 
-ghost use Rattle.std.specs.Prelude.{◌≡◌, ◌<◌, ◌≤◌, ◌-◌, ◌^◌, ◌++◌, IfOk, OnOk, IsFalse, IsTrue};
+ghost use Rattle.std.specs.Prelude.{◌≡◌, ◌<◌, ◌≤◌, ◌^◌, ◌++◌, IfOk, OnOk, IsFalse, IsTrue};
 ghost use Rattle.vocab.specs.Limits.{instance_count};
 ghost use Rattle.vocab.specs.Study.{is_sentence};
 ghost use Rattle.vocab.specs.Tree.{tree_of};
@@ -10,17 +10,22 @@ ghost use Rattle.meaning.specs.Written.{write_out};
 ghost use Rattle.worlds.specs.Conditions.{IsFormulaAt};
 ghost use Rattle.clause_form.specs.Wide.{is_wide, numbered};
 ghost use Rattle.lanes.specs.Lanes.{IsPlan, IsToldFrom};
-ghost use Rattle.grounding.specs.Pieces.{AreNarrow, IsFirstWide, measure_at, origins_at, rows_at, rows_from};
+ghost use Rattle.grounding.specs.Parts.{KeepSame};
+ghost use Rattle.grounding.specs.Pieces.{AreNarrow, IsFirstWide, IsPart, measure_at, sources_at};
 
-use crate::sorting::{Part, push_sorted};
+use crate::part::Part;
+use crate::sorting::{Sorter, push_sorted};
 use clause_form::{ClauseList, is_wide, measure, narrow_clauses, open_clauses, sum};
-use cnf::{Lit, Store};
-use lanes::{Plan, is_told, told, values_of};
+use cnf::Store;
+use lanes::{Plan, is_told, told, values_at};
 use lists::NoMemory;
 use meaning::Counts;
 use outcomes::OutcomeKind;
 use std::alloc::Global;
 use vocab::{Axiom, Env, Formula};
+
+/// How many rows of instances stand in memory before they are let go.
+const MOST_ROWS: usize = 1000;
 
 /// An instance that is too wide, with its measure.
 #[derive(Clone, Copy)]
@@ -36,19 +41,19 @@ pub(crate) struct Measured {
     pub(crate) wide: Option<WideInstance>,
 }
 
-/// Lists that are used again for each clause that is sorted.
-#[derive(Drop)]
-struct Sorter {
-    codes: Vec<u32>,
-    merged: Vec<u32>,
-    clause: Vec<Lit>,
-}
-
 /// The measure of an instance, where it may be told to be true whatever the rule: it then has none.
-fn measure_at<K: OutcomeKind>(kind: &K, named: &Axiom, known: u64, from: u64, number: u64) -> Counts
+fn measure_at<K: OutcomeKind>(
+    kind: &K,
+    named: &Axiom,
+    plan: &Plan,
+    known: u64,
+    from: u64,
+    number: u64,
+) -> Counts
     requires sentence { IsTrue (is_sentence (K.size kind.now) named.now) }
     requires few { instance_count (K.size kind.now) named.now.sentence ≤ 40000000 }
     requires within { number < instance_count (K.size kind.now) named.now.sentence }
+    requires plan { IsPlan (K.size kind.now) named.now.sentence plan.now }
     requires told { IsToldFrom (K.size kind.now) named.now.sentence from known }
     requires rising { from ≤ number }
     ensures { result ≡ measure_at (K.size kind.now) named.now.sentence number }
@@ -59,7 +64,7 @@ fn measure_at<K: OutcomeKind>(kind: &K, named: &Axiom, known: u64, from: u64, nu
             literals: 0,
         };
     }
-    let values = values_of(kind, named, number);
+    let values = values_at(kind, named, plan, number);
     measure(kind, named.sentence().body(), &values)
 }
 
@@ -83,7 +88,7 @@ pub(crate) fn measure_all<K: OutcomeKind>(
     };
     let known = told(kind, named, plan, from);
     for number in from..to {
-        let measure = measure_at(kind, named, known, from, number);
+        let measure = measure_at(kind, named, plan, known, from, number);
         if is_wide(measure) {
             return Measured {
                 sum: total,
@@ -124,53 +129,45 @@ fn untold_clauses<K: OutcomeKind>(
 }
 
 /// Appends the clauses of an instance that is not too wide, where it may be told to be true whatever the
-/// rule: it then has none.
+/// rule: it then has none. Its rows stand behind those of others.
 fn push_instance<K: OutcomeKind>(
     alloc: Global,
     kind: &K,
     named: &Axiom,
+    plan: &Plan,
     base: u64,
     known: u64,
-    whole: bool,
     from: u64,
     number: u64,
+    rows: &mut ClauseList,
     sorter: &mut Sorter,
     part: &mut Part,
 ) -> Result<(), NoMemory>
     requires sentence { IsTrue (is_sentence (K.size kind.now) named.now) }
     requires few { instance_count (K.size kind.now) named.now.sentence ≤ 40000000 }
     requires within { number < instance_count (K.size kind.now) named.now.sentence }
+    requires plan { IsPlan (K.size kind.now) named.now.sentence plan.now }
     requires base { base ≤ 2 ^ 60 }
     requires narrow { IsFalse (is_wide (measure_at (K.size kind.now) named.now.sentence number)) }
     requires told { IsToldFrom (K.size kind.now) named.now.sentence from known }
     requires rising { from ≤ number }
-    ensures clauses { OnOk result
-        (part.new.clauses ≡ part.old.clauses ++ rows_at (K.size kind.now) named.now.sentence number) }
-    ensures origins { OnOk result
-        (part.new.origins.items ≡ part.old.origins.items ++
-        origins_at (K.size kind.now) named.now.sentence base number) }
+    ensures { OnOk result
+        (KeepSame part.new (part.old ++ sources_at (K.size kind.now) named.now.sentence base number)) }
 {
     if number - from < 64 && is_told(known, number - from) {
         return Ok(());
     }
-    let values = values_of(kind, named, number);
-    let mut rows: ClauseList = Store::new(alloc);
+    let values = values_at(kind, named, plan, number);
+    let start = rows.len();
     untold_clauses(
         alloc,
         kind,
         named.sentence().body(),
         &values,
-        whole,
-        &mut rows,
+        plan.is_whole(),
+        rows,
     )?;
-    push_sorted(
-        &rows,
-        base + number,
-        &mut sorter.codes,
-        &mut sorter.merged,
-        &mut sorter.clause,
-        part,
-    )?;
+    push_sorted(rows, start, base + number, sorter, part)?;
     Ok(())
 }
 
@@ -192,32 +189,26 @@ pub(crate) fn clauses_of_all<K: OutcomeKind>(
     requires rising { from ≤ to }
     requires base { base ≤ 2 ^ 60 }
     requires narrow { AreNarrow (K.size kind.now) named.now.sentence from to }
-    ensures clauses { IfOk result
-        (λ part. part.clauses ≡ rows_from (rows_at (K.size kind.now) named.now.sentence) from (to - from)) }
-    ensures origins { IfOk result
-        (λ part. part.origins.items ≡
-        rows_from (origins_at (K.size kind.now) named.now.sentence base) from (to - from)) }
+    ensures { IfOk result (IsPart (K.size kind.now) named.now.sentence base from to) }
 {
     let known = told(kind, named, plan, from);
-    let mut part = Part {
-        clauses: Store::new(alloc),
-        origins: Vec::new(alloc),
-    };
-    let mut sorter = Sorter {
-        codes: Vec::new(alloc),
-        merged: Vec::new(alloc),
-        clause: Vec::new(alloc),
-    };
+    let mut part = Part::new(alloc);
+    let mut sorter = Sorter::new(alloc);
+    let mut rows: ClauseList = Store::new(alloc);
     for number in from..to {
+        if rows.len() > MOST_ROWS {
+            rows = Store::new(alloc);
+        }
         push_instance(
             alloc,
             kind,
             named,
+            plan,
             base,
             known,
-            plan.is_whole(),
             from,
             number,
+            &mut rows,
             &mut sorter,
             &mut part,
         )?;

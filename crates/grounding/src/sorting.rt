@@ -1,14 +1,17 @@
 //! Clauses sorted by variable, each literal once.
 
-ghost use Rattle.std.specs.Prelude.{◌≡◌, ◌<◌, ◌++◌, ℕ, All, OnOk, IfOk, IsTrue, not, map};
+ghost use Rattle.std.specs.Prelude.{◌≡◌, ◌<◌, ◌≤◌, [], ◌∷◌, ◌++◌, ℕ, All, OnOk, IfOk, IsTrue, not, map, drop, length};
 ghost use Rattle.std.specs.List.Sorted.{IsNonDecreasing};
 ghost use Rattle.cnf.specs.Sat.{is_tautology};
 ghost use Rattle.meaning.specs.StudyClauses.{sorted};
 ghost use Rattle.grounding.specs.Rising.{IsAbove, ArePositive, has, literal_of_code, pair_after};
-ghost use Rattle.grounding.specs.Distinct.{code_of, plain_rows};
+ghost use Rattle.grounding.specs.Distinct.{code_of};
+ghost use Rattle.grounding.specs.Parts.{KeepSame, from_rows};
 
+use crate::part::Part;
 use cnf::{Lit, Store};
 use lists::NoMemory;
+use std::alloc::Global;
 
 /// Twice the variable of a literal, and one more where it stands without negation.
 pub(crate) fn code_of(lit: Lit) -> u32
@@ -112,31 +115,72 @@ fn sort_into(
     Ok(true)
 }
 
-/// Clauses, each with the number that says its origin.
+/// Lists that are used again for each clause that is sorted.
 #[derive(Drop)]
-pub(crate) struct Part {
-    pub(crate) clauses: Store,
-    pub(crate) origins: Vec<u64>,
+pub(crate) struct Sorter {
+    codes: Vec<u32>,
+    merged: Vec<u32>,
+    clause: Vec<Lit>,
 }
 
-/// Appends the rows of an instance with its origin, sorted, tautologies left out.
+impl Sorter {
+    /// Empty lists.
+    pub(crate) fn new(alloc: Global) -> Sorter {
+        Sorter {
+            codes: Vec::new(alloc),
+            merged: Vec::new(alloc),
+            clause: Vec::new(alloc),
+        }
+    }
+}
+
+/// Appends the row of two literals with its origin, sorted, unless it is a tautology.
+fn push_two(first: Lit, second: Lit, origin: u64, out: &mut Part) -> Result<(), NoMemory>
+    ensures { OnOk result (KeepSame out.new (out.old ++ from_rows origin ((first ∷ second ∷ []) ∷ []))) }
+{
+    if first.variable() < second.variable() {
+        return out.push_two(first, second, origin);
+    }
+    if second.variable() < first.variable() {
+        return out.push_two(second, first, origin);
+    }
+    if first.positive() == second.positive() {
+        return out.push(&[second], origin);
+    }
+    Ok(())
+}
+
+/// Appends a row with its origin, sorted, unless it is a tautology.
+fn push_row(row: &[Lit], origin: u64, sorter: &mut Sorter, out: &mut Part) -> Result<(), NoMemory>
+    ensures { OnOk result (KeepSame out.new (out.old ++ from_rows origin (row.now ∷ []))) }
+{
+    if row.len() == 2 {
+        return push_two(row[0], row[1], origin, out);
+    }
+    if sort_into(
+        row,
+        &mut sorter.codes,
+        &mut sorter.merged,
+        &mut sorter.clause,
+    )? {
+        out.push(sorter.clause.as_slice(), origin)?;
+    }
+    Ok(())
+}
+
+/// Appends the rows from a place on with their origin, sorted, tautologies left out.
 pub(crate) fn push_sorted(
     rows: &Store,
+    start: usize,
     origin: u64,
-    codes: &mut Vec<u32>,
-    merged: &mut Vec<u32>,
-    clause: &mut Vec<Lit>,
+    sorter: &mut Sorter,
     out: &mut Part,
 ) -> Result<(), NoMemory>
-    ensures clauses { OnOk result (out.new.clauses ≡ out.old.clauses ++ plain_rows rows.now) }
-    ensures origins { OnOk result
-        (out.new.origins.items ≡ out.old.origins.items ++ map (λ _. origin) (plain_rows rows.now)) }
+    requires { start ≤ length rows.now }
+    ensures { OnOk result (KeepSame out.new (out.old ++ from_rows origin (drop start rows.now))) }
 {
-    for k in 0..rows.len() {
-        if sort_into(rows.get(k), codes, merged, clause)? {
-            out.clauses.push(clause.as_slice())?;
-            out.origins.push(origin)?;
-        }
+    for k in start..rows.len() {
+        push_row(rows.get(k), origin, sorter, out)?;
     }
     Ok(())
 }

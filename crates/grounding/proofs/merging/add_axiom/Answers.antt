@@ -1,5 +1,4 @@
 use Rattle.std.proofs.Common.{◌≡◌, ◌+◌, ◌-◌, ◌*◌, ◌^◌, ◌∙◌, ◌++◌, List, [], ℕ, ap, arith, min, sym, append-nil}
-use Rattle.std.proofs.lemmas.List.{length-map, nil_from_length}
 use Rattle.vocab.specs.Limits.{instance_count}
 use Rattle.meaning.specs.StudyClauses.{Sourced}
 use Rattle.clause_form.specs.Sources.{sourced}
@@ -24,7 +23,7 @@ pub loop-from-init : goal.loop-from-init
 loop-from-init g c = record {
   within = omega arith;
   kept = record {
-    codes = nil_from_length _ (length-map _ _ ∙ c.new-seen.ensures.len);
+    codes = c.new-seen.ensures;
     pairs = c.len-kept.ensures.limits.origins;
     sources = sym (append-nil (sourced c.args.out.now.clauses c.args.out.now.origins));
   };

@@ -3,19 +3,9 @@ use Rattle.crew.proofs.Rights.{AreRight-at}
 use Rattle.grounding.specs.Distinct.{kept_with}
 use Rattle.grounding.specs.Pieces.{IsPartOfPiece, end_of, sources_of, start_of}
 use Rattle.grounding.proofs.KeptLaws.{kept-as, over-as}
-use Rattle.grounding.proofs.SourceLemmas.{next-part, over-rest, part-pairs, sources-none}
+use Rattle.grounding.proofs.SourceLemmas.{next-part, over-rest, sources-none}
 use Rattle.grounding.proofs.WideLemmas.{zero_more}
 use Rattle.grounding.proofs.merging.keep_parts.Goals as goal
-
-pub keep_all-requires : goal.keep_all-requires
-keep_all-requires g c =
-    let size = g.K.OutcomeKind.size c.args.round.now.kind.now in
-    let round = c.args.round.now in
-    let sentence = round.named.now.sentence in
-    let piece = c.loop-piece.piece in
-    let right = IsPartOfPiece size sentence c.args.base round.from round.to in
-    let here : right piece c.get.result.now = subst (λ n. right n c.get.result.now) (zero_more piece) (AreRight-at right 0 piece _ c.get.result.now c.get.ensures c.requires.right) in
-    record { pairs = part-pairs size sentence c.args.base (start_of round.from piece) (end_of round.from round.to piece) c.get.result.now here }
 
 pub loop-piece-init : goal.loop-piece-init
 loop-piece-init g c = λ before kept is.

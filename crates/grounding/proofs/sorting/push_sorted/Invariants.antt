@@ -1,8 +1,9 @@
-use Rattle.std.proofs.Common.{◌≡◌, ◌++◌, map, take}
-use Rattle.grounding.specs.Distinct.{plain_rows}
+use Rattle.std.proofs.Common.{◌≤◌, ◌-◌, ◌++◌, drop, take}
+use Rattle.grounding.specs.Parts.{KeepSame, from_rows}
 use Rattle.grounding.proofs.sorting.push_sorted.Given as goal
 
 abbrev pub invariant-loop-k : goal.invariant-loop-k
-invariant-loop-k l =
-    (l.out.clauses ≡ l.fn.out.clauses ++ plain_rows (take l.k l.rows))
-    × (l.out.origins.items ≡ l.fn.out.origins.items ++ map (λ _. l.origin) (plain_rows (take l.k l.rows)))
+invariant-loop-k l = record {
+  after : l.start ≤ l.k;
+  same : KeepSame l.out (l.fn.out ++ from_rows l.origin (take (l.k - l.start) (drop l.start l.rows)));
+}
