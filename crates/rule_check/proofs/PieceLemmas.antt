@@ -14,16 +14,17 @@ pub counted_whole : (count instances : ℕ) → count ≡ min instances (2 ^ 64 
 counted_whole count instances cut few = omega (arith, cut, few)
 
 module _ (size : Extent) (table : List ℕ) (a : Titled) where
-  -- where all instances up to a number are true, those from there on go on
-  pub true_beyond : (from to : ℕ) → AreInstancesTrue size table a.sentence 0 from → IsLeastFalse size table a from to None → AreInstancesTrue size table a.sentence 0 to
-  true_beyond from to before here k low high = elim (cases_lt k from) [
+  -- where all instances from a start up to a number are true, those from there on go on
+  pub true_beyond : (start from to : ℕ) → AreInstancesTrue size table a.sentence start from → IsLeastFalse size table a from to None → AreInstancesTrue size table a.sentence start to
+  true_beyond start from to before here k low high = elim (cases_lt k from) [
     | inl less ↦ before k low less
     | inr le ↦ here k le high
   ]
 
-  pub first_beyond : (from to count instance : ℕ) → to ≤ count → AreInstancesTrue size table a.sentence 0 from → IsLeastFalse size table a from to (Some instance) → IsFirstFailure size table a.sentence 0 count instance
-  first_beyond from to count instance within before here = record {
-    not_before = omega arith;
+  pub first_beyond : (start from to count instance : ℕ) → start ≤ from → to ≤ count → AreInstancesTrue size table a.sentence start from
+      → IsLeastFalse size table a from to (Some instance) → IsFirstFailure size table a.sentence start count instance
+  first_beyond start from to count instance after within before here = record {
+    not_before = omega (arith, after, here.not_before);
     within = omega (arith, here.within, within);
     fails = here.fails;
     first = λ k low less. elim (cases_lt k from) [

@@ -6,9 +6,10 @@ ghost use Rattle.vocab.specs.Limits.{instance_count};
 ghost use Rattle.vocab.specs.Study.{is_sentence};
 ghost use Rattle.meaning.specs.Truth.{is_rule};
 ghost use Rattle.verdicts.specs.Faults.{table_fault};
-ghost use Rattle.rule_check.specs.Pieces.{IsLeastFalse};
+ghost use Rattle.rule_check.specs.Pieces.{CanBeTried, IsLeastFalse};
 
-use crate::pieces::{ROUND, Round, round_failure};
+use crate::blocks::{Round, plan_for};
+use crate::pieces::{ROUND, round_failure};
 use crew::Crew;
 use edge::Gate;
 use lists::NoMemory;
@@ -19,7 +20,37 @@ use verdicts::Refusal;
 use vocab::{Axiom, Study, Table};
 use worlds::instance_count;
 
-/// The least instance of the axiom that is false of the rule, of round after round.
+/// The least of many instances that is false of the rule, of round after round.
+fn least_failure<R: Threads + Sync, K: OutcomeKind, G: Gate>(
+    alloc: Global,
+    crew: &Crew<R, G>,
+    all: &Round<K>,
+) -> Result<Option<u64>, NoMemory>
+    requires can { CanBeTried (K.size all.now.kind.now) all.now.table.now all.now.named.now
+        all.now.plan.now all.now.to }
+    ensures { IfOk result (λ found. IsLeastFalse (K.size all.now.kind.now) all.now.table.now
+        all.now.named.now all.now.from all.now.to found) }
+{
+    let mut from = all.from;
+    while from < all.to {
+        let to = from + (all.to - from).min(ROUND);
+        let round = Round {
+            kind: all.kind,
+            table: all.table,
+            named: all.named,
+            plan: all.plan,
+            from,
+            to,
+        };
+        if let Some(instance) = round_failure(alloc, crew, &round)? {
+            return Ok(Some(instance));
+        }
+        from = to;
+    }
+    Ok(None)
+}
+
+/// The least instance of the axiom that is false of the rule.
 fn axiom_failure<R: Threads + Sync, K: OutcomeKind, G: Gate>(
     alloc: Global,
     crew: &Crew<R, G>,
@@ -34,22 +65,16 @@ fn axiom_failure<R: Threads + Sync, K: OutcomeKind, G: Gate>(
         (instance_count (K.size kind.now) named.now.sentence) found) }
 {
     let count = instance_count(kind.space(), named.sentence());
-    let mut from = 0;
-    while from < count {
-        let to = count.min(from + ROUND);
-        let round = Round {
-            kind,
-            table,
-            named,
-            from,
-            to,
-        };
-        if let Some(instance) = round_failure(alloc, crew, &round)? {
-            return Ok(Some(instance));
-        }
-        from = to;
-    }
-    Ok(None)
+    let plan = plan_for(alloc, kind, named, count)?;
+    let all = Round {
+        kind,
+        table,
+        named,
+        plan: &plan,
+        from: 0,
+        to: count,
+    };
+    least_failure(alloc, crew, &all)
 }
 
 /// The first of the axioms at some places that the rule does not satisfy, by its name, with its least failing

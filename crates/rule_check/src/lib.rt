@@ -1,6 +1,7 @@
 //! Whether a rule satisfies axioms, and which it fails first, with the instances among workers.
 #![tactic(auto)]
 
+mod blocks;
 mod check;
 mod pieces;
 

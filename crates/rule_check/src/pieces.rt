@@ -4,30 +4,19 @@ ghost use Rattle.std.specs.Prelude.{◌≤◌, ◌+◌, IfOk, length};
 ghost use Rattle.crew.specs.Right.{AreRight};
 ghost use Rattle.rule_check.specs.Pieces.{CanBeTried, IsLeastFalse, IsLeastOfPiece, start_of, end_of};
 
+use crate::blocks::{Round, least_false};
 use crew::{Crew, Job, Parts, map_pieces};
 use edge::Gate;
 use lists::NoMemory;
 use outcomes::OutcomeKind;
 use std::alloc::Global;
 use std::thread::Threads;
-use vocab::{Axiom, Table};
-use worlds::first_failure;
 
 /// How many instances a piece has.
 const PIECE: u64 = 4_096;
 
 /// How many instances a round has at most, which are 256 pieces.
 pub(crate) const ROUND: u64 = 1_048_576;
-
-/// A round: the instances of an axiom from `from` up to `to`, to be tried over a rule.
-#[derive(Drop)]
-pub(crate) struct Round<'a, K> {
-    pub(crate) kind: &'a K,
-    pub(crate) table: &'a Table,
-    pub(crate) named: &'a Axiom,
-    pub(crate) from: u64,
-    pub(crate) to: u64,
-}
 
 /// The pieces of the instances from `from` up to `to`, and how the least failing instance of a piece is
 /// found.
@@ -78,7 +67,7 @@ pub(crate) fn round_failure<R: Threads + Sync, K: OutcomeKind, G: Gate>(
     round: &Round<K>,
 ) -> Result<Option<u64>, NoMemory>
     requires can { CanBeTried (K.size round.now.kind.now) round.now.table.now round.now.named.now
-        round.now.to }
+        round.now.plan.now round.now.to }
     requires rising { round.now.from ≤ round.now.to }
     requires short { round.now.to ≤ round.now.from + 1048576 }
     ensures { IfOk result (λ found. IsLeastFalse (K.size round.now.kind.now) round.now.table.now
@@ -86,10 +75,11 @@ pub(crate) fn round_failure<R: Threads + Sync, K: OutcomeKind, G: Gate>(
 {
     let (from, to) = (round.from, round.to);
     let find = |start: u64, end: u64| -> Option<u64>
-        requires { CanBeTried (K.size round.now.kind.now) round.now.table.now round.now.named.now end }
+        requires { CanBeTried (K.size round.now.kind.now) round.now.table.now round.now.named.now
+            round.now.plan.now end }
         ensures { IsLeastFalse (K.size round.entry.now.kind.now) round.entry.now.table.now
             round.entry.now.named.now start end result }
-    { first_failure(round.kind, round.table, round.named, start, end) };
+    { least_false(round, start, end) };
     let pieces = Pieces {
         find: &find,
         from,

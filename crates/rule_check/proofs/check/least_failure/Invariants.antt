@@ -1,13 +1,13 @@
 use Rattle.std.proofs.Common.{◌-◌, ◌≤◌}
 use Rattle.meaning.specs.Instances.{AreInstancesTrue}
-use Rattle.rule_check.proofs.check.axiom_failure.Given as goal
+use Rattle.rule_check.proofs.check.least_failure.Given as goal
 
 -- the instances so far are true
 abbrev pub invariant-loop-from : goal.invariant-loop-from
 invariant-loop-from g l = record {
-  within : l.from ≤ l.count;
-  true : AreInstancesTrue (g.K.OutcomeKind.size l.kind) l.table l.named.sentence 0 l.from;
+  after : l.all.from ≤ l.from;
+  true : AreInstancesTrue (g.K.OutcomeKind.size l.all.kind.now) l.all.table.now l.all.named.now.sentence l.all.from l.from;
 }
 
 abbrev pub decreases-loop-from : goal.decreases-loop-from
-decreases-loop-from g l = l.count - l.from
+decreases-loop-from g l = l.all.to - l.from

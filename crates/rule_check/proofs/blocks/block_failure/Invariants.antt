@@ -1,0 +1,7 @@
+use Rattle.std.proofs.Common.{◌+◌}
+use Rattle.meaning.specs.Instances.{AreInstancesTrue}
+use Rattle.rule_check.proofs.blocks.block_failure.Given as goal
+
+-- the instances so far are true
+abbrev pub invariant-loop-k : goal.invariant-loop-k
+invariant-loop-k g l = AreInstancesTrue (g.K.OutcomeKind.size l.round.kind.now) l.round.table.now l.round.named.now.sentence l.from (l.from + l.k)
