@@ -14,8 +14,8 @@
 # standard error what a status without an answer means, and where the toolchain is missing.
 # docs/PHRASES.md is held by studies/phrases.py, with what it shows of instances, rules and many studies; the sizes of docs/START.md and the
 # values that it lists of axioms are tried, as are the story that docs/STORIES.md writes by hand, known rules, and a copy of the program that
-# stands alone. The clauses of library axioms, and the rules of the reports, are those of measure/encode.py, which shares nothing with the
-# program.
+# stands alone. The clauses of library axioms, and the rules of the reports, are those of measure/encode.py, and the clauses of sixty studies with
+# sentences drawn at random those of measure/sentences.py; neither shares anything with the program.
 # The program is the one that the launcher runs, which is proved and built first where a source is newer; with --built, as after `rt ci`,
 # the one that stands there. No proof rests on this.
 set -u
@@ -366,6 +366,7 @@ begins 99 domains.py PHRASES.md < <(python3 "$root/studies/domains.py" "$program
 
 # The clauses of the library's axioms, as an encoder writes them that shares nothing with the program.
 python3 "$root/measure/encode.py" --hold "$program" >"$work/written" || fault "export writes other clauses than measure/encode.py"
+python3 "$root/measure/sentences.py" "$program" 60 >"$work/written" || fault "export writes other clauses than measure/sentences.py"
 
 for workers in 1 2 16; do
     answer export "$root/studies/arrow_four.toml" --workers "$workers"
