@@ -4,13 +4,13 @@
 # says how many lemmas, steps and lines the report has, and the seconds of `check` for it; each report is confirmed, and is the one beside
 # the study. Each runs once where it takes more than 2 seconds, else 3 times, and the shortest run counts.
 # The last line is `ratio R`: the seconds of `decide` for four alternatives by those of `export` and `cadical` together, or by those
-# of `export` alone where there is no `cadical`.
+# of `export` alone where there is no `cadical`. `measure/decide.sh PROGRAM` takes for that line the `export` of an earlier bench.
 set -eu
 . "$(dirname -- "$(readlink -f -- "${BASH_SOURCE[0]}")")/setup.sh"
 build_program
-python3 - "$program" "$root/studies" "$work" <<'PY'
+python3 - "$program" "$root/studies" "$work" "${1-}" <<'PY'
 import glob, os, shutil, subprocess, sys, time
-program, studies, work = sys.argv[1:]
+program, studies, work, before = sys.argv[1:]
 def run(out, *words, ends=(0,)): # the shortest seconds, and the peak memory in KB
     best, peak = None, 0
     for _ in range(3):
@@ -46,6 +46,8 @@ for study in sorted(glob.glob(studies + "/*.toml")):
         times[solver], _ = run(work + "/solved", *([solver, "-q", cnf] if solver == "cadical" else [solver, cnf]), ends=(10, 20))
         row += "; %s %.3f s" % (solver, times[solver])
     print(row + "; %d lemmas, %d steps, %d lines" % (words.count("lemma"), words.count("so"), len(lines) - 1))
-    if name == "arrow_four": last = decide / (export + times.get("cadical", 0))
+    if name == "arrow_four":
+        if before: export, _ = run(cnf, before, "export", study)
+        last = decide / (export + times.get("cadical", 0))
 print("ratio %.2f" % last)
 PY

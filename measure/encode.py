@@ -200,7 +200,11 @@ def ordered(clauses):
 
 
 def export(s):
-    clauses = [clause for part in [frame, *(globals()[name] for name in s.axioms)] for clause in ordered(part(s))]
+    return lines_of(s, [clause for part in [frame, *(globals()[name] for name in s.axioms)] for clause in ordered(part(s))])
+
+
+def lines_of(s, clauses):
+    """The lines of `export` for some clauses."""
     bits = len(s.pairs) if s.kind == "ranking" else len(s.alts)
     yield "c bench export 1"
     yield f"c kind {s.kind} voters {len(s.voters)} alternatives {len(s.alts)}"
@@ -375,11 +379,16 @@ def study_of(path):
     return study
 
 
-if sys.argv[1:2] == ["--hold"] and len(sys.argv) == 3:
-    hold(sys.argv[2])
-elif len(sys.argv) == 2:
-    print("\n".join(export(study_of(sys.argv[1]))))
-elif len(sys.argv) == 3:
-    hold_rules(study_of(sys.argv[1]), text_of(sys.argv[2]))
-else:
-    sys.exit(__doc__)
+def main():
+    if sys.argv[1:2] == ["--hold"] and len(sys.argv) == 3:
+        hold(sys.argv[2])
+    elif len(sys.argv) == 2:
+        print("\n".join(export(study_of(sys.argv[1]))))
+    elif len(sys.argv) == 3:
+        hold_rules(study_of(sys.argv[1]), text_of(sys.argv[2]))
+    else:
+        sys.exit(__doc__)
+
+
+if __name__ == "__main__":
+    main()
