@@ -1,0 +1,4 @@
+-- In proof order.
+pub mod CollectLemmas
+pub mod LineLemmas
+pub mod ReadingLemmas

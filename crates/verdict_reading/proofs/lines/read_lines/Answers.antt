@@ -1,0 +1,33 @@
+use Rattle.std.proofs.Common.{sym, subst, Bool}
+use Rattle.verdict_reading.specs.declared.lines.Told.TheVariants.{Good}
+use Rattle.verdict_reading.specs.Collected.{IsCollected}
+use Rattle.verdict_reading.specs.Told.{IsToldOf}
+use Rattle.verdict_reading.proofs.LineLemmas.{unread, is_read, read_next, refuses, tells}
+use Rattle.verdict_reading.proofs.lines.read_lines.Goals as goal
+
+pub loop-first-init : goal.loop-first-init
+loop-first-init g c = unread c.args.subject.now.setting.study.now c.args.text.now c.args.collector.now c.requires.unread
+
+pub take_line-requires-clause-read : goal.take_line-requires-clause-read
+take_line-requires-clause-read g c κs within =
+    is_read c.args.subject.now.setting.study.now c.args.text.now c.loop-first.collector c.loop-first.rest.now c.loop-first.line c.loop-first.invariant c.requires.room
+
+pub returns-in-Some-fault : goal.returns-in-Some-fault
+returns-in-Some-fault g c =
+    let study = c.args.subject.now.setting.study.now in
+    let inv = c.loop-first.invariant in
+    refuses study c.args.text.now c.loop-first.collector c.loop-first.rest.now c.loop-first.line inv c.in-Some.first.now c.in-Some.after.now c.in-Some.ensures.0 c.in-Some.ensures.1 c.in-Some-fault.refusal c.take_line.new.self
+    (subst (IsCollected study inv.standing c.in-Some.first.now c.take_line.new.self) c.in-Some-fault.is (c.in_ok-fault.ensures inv.standing inv.collects))
+
+pub loop-first-preserved : goal.loop-first-preserved
+loop-first-preserved g c =
+    let study = c.args.subject.now.setting.study.now in
+    let inv = c.loop-first.invariant in
+    read_next study c.args.text.now c.loop-first.collector c.loop-first.rest.now c.loop-first.line inv c.in-Some.first.now c.in-Some.after.now c.in-Some.ensures.0 c.in-Some.ensures.1 c.take_line.new.self
+    (subst (IsCollected study inv.standing c.in-Some.first.now c.take_line.new.self) c.in-None.is (c.in_ok-fault.ensures inv.standing inv.collects))
+
+pub returns : goal.returns
+returns g c =
+    let study = c.args.subject.now.setting.study.now in
+    subst (λ (ended : Bool). IsToldOf study c.loop-first.collector c.args.text.now (Good c.loop-first.line ended)) (sym c.is_empty.ensures)
+    (tells study c.args.text.now c.loop-first.collector c.loop-first.rest.now c.loop-first.line c.loop-first.invariant c.in_default.ensures)

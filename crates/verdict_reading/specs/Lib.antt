@@ -1,0 +1,5 @@
+-- In reading order.
+pub mod Parts
+pub mod Collected
+pub mod Told
+pub mod Readings
