@@ -1,0 +1,55 @@
+-- Which words are a command of `explain`: those that `clap` takes for the program below, where the values have their forms.
+use Rattle.std.specs.Prelude.{◌≤◌, ℕ, true, false, List, [], ◌∷◌, codes, if◌then◌else◌, Option, None, option_map, option_and_then}
+use Rattle.std.specs.Str.{bytes_eq}
+use Rattle.clap.specs.Words.{App, Kinds, Row, Shape, Text, fault_of, first_of, subcommand_of}
+use Rattle.clap.specs.Simple.{new_shape}
+use Rattle.words.specs.Values.{workers_in}
+use Rattle.words.specs.Words.{place, workers_option, with_arguments}
+use Rattle.explain_words.specs.declared.commands.Command.{Command}
+
+-- what may be asked: the page of the story that a report tells of a study, by the names of the two files
+pub data Request : Type 0 where
+  Story : (study report : Text) (workers : ℕ) → Request
+
+-- the request of a command
+abbrev pub asked : Command → Request
+asked command = Story command.study.now command.report.now command.workers
+
+-- a number of workers is from 1 to 16
+abbrev pub HasWorkers : Request → Type 0
+HasWorkers (Story study report workers) = (1 ≤ workers) × (workers ≤ 16)
+
+-- ---- the program, as `clap` is told of it
+
+abbrev pub story_shape : Shape
+story_shape =
+    with_arguments (codes "story") (place (codes "study") ∷ place (codes "report") ∷ workers_option ∷ [])
+
+-- the words are those after the program's name, and a command is wanted
+abbrev pub top_shape : Shape
+top_shape = record (new_shape (codes "explain")) { no_binary_name = true; subcommand_required = true }
+
+abbrev pub explain_app : App
+explain_app = record { top = record top_shape { is_leaf = false }; subs = story_shape ∷ [] }
+
+-- ---- the request that the words are
+
+abbrev pub story_in : List Row → Option Request
+story_in rows = option_and_then (λ report. option_and_then (λ study. option_map (Story study report) (workers_in rows))
+    (first_of (codes "study") rows)) (first_of (codes "report") rows)
+
+-- the request of a command by its name, with the values that `clap` found
+abbrev pub request_under : Text → List Row → Option Request
+request_under name rows = if bytes_eq name (codes "story") then story_in rows else None
+
+abbrev pub request_in : Option (Text × List Row) → Option Request
+request_in = option_and_then (λ met. request_under met.0 met.1)
+
+-- a request for help, and whatever else `clap` refuses, is none
+abbrev pub unless_refused : Kinds → Option Request → Option Request
+unless_refused [] request = request
+unless_refused (kind ∷ kinds) request = None
+
+-- the request that the words are, where they are a command
+unfoldable pub request_of : List Text → Option Request
+request_of words = unless_refused (fault_of explain_app words) (request_in (subcommand_of explain_app words))

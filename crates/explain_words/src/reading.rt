@@ -1,0 +1,92 @@
+//! The command that the words are.
+
+ghost use Rattle.std.specs.Prelude.{◌≡◌, IfOk, IfSome, option_map};
+ghost use Rattle.clap.specs.Words.{first_of, found_of, rows_of, subcommand_rows_of};
+ghost use Rattle.words.specs.Values.{number_within, workers_in};
+ghost use Rattle.words.specs.Words.{texts};
+ghost use Rattle.explain_words.specs.Words.{HasWorkers, asked, story_in, request_under, request_in, request_of};
+
+use crate::commands::Command;
+use crate::grammar::explain_command;
+use clap::ArgMatches;
+use clap::error::ErrorKind;
+use lists::NoMemory;
+use report_lines::read_number;
+use std::alloc::Global;
+
+/// The value of an id.
+fn value_at<'a>(matches: &ArgMatches<'a>, id: &str) -> Option<&'a str>
+    ensures { option_map (λ value. value.now) result ≡ first_of id.now (rows_of (found_of matches.now)) }
+{
+    matches.get_str(id)
+}
+
+/// A number of workers.
+fn workers_of(word: &str) -> Option<u8>
+    ensures { result ≡ number_within 1 16 word.now }
+{
+    let count = read_number(word.as_bytes())?;
+    if 1 <= count && count <= 16 {
+        Some(count as u8)
+    } else {
+        None
+    }
+}
+
+/// The number of workers that was found, or 1.
+fn workers_in(matches: &ArgMatches<'_>) -> Option<u8>
+    ensures { result ≡ workers_in (rows_of (found_of matches.now)) }
+{
+    workers_of(value_at(matches, "workers")?)
+}
+
+/// `story STUDY REPORT`.
+fn story_in<'a>(matches: &ArgMatches<'a>) -> Option<Command<'a>>
+    ensures { option_map asked result ≡ story_in (rows_of (found_of matches.now)) }
+{
+    let report = value_at(matches, "report")?;
+    let study = value_at(matches, "study")?;
+    let workers = workers_in(matches)?;
+    Some(Command {
+        study,
+        report,
+        workers,
+    })
+}
+
+/// The command of a name, with the values that were found.
+fn command_under<'a>(name: &str, matches: &ArgMatches<'a>) -> Option<Command<'a>>
+    ensures { option_map asked result ≡ request_under name.now (rows_of (found_of matches.now)) }
+{
+    match name {
+        "story" => story_in(matches),
+        _ => None,
+    }
+}
+
+/// The command that was found.
+fn command_in<'a>(matches: &ArgMatches<'a>) -> Option<Command<'a>>
+    ensures workers { IfSome result (λ it. HasWorkers (asked it)) }
+    ensures command { option_map asked result ≡ request_in (subcommand_rows_of matches.now) }
+{
+    let (name, inner) = matches.subcommand()?;
+    command_under(name, inner)
+}
+
+/// The command that the words are. A request for help is none.
+pub fn command_of<'a>(alloc: Global, words: &'a [String]) -> Result<Option<Command<'a>>, NoMemory>
+    ensures command { IfOk result (λ command. option_map asked command ≡ request_of (texts words.now)) }
+    ensures workers { IfOk result (λ command. IfSome command (λ it. HasWorkers (asked it))) }
+{
+    let explain = explain_command(alloc)?;
+    match explain.try_get_matches_from(words) {
+        Ok(matches) => Ok(command_in(&matches)),
+        Err(error) => {
+            if error.kind() == ErrorKind::OutOfMemory {
+                Err(NoMemory)
+            } else {
+                Ok(None)
+            }
+        }
+    }
+}
