@@ -1,0 +1,7 @@
+pub mod Escapes
+pub mod Facts
+pub mod Sentences
+pub mod Grids
+pub mod Lemmas
+pub mod Words
+pub mod Pages

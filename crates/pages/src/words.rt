@@ -1,0 +1,112 @@
+//! What stands on each page, and the words of the axioms of the library.
+
+ghost use Rattle.std.specs.Prelude.{◌≡◌};
+ghost use Rattle.pages.specs.Words.{opening, choice_words, ranking_words, set_words, words_of};
+
+use vocab::Kind;
+
+/// The front of each page: the title and the styles.
+#[tactic(auto, unfolding(crate::specs::Words::opening))]
+pub(crate) fn opening() -> &'static [u8]
+    ensures { result.now ≡ opening }
+{
+    b"<!doctype html>\n<html lang=en><head><meta charset=utf-8><title>A report of the theorem bench</title><style>@page{size:A4;margin:11mm}body{font:9.2pt/1.3 Georgia,serif;max-width:188mm;margin:6mm auto;color:#111}h1{font-size:15pt;margin:0 0 4px}h2{font-size:11pt;margin:8px 0 2px}h3{font-size:9.6pt;margin:6px 0 1px}p{margin:2px 0}ul,ol{margin:1px 0;padding-left:20px}section{break-inside:avoid}code{font-size:8.2pt;white-space:nowrap}li>code{white-space:normal;color:#555}i{font-style:italic}.r{display:flex;gap:10px;align-items:flex-start}.r>div{flex:1;min-width:0}li>div,details,h3 span,p span{display:inline}li>div+div::before,span+span::before{content:'; '}summary{display:inline;list-style:none}.z,u{color:#888}u{text-decoration:none}table{border-collapse:collapse}td,th{border:1px solid #bbb;font-size:7pt;padding:0 2px;text-align:center;white-space:nowrap;font-weight:normal;min-width:19px;height:13px}th{background:#f1f1f1}td span+span::before{content:''}sup{font-size:5pt;color:#a00}.w{display:flex;flex-wrap:wrap;gap:12px}</style></head><body>\n<h1>A report of the theorem bench</h1>\n"
+}
+
+/// The words of an axiom of the library, where the kind is `choice`.
+#[tactic(auto, unfolding(crate::specs::Words::choice_words))]
+fn choice_words(name: &[u8]) -> &'static [u8]
+    ensures { result.now ≡ choice_words name.now }
+{
+    if name == b"unanimity".as_slice() {
+        return b": an alternative that every voter ranks first wins.";
+    }
+    if name == b"pareto".as_slice() {
+        return b": where every voter ranks x above y, y does not win.";
+    }
+    if name == b"onto".as_slice() {
+        return b": each alternative wins at some profile.";
+    }
+    if name == b"non_dictatorship".as_slice() {
+        return b": for each voter there is a profile at which an alternative wins that this voter ranks below another.";
+    }
+    if name == b"strategyproof".as_slice() {
+        return b": no voter, by casting another ballot at a profile, makes an alternative win that this voter's ballot there ranks above the winner there.";
+    }
+    if name == b"maskin".as_slice() {
+        return b": if x wins at p, and at q each voter still ranks x above whatever this voter ranked below x at p, then x wins at q.";
+    }
+    if name == b"condorcet".as_slice() {
+        return b": an alternative wins that more voters rank above than below each other one.";
+    }
+    if name == b"anonymity".as_slice() {
+        return b": if two voters exchange their ballots, the same alternative wins.";
+    }
+    if name == b"neutrality".as_slice() {
+        return b": if two alternatives are exchanged in all ballots, they are exchanged in the outcome.";
+    }
+    if name == b"participation".as_slice() {
+        return b": no voter who is absent, by casting a ballot, makes an alternative win that this ballot ranks below the winner without it.";
+    }
+    b""
+}
+
+/// The words of an axiom of the library, where the kind is `ranking`.
+#[tactic(auto, unfolding(crate::specs::Words::ranking_words))]
+fn ranking_words(name: &[u8]) -> &'static [u8]
+    ensures { result.now ≡ ranking_words name.now }
+{
+    if name == b"pareto".as_slice() {
+        return b": where every voter ranks x above y, so does the outcome.";
+    }
+    if name == b"independence".as_slice() {
+        return b": if each voter ranks x and y at p as at q, the outcomes at p and at q rank x and y alike.";
+    }
+    if name == b"non_dictatorship".as_slice() {
+        return b": for each voter there is a profile and a pair which the outcome there ranks otherwise than this voter.";
+    }
+    if name == b"anonymity".as_slice() {
+        return b": if two voters exchange their ballots, the outcome is the same.";
+    }
+    if name == b"neutrality".as_slice() {
+        return b": if two alternatives are exchanged in all ballots, they are exchanged in the outcome.";
+    }
+    b""
+}
+
+/// The words of an axiom of the library, where the kind is `sets`.
+#[tactic(auto, unfolding(crate::specs::Words::set_words))]
+fn set_words(name: &[u8]) -> &'static [u8]
+    ensures { result.now ≡ set_words name.now }
+{
+    if name == b"pareto".as_slice() {
+        return b": where every voter ranks x above y, y is not in the set.";
+    }
+    if name == b"anonymity".as_slice() {
+        return b": if two voters exchange their ballots, the set is the same.";
+    }
+    if name == b"neutrality".as_slice() {
+        return b": if two alternatives are exchanged in all ballots, they are exchanged in the set.";
+    }
+    if name == b"condorcet".as_slice() {
+        return b": an alternative that more voters rank above than below each other one is the whole set.";
+    }
+    if name == b"resolute".as_slice() {
+        return b": no two alternatives are in the set.";
+    }
+    if name == b"strategyproof".as_slice() {
+        return b": no voter, by casting another ballot at a profile, gets another set in which each alternative is as good, by this voter's ballot there, as each alternative of the set there.";
+    }
+    b""
+}
+
+/// The words of an axiom of the library of a kind; an axiom of the study's own has none.
+pub(crate) fn words_of(kind: Kind, name: &[u8]) -> &'static [u8]
+    ensures { result.now ≡ words_of kind name.now }
+{
+    match kind {
+        Kind::Choice => choice_words(name),
+        Kind::Ranking => ranking_words(name),
+        Kind::Sets => set_words(name),
+    }
+}
