@@ -1,0 +1,272 @@
+//! What a reason rests on.
+
+ghost use Rattle.std.specs.Prelude.{◌≡◌, ◌++◌, ℕ, List, nat_lt, slice_get, Some, IsTrue, IfOk, IfSome};
+ghost use Rattle.std.specs.Cmp.Lexicographic.{pointwise};
+ghost use Rattle.std.specs.List.{list_all};
+ghost use Rattle.vocab.specs.Limits.{bases_of};
+ghost use Rattle.vocab.specs.Literal.{has, profile_of};
+ghost use Rattle.vocab.specs.Titled.{Titled};
+ghost use Rattle.meaning.specs.Literals.{is_literal};
+ghost use Rattle.meaning.specs.Stories.{has_literals, refutes};
+ghost use Rattle.story.specs.Conditions.{has_places};
+ghost use Rattle.premises.specs.Grounds.{RestsOn};
+
+use crate::spoken::literals_of;
+use lists::NoMemory;
+use meaning::{Lemma, Literals, Reason};
+use outcomes::OutcomeKind;
+use outcomes::laws::kinds_have_sizes;
+use std::alloc::Global;
+use story::refutes;
+use vocab::{Env, Kind, Literal, Places, Size, Sort, Study};
+use worlds::Board;
+use worlds::laws::bodies_have_values;
+
+/// How many facts are tried one by one whether they can be left out.
+const MOST_TRIED: usize = 30;
+
+/// A study with the kind of its rules, a core of its axioms, and the lemmas that may be cited.
+#[derive(Drop)]
+pub(crate) struct Grounds<'a, K: OutcomeKind> {
+    pub(crate) kind: &'a K,
+    pub(crate) study: &'a Study,
+    pub(crate) core: &'a Places,
+    pub(crate) earlier: &'a [Lemma],
+    ghost size: { study.now.size ≡ K.size kind.now },
+    ghost places: { IsTrue (has_places study.now.axioms core.now) },
+    ghost literals: { IsTrue (list_all (has_literals (K.size kind.now)) earlier.now) },
+}
+
+/// The profile of a literal.
+fn profile_of(literal: &Literal) -> u32
+    ensures { result ≡ profile_of literal.now }
+{
+    match *literal {
+        Literal::Wins(_, p) => p,
+        Literal::Loses(_, p) => p,
+        Literal::Above(_, _, p) => p,
+    }
+}
+
+/// Whether a literal is one of the size.
+fn is_literal(size: Size, literal: &Literal) -> bool
+    ensures { result ≡ is_literal size literal.now }
+{
+    let alternatives = size.alternatives();
+    let profiles = size.sort_len(Sort::Profile);
+    match (size.kind(), *literal) {
+        (Kind::Choice, Literal::Wins(x, p)) => x < alternatives && p < profiles,
+        (Kind::Choice, Literal::Loses(x, p)) => x < alternatives && p < profiles,
+        (Kind::Sets, Literal::Wins(x, p)) => x < alternatives && p < profiles,
+        (Kind::Sets, Literal::Loses(x, p)) => x < alternatives && p < profiles,
+        (Kind::Ranking, Literal::Above(x, y, p)) => {
+            x < alternatives && y < alternatives && x != y && p < profiles
+        }
+        _ => false,
+    }
+}
+
+/// Puts a literal on a board, if it is known and not yet there.
+fn load_one(size: Size, known: &Board, tried: &mut Board, literal: &Literal)
+    requires known { known.now.size ≡ size }
+    requires tried { tried.old.size ≡ size }
+    requires all { IsTrue (list_all (has known.now.literals) tried.old.literals) }
+    ensures size { tried.new.size ≡ tried.old.size }
+    ensures all { IsTrue (list_all (has known.now.literals) tried.new.literals) }
+{
+    if is_literal(size, literal) && known.has(literal) && !tried.has(literal) {
+        tried.add(literal);
+    }
+}
+
+/// Puts those of some literals on a board that are known, but for the one at a place.
+fn load(size: Size, known: &Board, tried: &mut Board, literals: &[Literal], left_out: usize)
+    requires known { known.now.size ≡ size }
+    requires tried { tried.old.size ≡ size }
+    ensures size { tried.new.size ≡ tried.old.size }
+    ensures all { IsTrue (list_all (has known.now.literals) tried.new.literals) }
+{
+    tried.clear();
+    for place in 0..literals.len() {
+        if place != left_out {
+            load_one(size, known, tried, &literals[place]);
+        }
+    }
+}
+
+/// Puts other literals on a board, unless one of them is there.
+fn add_others(size: Size, tried: &mut Board, others: &[Literal]) -> bool
+    requires { tried.old.size ≡ size }
+    ensures size { tried.new.size ≡ tried.old.size }
+    ensures added { IsTrue result → tried.new.literals ≡ tried.old.literals ++ others.now }
+{
+    for other in others {
+        if !is_literal(size, other) || tried.has(other) {
+            return false;
+        }
+        tried.add(other);
+    }
+    true
+}
+
+impl<K: OutcomeKind> Grounds<'_, K> {
+    /// Whether a reason rests on those of some literals that are known, but for the one at a place: these, if it
+    /// does. The reason has to refute them together with the others.
+    fn attempt(
+        &self,
+        alloc: Global,
+        known: &Board,
+        tried: &mut Board,
+        literals: &[Literal],
+        left_out: usize,
+        others: &[Literal],
+        reason: &Reason,
+    ) -> Result<Option<Literals>, NoMemory>
+        requires known { known.now.size ≡ K.size self.now.kind.now }
+        requires tried { tried.old.size ≡ K.size self.now.kind.now }
+        ensures tried { tried.new.size ≡ tried.old.size }
+        ensures rests { IfOk result (λ found. IfSome found (λ rests.
+            RestsOn (K.size self.now.kind.now) self.now.study.now.axioms self.now.core.now self.now.earlier.now
+            known.now.literals others.now reason.now rests)) }
+    {
+        let size = self.kind.space().size();
+        load(size, known, tried, literals, left_out);
+        let mut rests = Literals::new(alloc);
+        rests.append(tried.as_slice())?;
+        if !add_others(size, tried, others) {
+            return Ok(None);
+        }
+        match refutes(self.kind, self.study, self.core, self.earlier, tried, reason) {
+            Ok(()) => Ok(Some(rests)),
+            Err(_) => Ok(None),
+        }
+    }
+
+    /// Leaves out what a reason does not need of the facts that it rests on, the last first; of many facts
+    /// nothing.
+    fn least(
+        &self,
+        alloc: Global,
+        known: &Board,
+        tried: &mut Board,
+        rests: Literals,
+        others: &[Literal],
+        reason: &Reason,
+    ) -> Result<Literals, NoMemory>
+        requires known { known.now.size ≡ K.size self.now.kind.now }
+        requires tried { tried.old.size ≡ K.size self.now.kind.now }
+        requires rests { RestsOn (K.size self.now.kind.now) self.now.study.now.axioms self.now.core.now
+            self.now.earlier.now known.now.literals others.now reason.now rests }
+        ensures tried { tried.new.size ≡ tried.old.size }
+        ensures rests { IfOk result (λ rests.
+            RestsOn (K.size self.now.kind.now) self.now.study.now.axioms self.now.core.now self.now.earlier.now
+            known.now.literals others.now reason.now rests) }
+    {
+        let count = rests.len();
+        if count > MOST_TRIED {
+            return Ok(rests);
+        }
+        let mut kept = rests;
+        for place in (0..count).rev() {
+            let fewer = self.attempt(alloc, known, tried, kept.as_slice(), place, others, reason)?;
+            if let Some(fewer) = fewer {
+                kept = fewer;
+            }
+        }
+        Ok(kept)
+    }
+
+    /// The literals that an instance of the axiom at a place of the core speaks of.
+    fn spoken_by(&self, alloc: Global, place: u32, values: &Env) -> Result<Literals, NoMemory>
+        requires { (a : Titled) → slice_get self.now.study.now.axioms place ≡ Some a →
+            IsTrue (pointwise nat_lt values.now (bases_of (K.size self.now.kind.now) a.sentence)) }
+    {
+        bodies_have_values();
+        let axioms = self.study.axioms();
+        if place as usize >= axioms.len() {
+            return Ok(Literals::new(alloc));
+        }
+        let sentence = axioms.get(place as usize).sentence();
+        literals_of(alloc, self.kind.space(), sentence.body(), values)
+    }
+
+    /// Facts that a reason may rest on; those that are not known do not count.
+    fn candidates(&self, alloc: Global, known: &Board, reason: &Reason) -> Result<Literals, NoMemory>
+        requires { (k : ℕ) (values : List ℕ) → reason.now ≡ Reason.Axiom k values → (a : Titled) →
+            slice_get self.now.study.now.axioms k ≡ Some a →
+            IsTrue (pointwise nat_lt values (bases_of (K.size self.now.kind.now) a.sentence)) }
+    {
+        match reason {
+            Reason::Axiom(place, values) => self.spoken_by(alloc, *place, values),
+            Reason::Outcome(p) => at_profile(alloc, known.as_slice(), *p),
+            Reason::Lemma(place) => match self.earlier.get(*place as usize) {
+                Some(lemma) => all_of(alloc, lemma.suppose.as_slice()),
+                None => Ok(Literals::new(alloc)),
+            },
+        }
+    }
+
+    /// All that is known, where a reason refutes it together with the others.
+    fn all_known(
+        &self,
+        alloc: Global,
+        known: &Board,
+        others: &[Literal],
+        reason: &Reason,
+    ) -> Result<Literals, NoMemory>
+        requires { IsTrue (refutes (K.size self.now.kind.now) self.now.study.now.axioms self.now.core.now
+            self.now.earlier.now (known.now.literals ++ others.now) reason.now) }
+        ensures { IfOk result (λ rests.
+            RestsOn (K.size self.now.kind.now) self.now.study.now.axioms self.now.core.now self.now.earlier.now
+            known.now.literals others.now reason.now rests) }
+    {
+        all_of(alloc, known.as_slice())
+    }
+
+    /// What a reason rests on that refutes all that is known together with the others.
+    pub(crate) fn rests_on(
+        &self,
+        alloc: Global,
+        known: &Board,
+        tried: &mut Board,
+        others: &[Literal],
+        reason: &Reason,
+    ) -> Result<Literals, NoMemory>
+        requires known { known.now.size ≡ K.size self.now.kind.now }
+        requires tried { tried.old.size ≡ K.size self.now.kind.now }
+        requires refuted { IsTrue (refutes (K.size self.now.kind.now) self.now.study.now.axioms self.now.core.now
+            self.now.earlier.now (known.now.literals ++ others.now) reason.now) }
+        ensures tried { tried.new.size ≡ tried.old.size }
+        ensures rests { IfOk result (λ rests.
+            RestsOn (K.size self.now.kind.now) self.now.study.now.axioms self.now.core.now self.now.earlier.now
+            known.now.literals others.now reason.now rests) }
+    {
+        let candidates = self.candidates(alloc, known, reason)?;
+        let all = candidates.len();
+        let found = self.attempt(alloc, known, tried, candidates.as_slice(), all, others, reason)?;
+        match found {
+            Some(rests) => self.least(alloc, known, tried, rests, others, reason),
+            None => self.all_known(alloc, known, others, reason),
+        }
+    }
+}
+
+/// Those of some literals that speak of a profile.
+fn at_profile(alloc: Global, literals: &[Literal], p: u32) -> Result<Literals, NoMemory> {
+    let mut found = Literals::new(alloc);
+    for literal in literals {
+        if profile_of(literal) == p {
+            found.push(*literal)?;
+        }
+    }
+    Ok(found)
+}
+
+/// All of some literals.
+fn all_of(alloc: Global, literals: &[Literal]) -> Result<Literals, NoMemory>
+    ensures { IfOk result (λ all. all ≡ literals.now) }
+{
+    let mut all = Literals::new(alloc);
+    all.append(literals)?;
+    Ok(all)
+}
