@@ -24,6 +24,7 @@ next_below f n =
   where
     one : n + 1 ≡ suc n
     one = omega arith
+
     none : 0 + n ≡ n
     none = omega arith
 

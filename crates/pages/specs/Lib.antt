@@ -5,3 +5,4 @@ pub mod Grids
 pub mod Lemmas
 pub mod Words
 pub mod Pages
+pub mod Told

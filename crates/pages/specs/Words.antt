@@ -6,7 +6,7 @@ use Rattle.vocab.specs.declared.kinds.Kind.TheVariants.{Choice, Ranking, Sets}
 
 -- the front of each page: the title and the styles
 unfoldable pub opening : List ℕ
-opening = codes "<!doctype html>\n<html lang=en><head><meta charset=utf-8><title>A report of the theorem bench</title><style>@page{size:A4;margin:11mm}body{font:9.2pt/1.3 Georgia,serif;max-width:188mm;margin:6mm auto;color:#111}h1{font-size:15pt;margin:0 0 4px}h2{font-size:11pt;margin:8px 0 2px}h3{font-size:9.6pt;margin:6px 0 1px}p{margin:2px 0}ul,ol{margin:1px 0;padding-left:20px}section{break-inside:avoid}code{font-size:8.2pt;white-space:nowrap}li>code{white-space:normal;color:#555}i{font-style:italic}.r{display:flex;gap:10px;align-items:flex-start}.r>div{flex:1;min-width:0}li>div,details,h3 span,p span{display:inline}li>div+div::before,span+span::before{content:'; '}summary{display:inline;list-style:none}.z,u{color:#888}u{text-decoration:none}table{border-collapse:collapse}td,th{border:1px solid #bbb;font-size:7pt;padding:0 2px;text-align:center;white-space:nowrap;font-weight:normal;min-width:19px;height:13px}th{background:#f1f1f1}td span+span::before{content:''}sup{font-size:5pt;color:#a00}.w{display:flex;flex-wrap:wrap;gap:12px}</style></head><body>\n<h1>A report of the theorem bench</h1>\n"
+opening = codes "<!doctype html>\n<html lang=en><head><meta charset=utf-8><title>A report of the theorem bench</title><style>@page{size:A4;margin:11mm}body{font:8.8pt/1.22 Georgia,serif;max-width:188mm;margin:6mm auto;color:#111}h1{font-size:15pt;margin:0 0 4px}h2{font-size:11pt;margin:8px 0 2px}h3{font-size:9.6pt;margin:6px 0 1px}p{margin:2px 0}ul,ol{margin:1px 0;padding-left:20px}section{break-inside:avoid}code{font-size:8.2pt;white-space:nowrap}ul>li>code{white-space:normal;color:#555}i{font-style:italic}.r{display:flex;gap:10px;align-items:flex-start}.r>div{flex:1;min-width:0}li>div,h3 span,p span{display:inline}details{display:inline-block;vertical-align:bottom}details[open]{display:block}li>div+div::before,span+span::before{content:'; '}summary{display:inline;list-style:none}.z,u{color:#888}u{text-decoration:none}table{border-collapse:collapse}td,th{border:1px solid #bbb;font-size:7pt;padding:0 2px;text-align:center;white-space:nowrap;font-weight:normal;min-width:19px;height:13px}th{background:#f1f1f1}td span+span::before{content:''}sup{font-size:5pt;color:#a00}.w{display:flex;flex-wrap:wrap;gap:12px}</style></head><body>\n<h1>A report of the theorem bench</h1>\n"
 
 -- the words of an axiom of the library of rules that choose
 unfoldable pub choice_words : List ℕ → List ℕ

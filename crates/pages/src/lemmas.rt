@@ -80,12 +80,7 @@ fn put_claims(
 }
 
 /// Adds what a lemma claims.
-fn put_title(
-    out: &mut Html,
-    space: &Space,
-    number: u64,
-    lemma: &Lemma,
-) -> Result<(), NoMemory>
+fn put_title(out: &mut Html, space: &Space, number: u64, lemma: &Lemma) -> Result<(), NoMemory>
     ensures { OnOk result (out.new ≡ out.old ++ title_html space.now number lemma.now.suppose) }
 {
     let suppose = lemma.suppose.as_slice();
@@ -144,12 +139,7 @@ fn put_against_claim(out: &mut Html, place: u32) -> Result<(), NoMemory>
 }
 
 /// Adds the last reason.
-fn put_end(
-    out: &mut Html,
-    space: &Space,
-    axioms: &[Axiom],
-    reason: &Reason,
-) -> Result<(), NoMemory>
+fn put_end(out: &mut Html, space: &Space, axioms: &[Axiom], reason: &Reason) -> Result<(), NoMemory>
     ensures { OnOk result (out.new ≡ out.old ++ end_html space.now axioms.now reason.now) }
 {
     match *reason {

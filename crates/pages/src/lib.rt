@@ -7,7 +7,9 @@ mod grids;
 mod lemmas;
 mod page;
 mod sentences;
+mod whole;
 mod words;
 
 pub use escapes::Html;
 pub use page::{Source, put_page};
+pub use whole::page_text;

@@ -193,12 +193,7 @@ fn put_text_at(out: &mut Html, texts: &[Items<u8>], place: u32) -> Result<(), No
 }
 
 /// Adds the words of the axiom at a place.
-fn put_words(
-    out: &mut Html,
-    space: &Space,
-    axioms: &[Axiom],
-    place: u32,
-) -> Result<(), NoMemory>
+fn put_words(out: &mut Html, space: &Space, axioms: &[Axiom], place: u32) -> Result<(), NoMemory>
     ensures { OnOk result (out.new ≡ out.old ++ words_of space.now.kind (name_at axioms.now place)) }
 {
     let kind = space.size().kind();
@@ -309,7 +304,9 @@ fn put_ruled<K: OutcomeKind>(out: &mut Html, kind: &K, table: &Table) -> Result<
 fn put_open(out: &mut Html, space: &Space, limit: u32) -> Result<(), NoMemory>
     ensures { OnOk result (out.new ≡ out.old ++ mark_of space.now (Witness.Open limit)) }
 {
-    out.append(b", it is not known whether some rule satisfies the others: the search gave up after ")?;
+    out.append(
+        b", it is not known whether some rule satisfies the others: the search gave up after ",
+    )?;
     put_number(out, limit as u64)?;
     out.append(b" conflicts.</p>\n")?;
     Ok(())
@@ -441,12 +438,7 @@ fn put_impossible<K: OutcomeKind>(
 }
 
 /// Adds what a rule satisfies.
-fn put_satisfied(
-    out: &mut Html,
-    space: &Space,
-    about: &About,
-    count: u32,
-) -> Result<(), NoMemory>
+fn put_satisfied(out: &mut Html, space: &Space, about: &About, count: u32) -> Result<(), NoMemory>
     requires { length about.now.axioms.now ≡ count }
     ensures { OnOk result (out.new ≡ out.old ++
         satisfied_html space.now about.now.axioms.now about.now.texts.now) }

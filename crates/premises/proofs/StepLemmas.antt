@@ -47,7 +47,7 @@ module _ (size : Extent) (axioms : List Titled) (core : List ℕ) (earlier : Lis
       let step = get_or steps i d in
       let rest = drop (i + 1) steps in
       let p = and_parts (not (is_decided known step.literal) && refutes size axioms core earlier (known ++ opposite_of step.literal ∷ []) step.reason) (are_forced size axioms core earlier last (known ++ step.literal ∷ []) rest)
-          (subst (λ (ss : List StoryStep). are_forced size axioms core earlier last known ss ≡ true) (drop_more steps i d lt) h) in
+      (subst (λ (ss : List StoryStep). are_forced size axioms core earlier last known ss ≡ true) (drop_more steps i d lt) h) in
       let q = and_parts (not (is_decided known step.literal)) (refutes size axioms core earlier (known ++ opposite_of step.literal ∷ []) step.reason) p.0 in
       record { fresh = is_fresh known step.literal q.0; refuted = q.1; others = p.1 }
 

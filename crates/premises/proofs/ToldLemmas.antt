@@ -130,14 +130,14 @@ module _ (size : Extent) (axioms : List Titled) (core : List ℕ) (earlier : Lis
           | inl low ↦ subst (λ (o : Option Sentence). list_all (stands_before suppose (steps ++ placed ∷ []) k) (rests_of o) ≡ true) (sym (joined.kept k low))
               (all_from (stands_before suppose steps k) (stands_before suppose (steps ++ placed ∷ []) k) (λ q e. stands_more suppose steps placed k q e) (rests_of (slice_get old k)) (so_far.grounded k))
           | inr high ↦ elim (cases_lt k (length new)) [
-              | inl within ↦
-                  let fresh = joined.fresh k high within in
-                  let same : rests_of (slice_get new k) ≡ rests = ap (λ (i : ℕ). rests_of (slice_get new i)) fresh.0 ∙ its_rests (slice_get new number) step rests joined.is in
-                  let earlier_ones : list_all (is_earlier k) steps ≡ true = subst (λ (i : ℕ). list_all (is_earlier i) steps ≡ true) (sym (fresh.0 ∙ fresh.1)) so_far.numbered in
-                  subst (λ (ls : List Literal). list_all (stands_before suppose (steps ++ placed ∷ []) k) ls ≡ true) (sym same)
-                  (all_from (stands_before suppose steps k) (stands_before suppose (steps ++ placed ∷ []) k) (λ q e. stands_more suppose steps placed k q e) rests (all_stand suppose known steps k rests is earlier_ones grounds.kept))
-              | inr beyond ↦ subst (λ (o : Option Sentence). list_all (stands_before suppose (steps ++ placed ∷ []) k) (rests_of o) ≡ true) (sym (past new k beyond)) refl
-            ]
+            | inl within ↦
+                let fresh = joined.fresh k high within in
+                let same : rests_of (slice_get new k) ≡ rests = ap (λ (i : ℕ). rests_of (slice_get new i)) fresh.0 ∙ its_rests (slice_get new number) step rests joined.is in
+                let earlier_ones : list_all (is_earlier k) steps ≡ true = subst (λ (i : ℕ). list_all (is_earlier i) steps ≡ true) (sym (fresh.0 ∙ fresh.1)) so_far.numbered in
+                subst (λ (ls : List Literal). list_all (stands_before suppose (steps ++ placed ∷ []) k) ls ≡ true) (sym same)
+                (all_from (stands_before suppose steps k) (stands_before suppose (steps ++ placed ∷ []) k) (λ q e. stands_more suppose steps placed k q e) rests (all_stand suppose known steps k rests is earlier_ones grounds.kept))
+            | inr beyond ↦ subst (λ (o : Option Sentence). list_all (stands_before suppose (steps ++ placed ∷ []) k) (rests_of o) ≡ true) (sym (past new k beyond)) refl
+          ]
         ]
 
     pub told_more : IsToldSoFar size axioms core earlier suppose new (steps ++ placed ∷ [])

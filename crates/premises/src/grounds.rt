@@ -136,7 +136,14 @@ impl<K: OutcomeKind> Grounds<'_, K> {
         if !add_others(size, tried, others) {
             return Ok(None);
         }
-        match refutes(self.kind, self.study, self.core, self.earlier, tried, reason) {
+        match refutes(
+            self.kind,
+            self.study,
+            self.core,
+            self.earlier,
+            tried,
+            reason,
+        ) {
             Ok(()) => Ok(Some(rests)),
             Err(_) => Ok(None),
         }
@@ -191,7 +198,12 @@ impl<K: OutcomeKind> Grounds<'_, K> {
     }
 
     /// Facts that a reason may rest on; those that are not known do not count.
-    fn candidates(&self, alloc: Global, known: &Board, reason: &Reason) -> Result<Literals, NoMemory>
+    fn candidates(
+        &self,
+        alloc: Global,
+        known: &Board,
+        reason: &Reason,
+    ) -> Result<Literals, NoMemory>
         requires { (k : ℕ) (values : List ℕ) → reason.now ≡ Reason.Axiom k values → (a : Titled) →
             slice_get self.now.study.now.axioms k ≡ Some a →
             IsTrue (pointwise nat_lt values (bases_of (K.size self.now.kind.now) a.sentence)) }
@@ -243,7 +255,15 @@ impl<K: OutcomeKind> Grounds<'_, K> {
     {
         let candidates = self.candidates(alloc, known, reason)?;
         let all = candidates.len();
-        let found = self.attempt(alloc, known, tried, candidates.as_slice(), all, others, reason)?;
+        let found = self.attempt(
+            alloc,
+            known,
+            tried,
+            candidates.as_slice(),
+            all,
+            others,
+            reason,
+        )?;
         match found {
             Some(rests) => self.least(alloc, known, tried, rests, others, reason),
             None => self.all_known(alloc, known, others, reason),

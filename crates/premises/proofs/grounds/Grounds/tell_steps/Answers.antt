@@ -24,7 +24,7 @@ rests_on-requires-clause-refuted g c = λ κs out.
     let last = c.args.lemma.now.last in
     let steps = c.as_slice-steps.result.now in
     let next = subst (λ (s : StoryStep). NextForced size axioms core earlier last c.loop-step.known.literals s (drop (c.loop-step.step-index + 1) steps)) (sym c.step-item.is)
-        (next_forced size axioms core earlier last c.loop-step.known.literals steps c.loop-step.step-index c.step-item.result c.loop-step-test.true c.loop-step.invariant.forced) in
+    (next_forced size axioms core earlier last c.loop-step.known.literals steps c.loop-step.step-index c.step-item.result c.loop-step-test.true c.loop-step.invariant.forced) in
     rw c.opposite.ensures next.refuted
 
 pub add-requires-clause-literal : goal.add-requires-clause-literal
@@ -49,7 +49,7 @@ loop-step-preserved g c =
     let item = c.step-item.result in
     let placed : Placed = record { sentence = c.in_ok-sentence.sentence; step = item } in
     let next = subst (λ (s : StoryStep). NextForced size axioms core earlier last known s (drop (c.loop-step.step-index + 1) steps)) (sym c.step-item.is)
-        (next_forced size axioms core earlier last known steps c.loop-step.step-index item c.loop-step-test.true c.loop-step.invariant.forced) in
+    (next_forced size axioms core earlier last known steps c.loop-step.step-index item c.loop-step-test.true c.loop-step.invariant.forced) in
     record {
       known_size = c.add.ensures.size ∙ c.loop-step.invariant.known_size;
       tried_size = c.in_ok-rests.ensures.tried ∙ c.loop-step.invariant.tried_size;

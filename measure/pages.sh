@@ -1,0 +1,49 @@
+#!/usr/bin/env bash
+# Prints each page of pages/, or each page that is named, with headless Chromium (Debian's package), and says for each how many
+# printed A4 pages it has, whether all of it is within the width of the paper, and how many errors `tidy` finds.
+# Where Chromium or tidy is missing, it says so, and what needs it is left out. It ends with status 1 where a page is too wide or has an
+# error.
+set -u
+root=$(cd -- "$(dirname -- "$(readlink -f -- "${BASH_SOURCE[0]}")")/.." && pwd) || exit 1
+work=$(mktemp -d) || exit 1
+trap 'rm -rf "$work"' EXIT
+browser=$(command -v chromium || command -v chromium-browser || true)
+checker=$(command -v tidy || true)
+[ -n "$browser" ] || echo "pages: no chromium here: nothing is printed" >&2
+[ -n "$checker" ] || echo "pages: no tidy here: nothing is checked" >&2
+faults=0
+
+# Chromium without a screen.
+headless() { timeout 120 "$browser" --headless --no-sandbox --disable-gpu --allow-file-access-from-files "$@" 2>/dev/null; }
+
+# How many pages a PDF has.
+printed() { grep -a -c '/Type[[:space:]]*/Page\([^s]\|$\)' "$1"; }
+
+# By how much a page is wider than the paper within its margins, 188 mm, at 96 dots an inch.
+excess() {
+    cat >"$work/frame.html" <<HTML
+<!doctype html><title>frame</title><body><iframe id=page style="width:711px;height:1000px;border:0" src="file://$1"></iframe>
+<script>onload=()=>{const d=document.getElementById('page').contentDocument.documentElement;document.title='excess '+(d.scrollWidth-711)}</script>
+HTML
+    headless --dump-dom "file://$work/frame.html" | sed -n 's/.*<title>excess \(-\{0,1\}[0-9]*\)<.*/\1/p'
+}
+
+[ $# -gt 0 ] || set -- "$root"/pages/*.html
+for page in "$@"; do
+    page=$(readlink -f -- "$page")
+    line=$(basename "$page")
+    if [ -n "$browser" ]; then
+        headless --print-to-pdf="$work/page.pdf" "file://$page" >/dev/null
+        wide=$(excess "$page")
+        line="$line: printed pages $(printed "$work/page.pdf"), wider by ${wide:-?}"
+        [ "${wide:-1}" -le 0 ] || faults=$((faults + 1))
+    fi
+    if [ -n "$checker" ]; then
+        "$checker" -q -e "$page" >"$work/tidy" 2>&1
+        errors=$(grep -c ' - Error: ' "$work/tidy")
+        line="$line, errors $errors"
+        [ "$errors" -eq 0 ] || faults=$((faults + 1))
+    fi
+    echo "$line"
+done
+[ "$faults" -eq 0 ]
