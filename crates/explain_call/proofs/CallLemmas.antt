@@ -1,0 +1,137 @@
+-- From the reply of a command to the promises of a call.
+use Rattle.std.proofs.Common.{◌≡◌, ◌≢◌, ◌∙◌, sym, refl, subst, ℕ, ◌≤◌, inl, inr, cond, Bool, true, false, ◌||◌, List, [], ◌∷◌, take, Option, None, Some, Result, Ok, Err, arith}
+use Rattle.std.specs.Prelude.{◌==◌, IsTrue, IsFalse}
+use Rattle.std.specs.List.{list_any}
+use Rattle.std.specs.Str.{bytes_eq}
+use Rattle.std.specs.Io.KnownBytes.{Appends, Keeps}
+use Rattle.edge.specs.Shelf.{Files}
+use Rattle.edge.specs.Faults.{Rose}
+use Rattle.edge.specs.Told.{AppendsPrefix}
+use Rattle.answers.specs.Call.{touched_at}
+use Rattle.answers.specs.Devices.{Devices}
+use Rattle.command_parts.specs.declared.answer.Stop.{Stop}
+use Rattle.command_parts.specs.declared.answer.Stop.TheVariants as stop
+use Rattle.explain_words.specs.Words.{Request, Story, request_of}
+use Rattle.explain_call.specs.declared.reply.Reply.{Reply}
+use Rattle.explain_call.specs.declared.reply.Reply.TheVariants as reply
+use Rattle.explain_call.specs.Call.{IsCall, HasReadCause, files_of, statuses_of}
+use Rattle.explain_call.specs.Replies.{Replies, status_of, text_of}
+
+-- ---- commands
+
+-- the text of each command may be cut short
+may_be_cut : (request : Option Request) → IsTrue (list_any (λ n. n == 6) (statuses_of request))
+may_be_cut None = refl
+may_be_cut (Some (Story study report workers)) = refl
+
+-- and each may want memory
+may_want_memory : (request : Option Request) → IsTrue (list_any (λ n. n == 7) (statuses_of request))
+may_want_memory None = refl
+may_want_memory (Some (Story study report workers)) = refl
+
+module _ (request : Option Request) (told : Option Files) (left : Files) (faults : List ℕ → ℕ) where
+  -- the usage line, for words that are no command
+  pub usage_reply : request ≡ None → Replies request told left left faults faults (Ok reply.Usage)
+  usage_reply asked = subst (λ (r : Option Request). Replies r told left left faults faults (Ok reply.Usage)) (sym asked) (record {
+    lawful = λ files h. (refl, refl);
+    known = refl;
+    low = omega arith;
+    has_text = tt;
+    read_fault = λ e. absurd (cc);
+    untouched = λ name free. refl;
+    uncounted = λ none name. refl;
+  })
+
+  -- want of memory, where the shelf is as it was
+  pub no_memory : Replies request told left left faults faults (Err stop.NoMemory)
+  no_memory = record {
+    lawful = λ files h. tt;
+    known = may_want_memory request;
+    low = tt;
+    has_text = tt;
+    read_fault = λ e. absurd (cc);
+    untouched = λ name free. refl;
+    uncounted = λ none name. refl;
+  }
+
+-- what a command promises of its reply is promised of the words that are that command
+pub asked_reply : (request asked : Option Request) (told : Option Files) (left_before left_now : Files) (faults_before faults_now : List ℕ → ℕ) (result : Result Reply Stop)
+    → asked ≡ request → Replies asked told left_before left_now faults_before faults_now result
+    → Replies request told left_before left_now faults_before faults_now result
+asked_reply request asked told left_before left_now faults_before faults_now result e a =
+    subst (λ (r : Option Request). Replies r told left_before left_now faults_before faults_now result) e a
+
+-- ---- calls
+
+not_in_front : (test : List ℕ → Bool) (s : ℕ) (names : List (List ℕ)) → list_any test names ≡ false → list_any test (touched_at s names) ≡ false
+not_in_front test s names free = by_status (s == 3) names free
+  where
+    first_alone : (names : List (List ℕ)) → list_any test names ≡ false → list_any test (take 1 names) ≡ false
+    first_alone [] free = refl
+    first_alone (name ∷ names) free = one (test name) (list_any test names) free
+      where
+        one : (a b : Bool) → (a || b) ≡ false → (a || false) ≡ false
+        one true b e = e
+        one false b e = refl
+
+    by_status : (b : Bool) (names : List (List ℕ)) → list_any test names ≡ false → list_any test (cond b (take 1 names) names) ≡ false
+    by_status true names free = first_alone names free
+    by_status false names free = free
+
+keeps : (o : Option (List ℕ)) → Keeps o o
+keeps None = tt
+keeps (Some xs) = refl
+
+module _ (words : List (List ℕ)) (d : Devices) where
+  abbrev Promised : Result Reply Stop → Type 0
+  Promised result = Replies (request_of words) d.told d.left_before d.left_now d.faults_before d.faults_now result
+
+  -- the text was written
+  pub written : (r : Reply) → Promised (Ok r) → Appends d.taken_before d.taken_now (text_of r) → IsCall words d (status_of r)
+  written r a bytes = record {
+    known = a.known;
+    lawful = λ files h low. record { text = text_of r; lawful = a.lawful files h; written = bytes };
+    cut_short = λ files h six. absurd (omega (arith, six, a.low));
+    silent = λ e. elim e [ inl five ↦ absurd (omega (arith, five, a.low)) | inr seven ↦ absurd (omega (arith, seven, a.low)) ];
+    read_fault = λ five. absurd (omega (arith, five, a.low));
+    write_fault = λ six. absurd (omega (arith, six, a.low));
+    untouched = a.untouched;
+    uncounted = a.uncounted;
+  }
+
+  -- the front of it was
+  pub cut : (r : Reply) → Promised (Ok r) → AppendsPrefix d.taken_before d.taken_now (text_of r) → Rose d.sink_faults_before d.sink_faults_now → IsCall words d 6
+  cut r a bytes rose = record {
+    known = may_be_cut (request_of words);
+    lawful = λ files h low. absurd (omega (arith, low));
+    cut_short = λ files h six. record { status = status_of r; text = text_of r; lawful = a.lawful files h; written = bytes; untouched = a.untouched };
+    silent = λ e. elim e [ inl five ↦ absurd (omega (arith, five)) | inr seven ↦ absurd (omega (arith, seven)) ];
+    read_fault = λ five. absurd (omega (arith, five));
+    write_fault = λ six. rose;
+    untouched = λ name free. a.untouched name (not_in_front (bytes_eq name) (status_of r) (files_of (request_of words)) free);
+    uncounted = a.uncounted;
+  }
+
+  -- nothing was
+  silent_call : (s : ℕ) → 5 ≤ s → s ≢ 6 → d.taken_now ≡ d.taken_before → IsTrue (list_any (λ n. n == s) (statuses_of (request_of words)))
+      → (s ≡ 5 → HasReadCause d.told d.left_before d.left_now d.faults_before d.faults_now (files_of (request_of words)))
+      → ((name : List ℕ) → IsFalse (list_any (bytes_eq name) (touched_at s (files_of (request_of words)))) → d.left_now name ≡ d.left_before name)
+      → (files_of (request_of words) ≡ [] → (name : List ℕ) → d.faults_now name ≡ d.faults_before name) → IsCall words d s
+  silent_call s high other same one cause untouched uncounted = record {
+    known = one;
+    lawful = λ files h low. absurd (omega (arith, low, high));
+    cut_short = λ files h six. absurd (other six);
+    silent = λ e. subst (λ (o : Option (List ℕ)). Keeps d.taken_before o) (sym same) (keeps d.taken_before);
+    read_fault = cause;
+    write_fault = λ six. absurd (other six);
+    untouched = untouched;
+    uncounted = uncounted;
+  }
+
+  -- a file could not be read
+  pub unread : d.taken_now ≡ d.taken_before → Promised (Err stop.ReadFault) → IsCall words d 5
+  unread same a = silent_call 5 (omega arith) (λ e. absurd (omega (arith, e))) same a.known (λ e. a.read_fault refl) a.untouched a.uncounted
+
+  -- there was no memory for the reply
+  pub wanted : d.taken_now ≡ d.taken_before → Promised (Err stop.NoMemory) → IsCall words d 7
+  wanted same a = silent_call 7 (omega arith) (λ e. absurd (omega (arith, e))) same a.known (λ e. absurd (omega (arith, e))) a.untouched a.uncounted

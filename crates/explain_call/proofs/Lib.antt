@@ -1,0 +1,4 @@
+-- In proof order.
+mod ReplyLemmas
+mod CallLemmas
+mod PageLaws

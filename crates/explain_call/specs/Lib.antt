@@ -1,0 +1,7 @@
+-- In reading order.
+pub mod Page
+pub mod Story
+pub mod Lawful
+pub mod Call
+pub mod Replies
+pub mod Laws

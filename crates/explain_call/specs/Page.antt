@@ -1,0 +1,13 @@
+-- The page of a verdict.
+use Rattle.std.specs.Prelude.{ℕ, List, [], codes}
+use Rattle.vocab.specs.Study.{Question}
+use Rattle.verdicts.specs.declared.verdicts.Verdict.{Verdict}
+use Rattle.pages.specs.Told.{IsPage as IsPageOf}
+
+-- what a page calls its version
+abbrev pub version : List ℕ
+version = codes "explain 1"
+
+-- the text is a page of the verdict on a study, with the names of the files of its study and of its report
+abbrev pub IsPage : Question → (study_file report_file : List ℕ) → Verdict → (text : List ℕ) → Type 0
+IsPage study study_file report_file verdict text = IsPageOf study [] study_file report_file version verdict text

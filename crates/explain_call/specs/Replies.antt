@@ -1,0 +1,62 @@
+-- What is said with a reply: its status and its text.
+use Rattle.std.specs.Prelude.{◌≡◌, ℕ, ◌==◌, ◌≤◌, List, [], Option, Result, Ok, Err, IfOk, IsErrOf, IsTrue}
+use Rattle.std.specs.List.{list_any}
+use Rattle.edge.specs.Shelf.{Files}
+use Rattle.vocab.specs.Study.{Question}
+use Rattle.report_files.specs.declared.worths.Worth.TheVariants as worth
+use Rattle.report_files.specs.declared.worths.JudgedWorth.TheVariants as judged
+use Rattle.verdict_reading.specs.declared.reading.Reading.{Reading}
+use Rattle.verdict_reading.specs.declared.reading.Reading.TheVariants as reading
+use Rattle.answers.specs.Call.{AreFiles, AreUntouched}
+use Rattle.command_parts.specs.declared.answer.Answer.TheVariants.{Judged}
+use Rattle.command_parts.specs.declared.answer.Stop.{Stop}
+use Rattle.command_parts.specs.declared.answer.Stop.TheVariants as stop
+use Rattle.command_parts.specs.Answers.{HasText as AnswerHasText, status_of as answer_status, text_of as answer_text}
+use Rattle.explain_words.specs.Words.{Request}
+use Rattle.explain_call.specs.declared.reply.Reply.{Reply}
+use Rattle.explain_call.specs.declared.reply.Reply.TheVariants as reply
+use Rattle.explain_call.specs.Page.{IsPage}
+use Rattle.explain_call.specs.Lawful.{IsAnswer, usage_line}
+use Rattle.explain_call.specs.Call.{HasReadCause, files_of, statuses_of}
+
+abbrev pub status_of : Reply → ℕ
+status_of reply.Usage = 2
+status_of (reply.Refused answer) = answer_status answer
+status_of (reply.Page page) = 0
+
+abbrev pub text_of : Reply → List ℕ
+text_of reply.Usage = usage_line
+text_of (reply.Refused answer) = answer_text answer
+text_of (reply.Page page) = page
+
+-- an answer of `check` has a text
+abbrev pub HasText : Reply → Type 0
+HasText (reply.Refused answer) = AnswerHasText answer
+HasText r = Unit {0}
+
+-- the reply to what was read of a report: a page of the verdict, and one that is refused is answered as `check` answers
+abbrev pub IsReplyTo : Question → (name report : List ℕ) → Reading → Reply → Type 0
+IsReplyTo study name report (reading.Confirmed verdict) (reply.Page page) = IsPage study name report verdict page
+IsReplyTo study name report (reading.Faulty line word) r = r ≡ reply.Refused (Judged (judged.Report (worth.Faulty line word)))
+IsReplyTo study name report reading.TooLong r = r ≡ reply.Refused (Judged (judged.Report worth.TooLong))
+IsReplyTo study name report (reading.Confirmed verdict) r = ⊥
+
+-- the status of a result
+abbrev pub ended_with : Result Reply Stop → ℕ
+ended_with (Ok reply) = status_of reply
+ended_with (Err stop.ReadFault) = 5
+ended_with (Err stop.NoMemory) = 7
+
+-- the reply is that of the table, with a status below 5 that the command has, and has a text; a fault has its cause;
+-- what is left of other files stays, and where no file is read no count rose
+pub record Replies (request : Option Request) (told : Option Files) (left_before left_now : Files)
+    (faults_before faults_now : List ℕ → ℕ) (result : Result Reply Stop) : Type 0 where
+  pub lawful : (files : Files) → AreFiles told (files_of request) files
+      → IfOk result (λ reply. IsAnswer request files (status_of reply) (text_of reply))
+  pub known : IsTrue (list_any (λ s. s == ended_with result) (statuses_of request))
+  pub low : IfOk result (λ reply. status_of reply ≤ 4)
+  pub has_text : IfOk result HasText
+  pub read_fault : IsErrOf result stop.ReadFault
+      → HasReadCause told left_before left_now faults_before faults_now (files_of request)
+  pub untouched : AreUntouched (ended_with result) (files_of request) left_before left_now
+  pub uncounted : files_of request ≡ [] → (name : List ℕ) → faults_now name ≡ faults_before name

@@ -1,0 +1,76 @@
+//! The top call: from words and files to a status and bytes.
+
+ghost use Rattle.words.specs.Words.{texts};
+ghost use Rattle.explain_words.specs.Words.{request_of};
+ghost use Rattle.explain_call.specs.Call.{IsCall};
+ghost use Rattle.explain_call.specs.Replies.{Replies};
+
+use crate::reply::Reply;
+use crate::story_command::story;
+use command_parts::Stop;
+use edge::{Failed, Gate, Shelf, Sink};
+use explain_words::{Command, command_of};
+use std::alloc::Global;
+use std::thread::Threads;
+use texts::write_text;
+
+/// The reply to the words, over the files of the shelf.
+fn reply<R: Threads + Sync, S: Shelf, G: Gate>(
+    rt: &R,
+    alloc: Global,
+    gate: &G,
+    words: &[String],
+    shelf: &mut S,
+) -> Result<Reply, Stop>
+    ensures { Replies (request_of (texts words.now)) (S.files shelf.old)
+        (S.left shelf.old) (S.left shelf.new) (S.faults shelf.old) (S.faults shelf.new) result }
+{
+    match command_of(alloc, words) {
+        Ok(
+            Some(
+                Command {
+                    study,
+                    report,
+                    workers,
+                },
+            ),
+        ) => story(rt, alloc, gate, workers, shelf, study, report),
+        Ok(None) => Ok(Reply::Usage),
+        Err(_) => Err(Stop::NoMemory),
+    }
+}
+
+/// All that the program does: replies to the words, over the files of the shelf, into the sink. The status is
+/// 0 where a page was written, 1 where the report is refused, 2 where the words are no command, 3 where the
+/// study is refused, 5 where a file could not be read, 6 where the text could not be written, and 7 where no
+/// memory was found.
+pub fn explain<R: Threads + Sync, S: Shelf, K: Sink, G: Gate>(
+    rt: &R,
+    alloc: Global,
+    words: &[String],
+    shelf: &mut S,
+    out: &mut K,
+    gate: &G,
+) -> u8
+    ensures { IsCall (texts words.now) (record {
+      told = S.files shelf.old;
+      left_before = S.left shelf.old;
+      left_now = S.left shelf.new;
+      faults_before = S.faults shelf.old;
+      faults_now = S.faults shelf.new;
+      taken_before = K.taken out.old;
+      taken_now = K.taken out.new;
+      sink_faults_before = K.faults out.old;
+      sink_faults_now = K.faults out.new;
+    }) result }
+{
+    let reply = match reply(rt, alloc, gate, words, shelf) {
+        Ok(reply) => reply,
+        Err(Stop::ReadFault) => return 5,
+        Err(Stop::NoMemory) => return 7,
+    };
+    match write_text(&reply, out) {
+        Ok(()) => reply.into_status(alloc),
+        Err(Failed) => 6,
+    }
+}
