@@ -1,5 +1,6 @@
-# What the launchers bench and explain share. Each sets `name`, the program's, and `with_files`, a pattern for its commands
-# whose words name files, and then reads this file, which runs the program with the launcher's words.
+# What the launchers bench and explain share. Each sets `name`, the program's, `with_files`, a pattern for its commands
+# whose words name files, and `told_under`, the part of docs/FORMATS.md that tells of them, and then reads this file,
+# which runs the program with the launcher's words.
 #
 # The program that runs is the proved build, crates/NAME/out/NAME. Where there is none, or a source is newer, it is
 # proved and built first; with BENCH_QUICK=1 the source is then run as it stands, without a proof and without that wait.
@@ -69,7 +70,7 @@ say_status() {
     local status=$1
     shift
     case $status in
-        2) say "these words are no command; $root/docs/FORMATS.md explains them under \"Commands\"" ;;
+        2) say "these words are no command; $root/docs/FORMATS.md explains them under \"$told_under\"" ;;
         5) say_unread "$@" ;;
         6) say "standard output could not be written, so the answer is cut off" ;;
         7) say "no memory was found, so there is no answer" ;;

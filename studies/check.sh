@@ -10,7 +10,8 @@
 # none of 84,934,656; a sample is the same line at each run, no words end with status 2, as does a word that is not UTF-8, an absent study
 # with status 5, and a full device with 6. Each front of a report is refused at the line that it lacks, and a study of one byte too many and
 # a list of one clause too many are refused.
-# The launcher, over this program or over one that only ends, has the program's status and standard output, and says in one line on
+# The pages in pages/ are those that `explain story` writes of the reports of their names.
+# The launcher, over this program or over one that only ends, and that of explain, has the program's status and standard output, and says in one line on
 # standard error what a status without an answer means, and where the toolchain is missing.
 # docs/PHRASES.md is held by studies/phrases.py, with what it shows of instances, rules and many studies; the sizes of docs/START.md and the
 # values that it lists of axioms are tried, as are the story that docs/STORIES.md writes by hand, known rules, and a copy of the program that
@@ -23,7 +24,11 @@ root=$(cd -- "$(dirname -- "$(readlink -f -- "${BASH_SOURCE[0]}")")/.." && pwd) 
 work=$(mktemp -d) || exit 1
 trap 'rm -rf "$work"' EXIT
 program=$root/crates/bench/out/bench
-[ "${1-}" = --built ] || env -u BENCH_QUICK "$root/bench" axioms choice >"$work/written" || exit 1
+explain=$root/crates/explain/out/explain
+if [ "${1-}" != --built ]; then
+    env -u BENCH_QUICK "$root/bench" axioms choice >"$work/written" || exit 1
+    env -u BENCH_QUICK "$root/explain" story "$root/studies/arrow.toml" "$root/studies/arrow.report" >"$work/written" || exit 1
+fi
 faults=0
 
 fault() {
@@ -41,6 +46,12 @@ answer() {
 is_line() {
     [ "$status" -eq "$1" ] && printf '%s\n' "$2" | cmp -s - "$work/written"
 }
+
+for page in "$root"/pages/*.html; do
+    name=$(basename "$page" .html)
+    (cd "$root" && "$explain" story "studies/$name.toml" "studies/$name.report") >"$work/written" || fault "explain gives $name no page"
+    cmp -s "$page" "$work/written" || fault "explain does not write pages/$name.html"
+done
 
 for study in "$root"/studies/*.toml; do
     report=${study%.toml}.report
@@ -105,12 +116,13 @@ for library in $(ldd "$program" | sed -nE 's/^\s*(\S*\/)?(lib[a-z_]*|ld-linux-x8
     grep -qF "\`$library\`" "$root/README.md" || fault "the program takes $library, which README.md does not name"
 done
 
-# The launcher stands in a tree of its own, so that its program is never built anew here.
+# The launchers stand in a tree of their own, so that their programs are never built anew here.
 tree=$work/tree
-mkdir -p "$tree/crates/bench/out"
-cp "$root/bench" "$tree/bench"
+mkdir -p "$tree/crates/bench/out" "$tree/crates/explain/out"
+cp "$root/bench" "$root/explain" "$root/launch.sh" "$tree"
 : >"$tree/crates.txt"
 cp "$program" "$tree/crates/bench/out/bench"
+cp "$explain" "$tree/crates/explain/out/explain"
 
 launches() { # STATUS SAID WORDS.., where SAID is what stands on standard error
     local wanted=$1 said=$2
@@ -139,6 +151,17 @@ unread "$PWD/-x" 'it is not there' check "$paradox.toml" -- -x
 answer check "$paradox.toml" "$paradox.report"
 "$program" decide "$paradox.toml" | "$tree/bench" check "$paradox.toml" /dev/stdin 2>&1 | cmp -s - "$work/written" ||
     fault "the launcher does not check what decide writes into a pipe"
+
+(cd "$root" && "$tree/explain" story studies/arrow.toml studies/arrow.report) 2>&1 | grep -q '^<!doctype html>$' ||
+    fault "the launcher of explain does not write a page"
+said=$("$tree/explain" story "$paradox.toml" "$work/absent" 2>&1)
+[ $? -eq 5 ] && [ "$said" = "explain: this file could not be read: $work/absent (it is not there)" ] ||
+    fault "the launcher of explain does not say which file could not be read"
+
+said=$("$tree/explain" story "$paradox.toml" 2>&1 >"$work/launched")
+[ $? -eq 2 ] && [ "$said" = "explain: these words are no command; $tree/docs/FORMATS.md explains them under \"The page of a report\"" ] ||
+    fault "the launcher of explain does not say where its words are explained"
+grep -qx '## The page of a report' "$root/docs/FORMATS.md" || fault "docs/FORMATS.md has no part \"The page of a report\""
 
 ends() { # STATUS SAID: of a program that only ends with a status
     printf '#!/bin/sh\nexit %s\n' "$1" >"$tree/crates/bench/out/bench"
