@@ -9,7 +9,7 @@ ghost use Rattle.explain_words.specs.Words.{Story};
 ghost use Rattle.explain_call.specs.Story.{IsToldOf};
 ghost use Rattle.explain_call.specs.Replies.{HasText, IsReplyTo, Replies, status_of, text_of};
 
-use crate::page::make_page;
+use pages::make_page;
 use crate::reply::Reply;
 use command_parts::{Answer, Opened, Stop, open_study};
 use crew::Crew;

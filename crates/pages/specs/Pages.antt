@@ -16,11 +16,11 @@ use Rattle.verdicts.specs.Lines.{name_at}
 use Rattle.verdicts.specs.declared.verdicts.Verdict.{Verdict}
 use Rattle.verdicts.specs.declared.verdicts.Verdict.TheVariants.{Possible, Impossible, Undecided}
 use Rattle.tellings.specs.declared.tellings.Telling.{Telling}
-use Rattle.pages.specs.Escapes.{escaped}
-use Rattle.pages.specs.Facts.{alternative_html, ballot_html}
-use Rattle.pages.specs.Sentences.{axiom_html}
-use Rattle.pages.specs.Grids.{rule_html}
-use Rattle.pages.specs.Lemmas.{story_html}
+use Rattle.html.specs.Escapes.{escaped}
+use Rattle.html.specs.Facts.{alternative_html, ballot_html}
+use Rattle.story_pages.specs.Sentences.{axiom_html}
+use Rattle.rule_pages.specs.Rules.{rule_html}
+use Rattle.story_pages.specs.Lemmas.{story_html}
 use Rattle.pages.specs.Words.{opening, words_of}
 
 -- what a rule gives at a profile

@@ -6,8 +6,8 @@ ghost use Rattle.verdicts.specs.declared.verdicts.Verdict.TheVariants.{Impossibl
 ghost use Rattle.verdicts.specs.Report.{is_right};
 ghost use Rattle.pages.specs.Told.{AreTellings, IsPage};
 
-use crate::escapes::Html;
 use crate::page::{Source, put_page};
+use html::Html;
 use lists::{Items, NoMemory};
 use meaning::{Lemma, Witnesses};
 use outcomes::OutcomeKind;

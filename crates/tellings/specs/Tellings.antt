@@ -1,5 +1,5 @@
--- When a story is told right: by sentences that follow from facts which were supposed or told before.
-use Rattle.std.specs.Prelude.{◌≡◌, ℕ, ◌<◌, nat_lt, ◌==◌, Bool, true, false, ◌&&◌, ◌||◌, IsTrue, List, [], ◌∷◌, ◌++◌, map, length, take, slice_get, Option, Some, None}
+-- When a story is told right: by sentences that follow from facts which were forced, supposed or told before.
+use Rattle.std.specs.Prelude.{◌≡◌, ℕ, ◌+◌, ◌<◌, nat_lt, ◌==◌, Bool, true, false, not, ◌&&◌, ◌||◌, IsTrue, List, [], ◌∷◌, ◌++◌, map, filter, length, take, slice_get, count_by, Option, Some, None, if◌then◌else◌}
 use Rattle.std.specs.List.{list_all, list_any}
 use Rattle.vocab.specs.declared.literals.Literal.{Literal}
 use Rattle.vocab.specs.Literal.{opposite_of, has, same_literal}
@@ -10,23 +10,26 @@ use Rattle.meaning.specs.declared.stories.Reason.TheVariants.{Axiom as ByAxiom, 
 use Rattle.meaning.specs.declared.stories.StoryStep.{StoryStep}
 use Rattle.meaning.specs.declared.stories.Lemma.{Lemma}
 use Rattle.meaning.specs.Stories.{refutes}
+use Rattle.worlds.specs.Boards.{are_distinct}
 use Rattle.tellings.specs.declared.tellings.By.{By}
 use Rattle.tellings.specs.declared.tellings.By.TheVariants.{Axiom, Outcome, Lemma as Earlier}
 use Rattle.tellings.specs.declared.tellings.Sentence.{Sentence}
 use Rattle.tellings.specs.declared.tellings.Placed.{Placed}
+use Rattle.tellings.specs.declared.tellings.Passage.{Passage}
 use Rattle.tellings.specs.declared.tellings.Telling.{Telling}
+use Rattle.tellings.specs.declared.tellings.StoryTelling.{StoryTelling}
 
 -- what a sentence names of a reason
 abbrev pub by_of : Reason → By
 by_of (ByAxiom k values) = Axiom k
 by_of (ByOutcome p) = Outcome
-by_of (ByLemma j) = Earlier j
+by_of (ByLemma j) = Earlier
 
 -- a sentence names this of its reason
 abbrev pub is_by : By → By → Bool
 is_by (Axiom k) (Axiom l) = k == l
 is_by Outcome Outcome = true
-is_by (Earlier j) (Earlier k) = j == k
+is_by Earlier Earlier = true
 is_by _ _ = false
 
 -- what the sentence of a number rests on; where there is none, nothing
@@ -34,9 +37,16 @@ abbrev pub rests_of : Option Sentence → List Literal
 rests_of None = []
 rests_of (Some sentence) = sentence.rests
 
--- the fact was supposed, or a step of an earlier sentence than that of the number states it
-abbrev pub stands_before : List Literal → List Placed → ℕ → Literal → Bool
-stands_before suppose steps number l = has suppose l || list_any (λ placed. nat_lt placed.sentence number && same_literal l placed.step.literal) steps
+-- the facts that steps state
+abbrev pub facts_of : List Placed → List Literal
+facts_of steps = map (λ placed. placed.step.literal) steps
+
+-- the fact was forced or supposed, or a step of an earlier sentence than that of the number states it
+abbrev pub stands_before : (forced suppose : List Literal) → List Placed → ℕ → Literal → Bool
+stands_before forced suppose steps number l =
+    has forced l || has suppose l || list_any (λ placed. nat_lt placed.sentence number && same_literal l placed.step.literal) steps
+
+-- ---- sentences
 
 module _ (size : Extent) (axioms : List Titled) (core : List ℕ) (earlier : List Lemma) where
   -- a sentence says a step: it names what the step's reason does, which refutes the facts that it rests on together with the opposite of the fact that the step states
@@ -44,17 +54,82 @@ module _ (size : Extent) (axioms : List Titled) (core : List ℕ) (earlier : Lis
   says None step = false
   says (Some sentence) step = is_by sentence.by (by_of step.reason) && refutes size axioms core earlier (sentence.rests ++ opposite_of step.literal ∷ []) step.reason
 
-  -- a lemma is told right: each of its steps stands in exactly one sentence, which says it; each fact that a sentence rests on
-  -- was supposed or is stated by an earlier sentence; and the last reason refutes facts that were supposed or are stated
-  pub record IsTold (lemma : Lemma) (telling : Telling) : Type 0 where
-    pub steps : map (λ placed. placed.step) telling.steps ≡ lemma.steps
-    pub said : IsTrue (list_all (λ placed. says (slice_get telling.sentences placed.sentence) placed.step) telling.steps)
-    pub grounded : (k : ℕ) → IsTrue (list_all (stands_before lemma.suppose telling.steps k) (rests_of (slice_get telling.sentences k)))
+  -- each step stands in one sentence, which says it
+  abbrev pub are_said : Passage → Bool
+  are_said passage = list_all (λ placed. says (slice_get passage.sentences placed.sentence) placed.step) passage.steps
+
+  -- a lemma is told right, where some facts are forced: each of its steps stands in exactly one sentence, which says it, but for
+  -- those whose facts are forced; each fact that a sentence rests on was forced or supposed, or is stated by an earlier sentence;
+  -- and the last reason refutes facts that were forced or supposed, or are stated
+  pub record IsTold (forced : List Literal) (lemma : Lemma) (telling : Telling) : Type 0 where
+    pub steps : map (λ placed. placed.step) telling.passage.steps ≡ filter (λ step. not (has forced step.literal)) lemma.steps
+    pub said : IsTrue (are_said telling.passage)
+    pub grounded : (k : ℕ) → IsTrue (list_all (stands_before forced lemma.suppose telling.passage.steps k) (rests_of (slice_get telling.passage.sentences k)))
     pub ended : IsTrue (refutes size axioms core earlier telling.end lemma.last)
-    pub end_stands : IsTrue (list_all (stands_before lemma.suppose telling.steps (length telling.sentences)) telling.end)
+    pub end_stands : IsTrue (list_all (stands_before forced lemma.suppose telling.passage.steps (length telling.passage.sentences)) telling.end)
+
+-- ---- where lemmas stand
+
+-- a reason names the lemma at a place
+abbrev pub names : ℕ → Reason → Bool
+names j (ByLemma k) = k == j
+names j _ = false
+
+-- how often a lemma that is told so names the one at a place
+abbrev pub mentions : ℕ → Lemma → Telling → ℕ
+mentions j lemma telling = count_by (λ placed. names j placed.step.reason) telling.passage.steps + (if names j lemma.last then 1 else 0)
+
+-- the later lemma within which the one at a place stands; none for one that stands by itself
+abbrev pub home_in : Option (Option ℕ) → Option ℕ
+home_in None = None
+home_in (Some home) = home
+
+abbrev pub home_of : List (Option ℕ) → ℕ → Option ℕ
+home_of homes j = home_in (slice_get homes j)
+
+-- a lemma stands by itself, or within the one at the place
+abbrev pub is_at : Option ℕ → ℕ → Bool
+is_at None m = true
+is_at (Some k) m = k == m
+
+-- the lemma that a reason of the one at a place names stands before: by itself, or within that one
+abbrev pub is_reached : List (Option ℕ) → ℕ → Reason → Bool
+is_reached homes m (ByLemma j) = is_at (home_of homes j) m
+is_reached homes m _ = true
+
+-- all lemmas that one at a place names do
+abbrev pub reaches : List (Option ℕ) → ℕ → Lemma → Telling → Bool
+reaches homes m lemma telling = list_all (λ placed. is_reached homes m placed.step.reason) telling.passage.steps && is_reached homes m lemma.last
+
+-- there is a lemma, which stands by itself and names an earlier one exactly once
+abbrev pub is_alone : Option ℕ → Bool
+is_alone None = true
+is_alone (Some home) = false
+
+abbrev pub takes_in : List (Option ℕ) → (m j : ℕ) → Option Lemma → Option Telling → Bool
+takes_in homes m j (Some lemma) (Some telling) = nat_lt j m && is_alone (home_of homes m) && mentions j lemma telling == 1
+takes_in homes m j _ _ = false
+
+-- a lemma stands by itself, or within a later one, which stands by itself and alone names it, once: where it is used. So each lemma stands before what names it
+pub record AreHomes (story : List Lemma) (tellings : List Telling) (homes : List (Option ℕ)) : Type 0 where
+  pub all : length homes ≡ length story
+  pub before : (m : ℕ) (lemma : Lemma) (telling : Telling) → slice_get story m ≡ Some lemma → slice_get tellings m ≡ Some telling →
+      IsTrue (reaches homes m lemma telling)
+  pub within : (j m : ℕ) → home_of homes j ≡ Some m → IsTrue (takes_in homes m j (slice_get story m) (slice_get tellings m))
+
+-- ---- stories
 
 module _ (size : Extent) (axioms : List Titled) (core : List ℕ) where
-  -- a story is told right: each lemma is, by the lemmas before it
-  pub record IsStoryTold (story : List Lemma) (tellings : List Telling) : Type 0 where
-    pub all : length tellings ≡ length story
-    pub each : (j : ℕ) (lemma : Lemma) (telling : Telling) → slice_get story j ≡ Some lemma → slice_get tellings j ≡ Some telling → IsTold size axioms core (take j story) lemma telling
+  -- facts are forced: an axiom alone refutes the opposite of each; no fact stands twice
+  pub record IsForced (passage : Passage) : Type 0 where
+    pub said : IsTrue (are_said size axioms core [] passage)
+    pub alone : IsTrue (list_all (λ sentence. length sentence.rests == 0) passage.sentences)
+    pub once : IsTrue (are_distinct (facts_of passage.steps))
+
+  -- a story is told right: facts that are forced come first, and then each lemma is told by the lemmas before it, which stand before it
+  pub record IsStoryTold (story : List Lemma) (told : StoryTelling) : Type 0 where
+    pub forced : IsForced told.forced
+    pub all : length told.lemmas ≡ length story
+    pub each : (j : ℕ) (lemma : Lemma) (telling : Telling) → slice_get story j ≡ Some lemma → slice_get told.lemmas j ≡ Some telling →
+        IsTold size axioms core (take j story) (facts_of told.forced.steps) lemma telling
+    pub placed : AreHomes story told.lemmas told.homes

@@ -1,6 +1,6 @@
-//! Lemmas told as sentences: which steps one sentence says, and what it rests on.
+//! Stories told as sentences: which steps one sentence says, what it rests on, and where lemmas stand.
 #![tactic(auto)]
 
 mod tellings;
 
-pub use tellings::{By, Placed, Sentence, Telling};
+pub use tellings::{By, Passage, Placed, Sentence, StoryTelling, Telling};

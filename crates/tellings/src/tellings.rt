@@ -1,15 +1,15 @@
-//! What a lemma is told by.
+//! What a story is told by.
 
 use lists::Items;
 use meaning::{Literals, StoryStep};
 
-/// What a sentence names as its reason: the axiom at a place of the study, the outcomes at one profile, or an
-/// earlier lemma, by its place. The steps of the sentence have the values.
+/// What a sentence names as its reason: the axiom at a place of the study, what is left at profiles, or earlier
+/// lemmas. The steps of the sentence have the values, the profiles and the lemmas.
 #[derive(Clone, Copy, Debug, PartialEq, Eq)]
 pub enum By {
     Axiom(u32),
     Outcome,
-    Lemma(u32),
+    Lemma,
 }
 
 /// A sentence: what it names as its reason, and the facts that it rests on.
@@ -19,18 +19,33 @@ pub struct Sentence {
     pub rests: Literals,
 }
 
-/// A step of a lemma, with the number of the sentence that says it, the first being 0.
+/// A step, with the number of the sentence that says it, the first being 0.
 #[derive(Clone, Copy, Debug, PartialEq, Eq)]
 pub struct Placed {
     pub sentence: u32,
     pub step: StoryStep,
 }
 
-/// How a lemma is told: its sentences, its steps in order, each in one sentence, and the facts that its last
-/// reason rests on.
+/// Sentences in order, and the steps that they say, each in one sentence.
 #[derive(Drop)]
-pub struct Telling {
+pub struct Passage {
     pub sentences: Items<Sentence>,
     pub steps: Items<Placed>,
+}
+
+/// How a lemma is told: its sentences with its steps, but for those whose facts are forced, and the facts that
+/// its last reason rests on.
+#[derive(Drop)]
+pub struct Telling {
+    pub passage: Passage,
     pub end: Literals,
+}
+
+/// How a story is told: the facts that axioms force without a supposition, its lemmas, and for each lemma the
+/// later one within which it stands, if it doesn't stand by itself.
+#[derive(Drop)]
+pub struct StoryTelling {
+    pub forced: Passage,
+    pub lemmas: Items<Telling>,
+    pub homes: Items<Option<u32>>,
 }

@@ -1,5 +1,5 @@
 use Rattle.pages.specs.Pages.{listed_html}
-use Rattle.pages.proofs.RangeLemmas.{goes_on}
+use Rattle.html.proofs.RangeLemmas.{goes_on}
 use Rattle.pages.proofs.page.put_all_ballots.Goals as goal
 
 pub loop-b-preserved : goal.loop-b-preserved

@@ -1,5 +1,5 @@
 use Rattle.pages.specs.Pages.{axiom_item}
-use Rattle.pages.proofs.RangeLemmas.{goes_on}
+use Rattle.html.proofs.RangeLemmas.{goes_on}
 use Rattle.pages.proofs.page.put_all_items.Goals as goal
 
 pub loop-place-preserved : goal.loop-place-preserved

@@ -1,4 +1,4 @@
-use Rattle.pages.proofs.JoinLemmas.{joined_3}
+use Rattle.html.proofs.JoinLemmas.{joined_3}
 use Rattle.pages.proofs.page.put_core.Goals as goal
 
 pub returns : goal.returns

@@ -1,5 +1,5 @@
 use Rattle.pages.specs.Pages.{lettered_html}
-use Rattle.pages.proofs.RangeLemmas.{goes_on}
+use Rattle.html.proofs.RangeLemmas.{goes_on}
 use Rattle.pages.proofs.page.put_letters.Goals as goal
 
 pub loop-x-preserved : goal.loop-x-preserved

@@ -1,5 +1,5 @@
 use Rattle.pages.specs.Pages.{witness_at}
-use Rattle.pages.proofs.RangeLemmas.{goes_on}
+use Rattle.html.proofs.RangeLemmas.{goes_on}
 use Rattle.pages.proofs.page.put_marks.Goals as goal
 
 pub loop-place-preserved : goal.loop-place-preserved

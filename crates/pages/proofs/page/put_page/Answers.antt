@@ -1,4 +1,4 @@
-use Rattle.pages.proofs.JoinLemmas.{joined_4}
+use Rattle.html.proofs.JoinLemmas.{joined_4}
 use Rattle.pages.proofs.page.put_page.Goals as goal
 
 pub returns : goal.returns

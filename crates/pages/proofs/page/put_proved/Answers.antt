@@ -1,4 +1,4 @@
-use Rattle.pages.proofs.JoinLemmas.{joined_5}
+use Rattle.html.proofs.JoinLemmas.{joined_5}
 use Rattle.pages.proofs.page.put_proved.Goals as goal
 
 pub returns : goal.returns

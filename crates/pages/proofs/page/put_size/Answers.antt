@@ -1,4 +1,4 @@
-use Rattle.pages.proofs.JoinLemmas.{joined_12}
+use Rattle.html.proofs.JoinLemmas.{joined_12}
 use Rattle.pages.proofs.page.put_size.Goals as goal
 
 pub returns : goal.returns

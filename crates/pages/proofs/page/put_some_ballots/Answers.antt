@@ -1,4 +1,4 @@
-use Rattle.pages.proofs.JoinLemmas.{joined_2}
+use Rattle.html.proofs.JoinLemmas.{joined_2}
 use Rattle.pages.proofs.page.put_some_ballots.Goals as goal
 
 pub returns : goal.returns

@@ -1,8 +1,0 @@
-use Rattle.std.proofs.Common.{◌≡◌, ◌++◌, take}
-use Rattle.std.specs.List.{flat_map}
-use Rattle.pages.specs.Escapes.{escape}
-use Rattle.pages.proofs.escapes.put_text.Given as goal
-
--- the bytes so far were added
-abbrev pub invariant-loop-byte : goal.invariant-loop-byte
-invariant-loop-byte l = l.out ≡ l.initial.out ++ flat_map escape (take l.byte-index l.text)

@@ -1,8 +1,0 @@
-use Rattle.std.proofs.Common.{◌≡◌, ◌++◌, take}
-use Rattle.std.specs.List.{flat_map}
-use Rattle.pages.specs.Facts.{dotted}
-use Rattle.pages.proofs.facts.put_ballots.Given as goal
-
--- the bytes so far were added
-abbrev pub invariant-loop-byte : goal.invariant-loop-byte
-invariant-loop-byte l = l.out ≡ l.initial.out ++ flat_map dotted (take l.byte-index l.text)

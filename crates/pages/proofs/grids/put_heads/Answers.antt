@@ -1,6 +1,0 @@
-use Rattle.pages.specs.Grids.{head_html}
-use Rattle.pages.proofs.RangeLemmas.{goes_on}
-use Rattle.pages.proofs.grids.put_heads.Goals as goal
-
-pub loop-b-preserved : goal.loop-b-preserved
-loop-b-preserved c = goes_on (head_html c.args.space.now) _ _ _ _ c.loop-b.invariant c.in_ok-put_head.ensures
