@@ -1,3 +1,6 @@
+pub mod TestLemmas
 pub mod ToldLemmas
 pub mod StepLemmas
-pub mod GrowLemmas
+pub mod ForcedLemmas
+pub mod HomeLemmas
+pub mod StoryLemmas

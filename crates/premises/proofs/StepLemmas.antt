@@ -11,9 +11,10 @@ use Rattle.vocab.specs.Titled.{Titled}
 use Rattle.meaning.specs.declared.stories.Lemma.{Lemma}
 use Rattle.meaning.specs.declared.stories.Reason.{Reason}
 use Rattle.meaning.specs.declared.stories.StoryStep.{StoryStep}
-use Rattle.tellings.specs.declared.tellings.Telling.{Telling}
-use Rattle.tellings.specs.Tellings.{IsTold}
+use Rattle.meaning.specs.Literals.{is_literal}
 use Rattle.meaning.specs.Stories.{are_forced, are_new, has_literals, is_decided, is_lemma, is_story_from, refutes}
+use Rattle.premises.specs.declared.basis.Basis.{Basis}
+use Rattle.premises.specs.Grounds.{follow, is_lemma_by, refutes_by}
 
 not_from : (b : Bool) → not b ≡ true → b ≡ false
 not_from true h = absurd (true≢false (sym h))
@@ -34,21 +35,21 @@ next_new known literals i d lt h =
     let p = and_parts (not (is_decided known l)) (are_new (known ++ l ∷ []) (drop (i + 1) literals)) (subst (λ (ls : List Literal). are_new known ls ≡ true) (drop_more literals i d lt) h) in
     record { fresh = is_fresh known l p.0; others = p.1 }
 
-module _ (size : Extent) (axioms : List Titled) (core : List ℕ) (earlier : List Lemma) (last : Reason) where
+module _ (size : Extent) (basis : Basis) (last : Reason) where
   -- the next step is new and forced, and so are those after it
   pub record NextForced (known : List Literal) (step : StoryStep) (rest : List StoryStep) : Type 0 where
     pub fresh : has known step.literal ≡ false
-    pub refuted : refutes size axioms core earlier (known ++ opposite_of step.literal ∷ []) step.reason ≡ true
-    pub others : are_forced size axioms core earlier last (known ++ step.literal ∷ []) rest ≡ true
+    pub refuted : refutes_by size basis (known ++ opposite_of step.literal ∷ []) step.reason ≡ true
+    pub others : follow size basis last (known ++ step.literal ∷ []) rest ≡ true
 
-  pub next_forced : (known : List Literal) (steps : List StoryStep) (i : ℕ) (d : StoryStep) → i < length steps → are_forced size axioms core earlier last known (drop i steps) ≡ true →
+  pub next_forced : (known : List Literal) (steps : List StoryStep) (i : ℕ) (d : StoryStep) → i < length steps → follow size basis last known (drop i steps) ≡ true →
       NextForced known (get_or steps i d) (drop (i + 1) steps)
   next_forced known steps i d lt h =
       let step = get_or steps i d in
       let rest = drop (i + 1) steps in
-      let p = and_parts (not (is_decided known step.literal) && refutes size axioms core earlier (known ++ opposite_of step.literal ∷ []) step.reason) (are_forced size axioms core earlier last (known ++ step.literal ∷ []) rest)
-      (subst (λ (ss : List StoryStep). are_forced size axioms core earlier last known ss ≡ true) (drop_more steps i d lt) h) in
-      let q = and_parts (not (is_decided known step.literal)) (refutes size axioms core earlier (known ++ opposite_of step.literal ∷ []) step.reason) p.0 in
+      let p = and_parts (not (is_decided known step.literal) && refutes_by size basis (known ++ opposite_of step.literal ∷ []) step.reason) (follow size basis last (known ++ step.literal ∷ []) rest)
+      (subst (λ (ss : List StoryStep). follow size basis last known ss ≡ true) (drop_more steps i d lt) h) in
+      let q = and_parts (not (is_decided known step.literal)) (refutes_by size basis (known ++ opposite_of step.literal ∷ []) step.reason) p.0 in
       record { fresh = is_fresh known step.literal q.0; refuted = q.1; others = p.1 }
 
 -- ---- the lemmas of a story
@@ -82,38 +83,17 @@ module _ (size : Extent) (axioms : List Titled) (core : List ℕ) where
       let p = and_parts (is_lemma size axioms core earlier lemma) (is_story_from size axioms core (earlier ++ lemma ∷ []) (next ∷ rest)) h in
       and_from (has_literals size lemma) (list_all (has_literals size) (next ∷ rest)) (its_literals earlier lemma p.0) (story_literals (earlier ++ lemma ∷ []) (next ∷ rest) p.1)
 
--- ---- one lemma more
+-- ---- the parts of a lemma
 
-front : {A : Type 0} (xs : List A) (t : A) (j : ℕ) → j < length xs → slice_get (xs ++ t ∷ []) j ≡ slice_get xs j
-front [] t j h = absurd (omega arith)
-front (x ∷ xs) t zero h = refl
-front (x ∷ xs) t (suc j) h = front xs t j (omega arith)
+pub record Parts (size : Extent) (basis : Basis) (lemma : Lemma) : Type 0 where
+  pub literals : has_literals size lemma ≡ true
+  pub supposed : list_all (is_literal size) lemma.suppose ≡ true
+  pub fresh : are_new [] lemma.suppose ≡ true
+  pub follows : follow size basis lemma.last lemma.suppose lemma.steps ≡ true
 
-at_end : {A : Type 0} (xs : List A) (t : A) (j : ℕ) (x : A) → length xs ≤ j → slice_get (xs ++ t ∷ []) j ≡ Some x → (j ≡ length xs) × (t ≡ x)
-at_end [] t zero x h at = (refl, cc)
-at_end [] t (suc j) x h at = cc
-at_end (y ∷ xs) t zero x h at = absurd (omega arith)
-at_end (y ∷ xs) t (suc j) x h at = let r = at_end xs t j x (omega arith) at in (ap suc r.0, r.1)
-
-module _ (size : Extent) (axioms : List Titled) (core : List ℕ) (story : List Lemma) where
-  -- the lemmas so far are told
-  abbrev pub AreTold : List Telling → Type 0
-  AreTold tellings = (j : ℕ) (lemma : Lemma) (telling : Telling) → slice_get story j ≡ Some lemma → slice_get tellings j ≡ Some telling → IsTold size axioms core (take j story) lemma telling
-
-  pub lemma_more : (tellings new : List Telling) (place : ℕ) (lemma : Lemma) (telling : Telling) → AreTold tellings → length tellings ≡ place → new ≡ tellings ++ telling ∷ [] → slice_get story place ≡ Some lemma →
-      IsTold size axioms core (take place story) lemma telling → AreTold new
-  lemma_more tellings new place lemma telling told all is at this j other its there here =
-      let there_too : slice_get (tellings ++ telling ∷ []) j ≡ Some its = subst (λ (ts : List Telling). slice_get ts j ≡ Some its) is here in
-      elim (cases_lt j (length tellings)) [
-        | inl low ↦ told j other its there (sym (front tellings telling j low) ∙ there_too)
-        | inr high ↦
-            let end = at_end tellings telling j its high there_too in
-            let same : j ≡ place = end.0 ∙ all in
-            let lemmas : slice_get story place ≡ Some other = subst (λ (i : ℕ). slice_get story i ≡ Some other) same there in
-            let one : lemma ≡ other = cc in
-            subst (λ (i : ℕ). IsTold size axioms core (take i story) other its) (sym same)
-            (subst (λ (l : Lemma). IsTold size axioms core (take place story) l its) one (subst (λ (t : Telling). IsTold size axioms core (take place story) lemma t) end.1 this))
-      ]
-
-  pub counted : (tellings new : List Telling) (place : ℕ) (telling : Telling) → length tellings ≡ place → new ≡ tellings ++ telling ∷ [] → length new ≡ place + 1
-  counted tellings new place telling all is = ap length is ∙ length-append tellings (telling ∷ []) ∙ ap (λ (n : ℕ). n + 1) all
+pub parts_of : (size : Extent) (basis : Basis) (lemma : Lemma) → is_lemma_by size basis lemma ≡ true → Parts size basis lemma
+parts_of size basis lemma h =
+    let p = and_parts (has_literals size lemma && are_new [] lemma.suppose) (follow size basis lemma.last lemma.suppose lemma.steps) h in
+    let q = and_parts (has_literals size lemma) (are_new [] lemma.suppose) p.0 in
+    let r = and_parts (list_all (is_literal size) lemma.suppose) (list_all (λ (step : StoryStep). is_literal size step.literal) lemma.steps) q.0 in
+    record { literals = q.0; supposed = r.0; fresh = q.1; follows = p.1 }

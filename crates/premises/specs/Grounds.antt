@@ -1,5 +1,5 @@
 -- What a reason rests on, and a lemma that is told so far.
-use Rattle.std.specs.Prelude.{◌≡◌, ℕ, ◌<◌, ◌≤◌, nat_lt, IsTrue, List, ◌++◌, length, slice_get, IsSomeAnd}
+use Rattle.std.specs.Prelude.{◌≡◌, ℕ, ◌+◌, ◌<◌, ◌≤◌, nat_lt, ◌==◌, not, Bool, IsTrue, Option, Some, List, [], ◌∷◌, ◌++◌, map, filter, length, slice_get, IsSomeAnd}
 use Rattle.std.specs.List.{list_all}
 use Rattle.vocab.specs.declared.literals.Literal.{Literal}
 use Rattle.vocab.specs.Literal.{has}
@@ -7,11 +7,15 @@ use Rattle.vocab.specs.Size.{Extent}
 use Rattle.vocab.specs.Titled.{Titled}
 use Rattle.meaning.specs.declared.stories.Lemma.{Lemma}
 use Rattle.meaning.specs.declared.stories.Reason.{Reason}
-use Rattle.meaning.specs.Stories.{refutes}
+use Rattle.meaning.specs.declared.stories.StoryStep.{StoryStep}
+use Rattle.meaning.specs.Stories.{are_forced, is_lemma, refutes}
 use Rattle.tellings.specs.declared.tellings.By.{By}
+use Rattle.tellings.specs.declared.tellings.Passage.{Passage}
 use Rattle.tellings.specs.declared.tellings.Placed.{Placed}
 use Rattle.tellings.specs.declared.tellings.Sentence.{Sentence}
-use Rattle.tellings.specs.Tellings.{is_by, rests_of, says, stands_before}
+use Rattle.tellings.specs.declared.tellings.Telling.{Telling}
+use Rattle.tellings.specs.Tellings.{are_said, facts_of, is_by, rests_of, says, stands_before, IsTold}
+use Rattle.premises.specs.declared.basis.Basis.{Basis}
 
 -- a sentence names this reason and rests on these facts
 pub record IsSentence (by : By) (rests : List Literal) (sentence : Sentence) : Type 0 where
@@ -26,14 +30,57 @@ pub record IsJoined (old new : List Sentence) (by : By) (rests : List Literal) (
   pub kept : (i : ℕ) → i < length old → slice_get new i ≡ slice_get old i
   pub fresh : (i : ℕ) → length old ≤ i → i < length new → (i ≡ number) × (number ≡ length old)
 
-module _ (size : Extent) (axioms : List Titled) (core : List ℕ) (earlier : List Lemma) where
+-- the steps without their places
+abbrev pub steps_of : List Placed → List StoryStep
+steps_of placed = map (λ p. p.step) placed
+
+-- those steps whose facts are not forced
+abbrev pub unforced : List Literal → List StoryStep → List StoryStep
+unforced forced steps = filter (λ step. not (has forced step.literal)) steps
+
+-- the sentence of each step is one of so many
+abbrev pub are_numbered : ℕ → List Placed → Bool
+are_numbered count steps = list_all (λ placed. nat_lt placed.sentence count) steps
+
+module _ (size : Extent) (basis : Basis) where
+  -- a reason refutes the known literals
+  abbrev pub refutes_by : List Literal → Reason → Bool
+  refutes_by known reason = refutes size basis.study.now.axioms basis.core.now basis.earlier.now known reason
+
+  -- a sentence says a step
+  abbrev pub says_by : Option Sentence → StoryStep → Bool
+  says_by sentence step = says size basis.study.now.axioms basis.core.now basis.earlier.now sentence step
+
+  -- each step stands in one sentence, which says it
+  abbrev pub are_said_by : Passage → Bool
+  are_said_by passage = are_said size basis.study.now.axioms basis.core.now basis.earlier.now passage
+
+  -- each step is new and forced, and the last reason refutes all
+  abbrev pub follow : Reason → List Literal → List StoryStep → Bool
+  follow last known steps = are_forced size basis.study.now.axioms basis.core.now basis.earlier.now last known steps
+
+  -- a lemma follows from the earlier ones
+  abbrev pub is_lemma_by : Lemma → Bool
+  is_lemma_by lemma = is_lemma size basis.study.now.axioms basis.core.now basis.earlier.now lemma
+
+  -- a lemma is told right
+  abbrev pub IsToldBy : List Literal → Lemma → Telling → Type 0
+  IsToldBy forced lemma telling = IsTold size basis.study.now.axioms basis.core.now basis.earlier.now forced lemma telling
+
   -- a reason rests on these facts: they are known, and with the others the reason refutes them
   pub record RestsOn (known others : List Literal) (reason : Reason) (rests : List Literal) : Type 0 where
     pub kept : IsTrue (list_all (has known) rests)
-    pub refuted : IsTrue (refutes size axioms core earlier (rests ++ others) reason)
+    pub refuted : IsTrue (refutes_by (rests ++ others) reason)
 
-  -- some steps of a lemma are told right
-  pub record IsToldSoFar (suppose : List Literal) (sentences : List Sentence) (steps : List Placed) : Type 0 where
-    pub numbered : IsTrue (list_all (λ placed. nat_lt placed.sentence (length sentences)) steps)
-    pub said : IsTrue (list_all (λ placed. says size axioms core earlier (slice_get sentences placed.sentence) placed.step) steps)
-    pub grounded : (k : ℕ) → IsTrue (list_all (stands_before suppose steps k) (rests_of (slice_get sentences k)))
+  -- some steps of a lemma are told right, and all that is known was forced or supposed, or is stated
+  pub record IsToldSoFar (forced suppose known : List Literal) (passage : Passage) : Type 0 where
+    pub numbered : IsTrue (are_numbered (length passage.sentences) passage.steps)
+    pub said : IsTrue (are_said_by passage)
+    pub grounded : (k : ℕ) → IsTrue (list_all (stands_before forced suppose passage.steps k) (rests_of (slice_get passage.sentences k)))
+    pub stands : IsTrue (list_all (stands_before forced suppose passage.steps (length passage.sentences)) known)
+
+  -- a passage tells a lemma right up to its end
+  pub record Upholds (forced suppose : List Literal) (end : List Literal) (passage : Passage) : Type 0 where
+    pub said : IsTrue (are_said_by passage)
+    pub grounded : (k : ℕ) → IsTrue (list_all (stands_before forced suppose passage.steps k) (rests_of (slice_get passage.sentences k)))
+    pub end_stands : IsTrue (list_all (stands_before forced suppose passage.steps (length passage.sentences)) end)

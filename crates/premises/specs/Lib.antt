@@ -1,1 +1,4 @@
 pub mod Grounds
+pub mod Forcing
+pub mod Checking
+pub mod Told

@@ -4,66 +4,38 @@ ghost use Rattle.std.specs.Prelude.{◌≡◌, ◌++◌, ℕ, List, nat_lt, slic
 ghost use Rattle.std.specs.Cmp.Lexicographic.{pointwise};
 ghost use Rattle.std.specs.List.{list_all};
 ghost use Rattle.vocab.specs.Limits.{bases_of};
-ghost use Rattle.vocab.specs.Literal.{has, profile_of};
+ghost use Rattle.vocab.specs.Literal.{has};
 ghost use Rattle.vocab.specs.Titled.{Titled};
-ghost use Rattle.meaning.specs.Literals.{is_literal};
-ghost use Rattle.meaning.specs.Stories.{has_literals, refutes};
+ghost use Rattle.meaning.specs.Stories.{has_literals};
 ghost use Rattle.story.specs.Conditions.{has_places};
-ghost use Rattle.premises.specs.Grounds.{RestsOn};
+ghost use Rattle.premises.specs.Grounds.{RestsOn, refutes_by};
 
+use crate::basis::Basis;
+use crate::literals::{is_literal, profile_of};
 use crate::spoken::literals_of;
 use lists::NoMemory;
-use meaning::{Lemma, Literals, Reason};
+use meaning::{Literals, Reason};
 use outcomes::OutcomeKind;
 use outcomes::laws::kinds_have_sizes;
 use std::alloc::Global;
 use story::refutes;
-use vocab::{Env, Kind, Literal, Places, Size, Sort, Study};
+use vocab::{Env, Literal, Size};
 use worlds::Board;
 use worlds::laws::bodies_have_values;
 
 /// How many facts are tried one by one whether they can be left out.
 const MOST_TRIED: usize = 30;
 
-/// A study with the kind of its rules, a core of its axioms, and the lemmas that may be cited.
+/// What reasons may cite, with the kind of the study's rules, and the facts that are forced.
 #[derive(Drop)]
 pub(crate) struct Grounds<'a, K: OutcomeKind> {
     pub(crate) kind: &'a K,
-    pub(crate) study: &'a Study,
-    pub(crate) core: &'a Places,
-    pub(crate) earlier: &'a [Lemma],
-    ghost size: { study.now.size ≡ K.size kind.now },
-    ghost places: { IsTrue (has_places study.now.axioms core.now) },
-    ghost literals: { IsTrue (list_all (has_literals (K.size kind.now)) earlier.now) },
-}
-
-/// The profile of a literal.
-fn profile_of(literal: &Literal) -> u32
-    ensures { result ≡ profile_of literal.now }
-{
-    match *literal {
-        Literal::Wins(_, p) => p,
-        Literal::Loses(_, p) => p,
-        Literal::Above(_, _, p) => p,
-    }
-}
-
-/// Whether a literal is one of the size.
-fn is_literal(size: Size, literal: &Literal) -> bool
-    ensures { result ≡ is_literal size literal.now }
-{
-    let alternatives = size.alternatives();
-    let profiles = size.sort_len(Sort::Profile);
-    match (size.kind(), *literal) {
-        (Kind::Choice, Literal::Wins(x, p)) => x < alternatives && p < profiles,
-        (Kind::Choice, Literal::Loses(x, p)) => x < alternatives && p < profiles,
-        (Kind::Sets, Literal::Wins(x, p)) => x < alternatives && p < profiles,
-        (Kind::Sets, Literal::Loses(x, p)) => x < alternatives && p < profiles,
-        (Kind::Ranking, Literal::Above(x, y, p)) => {
-            x < alternatives && y < alternatives && x != y && p < profiles
-        }
-        _ => false,
-    }
+    pub(crate) basis: Basis<'a>,
+    pub(crate) forced: &'a Board,
+    ghost size: { basis.study.now.size ≡ K.size kind.now },
+    ghost places: { IsTrue (has_places basis.study.now.axioms basis.core.now) },
+    ghost literals: { IsTrue (list_all (has_literals (K.size kind.now)) basis.earlier.now) },
+    ghost forced_size: { forced.now.size ≡ K.size kind.now },
 }
 
 /// Puts a literal on a board, if it is known and not yet there.
@@ -95,7 +67,7 @@ fn load(size: Size, known: &Board, tried: &mut Board, literals: &[Literal], left
 }
 
 /// Puts other literals on a board, unless one of them is there.
-fn add_others(size: Size, tried: &mut Board, others: &[Literal]) -> bool
+pub(crate) fn add_others(size: Size, tried: &mut Board, others: &[Literal]) -> bool
     requires { tried.old.size ≡ size }
     ensures size { tried.new.size ≡ tried.old.size }
     ensures added { IsTrue result → tried.new.literals ≡ tried.old.literals ++ others.now }
@@ -110,6 +82,25 @@ fn add_others(size: Size, tried: &mut Board, others: &[Literal]) -> bool
 }
 
 impl<K: OutcomeKind> Grounds<'_, K> {
+    /// Whether a reason refutes what is on a board.
+    pub(crate) fn refutes(&self, board: &Board, reason: &Reason) -> bool
+        requires { board.now.size ≡ K.size self.now.kind.now }
+        ensures { IsTrue result →
+            IsTrue (refutes_by (K.size self.now.kind.now) self.now.basis board.now.literals reason.now) }
+    {
+        match refutes(
+            self.kind,
+            self.basis.study,
+            self.basis.core,
+            self.basis.earlier,
+            board,
+            reason,
+        ) {
+            Ok(()) => true,
+            Err(_) => false,
+        }
+    }
+
     /// Whether a reason rests on those of some literals that are known, but for the one at a place: these, if it
     /// does. The reason has to refute them together with the others.
     fn attempt(
@@ -126,8 +117,7 @@ impl<K: OutcomeKind> Grounds<'_, K> {
         requires tried { tried.old.size ≡ K.size self.now.kind.now }
         ensures tried { tried.new.size ≡ tried.old.size }
         ensures rests { IfOk result (λ found. IfSome found (λ rests.
-            RestsOn (K.size self.now.kind.now) self.now.study.now.axioms self.now.core.now self.now.earlier.now
-            known.now.literals others.now reason.now rests)) }
+            RestsOn (K.size self.now.kind.now) self.now.basis known.now.literals others.now reason.now rests)) }
     {
         let size = self.kind.space().size();
         load(size, known, tried, literals, left_out);
@@ -136,16 +126,10 @@ impl<K: OutcomeKind> Grounds<'_, K> {
         if !add_others(size, tried, others) {
             return Ok(None);
         }
-        match refutes(
-            self.kind,
-            self.study,
-            self.core,
-            self.earlier,
-            tried,
-            reason,
-        ) {
-            Ok(()) => Ok(Some(rests)),
-            Err(_) => Ok(None),
+        if self.refutes(tried, reason) {
+            Ok(Some(rests))
+        } else {
+            Ok(None)
         }
     }
 
@@ -162,12 +146,11 @@ impl<K: OutcomeKind> Grounds<'_, K> {
     ) -> Result<Literals, NoMemory>
         requires known { known.now.size ≡ K.size self.now.kind.now }
         requires tried { tried.old.size ≡ K.size self.now.kind.now }
-        requires rests { RestsOn (K.size self.now.kind.now) self.now.study.now.axioms self.now.core.now
-            self.now.earlier.now known.now.literals others.now reason.now rests }
+        requires rests { RestsOn (K.size self.now.kind.now) self.now.basis known.now.literals others.now
+            reason.now rests }
         ensures tried { tried.new.size ≡ tried.old.size }
         ensures rests { IfOk result (λ rests.
-            RestsOn (K.size self.now.kind.now) self.now.study.now.axioms self.now.core.now self.now.earlier.now
-            known.now.literals others.now reason.now rests) }
+            RestsOn (K.size self.now.kind.now) self.now.basis known.now.literals others.now reason.now rests) }
     {
         let count = rests.len();
         if count > MOST_TRIED {
@@ -185,11 +168,11 @@ impl<K: OutcomeKind> Grounds<'_, K> {
 
     /// The literals that an instance of the axiom at a place of the core speaks of.
     fn spoken_by(&self, alloc: Global, place: u32, values: &Env) -> Result<Literals, NoMemory>
-        requires { (a : Titled) → slice_get self.now.study.now.axioms place ≡ Some a →
+        requires { (a : Titled) → slice_get self.now.basis.study.now.axioms place ≡ Some a →
             IsTrue (pointwise nat_lt values.now (bases_of (K.size self.now.kind.now) a.sentence)) }
     {
         bodies_have_values();
-        let axioms = self.study.axioms();
+        let axioms = self.basis.study.axioms();
         if place as usize >= axioms.len() {
             return Ok(Literals::new(alloc));
         }
@@ -205,13 +188,13 @@ impl<K: OutcomeKind> Grounds<'_, K> {
         reason: &Reason,
     ) -> Result<Literals, NoMemory>
         requires { (k : ℕ) (values : List ℕ) → reason.now ≡ Reason.Axiom k values → (a : Titled) →
-            slice_get self.now.study.now.axioms k ≡ Some a →
+            slice_get self.now.basis.study.now.axioms k ≡ Some a →
             IsTrue (pointwise nat_lt values (bases_of (K.size self.now.kind.now) a.sentence)) }
     {
         match reason {
             Reason::Axiom(place, values) => self.spoken_by(alloc, *place, values),
             Reason::Outcome(p) => at_profile(alloc, known.as_slice(), *p),
-            Reason::Lemma(place) => match self.earlier.get(*place as usize) {
+            Reason::Lemma(place) => match self.basis.earlier.get(*place as usize) {
                 Some(lemma) => all_of(alloc, lemma.suppose.as_slice()),
                 None => Ok(Literals::new(alloc)),
             },
@@ -226,11 +209,10 @@ impl<K: OutcomeKind> Grounds<'_, K> {
         others: &[Literal],
         reason: &Reason,
     ) -> Result<Literals, NoMemory>
-        requires { IsTrue (refutes (K.size self.now.kind.now) self.now.study.now.axioms self.now.core.now
-            self.now.earlier.now (known.now.literals ++ others.now) reason.now) }
+        requires { IsTrue (refutes_by (K.size self.now.kind.now) self.now.basis
+            (known.now.literals ++ others.now) reason.now) }
         ensures { IfOk result (λ rests.
-            RestsOn (K.size self.now.kind.now) self.now.study.now.axioms self.now.core.now self.now.earlier.now
-            known.now.literals others.now reason.now rests) }
+            RestsOn (K.size self.now.kind.now) self.now.basis known.now.literals others.now reason.now rests) }
     {
         all_of(alloc, known.as_slice())
     }
@@ -246,12 +228,11 @@ impl<K: OutcomeKind> Grounds<'_, K> {
     ) -> Result<Literals, NoMemory>
         requires known { known.now.size ≡ K.size self.now.kind.now }
         requires tried { tried.old.size ≡ K.size self.now.kind.now }
-        requires refuted { IsTrue (refutes (K.size self.now.kind.now) self.now.study.now.axioms self.now.core.now
-            self.now.earlier.now (known.now.literals ++ others.now) reason.now) }
+        requires refuted { IsTrue (refutes_by (K.size self.now.kind.now) self.now.basis
+            (known.now.literals ++ others.now) reason.now) }
         ensures tried { tried.new.size ≡ tried.old.size }
         ensures rests { IfOk result (λ rests.
-            RestsOn (K.size self.now.kind.now) self.now.study.now.axioms self.now.core.now self.now.earlier.now
-            known.now.literals others.now reason.now rests) }
+            RestsOn (K.size self.now.kind.now) self.now.basis known.now.literals others.now reason.now rests) }
     {
         let candidates = self.candidates(alloc, known, reason)?;
         let all = candidates.len();

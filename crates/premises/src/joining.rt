@@ -4,6 +4,8 @@ ghost use Rattle.std.specs.Prelude.{◌≡◌, ◌<◌, ◌≤◌, length, slice
 ghost use Rattle.tellings.specs.Tellings.{by_of, is_by};
 ghost use Rattle.premises.specs.Grounds.{IsJoined, IsSentence};
 
+use crate::chains::Chains;
+use crate::literals::{is_same, place_of as place_of_literal};
 use lists::{Items, NoMemory};
 use meaning::{Literals, Reason};
 use tellings::{By, Sentence};
@@ -16,30 +18,18 @@ pub(crate) fn by_of(reason: &Reason) -> By
     match *reason {
         Reason::Axiom(place, _) => By::Axiom(place),
         Reason::Outcome(_) => By::Outcome,
-        Reason::Lemma(place) => By::Lemma(place),
+        Reason::Lemma(_) => By::Lemma,
     }
 }
 
 /// Whether a sentence names this of its reason.
-fn is_by(by: By, wanted: By) -> bool
+pub(crate) fn is_by(by: By, wanted: By) -> bool
     ensures { result ≡ is_by by wanted }
 {
     match (by, wanted) {
         (By::Axiom(k), By::Axiom(l)) => k == l,
         (By::Outcome, By::Outcome) => true,
-        (By::Lemma(j), By::Lemma(k)) => j == k,
-        _ => false,
-    }
-}
-
-/// Whether two facts are the same.
-fn is_same(left: &Literal, right: &Literal) -> bool
-    ensures { IsTrue result → left.now ≡ right.now }
-{
-    match (*left, *right) {
-        (Literal::Wins(x, p), Literal::Wins(y, q)) => x == y && p == q,
-        (Literal::Loses(x, p), Literal::Loses(y, q)) => x == y && p == q,
-        (Literal::Above(x, y, p), Literal::Above(v, w, q)) => x == v && y == w && p == q,
+        (By::Lemma, By::Lemma) => true,
         _ => false,
     }
 }
@@ -66,23 +56,45 @@ fn is_sentence(sentence: &Sentence, by: By, rests: &[Literal]) -> bool
     is_by(sentence.by, by) && are_same(sentence.rests.as_slice(), rests)
 }
 
+/// The key by which a sentence is found: the place of the first fact that it rests on; without one, 0.
+pub(crate) fn key_of(rests: &[Literal]) -> usize {
+    match rests.first() {
+        Some(literal) => place_of_literal(literal) + 1,
+        None => 0,
+    }
+}
+
+/// Whether the sentence of a number, if there is one, names this reason and rests on these facts.
+fn is_at(sentences: &[Sentence], place: usize, by: By, rests: &[Literal]) -> bool
+    ensures within { IsTrue result → place < length sentences.now }
+    ensures there { IsTrue result → IsSomeAnd (slice_get sentences.now place) (IsSentence by rests.now) }
+{
+    place < sentences.len() && is_sentence(&sentences[place], by, rests)
+}
+
 /// The place of a sentence that names this reason and rests on these facts, if there is one.
-fn place_of(sentences: &[Sentence], by: By, rests: &[Literal]) -> Option<usize>
+fn place_of(sentences: &[Sentence], chains: &Chains, by: By, rests: &[Literal]) -> Option<usize>
     ensures within { IfSome result (λ k. k < length sentences.now) }
     ensures there { IfSome result (λ k. IsSomeAnd (slice_get sentences.now k) (IsSentence by rests.now)) }
 {
-    for place in 0..sentences.len() {
-        if is_sentence(&sentences[place], by, rests) {
-            return Some(place);
+    let mut next = chains.newest(key_of(rests));
+    for _ in 0..sentences.len() {
+        let Some(number) = next else {
+            return None;
+        };
+        if is_at(sentences, number as usize, by, rests) {
+            return Some(number as usize);
         }
+        next = chains.older(number);
     }
     None
 }
 
 /// The number of the sentence that names this reason and rests on these facts, which is added where there is
-/// none.
+/// none. The chains have the sentences by their keys.
 pub(crate) fn join(
     sentences: &mut Items<Sentence>,
+    chains: &mut Chains,
     by: By,
     rests: Literals,
 ) -> Result<u32, NoMemory>
@@ -92,12 +104,21 @@ pub(crate) fn join(
     if count > 4_294_967_295 {
         return Err(NoMemory);
     }
-    let found = place_of(sentences.as_slice(), by, rests.as_slice());
+    let found = place_of(sentences.as_slice(), chains, by, rests.as_slice());
     match found {
         Some(place) => Ok(place as u32),
         None => {
+            chains.push(key_of(rests.as_slice()))?;
             sentences.push(Sentence { by, rests })?;
             Ok(count as u32)
         }
     }
+}
+
+/// Forgets sentences.
+pub(crate) fn forget(chains: &mut Chains, sentences: &[Sentence]) {
+    for place in 0..sentences.len() {
+        chains.forget(key_of(sentences[place].rests.as_slice()));
+    }
+    chains.restart();
 }

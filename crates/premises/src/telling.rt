@@ -1,25 +1,26 @@
-//! Lemmas told by sentences.
+//! Lemmas told by sentences, each of which says steps that rest on the very same facts.
 
-ghost use Rattle.std.specs.Prelude.{◌≡◌, ◌++◌, [], ◌∷◌, ◌<◌, take, drop, length, slice_get, Some, IsTrue, IfOk};
+ghost use Rattle.std.specs.Prelude.{◌≡◌, ◌++◌, [], ◌∷◌, List, IsTrue, IsFalse, IfOk, OnOk};
 ghost use Rattle.std.specs.List.{list_all};
-ghost use Rattle.meaning.specs.declared.stories.Lemma.{Lemma};
+ghost use Rattle.vocab.specs.declared.literals.Literal.{Literal};
+ghost use Rattle.vocab.specs.Literal.{has, opposite_of};
 ghost use Rattle.meaning.specs.Literals.{is_literal};
-ghost use Rattle.meaning.specs.Stories.{are_forced, are_new, has_literals, is_lemma, is_story};
-ghost use Rattle.story.specs.Conditions.{has_places};
-ghost use Rattle.tellings.specs.Tellings.{IsTold, IsStoryTold};
+ghost use Rattle.meaning.specs.Stories.{are_new, has_literals};
+ghost use Rattle.premises.specs.Grounds.{steps_of, unforced, follow, is_lemma_by, refutes_by, IsToldBy, IsToldSoFar};
 
+use crate::chains::Chains;
 use crate::grounds::Grounds;
-use crate::joining::{by_of, join};
+use crate::joining::{by_of, forget, join};
 use lists::{Items, NoMemory};
-use meaning::Lemma;
+use meaning::{Lemma, StoryStep};
 use outcomes::OutcomeKind;
 use std::alloc::Global;
-use tellings::{Placed, Telling};
-use vocab::{Literal, Places, Study};
+use tellings::{Passage, Placed, Telling};
+use vocab::Literal;
 use worlds::Board;
 
 /// Puts suppositions on an empty board.
-fn suppose(known: &mut Board, literals: &[Literal])
+pub(crate) fn suppose(known: &mut Board, literals: &[Literal])
     requires cleared { known.old.literals ≡ [] }
     requires literals { IsTrue (list_all (is_literal known.old.size) literals.now) }
     requires distinct { IsTrue (are_new [] literals.now) }
@@ -32,95 +33,126 @@ fn suppose(known: &mut Board, literals: &[Literal])
 }
 
 impl<K: OutcomeKind> Grounds<'_, K> {
-    /// Tells a lemma that follows from the earlier ones.
-    fn tell(
+    /// Tells a step in a sentence that rests on what its reason needs of what is known.
+    fn tell_step(
         &self,
         alloc: Global,
-        known: &mut Board,
+        known: &Board,
         tried: &mut Board,
-        lemma: &Lemma,
-    ) -> Result<Telling, NoMemory>
-        requires known { known.old.size ≡ K.size self.now.kind.now }
+        chains: &mut Chains,
+        passage: &mut Passage,
+        step: &StoryStep,
+    ) -> Result<(), NoMemory>
+        requires known { known.now.size ≡ K.size self.now.kind.now }
         requires tried { tried.old.size ≡ K.size self.now.kind.now }
-        requires lemma { IsTrue (is_lemma (K.size self.now.kind.now) self.now.study.now.axioms self.now.core.now
-            self.now.earlier.now lemma.now) }
-        ensures known { known.new.size ≡ known.old.size }
+        requires refuted { IsTrue (refutes_by (K.size self.now.kind.now) self.now.basis
+            (known.now.literals ++ opposite_of step.now.literal ∷ []) step.now.reason) }
         ensures tried { tried.new.size ≡ tried.old.size }
-        ensures told { IfOk result (IsTold (K.size self.now.kind.now) self.now.study.now.axioms self.now.core.now
-            self.now.earlier.now lemma.now) }
+        ensures told { (suppose : List Literal) →
+            IsToldSoFar (K.size self.now.kind.now) self.now.basis self.now.forced.now.literals suppose
+            known.now.literals passage.old →
+            OnOk result (IsToldSoFar (K.size self.now.kind.now) self.now.basis self.now.forced.now.literals suppose
+            (known.now.literals ++ step.now.literal ∷ []) passage.new) }
+        ensures steps { OnOk result (steps_of passage.new.steps ≡ steps_of passage.old.steps ++ step.now ∷ []) }
     {
-        known.clear();
-        suppose(known, lemma.suppose.as_slice());
-        self.tell_steps(alloc, known, tried, lemma)
+        let others = [step.literal.opposite()];
+        let rests = self.rests_on(alloc, known, tried, &others, &step.reason)?;
+        let by = by_of(&step.reason);
+        let sentence = join(&mut passage.sentences, chains, by, rests)?;
+        passage.steps.push(Placed {
+            sentence,
+            step: *step,
+        })?;
+        Ok(())
     }
 
-    /// Tells the steps and the end of a lemma, whose suppositions are on the board.
+    /// Tells a step, unless its fact is forced.
+    fn take_step(
+        &self,
+        alloc: Global,
+        known: &Board,
+        tried: &mut Board,
+        chains: &mut Chains,
+        passage: &mut Passage,
+        step: &StoryStep,
+    ) -> Result<(), NoMemory>
+        requires known { known.now.size ≡ K.size self.now.kind.now }
+        requires tried { tried.old.size ≡ K.size self.now.kind.now }
+        requires literal { IsTrue (is_literal (K.size self.now.kind.now) step.now.literal) }
+        requires refuted { IsTrue (refutes_by (K.size self.now.kind.now) self.now.basis
+            (known.now.literals ++ opposite_of step.now.literal ∷ []) step.now.reason) }
+        ensures tried { tried.new.size ≡ tried.old.size }
+        ensures told { (suppose : List Literal) →
+            IsToldSoFar (K.size self.now.kind.now) self.now.basis self.now.forced.now.literals suppose
+            known.now.literals passage.old →
+            OnOk result (IsToldSoFar (K.size self.now.kind.now) self.now.basis self.now.forced.now.literals suppose
+            (known.now.literals ++ step.now.literal ∷ []) passage.new) }
+        ensures steps { OnOk result (steps_of passage.new.steps ≡
+            steps_of passage.old.steps ++ unforced self.now.forced.now.literals (step.now ∷ [])) }
+    {
+        if self.forced.has(&step.literal) {
+            return Ok(());
+        }
+        self.tell_step(alloc, known, tried, chains, passage, step)
+    }
+
+    /// Tells the steps of a lemma, whose suppositions are on the board.
     fn tell_steps(
         &self,
         alloc: Global,
         known: &mut Board,
         tried: &mut Board,
+        chains: &mut Chains,
         lemma: &Lemma,
-    ) -> Result<Telling, NoMemory>
+    ) -> Result<Passage, NoMemory>
         requires known { known.old.size ≡ K.size self.now.kind.now }
         requires tried { tried.old.size ≡ K.size self.now.kind.now }
         requires supposed { known.old.literals ≡ lemma.now.suppose }
         requires literals { IsTrue (has_literals (K.size self.now.kind.now) lemma.now) }
-        requires forced { IsTrue (are_forced (K.size self.now.kind.now) self.now.study.now.axioms
-            self.now.core.now self.now.earlier.now lemma.now.last lemma.now.suppose lemma.now.steps) }
+        requires follows { IsTrue (follow (K.size self.now.kind.now) self.now.basis lemma.now.last
+            lemma.now.suppose lemma.now.steps) }
         ensures known { known.new.size ≡ known.old.size }
         ensures tried { tried.new.size ≡ tried.old.size }
-        ensures told { IfOk result (IsTold (K.size self.now.kind.now) self.now.study.now.axioms self.now.core.now
-            self.now.earlier.now lemma.now) }
+        ensures told { IfOk result (IsToldSoFar (K.size self.now.kind.now) self.now.basis
+            self.now.forced.now.literals lemma.now.suppose known.new.literals) }
+        ensures steps { IfOk result (λ passage.
+            steps_of passage.steps ≡ unforced self.now.forced.now.literals lemma.now.steps) }
+        ensures ended { OnOk result (IsTrue (refutes_by (K.size self.now.kind.now) self.now.basis
+            known.new.literals lemma.now.last)) }
     {
-        let mut sentences = Items::new(alloc);
-        let mut told = Items::new(alloc);
-        let steps = lemma.steps.as_slice();
-        for step in steps {
-            let others = [step.literal.opposite()];
-            let rests = self.rests_on(alloc, known, tried, &others, &step.reason)?;
-            let sentence = join(&mut sentences, by_of(&step.reason), rests)?;
-            told.push(Placed {
-                sentence,
-                step: *step,
-            })?;
+        let mut passage = Passage {
+            sentences: Items::new(alloc),
+            steps: Items::new(alloc),
+        };
+        for step in lemma.steps.as_slice() {
+            self.take_step(alloc, known, tried, chains, &mut passage, step)?;
             known.add(&step.literal);
         }
-        let end = self.rests_on(alloc, known, tried, &[], &lemma.last)?;
-        Ok(Telling {
-            sentences,
-            steps: told,
-            end,
-        })
+        Ok(passage)
     }
-}
 
-/// Tells an accepted story over the axioms of a core: each lemma by the lemmas before it. The only error is
-/// want of memory.
-pub fn tell_story<K: OutcomeKind>(
-    alloc: Global,
-    kind: &K,
-    study: &Study,
-    core: &Places,
-    story: &Items<Lemma>,
-) -> Result<Items<Telling>, NoMemory>
-    requires study { study.now.size ≡ K.size kind.now }
-    requires core { IsTrue (has_places study.now.axioms core.now) }
-    requires accepted { IsTrue (is_story (K.size kind.now) study.now.axioms core.now story.now) }
-    ensures { IfOk result (IsStoryTold (K.size kind.now) study.now.axioms core.now story.now) }
-{
-    let mut known = Board::new(alloc, kind)?;
-    let mut tried = Board::new(alloc, kind)?;
-    let mut tellings = Items::new(alloc);
-    for place in 0..story.len() {
-        let grounds = Grounds {
-            kind,
-            study,
-            core,
-            earlier: &story.as_slice()[..place],
-        };
-        let telling = grounds.tell(alloc, &mut known, &mut tried, story.get(place))?;
-        tellings.push(telling)?;
+    /// Tells a lemma that follows from the earlier ones.
+    pub(crate) fn tell(
+        &self,
+        alloc: Global,
+        known: &mut Board,
+        tried: &mut Board,
+        chains: &mut Chains,
+        lemma: &Lemma,
+    ) -> Result<Telling, NoMemory>
+        requires known { known.old.size ≡ K.size self.now.kind.now }
+        requires tried { tried.old.size ≡ K.size self.now.kind.now }
+        requires lemma { IsTrue (is_lemma_by (K.size self.now.kind.now) self.now.basis lemma.now) }
+        ensures known { known.new.size ≡ known.old.size }
+        ensures tried { tried.new.size ≡ tried.old.size }
+        ensures told { IfOk result
+            (IsToldBy (K.size self.now.kind.now) self.now.basis self.now.forced.now.literals lemma.now) }
+    {
+        known.clear();
+        suppose(known, lemma.suppose.as_slice());
+        let passage = self.tell_steps(alloc, known, tried, chains, lemma)?;
+        let end = self.rests_on(alloc, known, tried, &[], &lemma.last)?;
+        forget(chains, passage.sentences.as_slice());
+        Ok(Telling { passage, end })
     }
-    Ok(tellings)
 }

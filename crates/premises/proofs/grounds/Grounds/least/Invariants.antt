@@ -5,5 +5,4 @@ use Rattle.premises.proofs.grounds.Grounds.least.Given as goal
 -- the reason rests on what was kept so far
 abbrev pub invariant-loop-place : goal.invariant-loop-place
 invariant-loop-place g l =
-    (l.tried.size ≡ g.K.OutcomeKind.size l.self.kind.now)
-    × RestsOn (g.K.OutcomeKind.size l.self.kind.now) l.self.study.now.axioms l.self.core.now l.self.earlier.now l.known.literals l.others l.reason l.kept
+    (l.tried.size ≡ g.K.OutcomeKind.size l.self.kind.now) × RestsOn (g.K.OutcomeKind.size l.self.kind.now) l.self.basis l.known.literals l.others l.reason l.kept

@@ -7,7 +7,7 @@ use Rattle.premises.proofs.grounds.Grounds.spoken_by.Goals as goal
 
 pub literals_of-requires : goal.literals_of-requires
 literals_of-requires g c =
-    let study = c.args.self.now.study.now in
+    let study = c.args.self.now.basis.study.now in
     let size = g.K.OutcomeKind.size c.args.self.now.kind.now in
     let at : slice_get study.axioms c.args.place ≡ Some c.get.result.now = rw c.axioms-axioms.ensures.axioms at c.get.ensures in
     let sentence : is_sentence size c.get.result.now ≡ true = rw (← c.args.self.now.size) (sentence_at study c.args.place c.get.result.now c.axioms-axioms.ensures.study at) in

@@ -1,0 +1,62 @@
+-- Tests that items of lists pass.
+use Rattle.std.proofs.Common.{◌≡◌, refl, sym, ap, ◌∙◌, ℕ, zero, suc, ◌+◌, ◌<◌, ◌≤◌, Bool, true, ◌&&◌, ◌||◌, List, [], ◌∷◌, ◌++◌, length, get_or, arith, Some, None, inl, inr}
+use Rattle.std.specs.Prelude.{slice_get}
+use Rattle.std.specs.List.{list_all, list_any}
+use Rattle.std.proofs.lemmas.Bool.{and_parts, and_from, or_cases, or_left, or_right}
+
+pub all_from : {A : Type 0} (s t : A → Bool) → ((a : A) → s a ≡ true → t a ≡ true) → (xs : List A) → list_all s xs ≡ true → list_all t xs ≡ true
+all_from s t give [] h = refl
+all_from s t give (x ∷ xs) h = let p = and_parts (s x) (list_all s xs) h in and_from (t x) (list_all t xs) (give x p.0) (all_from s t give xs p.1)
+
+pub all_both : {A : Type 0} (r s t : A → Bool) → ((a : A) → r a ≡ true → s a ≡ true → t a ≡ true) → (xs : List A) → list_all r xs ≡ true → list_all s xs ≡ true → list_all t xs ≡ true
+all_both r s t give [] h k = refl
+all_both r s t give (x ∷ xs) h k =
+    let p = and_parts (r x) (list_all r xs) h in
+    let q = and_parts (s x) (list_all s xs) k in
+    and_from (t x) (list_all t xs) (give x p.0 q.0) (all_both r s t give xs p.1 q.1)
+
+pub all_more : {A : Type 0} (t : A → Bool) (xs : List A) (x : A) → list_all t xs ≡ true → t x ≡ true → list_all t (xs ++ x ∷ []) ≡ true
+all_more t [] x h k = and_from (t x) true k refl
+all_more t (y ∷ xs) x h k = let p = and_parts (t y) (list_all t xs) h in and_from (t y) (list_all t (xs ++ x ∷ [])) p.0 (all_more t xs x p.1 k)
+
+-- what all pass, each does
+pub all_pass : {A : Type 0} (t : A → Bool) → ((a : A) → t a ≡ true) → (xs : List A) → list_all t xs ≡ true
+all_pass t give [] = refl
+all_pass t give (x ∷ xs) = and_from (t x) (list_all t xs) (give x) (all_pass t give xs)
+
+pub any_from : {A : Type 0} (s t : A → Bool) → ((a : A) → s a ≡ true → t a ≡ true) → (xs : List A) → list_any s xs ≡ true → list_any t xs ≡ true
+any_from s t give [] h = h
+any_from s t give (x ∷ xs) h = elim (or_cases (s x) (list_any s xs) h) [
+  | inl e ↦ or_left (t x) (list_any t xs) (give x e)
+  | inr e ↦ or_right (t x) (list_any t xs) (any_from s t give xs e)
+]
+
+-- there is no item past the end
+pub past : {A : Type 0} (xs : List A) (i : ℕ) → length xs ≤ i → slice_get xs i ≡ None
+past [] i h = refl
+past (x ∷ xs) zero h = absurd (omega arith)
+past (x ∷ xs) (suc i) h = past xs i (omega arith)
+
+-- what stands at a place
+pub read_at : {A : Type 0} (xs : List A) (i : ℕ) (a d : A) → slice_get xs i ≡ Some a → (i < length xs) × (get_or xs i d ≡ a)
+read_at [] i a d h = cc
+read_at (x ∷ xs) zero a d h = (omega arith, cc)
+read_at (x ∷ xs) (suc i) a d h = let r = read_at xs i a d h in (omega arith, r.1)
+
+-- what each item passes, all pass
+pub all_each : {A : Type 0} (t : A → Bool) (xs : List A) → ((i : ℕ) (a : A) → slice_get xs i ≡ Some a → t a ≡ true) → list_all t xs ≡ true
+all_each t [] each = refl
+all_each t (x ∷ xs) each = and_from (t x) (list_all t xs) (each 0 x refl) (all_each t xs (λ i a at. each (suc i) a at))
+
+-- ---- one item more
+
+pub front : {A : Type 0} (xs : List A) (t : A) (j : ℕ) → j < length xs → slice_get (xs ++ t ∷ []) j ≡ slice_get xs j
+front [] t j h = absurd (omega arith)
+front (x ∷ xs) t zero h = refl
+front (x ∷ xs) t (suc j) h = front xs t j (omega arith)
+
+pub at_end : {A : Type 0} (xs : List A) (t : A) (j : ℕ) (x : A) → length xs ≤ j → slice_get (xs ++ t ∷ []) j ≡ Some x → (j ≡ length xs) × (t ≡ x)
+at_end [] t zero x h at = (refl, cc)
+at_end [] t (suc j) x h at = cc
+at_end (y ∷ xs) t zero x h at = absurd (omega arith)
+at_end (y ∷ xs) t (suc j) x h at = let r = at_end xs t j x (omega arith) at in (ap suc r.0, r.1)

@@ -1,0 +1,16 @@
+-- Facts that are forced, so far.
+use Rattle.std.specs.Prelude.{◌≡◌, ℕ, ◌==◌, IsTrue, List, [], length}
+use Rattle.std.specs.List.{list_all}
+use Rattle.vocab.specs.Size.{Extent}
+use Rattle.vocab.specs.Titled.{Titled}
+use Rattle.tellings.specs.Tellings.{are_said, facts_of}
+use Rattle.premises.specs.declared.forced.Forced.{Forced}
+use Rattle.premises.specs.Grounds.{are_numbered}
+
+-- each fact on the board is stated by a sentence that rests on nothing, and says it
+pub record AreForcedSoFar (size : Extent) (axioms : List Titled) (core : List ℕ) (forced : Forced) : Type 0 where
+  pub sized : forced.board.size ≡ size
+  pub numbered : IsTrue (are_numbered (length forced.passage.sentences) forced.passage.steps)
+  pub said : IsTrue (are_said size axioms core [] forced.passage)
+  pub alone : IsTrue (list_all (λ sentence. length sentence.rests == 0) forced.passage.sentences)
+  pub facts : facts_of forced.passage.steps ≡ forced.board.literals

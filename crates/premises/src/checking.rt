@@ -1,0 +1,180 @@
+//! Whether a passage tells a lemma right.
+
+ghost use Rattle.std.specs.Prelude.{◌≡◌, ◌<◌, ◌&&◌, ◌++◌, [], ◌∷◌, nat_lt, ℕ, length, slice_get, Some, IsTrue};
+ghost use Rattle.std.specs.List.{list_all, list_any};
+ghost use Rattle.vocab.specs.Literal.{same_literal};
+ghost use Rattle.meaning.specs.Literals.{is_literal};
+ghost use Rattle.tellings.specs.Tellings.{rests_of, stands_before};
+ghost use Rattle.premises.specs.Grounds.{are_said_by, says_by, Upholds};
+ghost use Rattle.premises.specs.Checking.{IsLoaded};
+
+use crate::grounds::{Grounds, add_others};
+use crate::joining::{by_of, is_by};
+use crate::literals::is_literal;
+use crate::step_index::StepIndex;
+use lists::Items;
+use meaning::StoryStep;
+use outcomes::OutcomeKind;
+use tellings::{Passage, Placed, Sentence};
+use vocab::{Literal, Size};
+use worlds::Board;
+
+/// Puts what the sentence of a number rests on in place of what is on a board, unless it is there already, as
+/// that of another number. False where there is no such sentence, or where it rests on no literals of the size,
+/// each once.
+fn load(
+    size: Size,
+    tried: &mut Board,
+    sentences: &Items<Sentence>,
+    loaded: usize,
+    number: usize,
+) -> bool
+    requires size { tried.old.size ≡ size }
+    requires loaded { IsLoaded sentences.now loaded tried.old.literals }
+    ensures size { tried.new.size ≡ tried.old.size }
+    ensures within { IsTrue result → number < length sentences.now }
+    ensures loaded { IsTrue result → tried.new.literals ≡ rests_of (slice_get sentences.now number) }
+{
+    if number >= sentences.len() {
+        return false;
+    }
+    if number == loaded {
+        return true;
+    }
+    tried.clear();
+    add_others(size, tried, sentences.get(number).rests.as_slice())
+}
+
+/// Whether a step of a sentence before the number states a fact.
+fn is_stated(index: &StepIndex, steps: &[Placed], number: usize, literal: &Literal) -> bool
+    ensures { IsTrue result → IsTrue (list_any
+        (λ placed. nat_lt placed.sentence number && same_literal literal.now placed.step.literal) steps.now) }
+{
+    match index.find(steps, literal) {
+        Some(place) => (steps[place].sentence as usize) < number,
+        None => false,
+    }
+}
+
+impl<K: OutcomeKind> Grounds<'_, K> {
+    /// Whether a sentence says a step. What it rests on is on the board.
+    fn says(&self, tried: &mut Board, sentence: &Sentence, step: &StoryStep) -> bool
+        requires size { tried.old.size ≡ K.size self.now.kind.now }
+        requires loaded { tried.old.literals ≡ sentence.now.rests }
+        ensures size { tried.new.size ≡ tried.old.size }
+        ensures same { tried.new.literals ≡ tried.old.literals }
+        ensures says { IsTrue result →
+            IsTrue (says_by (K.size self.now.kind.now) self.now.basis (Some sentence.now) step.now) }
+    {
+        let size = self.kind.space().size();
+        let other = step.literal.opposite();
+        if !is_literal(size, &other) || tried.has(&other) {
+            return false;
+        }
+        tried.add(&other);
+        let refuted = self.refutes(tried, &step.reason);
+        tried.remove(&other);
+        refuted && is_by(sentence.by, by_of(&step.reason))
+    }
+
+    /// Whether each step stands in a sentence that says it.
+    fn are_said(&self, tried: &mut Board, passage: &Passage) -> bool
+        requires { tried.old.size ≡ K.size self.now.kind.now }
+        ensures size { tried.new.size ≡ tried.old.size }
+        ensures said { IsTrue result →
+            IsTrue (are_said_by (K.size self.now.kind.now) self.now.basis passage.now) }
+    {
+        let size = self.kind.space().size();
+        let sentences = &passage.sentences;
+        let mut loaded = sentences.len();
+        for placed in passage.steps.as_slice() {
+            let number = placed.sentence as usize;
+            if !load(size, tried, sentences, loaded, number) {
+                return false;
+            }
+            if !self.says(tried, sentences.get(number), &placed.step) {
+                return false;
+            }
+            loaded = number;
+        }
+        true
+    }
+
+    /// Whether a fact is one of the size that was forced or supposed, or is stated before a number.
+    fn stands(
+        &self,
+        supposed: &Board,
+        index: &StepIndex,
+        steps: &[Placed],
+        number: usize,
+        literal: &Literal,
+    ) -> bool
+        requires { supposed.now.size ≡ K.size self.now.kind.now }
+        ensures { IsTrue result → IsTrue (stands_before self.now.forced.now.literals supposed.now.literals
+            steps.now number literal.now) }
+    {
+        is_literal(self.kind.space().size(), literal)
+            && (self.forced.has(literal)
+                || supposed.has(literal)
+                || is_stated(index, steps, number, literal))
+    }
+
+    /// Whether all of some facts do.
+    fn all_stand(
+        &self,
+        supposed: &Board,
+        index: &StepIndex,
+        steps: &[Placed],
+        number: usize,
+        literals: &[Literal],
+    ) -> bool
+        requires { supposed.now.size ≡ K.size self.now.kind.now }
+        ensures { IsTrue result → IsTrue (list_all (stands_before self.now.forced.now.literals
+            supposed.now.literals steps.now number) literals.now) }
+    {
+        for literal in literals {
+            if !self.stands(supposed, index, steps, number, literal) {
+                return false;
+            }
+        }
+        true
+    }
+
+    /// Whether each fact that a sentence rests on stands before it.
+    fn are_grounded(&self, supposed: &Board, index: &StepIndex, passage: &Passage) -> bool
+        requires { supposed.now.size ≡ K.size self.now.kind.now }
+        ensures { IsTrue result → (k : ℕ) → IsTrue (list_all (stands_before self.now.forced.now.literals
+            supposed.now.literals passage.now.steps k) (rests_of (slice_get passage.now.sentences k))) }
+    {
+        let steps = passage.steps.as_slice();
+        for number in 0..passage.sentences.len() {
+            let rests = passage.sentences.get(number).rests.as_slice();
+            if !self.all_stand(supposed, index, steps, number, rests) {
+                return false;
+            }
+        }
+        true
+    }
+
+    /// Whether a passage tells a lemma right up to its end, which rests on these facts. Its suppositions are
+    /// on a board, and the steps of the passage in the index.
+    pub(crate) fn upholds(
+        &self,
+        supposed: &Board,
+        tried: &mut Board,
+        index: &StepIndex,
+        passage: &Passage,
+        end: &[Literal],
+    ) -> bool
+        requires supposed { supposed.now.size ≡ K.size self.now.kind.now }
+        requires tried { tried.old.size ≡ K.size self.now.kind.now }
+        ensures tried { tried.new.size ≡ tried.old.size }
+        ensures upholds { IsTrue result → Upholds (K.size self.now.kind.now) self.now.basis
+            self.now.forced.now.literals supposed.now.literals end.now passage.now }
+    {
+        let number = passage.sentences.len();
+        self.all_stand(supposed, index, passage.steps.as_slice(), number, end)
+            && self.are_grounded(supposed, index, passage)
+            && self.are_said(tried, passage)
+    }
+}

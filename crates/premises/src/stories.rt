@@ -1,0 +1,170 @@
+//! Stories told by their lemmas.
+
+ghost use Rattle.std.specs.Prelude.{◌≡◌, ℕ, [], take, length, slice_get, Some, IsTrue, IfOk};
+ghost use Rattle.meaning.specs.declared.stories.Lemma.{Lemma};
+ghost use Rattle.meaning.specs.Stories.{is_story};
+ghost use Rattle.story.specs.Conditions.{has_places};
+ghost use Rattle.tellings.specs.Tellings.{IsStoryTold};
+ghost use Rattle.premises.specs.Grounds.{is_lemma_by, IsToldBy};
+ghost use Rattle.premises.specs.Told.{AreTold};
+
+use crate::basis::Basis;
+use crate::chains::Chains;
+use crate::forced::forced_in;
+use crate::grounds::Grounds;
+use crate::homes::homes_of;
+use crate::literals::places;
+use crate::shapes::joined_by_shape;
+use crate::step_index::StepIndex;
+use crate::telling::suppose;
+use lists::{Items, NoMemory};
+use meaning::Lemma;
+use outcomes::OutcomeKind;
+use std::alloc::Global;
+use tellings::{StoryTelling, Telling};
+use vocab::{Places, Study};
+use worlds::Board;
+
+/// What is used anew for each lemma: two boards, and tables by the places of literals.
+#[derive(Drop)]
+struct Desk {
+    known: Board,
+    tried: Board,
+    chains: Chains,
+    index: StepIndex,
+}
+
+impl Desk {
+    /// A desk for a kind's size.
+    fn new<K: OutcomeKind>(alloc: Global, kind: &K) -> Result<Desk, NoMemory>
+        ensures known { IfOk result (λ desk. desk.known.size ≡ K.size kind.now) }
+        ensures tried { IfOk result (λ desk. desk.tried.size ≡ K.size kind.now) }
+    {
+        let size = kind.space().size();
+        Ok(Desk {
+            known: Board::new(alloc, kind)?,
+            tried: Board::new(alloc, kind)?,
+            chains: Chains::new(alloc, places(size) + 1)?,
+            index: StepIndex::new(alloc, size)?,
+        })
+    }
+}
+
+impl<K: OutcomeKind> Grounds<'_, K> {
+    /// A telling in which sentences of one shape are told as one, where it tells the lemma right; else the
+    /// given one.
+    fn shorten(
+        &self,
+        alloc: Global,
+        desk: &mut Desk,
+        lemma: &Lemma,
+        telling: Telling,
+    ) -> Result<Telling, NoMemory>
+        requires known { desk.old.known.size ≡ K.size self.now.kind.now }
+        requires tried { desk.old.tried.size ≡ K.size self.now.kind.now }
+        requires lemma { IsTrue (is_lemma_by (K.size self.now.kind.now) self.now.basis lemma.now) }
+        requires told { IsToldBy (K.size self.now.kind.now) self.now.basis self.now.forced.now.literals
+            lemma.now telling }
+        ensures known { desk.new.known.size ≡ desk.old.known.size }
+        ensures tried { desk.new.tried.size ≡ desk.old.tried.size }
+        ensures told { IfOk result
+            (IsToldBy (K.size self.now.kind.now) self.now.basis self.now.forced.now.literals lemma.now) }
+    {
+        let size = self.kind.space().size();
+        desk.index.enter_all(telling.passage.steps.as_slice());
+        let passage = joined_by_shape(alloc, size, &mut desk.tried, &desk.index, &telling.passage)?;
+        desk.known.clear();
+        suppose(&mut desk.known, lemma.suppose.as_slice());
+        let end = telling.end.as_slice();
+        if self.upholds(&desk.known, &mut desk.tried, &desk.index, &passage, end) {
+            let Telling { passage: _, end } = telling;
+            return Ok(Telling { passage, end });
+        }
+        Ok(telling)
+    }
+
+    /// Tells a lemma that follows from the earlier ones.
+    fn tell_shortly(
+        &self,
+        alloc: Global,
+        desk: &mut Desk,
+        lemma: &Lemma,
+    ) -> Result<Telling, NoMemory>
+        requires known { desk.old.known.size ≡ K.size self.now.kind.now }
+        requires tried { desk.old.tried.size ≡ K.size self.now.kind.now }
+        requires lemma { IsTrue (is_lemma_by (K.size self.now.kind.now) self.now.basis lemma.now) }
+        ensures known { desk.new.known.size ≡ desk.old.known.size }
+        ensures tried { desk.new.tried.size ≡ desk.old.tried.size }
+        ensures told { IfOk result
+            (IsToldBy (K.size self.now.kind.now) self.now.basis self.now.forced.now.literals lemma.now) }
+    {
+        let telling = self.tell(
+            alloc,
+            &mut desk.known,
+            &mut desk.tried,
+            &mut desk.chains,
+            lemma,
+        )?;
+        self.shorten(alloc, desk, lemma, telling)
+    }
+}
+
+/// Tells the lemmas of an accepted story, each by the lemmas before it, where some facts are forced.
+fn tell_lemmas<K: OutcomeKind>(
+    alloc: Global,
+    kind: &K,
+    study: &Study,
+    core: &Places,
+    forced: &Board,
+    story: &Items<Lemma>,
+) -> Result<Items<Telling>, NoMemory>
+    requires study { study.now.size ≡ K.size kind.now }
+    requires core { IsTrue (has_places study.now.axioms core.now) }
+    requires forced { forced.now.size ≡ K.size kind.now }
+    requires accepted { IsTrue (is_story (K.size kind.now) study.now.axioms core.now story.now) }
+    ensures all { IfOk result (λ tellings. length tellings ≡ length story.now) }
+    ensures each { IfOk result
+        (AreTold (K.size kind.now) study.now.axioms core.now story.now forced.now.literals) }
+{
+    let mut desk = Desk::new(alloc, kind)?;
+    let mut tellings = Items::new(alloc);
+    for place in 0..story.len() {
+        let grounds = Grounds {
+            kind,
+            basis: Basis {
+                study,
+                core,
+                earlier: &story.as_slice()[..place],
+            },
+            forced,
+        };
+        let telling = grounds.tell_shortly(alloc, &mut desk, story.get(place))?;
+        tellings.push(telling)?;
+    }
+    Ok(tellings)
+}
+
+/// Tells an accepted story over the axioms of a core: first the facts that an axiom forces where nothing is
+/// supposed, then each lemma by the lemmas before it. The only error is want of memory.
+pub fn tell_story<K: OutcomeKind>(
+    alloc: Global,
+    kind: &K,
+    study: &Study,
+    core: &Places,
+    story: &Items<Lemma>,
+) -> Result<StoryTelling, NoMemory>
+    requires study { study.now.size ≡ K.size kind.now }
+    requires core { IsTrue (has_places study.now.axioms core.now) }
+    requires accepted { IsTrue (is_story (K.size kind.now) study.now.axioms core.now story.now) }
+    ensures { IfOk result (IsStoryTold (K.size kind.now) study.now.axioms core.now story.now) }
+{
+    let mut tried = Board::new(alloc, kind)?;
+    let forced = forced_in(alloc, kind, study, core, &mut tried, story.as_slice())?;
+    let lemmas = tell_lemmas(alloc, kind, study, core, &forced.board, story)?;
+    let homes = homes_of(alloc, story.as_slice(), lemmas.as_slice())?;
+    Ok(StoryTelling {
+        forced: forced.told(),
+        lemmas,
+        homes,
+    })
+}
