@@ -1,8 +1,9 @@
 -- Lemmas that all stand by themselves, and homes that were checked.
-use Rattle.std.proofs.Common.{◌≡◌, refl, sym, ap, ◌∙◌, subst, ℕ, zero, suc, ◌+◌, ◌<◌, ◌≤◌, inl, inr, Bool, true, ◌&&◌, List, [], ◌∷◌, length, replicate, length-replicate, arith, Option, Some, None}
+use Rattle.std.proofs.Common.{◌≡◌, refl, sym, ap, ◌∙◌, subst, ℕ, zero, suc, ◌+◌, ◌<◌, ◌≤◌, inl, inr, Bool, true, ◌&&◌, List, [], ◌∷◌, length, get_or, replicate, arith, Option, Some, None}
 use Rattle.std.specs.Prelude.{slice_get}
 use Rattle.std.specs.List.{list_all}
-use Rattle.std.proofs.lemmas.Bool.{and_parts, and_from, cases_lt}
+use Rattle.std.proofs.lemmas.Bool.{and_from, cases_lt}
+use Rattle.std.proofs.lemmas.List.{length-replicate}
 use Rattle.meaning.specs.declared.stories.Lemma.{Lemma}
 use Rattle.meaning.specs.declared.stories.Reason.{Reason}
 use Rattle.meaning.specs.declared.stories.Reason.TheVariants.{Axiom as ByAxiom, Outcome as ByOutcome, Lemma as ByLemma}
@@ -46,3 +47,18 @@ checked_homes story tellings homes n all most before within = record {
         cc
   ];
 }
+
+-- ---- one lemma more
+
+pub reached_more : (homes : List (Option ℕ)) (story : List Lemma) (tellings : List Telling) (place m : ℕ) (first lemma : Lemma) (its telling : Telling) → m ≡ place → first ≡ get_or story place first →
+    its ≡ get_or tellings place its → slice_get story m ≡ Some lemma → slice_get tellings m ≡ Some telling → reaches homes place first its ≡ true → reaches homes m lemma telling ≡ true
+reached_more homes story tellings place m first lemma its telling same is so at there h =
+    let one : first ≡ lemma = is ∙ ap (λ (i : ℕ). get_or story i first) (sym same) ∙ (read_at story m lemma first at).1 in
+    let two : its ≡ telling = so ∙ ap (λ (i : ℕ). get_or tellings i its) (sym same) ∙ (read_at tellings m telling its there).1 in
+    subst (λ (i : ℕ). reaches homes i lemma telling ≡ true) (sym same)
+    (subst (λ (l : Lemma). reaches homes place l telling ≡ true) one (subst (λ (t : Telling). reaches homes place first t ≡ true) two h))
+
+pub taken_more : (homes : List (Option ℕ)) (story : List Lemma) (tellings : List Telling) (place j m : ℕ) → j ≡ place →
+    ((k : ℕ) → home_of homes place ≡ Some k → takes_in homes k place (slice_get story k) (slice_get tellings k) ≡ true) → home_of homes j ≡ Some m → takes_in homes m j (slice_get story m) (slice_get tellings m) ≡ true
+taken_more homes story tellings place j m same h e =
+    subst (λ (i : ℕ). takes_in homes m i (slice_get story m) (slice_get tellings m) ≡ true) (sym same) (h m (ap (home_of homes) (sym same) ∙ e))

@@ -3,7 +3,8 @@ use Rattle.std.proofs.Common.{◌≡◌, refl, sym, ap, ◌∙◌, subst, ℕ, z
 use Rattle.std.specs.Prelude.{slice_get, ◌==◌}
 use Rattle.std.specs.List.{list_all}
 use Rattle.std.proofs.lemmas.Bool.{and_parts, and_from, or_parts, cases_lt}
-use Rattle.std.proofs.lemmas.List.{drop_more}
+use Rattle.std.proofs.lemmas.List.{drop_more, take_more}
+use Rattle.std.proofs.lemmas.List.Elements.{filter-append}
 use Rattle.vocab.specs.declared.literals.Literal.{Literal}
 use Rattle.vocab.specs.Literal.{has, opposite_of}
 use Rattle.vocab.specs.Size.{Extent}
@@ -14,7 +15,8 @@ use Rattle.meaning.specs.declared.stories.StoryStep.{StoryStep}
 use Rattle.meaning.specs.Literals.{is_literal}
 use Rattle.meaning.specs.Stories.{are_forced, are_new, has_literals, is_decided, is_lemma, is_story_from, refutes}
 use Rattle.premises.specs.declared.basis.Basis.{Basis}
-use Rattle.premises.specs.Grounds.{follow, is_lemma_by, refutes_by}
+use Rattle.meaning.proofs.TestLaws.{all_read}
+use Rattle.premises.specs.Grounds.{follow, is_lemma_by, refutes_by, unforced}
 
 not_from : (b : Bool) → not b ≡ true → b ≡ false
 not_from true h = absurd (true≢false (sym h))
@@ -97,3 +99,13 @@ parts_of size basis lemma h =
     let q = and_parts (has_literals size lemma) (are_new [] lemma.suppose) p.0 in
     let r = and_parts (list_all (is_literal size) lemma.suppose) (list_all (λ (step : StoryStep). is_literal size step.literal) lemma.steps) q.0 in
     record { literals = q.0; supposed = r.0; fresh = q.1; follows = p.1 }
+
+-- a step of a lemma states a literal of the size
+pub its_literal : (size : Extent) (lemma : Lemma) (i : ℕ) (d : StoryStep) → has_literals size lemma ≡ true → i < length lemma.steps → is_literal size (get_or lemma.steps i d).literal ≡ true
+its_literal size lemma i d h lt =
+    let p = and_parts (list_all (is_literal size) lemma.suppose) (list_all (λ (step : StoryStep). is_literal size step.literal) lemma.steps) h in
+    all_read (λ (step : StoryStep). is_literal size step.literal) lemma.steps i d lt p.1
+
+-- the steps that are not forced, one more
+pub unforced_more : (forced : List Literal) (steps : List StoryStep) (i : ℕ) (d : StoryStep) → i < length steps → unforced forced (take (i + 1) steps) ≡ unforced forced (take i steps) ++ unforced forced (get_or steps i d ∷ [])
+unforced_more forced steps i d lt = ap (unforced forced) (take_more steps i d lt) ∙ filter-append (λ (step : StoryStep). not (has forced step.literal)) (take i steps) (get_or steps i d ∷ [])

@@ -145,7 +145,7 @@ module _ (size : Extent) (basis : Basis) where
           | inr high ↦ elim (cases_lt k (length new.sentences)) [
             | inl within ↦
                 let same : rests_of (slice_get new.sentences k) ≡ rests =
-                    ap (λ (i : ℕ). rests_of (slice_get new.sentences i)) (joined.fresh k high within).0 ∙ rests_there size basis.study.now.axioms basis.core.now basis.earlier.now old.sentences new.sentences old.steps step rests number joined in
+                ap (λ (i : ℕ). rests_of (slice_get new.sentences i)) (joined.fresh k high within).0 ∙ rests_there size basis.study.now.axioms basis.core.now basis.earlier.now old.sentences new.sentences old.steps step rests number joined in
                 subst (λ (ls : List Literal). list_all (stands_before forced suppose more k) ls ≡ true) (sym same)
                 (all_stand_more forced suppose old.steps one (length old.sentences) k rests high
                 (all_among (stands_before forced suppose old.steps (length old.sentences)) known rests so_far.stands grounds.kept))

@@ -50,8 +50,8 @@ fn is_stated(index: &StepIndex, steps: &[Placed], number: usize, literal: &Liter
     ensures { IsTrue result → IsTrue (list_any
         (λ placed. nat_lt placed.sentence number && same_literal literal.now placed.step.literal) steps.now) }
 {
-    match index.find(steps, literal) {
-        Some(place) => (steps[place].sentence as usize) < number,
+    match index.sentence_of(steps, literal) {
+        Some(sentence) => (sentence as usize) < number,
         None => false,
     }
 }

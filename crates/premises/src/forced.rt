@@ -2,6 +2,7 @@
 
 ghost use Rattle.std.specs.Prelude.{◌≡◌, ℕ, List, [], ◌∷◌, ◌++◌, IsTrue, IsFalse, IfOk, OnOk};
 ghost use Rattle.vocab.specs.Literal.{has, opposite_of};
+ghost use Rattle.vocab.specs.Size.{Extent};
 ghost use Rattle.vocab.specs.Titled.{Titled};
 ghost use Rattle.meaning.specs.Literals.{is_literal};
 ghost use Rattle.meaning.specs.Stories.{refutes};
@@ -120,10 +121,10 @@ impl Forced {
 
     /// The sentences that state them.
     pub(crate) fn told(self) -> Passage
-        ensures forced { (axioms : List Titled) (core : List ℕ) → AreForcedSoFar self.board.size axioms core self →
-            IsForced self.board.size axioms core result }
-        ensures facts { (axioms : List Titled) (core : List ℕ) → AreForcedSoFar self.board.size axioms core self →
-            facts_of result.steps ≡ self.board.literals }
+        ensures forced { (size : Extent) (axioms : List Titled) (core : List ℕ) →
+            AreForcedSoFar size axioms core self → IsForced size axioms core result }
+        ensures facts { (size : Extent) (axioms : List Titled) (core : List ℕ) →
+            AreForcedSoFar size axioms core self → facts_of result.steps ≡ self.board.literals }
     {
         let _facts = self.board.as_slice();
         let Forced {

@@ -1,6 +1,7 @@
 //! Where the lemmas of a story stand.
 
-ghost use Rattle.std.specs.Prelude.{◌≡◌, ◌≤◌, ◌<◌, ℕ, length, slice_get, Option, None, Some, IsTrue, IfOk};
+ghost use Rattle.std.specs.Prelude.{◌≡◌, ◌≤◌, ◌<◌, ℕ, length, replicate, slice_get, None, Some, IsTrue, IfOk};
+ghost use Rattle.std.specs.List.{list_all};
 ghost use Rattle.meaning.specs.declared.stories.Lemma.{Lemma};
 ghost use Rattle.tellings.specs.declared.tellings.Telling.{Telling};
 ghost use Rattle.tellings.specs.Tellings.{home_of, is_alone, is_at, is_reached, mentions, names, reaches, takes_in, AreHomes};
@@ -73,16 +74,20 @@ fn is_reached(homes: &[Option<u32>], place: usize, reason: &Reason) -> bool
     }
 }
 
+/// Whether all lemmas do that steps of the one at a place name.
+fn are_reached(homes: &[Option<u32>], place: usize, steps: &[Placed]) -> bool
+    ensures { result ≡ list_all (λ placed. is_reached homes.now place placed.step.reason) steps.now }
+{
+    steps
+        .iter()
+        .all(|placed| is_reached(homes, place, &placed.step.reason))
+}
+
 /// Whether all lemmas do that the one at a place names.
 fn reaches(homes: &[Option<u32>], place: usize, lemma: &Lemma, telling: &Telling) -> bool
     ensures { result ≡ reaches homes.now place lemma.now telling.now }
 {
-    telling
-        .passage
-        .steps
-        .as_slice()
-        .iter()
-        .all(|placed| is_reached(homes, place, &placed.step.reason))
+    are_reached(homes, place, telling.passage.steps.as_slice())
         && is_reached(homes, place, &lemma.last)
 }
 
@@ -91,7 +96,10 @@ fn names_once(place: usize, lemma: &Lemma, telling: &Telling) -> bool
     ensures { IsTrue result → mentions place lemma.now telling.now ≡ 1 }
 {
     let steps = telling.passage.steps.as_slice();
-    let count = steps.iter().filter(|placed| names(place, &placed.step.reason)).count();
+    let count = steps
+        .iter()
+        .filter(|placed| names(place, &placed.step.reason))
+        .count();
     if names(place, &lemma.last) {
         count == 0
     } else {
@@ -172,11 +180,7 @@ impl Namings {
 }
 
 /// How often the lemmas of a story that is told so are named.
-fn namings_in(
-    alloc: Global,
-    story: &[Lemma],
-    tellings: &[Telling],
-) -> Result<Namings, NoMemory> {
+fn namings_in(alloc: Global, story: &[Lemma], tellings: &[Telling]) -> Result<Namings, NoMemory> {
     let mut namings = Namings {
         counts: vec![in alloc; 0; story.len()]?,
         last: vec![in alloc; 0; story.len()]?,
@@ -202,12 +206,20 @@ fn found(alloc: Global, namings: &Namings, count: usize) -> Result<Vec<Option<u3
     Ok(homes)
 }
 
-/// No homes: each lemma stands by itself.
-fn none(alloc: Global, story: &[Lemma], tellings: &[Telling]) -> Result<Vec<Option<u32>>, NoMemory>
+/// No home, so often.
+fn no_homes(alloc: Global, count: usize) -> Result<Vec<Option<u32>>, NoMemory>
+    ensures { IfOk result (λ homes. homes.items ≡ replicate count None) }
+{
+    Ok(vec![in alloc; None; count]?)
+}
+
+/// The homes where each lemma stands by itself.
+fn alone(alloc: Global, story: &[Lemma], tellings: &[Telling]) -> Result<Vec<Option<u32>>, NoMemory>
     ensures { IfOk result (λ homes. AreHomes story.now tellings.now homes.items) }
 {
     let _lemmas = tellings.len();
-    Ok(vec![in alloc; None; story.len()]?)
+    let homes = no_homes(alloc, story.len())?;
+    Ok(homes)
 }
 
 /// Where the lemmas of a story stand that is told so: each within the later one that alone names it, once, if
@@ -225,6 +237,6 @@ pub(crate) fn homes_of(
     if are_homes(homes.as_slice(), story, tellings) {
         return Ok(Items::from_vec(homes));
     }
-    let homes = none(alloc, story, tellings)?;
+    let homes = alone(alloc, story, tellings)?;
     Ok(Items::from_vec(homes))
 }

@@ -59,7 +59,7 @@ fn is_sentence(sentence: &Sentence, by: By, rests: &[Literal]) -> bool
 /// The key by which a sentence is found: the place of the first fact that it rests on; without one, 0.
 pub(crate) fn key_of(rests: &[Literal]) -> usize {
     match rests.first() {
-        Some(literal) => place_of_literal(literal) + 1,
+        Some(literal) => place_of_literal(literal).saturating_add(1),
         None => 0,
     }
 }

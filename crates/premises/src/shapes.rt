@@ -59,8 +59,8 @@ fn are_alike(left: &[Literal], right: &[Literal]) -> bool {
 fn level_of(index: &StepIndex, steps: &[Placed], levels: &[u32], rests: &[Literal]) -> u32 {
     let mut highest: u32 = 0;
     for literal in rests {
-        if let Some(place) = index.find(steps, literal) {
-            highest = highest.max(at(levels, steps[place].sentence as usize));
+        if let Some(sentence) = index.sentence_of(steps, literal) {
+            highest = highest.max(at(levels, sentence as usize));
         }
     }
     highest.saturating_add(1)
@@ -134,7 +134,12 @@ fn shapes_of(alloc: Global, index: &StepIndex, passage: &Passage) -> Result<Shap
 }
 
 /// Appends the numbers of a key, the newest first.
-fn append_chain(order: &mut Vec<u32>, chains: &Chains, key: usize, most: usize) -> Result<(), NoMemory> {
+fn append_chain(
+    order: &mut Vec<u32>,
+    chains: &Chains,
+    key: usize,
+    most: usize,
+) -> Result<(), NoMemory> {
     let mut next = chains.newest(key);
     for _ in 0..most {
         let Some(number) = next else {

@@ -1,6 +1,7 @@
 //! Where facts are stated.
 
-ghost use Rattle.std.specs.Prelude.{◌<◌, length, slice_get, IsTrue, IfSome, IsSomeAnd};
+ghost use Rattle.std.specs.Prelude.{◌<◌, ◌&&◌, ℕ, nat_lt, IsTrue, IfSome};
+ghost use Rattle.std.specs.List.{list_any};
 ghost use Rattle.vocab.specs.Literal.{same_literal};
 
 use crate::literals::{is_same, place_of, places};
@@ -39,19 +40,21 @@ impl StepIndex {
         }
     }
 
-    /// The place of the step that states a fact, if there is one.
-    pub(crate) fn find(&self, steps: &[Placed], literal: &Literal) -> Option<usize>
-        ensures within { IfSome result (λ i. i < length steps.now) }
-        ensures states { IfSome result (λ i. IsSomeAnd (slice_get steps.now i)
-            (λ placed. IsTrue (same_literal literal.now placed.step.literal))) }
+    /// The number of the sentence of a step that states a fact, if there is one.
+    pub(crate) fn sentence_of(&self, steps: &[Placed], literal: &Literal) -> Option<u32>
+        ensures { IfSome result (λ n. (k : ℕ) → n < k → IsTrue (list_any
+            (λ placed. nat_lt placed.sentence k && same_literal literal.now placed.step.literal) steps.now)) }
     {
         let at = place_of(literal);
         if at >= self.steps.len() {
             return None;
         }
         let place = self.steps[at] as usize;
-        if place < steps.len() && is_same(literal, &steps[place].step.literal) {
-            Some(place)
+        if place >= steps.len() {
+            return None;
+        }
+        if is_same(literal, &steps[place].step.literal) {
+            Some(steps[place].sentence)
         } else {
             None
         }

@@ -44,7 +44,7 @@ impl Desk {
         Ok(Desk {
             known: Board::new(alloc, kind)?,
             tried: Board::new(alloc, kind)?,
-            chains: Chains::new(alloc, places(size) + 1)?,
+            chains: Chains::new(alloc, places(size).saturating_add(1))?,
             index: StepIndex::new(alloc, size)?,
         })
     }

@@ -3,6 +3,8 @@
 #![tactic(auto)]
 
 #[cfg(test)]
+mod premises_tests;
+#[cfg(test)]
 mod report_lines_tests;
 #[cfg(test)]
 mod report_text_tests;

@@ -26,20 +26,20 @@ fn symmetric() -> &'static str {
     SYMMETRIC
 }
 
-fn two_and_two() -> Result<Size, Fail>
+pub(crate) fn two_and_two() -> Result<Size, Fail>
     ensures { IfOk result (λ size. size ≡ choice 2 2) }
 {
     Ok(Size::check(Kind::Choice, 2, 2).ok().ok_or("size")?)
 }
 
-fn study(alloc: Global) -> Result<Box<Study>, Fail>
+pub(crate) fn study(alloc: Global) -> Result<Box<Study>, Fail>
     ensures size { IfOk result (λ study. study.value.size ≡ choice 2 2) }
     ensures axioms { IfOk result (λ study. length study.value.axioms ≡ 2) }
 {
     of_two_axioms(alloc, symmetric(), two_and_two()?)
 }
 
-fn lemma(
+pub(crate) fn lemma(
     alloc: Global,
     suppose: &[Literal],
     steps: &[StoryStep],
@@ -82,18 +82,18 @@ fn answer(
     Ok(check_story(alloc, &kind, &study, &places, &story))
 }
 
-fn axiom_at(place: u32, x: u32) -> Reason {
+pub(crate) fn axiom_at(place: u32, x: u32) -> Reason {
     Reason::Axiom(place, Env::none().with(1).with(0).with(1).with(x))
 }
 
-fn so(literal: Literal, reason: Reason) -> StoryStep
+pub(crate) fn so(literal: Literal, reason: Reason) -> StoryStep
     ensures { result ≡ record { literal = literal; reason = reason } }
 {
     StoryStep { literal, reason }
 }
 
 /// If a won at ab|ba, then it would at ba|ab by anonymity, and b by neutrality.
-fn a_does_not_win(alloc: Global) -> Result<Lemma, NoMemory>
+pub(crate) fn a_does_not_win(alloc: Global) -> Result<Lemma, NoMemory>
     ensures literals { IfOk result (λ l. IsTrue (has_literals (choice 2 2) l)) }
     ensures short { IfOk result (λ l. IsTrue (is_short l)) }
 {
@@ -110,7 +110,7 @@ fn a_does_not_win(alloc: Global) -> Result<Lemma, NoMemory>
 }
 
 /// So b wins at ab|ba, and both at ba|ab.
-fn nothing_wins(alloc: Global) -> Result<Lemma, NoMemory>
+pub(crate) fn nothing_wins(alloc: Global) -> Result<Lemma, NoMemory>
     ensures literals { IfOk result (λ l. IsTrue (has_literals (choice 2 2) l)) }
     ensures short { IfOk result (λ l. IsTrue (is_short l)) }
 {

@@ -2,7 +2,7 @@ use Rattle.std.proofs.Common.{◌≡◌, ℕ, ◌<◌, true}
 use Rattle.std.specs.Prelude.{slice_get}
 use Rattle.std.specs.List.{list_all}
 use Rattle.tellings.specs.Tellings.{rests_of, stands_before}
-use Rattle.premises.proofs.checking.Grounds.are_grounded.Given as goal
+use Rattle.premises.proofs.grounds.Grounds.are_grounded.Given as goal
 
 -- what the sentences so far rest on stands before them
 abbrev pub invariant-loop-number : goal.invariant-loop-number

@@ -3,7 +3,7 @@ use Rattle.std.specs.Prelude.{slice_get}
 use Rattle.std.specs.List.{list_all}
 use Rattle.premises.specs.Checking.{IsLoaded}
 use Rattle.premises.specs.Grounds.{says_by}
-use Rattle.premises.proofs.checking.Grounds.are_said.Given as goal
+use Rattle.premises.proofs.grounds.Grounds.are_said.Given as goal
 
 -- the steps so far are said, and on the board is what the sentence of the last one rests on
 abbrev pub invariant-loop-placed : goal.invariant-loop-placed

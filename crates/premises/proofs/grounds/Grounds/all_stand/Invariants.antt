@@ -1,7 +1,7 @@
 use Rattle.std.proofs.Common.{◌≡◌, true, take}
 use Rattle.std.specs.List.{list_all}
 use Rattle.tellings.specs.Tellings.{stands_before}
-use Rattle.premises.proofs.checking.Grounds.all_stand.Given as goal
+use Rattle.premises.proofs.grounds.Grounds.all_stand.Given as goal
 
 -- the facts so far stand
 abbrev pub invariant-loop-literal : goal.invariant-loop-literal

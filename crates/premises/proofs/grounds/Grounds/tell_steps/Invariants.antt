@@ -1,6 +1,6 @@
 use Rattle.std.proofs.Common.{◌≡◌, true, take, drop}
 use Rattle.premises.specs.Grounds.{follow, steps_of, unforced, IsToldSoFar}
-use Rattle.premises.proofs.telling.Grounds.tell_steps.Given as goal
+use Rattle.premises.proofs.grounds.Grounds.tell_steps.Given as goal
 
 -- the steps so far are told, but for those whose facts are forced; the others follow
 abbrev pub invariant-loop-step : goal.invariant-loop-step

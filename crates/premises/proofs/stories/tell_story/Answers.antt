@@ -1,0 +1,19 @@
+use Rattle.std.proofs.Common.{◌≡◌, sym, subst, List}
+use Rattle.std.specs.Prelude.{take}
+use Rattle.vocab.specs.declared.literals.Literal.{Literal}
+use Rattle.tellings.specs.Tellings.{AreHomes, IsTold}
+use Rattle.premises.proofs.stories.tell_story.Goals as goal
+
+pub returns : goal.returns
+returns g c =
+    let size = g.K.OutcomeKind.size c.args.kind.now in
+    let axioms = c.args.study.now.axioms in
+    let core = c.args.core.now in
+    record {
+      forced = c.told.ensures.forced size axioms core c.in_ok-forced.ensures.so_far;
+      all = c.in_ok-lemmas.ensures.all;
+      each = λ j lemma telling at there.
+          subst (λ (facts : List Literal). IsTold size axioms core (take j c.args.story.now) facts lemma telling) (sym (c.told.ensures.facts size axioms core c.in_ok-forced.ensures.so_far))
+          (c.in_ok-lemmas.ensures.each j lemma telling at there);
+      placed = rw (c.as_slice-2.ensures, c.as_slice-3.ensures) at c.in_ok-homes.ensures;
+    }

@@ -1,0 +1,123 @@
+//! How stories are told: that of anonymity and neutrality, with a lemma more in which one sentence says two steps
+//! of one shape; and one in which all facts are forced.
+
+ghost use Rattle.std.specs.Prelude.{◌≡◌, ◌≤◌, length, IfOk, IsTrue};
+ghost use Rattle.std.specs.List.{list_all};
+ghost use Rattle.meaning.specs.Stories.{has_literals};
+ghost use Rattle.story.specs.Conditions.{is_short};
+ghost use Rattle.meaning.proofs.WorkedExamples.{choice};
+
+use crate::story_tests::{a_does_not_win, axiom_at, lemma, nothing_wins, so, study, two_and_two};
+use crate::studies_by_text::of_two_axioms;
+use lists::NoMemory;
+use meaning::{Lemma, Reason};
+use outcomes::ChoiceKind;
+use premises::tell_story;
+use profiles::Space;
+use std::alloc::Global;
+use std::test::Fail;
+use story::{Story, check_story};
+use tellings::StoryTelling;
+use vocab::{Env, Literal, Places, Study};
+
+static FORCED: &str =
+    "kind = \"choice\"\nvoters = 2\nalternatives = 2\naxioms = [\"pareto\", \"never_a\"]\n\
+    [sentences]\nnever_a = \"all p: profile. !wins(@a, p)\"\n";
+
+// The text is handed out by a function, so that the proof of a test need not read it.
+fn forced() -> &'static str {
+    FORCED
+}
+
+/// If a won at neither ab|ba nor ba|ab, then b at both, and so a by neutrality.
+fn a_wins_once(alloc: Global) -> Result<Lemma, NoMemory>
+    ensures literals { IfOk result (λ l. IsTrue (has_literals (choice 2 2) l)) }
+    ensures short { IfOk result (λ l. IsTrue (is_short l)) }
+{
+    let steps = [
+        so(Literal::Wins(1, 1), Reason::Outcome(1)),
+        so(Literal::Wins(1, 2), Reason::Outcome(2)),
+    ];
+    let suppose = [Literal::Loses(0, 1), Literal::Loses(0, 2)];
+    lemma(alloc, suppose.as_slice(), steps.as_slice(), axiom_at(1, 1))
+}
+
+/// At ab|ab an axiom forbids b, and the other one a.
+fn both_are_forbidden(alloc: Global) -> Result<Lemma, NoMemory>
+    ensures literals { IfOk result (λ l. IsTrue (has_literals (choice 2 2) l)) }
+    ensures short { IfOk result (λ l. IsTrue (is_short l)) }
+{
+    let pareto = Reason::Axiom(0, Env::none().with(0).with(0).with(1));
+    let never_a = Reason::Axiom(1, Env::none().with(0));
+    let steps = [
+        so(Literal::Loses(1, 0), pareto),
+        so(Literal::Loses(0, 0), never_a),
+    ];
+    lemma(alloc, [].as_slice(), steps.as_slice(), Reason::Outcome(0))
+}
+
+/// How a story over two axioms is told, if it is accepted.
+fn told(alloc: Global, study: &Study, story: &Story) -> Result<StoryTelling, Fail>
+    requires size { study.now.size ≡ choice 2 2 }
+    requires axioms { length study.now.axioms ≡ 2 }
+    requires literals { IsTrue (list_all (has_literals (choice 2 2)) story.now) }
+    requires short { IsTrue (list_all is_short story.now) }
+    requires few { length story.now ≤ 3 }
+{
+    let kind = ChoiceKind::new(Space::new(two_and_two()?));
+    let mut core = Places::new(alloc);
+    core.append(&[0, 1])?;
+    match check_story(alloc, &kind, study, &core, story) {
+        Ok(()) => {}
+        Err(_) => return Err(Fail::from("refused")),
+    }
+    Ok(tell_story(alloc, &kind, study, &core, story)?)
+}
+
+/// Of the facts that are forced and of each lemma how many sentences there are and how many steps, and for each
+/// lemma the one within which it stands.
+fn summary(told: &StoryTelling) -> ([(usize, usize); 4], [Option<u32>; 3]) {
+    let mut counts = [(0, 0); 4];
+    let mut homes = [None; 3];
+    counts[0] = (told.forced.sentences.len(), told.forced.steps.len());
+    for place in 0..told.lemmas.len().min(3) {
+        let passage = &told.lemmas.get(place).passage;
+        counts[place + 1] = (passage.sentences.len(), passage.steps.len());
+    }
+    for place in 0..told.homes.len().min(3) {
+        homes[place] = *told.homes.get(place);
+    }
+    (counts, homes)
+}
+
+#[test]
+fn steps_of_one_shape_are_one_sentence(rt: HostRuntime) -> Result<(), Fail> {
+    let alloc = rt.alloc();
+    let study = study(alloc)?;
+    let (first, second, third) = (
+        a_does_not_win(alloc)?,
+        a_wins_once(alloc)?,
+        nothing_wins(alloc)?,
+    );
+    let mut story = Story::new(alloc);
+    story.push(first)?;
+    story.push(second)?;
+    story.push(third)?;
+    let (counts, homes) = summary(&told(alloc, &study, &story)?);
+    assert!(rt; counts == [(0, 0), (2, 2), (1, 2), (4, 4)]);
+    assert!(rt; homes == [Some(2), None, None]);
+    Ok(())
+}
+
+#[test]
+fn forced_facts_are_not_told_again(rt: HostRuntime) -> Result<(), Fail> {
+    let alloc = rt.alloc();
+    let study = of_two_axioms(alloc, forced(), two_and_two()?)?;
+    let only = both_are_forbidden(alloc)?;
+    let mut story = Story::new(alloc);
+    story.push(only)?;
+    let (counts, homes) = summary(&told(alloc, &study, &story)?);
+    assert!(rt; counts == [(2, 2), (0, 0), (0, 0), (0, 0)]);
+    assert!(rt; homes == [None, None, None]);
+    Ok(())
+}
