@@ -1,5 +1,5 @@
 -- Texts that a function adds one after another.
-use Rattle.std.proofs.Common.{◌≡◌, sym, ap, ◌∙◌, ℕ, List, ◌++◌, append_assoc}
+use Rattle.std.proofs.Common.{◌≡◌, ap, ◌∙◌, ℕ, List, ◌++◌, append_assoc}
 
 -- one text more
 pub then : (o before after rest a : List ℕ) → before ≡ o ++ rest → after ≡ before ++ a → after ≡ o ++ (rest ++ a)

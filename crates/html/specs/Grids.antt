@@ -1,5 +1,5 @@
 -- Tables for two voters: a row for each ballot of the first, and a column for each of the second.
-use Rattle.std.specs.Prelude.{ℕ, ◌+◌, ◌*◌, nat_lt, ◌==◌, Bool, not, ◌&&◌, List, [], ◌∷◌, ◌++◌, codes}
+use Rattle.std.specs.Prelude.{ℕ, ◌+◌, ◌*◌, nat_lt, ◌==◌, Bool, not, ◌&&◌, List, ◌++◌, codes}
 use Rattle.std.specs.List.{flat_map}
 use Rattle.vocab.specs.declared.kinds.Sort.TheVariants.{Ballot}
 use Rattle.vocab.specs.Range.{below}

@@ -1,3 +1,4 @@
+pub mod Columns
 pub mod Escapes
 pub mod Facts
 pub mod Grids
