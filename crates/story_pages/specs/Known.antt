@@ -1,35 +1,39 @@
 -- What is known at a profile at the end of a lemma.
-use Rattle.std.specs.Prelude.{ℕ, ◌+◌, ◌==◌, List, [], ◌∷◌, ◌++◌, codes, slice_get, if◌then◌else◌}
+use Rattle.std.specs.Prelude.{ℕ, ◌+◌, ◌==◌, List, [], ◌∷◌, ◌++◌, codes, if◌then◌else◌}
 use Rattle.std.specs.Fmt.{decimal}
 use Rattle.std.specs.List.{flat_map}
 use Rattle.vocab.specs.declared.literals.Literal.{Literal}
 use Rattle.vocab.specs.declared.literals.Literal.TheVariants.{Wins, Loses, Above}
 use Rattle.vocab.specs.Literal.{profile_of}
-use Rattle.tellings.specs.Tellings.{rests_of}
 use Rattle.tellings.specs.declared.tellings.Placed.{Placed}
-use Rattle.tellings.specs.declared.tellings.Sentence.{Sentence}
 use Rattle.html.specs.Facts.{alternative_html, letter_of}
-use Rattle.story_pages.specs.Sentences.{grey_html}
 
 -- a fact in a cell: x wins, x does not win, or x stands above y
-abbrev pub mark_html : Literal → List ℕ
-mark_html (Wins x p) = alternative_html x
-mark_html (Loses x p) = codes "<s>" ++ letter_of x ∷ [] ++ codes "</s>"
-mark_html (Above x y p) = letter_of x ∷ letter_of y ∷ []
+abbrev pub fact_mark : Literal → List ℕ
+fact_mark (Wins x p) = alternative_html x
+fact_mark (Loses x p) = codes "<s>" ++ letter_of x ∷ [] ++ codes "</s>"
+fact_mark (Above x y p) = letter_of x ∷ letter_of y ∷ []
+
+-- a fact that is known without a sentence of the lemma
+abbrev pub grey_mark : Literal → List ℕ
+grey_mark l = codes "<u>" ++ fact_mark l ++ codes "</u> "
 
 -- a supposition in the cell of a profile
-abbrev pub supposed_html : ℕ → Literal → List ℕ
-supposed_html p l = if profile_of l == p then codes "<u>" ++ mark_html l ++ codes "</u> " else []
+abbrev pub supposed_mark : ℕ → Literal → List ℕ
+supposed_mark p l = if profile_of l == p then grey_mark l else []
 
--- a step, with the number of its sentence, which rests on these facts
-abbrev pub marked_html : List Literal → Placed → List ℕ
-marked_html rests placed =
-    codes "<span" ++ grey_html rests ++ codes ">" ++ mark_html placed.step.literal ++ codes "<sup>" ++ decimal (placed.sentence + 1) ++ codes "</sup></span> "
+-- a fact that is forced in the cell of a profile
+abbrev pub forced_mark : ℕ → Placed → List ℕ
+forced_mark p placed = supposed_mark p placed.step.literal
 
--- a step in the cell of a profile
-abbrev pub placed_html : List Sentence → ℕ → Placed → List ℕ
-placed_html sentences p placed = if profile_of placed.step.literal == p then marked_html (rests_of (slice_get sentences placed.sentence)) placed else []
+-- a fact that is stated, with the number of its sentence
+abbrev pub numbered_mark : Placed → List ℕ
+numbered_mark placed = codes "<span>" ++ fact_mark placed.step.literal ++ codes "<sup>" ++ decimal (placed.sentence + 1) ++ codes "</sup></span> "
 
--- what is known at a profile at the end of a lemma
-abbrev pub known_html : List Literal → List Sentence → List Placed → ℕ → List ℕ
-known_html suppose sentences steps p = flat_map (supposed_html p) suppose ++ flat_map (placed_html sentences p) steps
+-- such a fact in the cell of a profile
+abbrev pub stated_mark : ℕ → Placed → List ℕ
+stated_mark p placed = if profile_of placed.step.literal == p then numbered_mark placed else []
+
+-- what is known at a profile at the end of a lemma: supposed, forced and stated
+abbrev pub known_html : (suppose : List Literal) (forced steps : List Placed) → ℕ → List ℕ
+known_html suppose forced steps p = flat_map (supposed_mark p) suppose ++ flat_map (forced_mark p) forced ++ flat_map (stated_mark p) steps

@@ -1,33 +1,22 @@
--- The sentences of a lemma. What a sentence states is said head by head, as `a wins`, with the profiles of each.
-use Rattle.std.specs.Prelude.{ℕ, ◌+◌, nat_lt, ◌==◌, Bool, true, false, ◌&&◌, List, [], ◌∷◌, ◌++◌, codes, length, count_by, Option, Some, None, if◌then◌else◌}
+-- Sentences: what each rests on, its reason, and what it states.
+use Rattle.std.specs.Prelude.{ℕ, ◌+◌, nat_lt, ◌==◌, List, [], ◌∷◌, ◌++◌, codes, length, slice_get, Option, Some, None, if◌then◌else◌}
 use Rattle.std.specs.Fmt.{decimal}
 use Rattle.std.specs.List.{flat_map}
-use Rattle.vocab.specs.declared.kinds.Kind.{Kind}
-use Rattle.vocab.specs.declared.kinds.Kind.TheVariants.{Choice, Ranking, Sets}
 use Rattle.vocab.specs.declared.literals.Literal.{Literal}
-use Rattle.vocab.specs.declared.literals.Literal.TheVariants.{Wins, Loses, Above}
-use Rattle.vocab.specs.Literal.{profile_of}
 use Rattle.vocab.specs.Range.{below}
 use Rattle.vocab.specs.Size.{Extent}
 use Rattle.vocab.specs.Titled.{Titled}
 use Rattle.verdicts.specs.Lines.{name_at}
+use Rattle.meaning.specs.declared.stories.Reason.{Reason}
+use Rattle.meaning.specs.declared.stories.Reason.TheVariants.{Axiom as ByAxiom, Outcome as ByOutcome, Lemma as ByLemma}
 use Rattle.tellings.specs.declared.tellings.By.{By}
 use Rattle.tellings.specs.declared.tellings.By.TheVariants.{Axiom, Outcome, Lemma as Earlier}
 use Rattle.tellings.specs.declared.tellings.Sentence.{Sentence}
 use Rattle.tellings.specs.declared.tellings.Placed.{Placed}
+use Rattle.tellings.specs.declared.tellings.Passage.{Passage}
 use Rattle.html.specs.Escapes.{escaped}
-use Rattle.html.specs.Facts.{claim_html, fact_comma, profile_html}
-
--- two literals say the same, each of its own profile
-abbrev pub is_alike : Literal → Literal → Bool
-is_alike (Wins x p) (Wins y q) = x == y
-is_alike (Loses x p) (Loses y q) = x == y
-is_alike (Above x y p) (Above v w q) = x == v && y == w
-is_alike _ _ = false
-
--- the sentence of a number says such a fact by this step
-abbrev pub is_said : ℕ → Literal → Placed → Bool
-is_said number head placed = placed.sentence == number && is_alike head placed.step.literal
+use Rattle.html.specs.Facts.{fact_html}
+use Rattle.story_pages.specs.Claims.{alone_claims_html, facts_html, stated_facts_html}
 
 -- the axiom at a place of the study, by its name
 abbrev pub name_html : List Titled → ℕ → List ℕ
@@ -36,70 +25,71 @@ name_html axioms k = escaped (name_at axioms k)
 abbrev pub axiom_html : List Titled → ℕ → List ℕ
 axiom_html axioms k = codes "<i>" ++ name_html axioms k ++ codes "</i>"
 
--- what a sentence names as its reason
-abbrev pub by_html : List Titled → By → List ℕ
-by_html axioms (Axiom k) = codes "by " ++ axiom_html axioms k
-by_html axioms Outcome = codes "by what is left"
-by_html axioms (Earlier j) = codes "by claim " ++ decimal (j + 1)
-
--- what holds without a supposition stands in grey
-abbrev pub grey_html : List Literal → List ℕ
-grey_html rests = if length rests == 0 then codes " class=z" else []
-
 -- so many facts
 abbrev pub many_html : ℕ → List ℕ
 many_html count = codes "since " ++ decimal count ++ codes " facts above, "
 
+-- an earlier claim, by its number
+abbrev pub claim_number_html : ℕ → List ℕ
+claim_number_html j = codes "by claim " ++ decimal (j + 1) ++ codes ": "
+
+abbrev pub cited_html : Reason → List ℕ
+cited_html (ByAxiom k values) = []
+cited_html (ByOutcome p) = []
+cited_html (ByLemma j) = claim_number_html j
+
 module _ (size : Extent) where
-  -- the facts that a sentence rests on, of which there are some; of more than six their number
-  abbrev pub few_html : List Literal → List ℕ
-  few_html rests = codes "since " ++ flat_map (fact_comma size) rests
+  -- the facts that are rested on: where a reason is of one profile after another, these are the profiles of what is stated, and the claims are enough
+  abbrev pub there_html : List Literal → List ℕ
+  there_html rests = alone_claims_html size rests ++ codes " there"
 
-  abbrev pub grounds_html : List Literal → List ℕ
-  grounds_html rests = if nat_lt 6 (length rests) then many_html (length rests) else few_html rests
+  abbrev pub rests_html : By → List Literal → List ℕ
+  rests_html (Axiom k) rests = facts_html size rests
+  rests_html Outcome rests = there_html rests
+  rests_html Earlier rests = facts_html size rests
 
-  -- the facts that a sentence rests on, if there are any
-  abbrev pub since_html : List Literal → List ℕ
-  since_html rests = if length rests == 0 then [] else grounds_html rests
+  abbrev pub few_html : By → List Literal → List ℕ
+  few_html by rests = codes "<div class=s>since " ++ rests_html by rests ++ codes "</div>, "
 
-  -- the profile of a step, where the sentence of a number says such a fact by it
-  abbrev pub said_html : ℕ → Literal → Placed → List ℕ
-  said_html number head placed = if is_said number head placed then codes " " ++ profile_html size (profile_of placed.step.literal) else []
+  -- of more than thirty facts their number
+  abbrev pub grounds_html : By → List Literal → List ℕ
+  grounds_html by rests = if nat_lt 30 (length rests) then many_html (length rests) else few_html by rests
 
-  module _ (steps : List Placed) (number : ℕ) where
-    -- the profiles of such facts; more than six are folded
-    abbrev pub folded_html : Literal → ℕ → List ℕ
-    folded_html head count = codes "<details><summary>" ++ decimal count ++ codes " profiles</summary>" ++ flat_map (said_html number head) steps ++ codes "</details>"
+  -- the facts that are rested on, if there are any
+  abbrev pub since_html : By → List Literal → List ℕ
+  since_html by rests = if length rests == 0 then [] else grounds_html by rests
 
-    abbrev pub profiles_html : Literal → ℕ → List ℕ
-    profiles_html head count = if nat_lt 6 count then folded_html head count else flat_map (said_html number head) steps
+  -- a fact that an earlier claim gives
+  abbrev pub given_html : Placed → List ℕ
+  given_html placed = codes "<div>" ++ cited_html placed.step.reason ++ fact_html size placed.step.literal ++ codes "</div>"
 
-    -- such facts, if there are any
-    abbrev pub some_html : Literal → ℕ → List ℕ
-    some_html head count = codes "<div>" ++ claim_html size.kind head ++ codes " at " ++ profiles_html head count ++ codes "</div>"
+  abbrev pub given_by : ℕ → Placed → List ℕ
+  given_by number placed = if placed.sentence == number then given_html placed else []
 
-    abbrev pub phrase_of : Literal → ℕ → List ℕ
-    phrase_of head count = if count == 0 then [] else some_html head count
+  -- the reason of a sentence of a number, and what it states
+  abbrev pub by_axiom_html : List Titled → List Placed → ℕ → ℕ → List ℕ
+  by_axiom_html axioms steps number k = codes "by " ++ axiom_html axioms k ++ codes ": " ++ stated_facts_html size steps number
 
-    abbrev pub phrase_html : Literal → List ℕ
-    phrase_html head = phrase_of head (count_by (is_said number head) steps)
+  abbrev pub by_outcome_html : List Placed → ℕ → List ℕ
+  by_outcome_html steps number = codes "by what is left: " ++ stated_facts_html size steps number
 
-    -- the facts that compare an alternative with another
-    abbrev pub above_html : ℕ → List ℕ
-    above_html x = flat_map (λ y. phrase_html (Above x y 0)) (below size.alternatives)
+  abbrev pub by_html : List Titled → List Placed → ℕ → By → List ℕ
+  by_html axioms steps number (Axiom k) = by_axiom_html axioms steps number k
+  by_html axioms steps number Outcome = by_outcome_html steps number
+  by_html axioms steps number Earlier = flat_map (given_by number) steps
 
-    -- the facts of an alternative that wins or does not
-    abbrev pub winning_html : ℕ → List ℕ
-    winning_html x = phrase_html (Wins x 0) ++ phrase_html (Loses x 0)
+  -- a sentence of a number, if there is one
+  abbrev pub sentence_html : List Titled → List Placed → ℕ → Option Sentence → List ℕ
+  sentence_html axioms steps number None = []
+  sentence_html axioms steps number (Some sentence) = since_html sentence.by sentence.rests ++ by_html axioms steps number sentence.by
 
-    -- all facts that a sentence states
-    abbrev pub facts_of : Kind → List ℕ
-    facts_of Choice = flat_map winning_html (below size.alternatives)
-    facts_of Ranking = flat_map above_html (below size.alternatives)
-    facts_of Sets = flat_map winning_html (below size.alternatives)
+  abbrev pub sentence_at : List Titled → Passage → ℕ → List ℕ
+  sentence_at axioms passage number = sentence_html axioms passage.steps number (slice_get passage.sentences number)
 
-    -- a sentence, if there is one of the number
-    abbrev pub sentence_html : List Titled → Option Sentence → List ℕ
-    sentence_html axioms None = []
-    sentence_html axioms (Some sentence) =
-        codes "<li" ++ grey_html sentence.rests ++ codes ">" ++ since_html sentence.rests ++ by_html axioms sentence.by ++ codes ": " ++ facts_of size.kind ++ codes "</li>\n"
+  -- a sentence in a list
+  abbrev pub item_at : List Titled → Passage → ℕ → List ℕ
+  item_at axioms passage number = codes "<li>" ++ sentence_at axioms passage number ++ codes "</li>\n"
+
+  -- all sentences, in order
+  abbrev pub items_html : List Titled → Passage → List ℕ
+  items_html axioms passage = flat_map (item_at axioms passage) (below (length passage.sentences))

@@ -1,19 +1,17 @@
 //! What is known at a profile at the end of a lemma.
 
-ghost use Rattle.std.specs.Prelude.{◌≡◌, ◌++◌, slice_get, OnOk};
+ghost use Rattle.std.specs.Prelude.{◌≡◌, ◌++◌, OnOk};
 ghost use Rattle.std.specs.List.{flat_map};
-ghost use Rattle.tellings.specs.Tellings.{rests_of};
-ghost use Rattle.story_pages.specs.Known.{mark_html, supposed_html, placed_html, marked_html, known_html};
+ghost use Rattle.story_pages.specs.Known.{fact_mark, grey_mark, supposed_mark, forced_mark, numbered_mark, stated_mark, known_html};
 
-use crate::sentences::put_grey;
 use html::{Cells, Html, letter_of, profile_of, put_alternative, put_number};
 use lists::NoMemory;
-use tellings::{Placed, Sentence};
+use tellings::Placed;
 use vocab::Literal;
 
 /// Adds a fact in a cell: x wins, x does not win, or x stands above y.
-fn put_mark(out: &mut Html, literal: &Literal) -> Result<(), NoMemory>
-    ensures { OnOk result (out.new ≡ out.old ++ mark_html literal.now) }
+fn put_fact_mark(out: &mut Html, literal: &Literal) -> Result<(), NoMemory>
+    ensures { OnOk result (out.new ≡ out.old ++ fact_mark literal.now) }
 {
     match *literal {
         Literal::Wins(x, _) => put_alternative(out, x),
@@ -31,22 +29,29 @@ fn put_mark(out: &mut Html, literal: &Literal) -> Result<(), NoMemory>
     }
 }
 
-/// Adds a supposition in the cell of a profile.
-fn put_supposed(out: &mut Html, p: u32, literal: &Literal) -> Result<(), NoMemory>
-    ensures { OnOk result (out.new ≡ out.old ++ supposed_html p literal.now) }
+/// Adds a fact that is known without a sentence of the lemma.
+fn put_grey(out: &mut Html, literal: &Literal) -> Result<(), NoMemory>
+    ensures { OnOk result (out.new ≡ out.old ++ grey_mark literal.now) }
 {
-    if profile_of(literal) != p {
-        return Ok(());
-    }
     out.append(b"<u>")?;
-    put_mark(out, literal)?;
+    put_fact_mark(out, literal)?;
     out.append(b"</u> ")?;
     Ok(())
 }
 
+/// Adds a supposition in the cell of a profile.
+fn put_supposed(out: &mut Html, p: u32, literal: &Literal) -> Result<(), NoMemory>
+    ensures { OnOk result (out.new ≡ out.old ++ supposed_mark p literal.now) }
+{
+    if profile_of(literal) != p {
+        return Ok(());
+    }
+    put_grey(out, literal)
+}
+
 /// Adds all suppositions in the cell of a profile.
 fn put_all_supposed(out: &mut Html, p: u32, suppose: &[Literal]) -> Result<(), NoMemory>
-    ensures { OnOk result (out.new ≡ out.old ++ flat_map (supposed_html p) suppose.now) }
+    ensures { OnOk result (out.new ≡ out.old ++ flat_map (supposed_mark p) suppose.now) }
 {
     for literal in suppose {
         put_supposed(out, p, literal)?;
@@ -54,56 +59,51 @@ fn put_all_supposed(out: &mut Html, p: u32, suppose: &[Literal]) -> Result<(), N
     Ok(())
 }
 
-/// What a sentence rests on; where there is none, nothing.
-fn rests_of<'a>(sentences: &'a [Sentence], number: u32) -> &'a [Literal]
-    ensures { result.now ≡ rests_of (slice_get sentences.now number) }
+/// Adds a fact that is forced in the cell of a profile.
+fn put_forced(out: &mut Html, p: u32, placed: &Placed) -> Result<(), NoMemory>
+    ensures { OnOk result (out.new ≡ out.old ++ forced_mark p placed.now) }
 {
-    match sentences.get(number as usize) {
-        Some(sentence) => sentence.rests.as_slice(),
-        None => &[],
-    }
+    put_supposed(out, p, &placed.step.literal)
 }
 
-/// Adds a step, with the number of its sentence.
-fn put_numbered(out: &mut Html, rests: &[Literal], placed: &Placed) -> Result<(), NoMemory>
-    ensures { OnOk result (out.new ≡ out.old ++ marked_html rests.now placed.now) }
+/// Adds all facts that are forced in the cell of a profile.
+fn put_all_forced(out: &mut Html, p: u32, forced: &[Placed]) -> Result<(), NoMemory>
+    ensures { OnOk result (out.new ≡ out.old ++ flat_map (forced_mark p) forced.now) }
 {
-    out.append(b"<span")?;
-    put_grey(out, rests)?;
-    out.append(b">")?;
-    put_mark(out, &placed.step.literal)?;
+    for placed in forced {
+        put_forced(out, p, placed)?;
+    }
+    Ok(())
+}
+
+/// Adds a fact that is stated, with the number of its sentence.
+fn put_numbered(out: &mut Html, placed: &Placed) -> Result<(), NoMemory>
+    ensures { OnOk result (out.new ≡ out.old ++ numbered_mark placed.now) }
+{
+    out.append(b"<span>")?;
+    put_fact_mark(out, &placed.step.literal)?;
     out.append(b"<sup>")?;
     put_number(out, placed.sentence as u64 + 1)?;
     out.append(b"</sup></span> ")?;
     Ok(())
 }
 
-/// Adds a step in the cell of a profile.
-fn put_placed(
-    out: &mut Html,
-    sentences: &[Sentence],
-    p: u32,
-    placed: &Placed,
-) -> Result<(), NoMemory>
-    ensures { OnOk result (out.new ≡ out.old ++ placed_html sentences.now p placed.now) }
+/// Adds a fact that is stated in the cell of a profile.
+fn put_stated(out: &mut Html, p: u32, placed: &Placed) -> Result<(), NoMemory>
+    ensures { OnOk result (out.new ≡ out.old ++ stated_mark p placed.now) }
 {
     if profile_of(&placed.step.literal) != p {
         return Ok(());
     }
-    put_numbered(out, rests_of(sentences, placed.sentence), placed)
+    put_numbered(out, placed)
 }
 
-/// Adds all steps in the cell of a profile.
-fn put_all_placed(
-    out: &mut Html,
-    sentences: &[Sentence],
-    p: u32,
-    steps: &[Placed],
-) -> Result<(), NoMemory>
-    ensures { OnOk result (out.new ≡ out.old ++ flat_map (placed_html sentences.now p) steps.now) }
+/// Adds all facts that are stated in the cell of a profile.
+fn put_all_stated(out: &mut Html, p: u32, steps: &[Placed]) -> Result<(), NoMemory>
+    ensures { OnOk result (out.new ≡ out.old ++ flat_map (stated_mark p) steps.now) }
 {
     for placed in steps {
-        put_placed(out, sentences, p, placed)?;
+        put_stated(out, p, placed)?;
     }
     Ok(())
 }
@@ -112,16 +112,17 @@ fn put_all_placed(
 #[derive(Drop)]
 pub(crate) struct KnownCells<'a> {
     pub(crate) suppose: &'a [Literal],
-    pub(crate) sentences: &'a [Sentence],
+    pub(crate) forced: &'a [Placed],
     pub(crate) steps: &'a [Placed],
 }
 
 impl Cells for KnownCells<'_> {
-    ghost cell = { λ known p. known_html known.suppose.now known.sentences.now known.steps.now p };
+    ghost cell = { λ known p. known_html known.suppose.now known.forced.now known.steps.now p };
 
     fn put_cell(&self, out: &mut Html, p: u32) -> Result<(), NoMemory> {
         put_all_supposed(out, p, self.suppose)?;
-        put_all_placed(out, self.sentences, p, self.steps)?;
+        put_all_forced(out, p, self.forced)?;
+        put_all_stated(out, p, self.steps)?;
         Ok(())
     }
 }

@@ -1,9 +1,13 @@
-//! Stories on a page: lemmas as sentences, with tables of what is known.
+//! Stories on a page: what is forced, and lemmas as sentences, with tables of what is known.
 #![tactic(auto)]
 
+mod claims;
+mod ends;
+mod forced;
+mod homes;
 mod known;
 mod lemmas;
 mod sentences;
 
-pub use lemmas::put_story;
+pub use homes::put_story;
 pub use sentences::put_axiom;

@@ -2,4 +2,4 @@ use Rattle.html.proofs.JoinLemmas.{joined_3}
 use Rattle.story_pages.proofs.lemmas.put_supposed.Goals as goal
 
 pub returns : goal.returns
-returns c = joined_3 _ _ _ _ _ _ _ c.in_ok-append.ensures.ok c.in_ok-put_items.ensures c.in_ok-append-2.ensures.ok
+returns c = joined_3 _ _ _ _ _ _ _ c.in_ok-append.ensures.ok c.in_ok-put_fact_items.ensures c.in_ok-append-2.ensures.ok

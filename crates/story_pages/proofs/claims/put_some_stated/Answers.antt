@@ -1,0 +1,5 @@
+use Rattle.html.proofs.JoinLemmas.{joined_3}
+use Rattle.story_pages.proofs.claims.put_some_stated.Goals as goal
+
+pub returns : goal.returns
+returns c = joined_3 _ _ _ _ _ _ _ c.in_ok-put_start.ensures c.in_ok-put_all_placed.ensures c.in_ok-put_end_fold.ensures

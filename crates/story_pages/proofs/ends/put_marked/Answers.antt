@@ -1,0 +1,5 @@
+use Rattle.html.proofs.JoinLemmas.{joined_2}
+use Rattle.story_pages.proofs.ends.put_marked.Goals as goal
+
+pub returns : goal.returns
+returns c = joined_2 _ _ _ _ _ c.in_ok-put_mark.ensures c.in_ok-put_value.ensures

@@ -1,8 +1,0 @@
-use Rattle.std.proofs.Common.{◌≡◌, ◌++◌, take}
-use Rattle.std.specs.List.{flat_map}
-use Rattle.story_pages.specs.Lemmas.{item_html}
-use Rattle.story_pages.proofs.lemmas.put_items.Given as goal
-
--- what came so far was added
-abbrev pub invariant-loop-literal : goal.invariant-loop-literal
-invariant-loop-literal l = l.out ≡ l.initial.out ++ flat_map (item_html l.space) (take l.literal-index l.literals)

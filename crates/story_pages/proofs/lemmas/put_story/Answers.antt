@@ -1,6 +1,0 @@
-use Rattle.story_pages.specs.Lemmas.{lemma_at}
-use Rattle.html.proofs.RangeLemmas.{goes_on}
-use Rattle.story_pages.proofs.lemmas.put_story.Goals as goal
-
-pub loop-place-preserved : goal.loop-place-preserved
-loop-place-preserved c = goes_on (lemma_at c.args.space.now c.args.axioms.now c.args.story.now c.args.tellings.now) _ _ _ _ c.loop-place.invariant c.in_ok-put_lemma_at.ensures

@@ -1,0 +1,5 @@
+use Rattle.html.proofs.JoinLemmas.{joined_4}
+use Rattle.story_pages.proofs.sentences.put_given.Goals as goal
+
+pub returns : goal.returns
+returns c = joined_4 _ _ _ _ _ _ _ _ _ c.in_ok-append.ensures.ok c.in_ok-put_cited.ensures c.in_ok-put_fact.ensures c.in_ok-append-2.ensures.ok
