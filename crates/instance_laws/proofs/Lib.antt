@@ -1,0 +1,3 @@
+-- In proof order.
+mod NameLemmas
+mod BodyLaws
