@@ -12,3 +12,5 @@ mod report_tests;
 mod sharp_report_tests;
 #[cfg(test)]
 mod symmetry;
+#[cfg(test)]
+mod verdict_reading_tests;

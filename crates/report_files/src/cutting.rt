@@ -16,8 +16,8 @@ fn first_end(text: &[u8]) -> Option<usize>
     None
 }
 
-/// What stands before the first line end, and what follows that line end.
-pub(crate) fn cut_line(text: &[u8]) -> Option<(&[u8], &[u8])>
+/// What stands before the first line end, and what follows that line end: None where the text has none.
+pub fn cut_line(text: &[u8]) -> Option<(&[u8], &[u8])>
     ensures { IsLineCut text.now result }
 {
     let end = first_end(text)?;

@@ -1,5 +1,5 @@
 -- The lines of marks.
-use Rattle.std.proofs.Common.{◌≡◌, refl, sym, ap, ap₂, ◌∙◌, subst, ℕ, ◌+◌, ◌<◌, ◌≤◌, Bool, true, false, cond, List, [], ◌∷◌, ◌++◌, length, Option, Some, None, option_map, arith, lt-ltb, length-append, inl, inr}
+use Rattle.std.proofs.Common.{◌≡◌, refl, sym, ap, ap₂, ◌∙◌, subst, ℕ, ◌+◌, ◌<◌, ◌≤◌, Bool, true, false, cond, List, [], ◌∷◌, ◌++◌, length, Option, Some, None, option_map, Ok, arith, lt-ltb, length-append, inl, inr}
 use Rattle.std.specs.Prelude.{codes, nat_lt, ◌==◌, slice_get, take, drop, ◌-◌}
 use Rattle.std.specs.Option.{option_or, option_map_or}
 use Rattle.std.proofs.lemmas.Bool.{and_from}
@@ -18,6 +18,7 @@ use Rattle.verdicts.specs.Reading.{keyed, one_word, read_cited, read_row}
 use Rattle.verdicts.proofs.FitLaws.{wanted_fits}
 use Rattle.verdicts.proofs.PrefixLaws.{all_snoc}
 use Rattle.verdicts.proofs.LineLaws.{map_is, then_is, or_is, keyed_is, one_is}
+use Rattle.report_lines.specs.declared.lines.Line.TheVariants as held
 use Rattle.report_lines.specs.Held.{held_number}
 use Rattle.report.specs.Taken.{AreOutcomes}
 use Rattle.sharp_verdicts.specs.declared.instances.Cited.{Cited}
@@ -30,8 +31,9 @@ use Rattle.sharp_verdicts.specs.SharpLines.{SharpLine, Plain, NeedsRule, NeedsOp
 use Rattle.sharp_verdicts.specs.SharpPlaces.{SharpPlace, AtNeed, AtNeedRow, AtSharpEnd, AtSharpNothing, SharpStanding, read_mark, read_need, wanted_past, read_past, read_sharp_at, read_sharp_line}
 use Rattle.told_instances.specs.Told.{names_instance}
 use Rattle.sharp_report.specs.declared.judging.SharpJudging.{SharpJudging}
+use Rattle.sharp_report.specs.declared.lines.SharpLine.TheVariants as said
 use Rattle.sharp_report.specs.declared.places.SharpPlace.TheVariants as place
-use Rattle.sharp_report.specs.SharpStands.{held_sharp_place, HoldsAt, SharpStands, HasMarks, IsReadWithin, HasTable, IsSharpRead, SharpTook, TakesMark, IsSharpTaken}
+use Rattle.sharp_report.specs.SharpStands.{held_sharp_place, told_unless, HoldsAt, SharpStands, HasMarks, IsReadWithin, HasTable, IsSharpRead, SharpTook, TakesMark, IsSharpTaken}
 use Rattle.sharp_report.proofs.CitedLemmas.{named_reason}
 use Rattle.sharp_report.proofs.StoryLemmas.{same_place}
 use Rattle.sharp_report.proofs.TakenLemmas.{wider}
@@ -155,10 +157,11 @@ module _ (study : Question) where
         subst (λ q. IsReadWithin study (n + 1) (advance_plain study q s (Row p o))) (sym at)
         (wider study n s (after_mark_row study with_row) (same_told (length (s.rows ++ o ∷ []) == sort_count study.size Profile) with_row) i)
 
-    taken_row : (after : SharpJudging) → sharp_fault study s (Plain (Row p o)) ≡ None → SharpStands study after (after_mark_row study with_row) → IsSharpTaken study s text after None
+    taken_row : (after : SharpJudging) → sharp_fault study s (Plain (Row p o)) ≡ None → SharpStands study after (after_mark_row study with_row) → IsSharpTaken study s text after (Ok (said.Plain (held.Row p o)))
     taken_row after e stands = (
       Plain (Row p o),
       row_line,
+      refl,
       e,
       subst (λ q. SharpStands study after (advance_plain study q s (Row p o))) (sym at) stands,
       told_row,
@@ -177,7 +180,7 @@ module _ (study : Question) where
     }
 
     -- a row that is not the last
-    pub row_taken : (rows : List ℕ) → rows ≡ r.rows ++ o ∷ [] → p ≡ length r.rows → (length rows ≡ sort_count study.size Profile → ⊥) → IsSharpTaken study s text (record r { rows = rows }) None
+    pub row_taken : (rows : List ℕ) → rows ≡ r.rows ++ o ∷ [] → p ≡ length r.rows → (length rows ≡ sort_count study.size Profile → ⊥) → IsSharpTaken study s text (record r { rows = rows }) (Ok (said.Plain (held.Row p o)))
     row_taken rows e here part =
         let first : p ≡ length s.rows = here ∙ ap length h.rows in
         let size : length rows ≡ length (s.rows ++ o ∷ []) = ap length (e ∙ ap (λ (xs : List ℕ). xs ++ o ∷ []) h.rows) in
@@ -187,7 +190,7 @@ module _ (study : Question) where
         (subst (λ (b : Bool). SharpStands study (record r { rows = rows }) (cond b (after_mark study (record with_row { marks = s.marks ++ Rule (s.rows ++ o ∷ []) ∷ [] })) with_row)) (sym left) (row_stands rows e))
 
     -- the last row
-    pub last_row : (rows : List ℕ) (after : SharpJudging) (fault : Option SharpRefusal) → rows ≡ r.rows ++ o ∷ [] → p ≡ length r.rows → length rows ≡ sort_count study.size Profile → TakesMark study with_row after fault → IsSharpTaken study s text after fault
+    pub last_row : (rows : List ℕ) (after : SharpJudging) (fault : Option SharpRefusal) → rows ≡ r.rows ++ o ∷ [] → p ≡ length r.rows → length rows ≡ sort_count study.size Profile → TakesMark study with_row after fault → IsSharpTaken study s text after (told_unless fault (said.Plain (held.Row p o)))
     last_row rows after fault e here whole h2 = by_fault fault h2.0 (h2.1 all)
       where
         size : length rows ≡ length (s.rows ++ o ∷ [])
@@ -199,7 +202,7 @@ module _ (study : Question) where
         found : sharp_fault study s (Plain (Row p o)) ≡ instances_fault study (s.rows ++ o ∷ []) (asked_of study s)
         found = fault_then true (here ∙ ap length h.rows) ((Decides-eqb (length s.rows + 1) (sort_count study.size Profile)).1 (sym one_longer ∙ all))
 
-        by_fault : (f : Option SharpRefusal) → f ≡ instances_fault study (s.rows ++ o ∷ []) (asked_of study s) → (f ≡ None → SharpStands study after (after_mark_row study with_row)) → IsSharpTaken study s text after f
+        by_fault : (f : Option SharpRefusal) → f ≡ instances_fault study (s.rows ++ o ∷ []) (asked_of study s) → (f ≡ None → SharpStands study after (after_mark_row study with_row)) → IsSharpTaken study s text after (told_unless f (said.Plain (held.Row p o)))
         by_fault None e stands = taken_row after (found ∙ sym e) (stands refl)
         by_fault (Some word) e stands = ap (λ q. option_map_or (sharp_fault study s) q (Some (Report refusal.Form))) row_line ∙ found ∙ sym e
 
@@ -224,11 +227,12 @@ module _ (study : Question) where
 
   -- ---- the end
 
-  pub end_taken : (s : SharpStanding) (r : SharpJudging) (text : List ℕ) → SharpStands study r s → s.place ≡ AtSharpEnd → read_past study AtSharpEnd text ≡ Some (Plain End) → IsSharpTaken study s text (record r { place = place.AtSharpNothing }) None
+  pub end_taken : (s : SharpStanding) (r : SharpJudging) (text : List ℕ) → SharpStands study r s → s.place ≡ AtSharpEnd → read_past study AtSharpEnd text ≡ Some (Plain End) → IsSharpTaken study s text (record r { place = place.AtSharpNothing }) (Ok (said.Plain held.End))
   end_taken s r text h at read = (
     Plain End,
     ap (λ q. read_sharp_at study q s.told text) at ∙ read,
+    refl,
     ap (λ q. plain_fault study q s End) at,
-    subst (λ q. SharpStands study (record r { place = place.AtSharpNothing }) (advance_plain study q s End)) (sym at) (record { place = refl; told = h.told; marks = h.marks; rows = h.rows; at = tt }),
+    subst (λ q. SharpStands study (record r { place = place.AtSharpNothing }) (advance_plain study q s End)) (sym at) (record { place = refl; told = h.told; marks = h.marks; rows = h.rows; at = subst (λ q. HoldsAt study q r s) at h.at }),
     λ n i. subst (λ q. IsReadWithin study (n + 1) (advance_plain study q s End)) (sym at) (wider study n s (record s { place = AtSharpNothing }) refl i),
   )

@@ -1,5 +1,5 @@
 -- One more line.
-use Rattle.std.proofs.Common.{◌≡◌, ◌≢◌, refl, sym, ap, ◌∙◌, subst, ℕ, ◌+◌, ◌<◌, ◌⊎◌, inl, inr, List, [], ◌∷◌, ◌++◌, length, Option, Some, None, option_map, Result, Ok, Err, arith, length-append}
+use Rattle.std.proofs.Common.{◌≡◌, ◌≢◌, refl, sym, ap, ◌∙◌, subst, ℕ, ◌+◌, ◌<◌, ◌⊎◌, inl, inr, List, [], ◌∷◌, ◌++◌, length, Option, Some, None, Result, Ok, Err, arith, length-append}
 use Rattle.std.specs.Prelude.{MatchResult, OnOk}
 use Rattle.std.specs.Option.{option_map_or}
 use Rattle.lists.specs.declared.memory.NoMemory.{NoMemory as Wanting}
@@ -14,6 +14,7 @@ use Rattle.sharp_verdicts.specs.SharpPlaces.{SharpStanding, sharp_start, read_sh
 use Rattle.sharp_report.specs.declared.faults.SharpFault.{SharpFault}
 use Rattle.sharp_report.specs.declared.faults.SharpFault.TheVariants.{Line as AtLine, NoMemory}
 use Rattle.sharp_report.specs.declared.judging.SharpJudging.{SharpJudging}
+use Rattle.sharp_report.specs.declared.lines.SharpLine.{SharpLine as HeldLine}
 use Rattle.sharp_report.specs.declared.progress.SharpProgress.{SharpProgress}
 use Rattle.sharp_report.specs.SharpStands.{SharpStands, IsReadWithin, IsSharpRead, IsSharpTaken, SharpStandsAs, SharpStandsFor, IsSharpReady}
 
@@ -34,11 +35,14 @@ at n fault r = record { judging = r; lines = n; fault = fault }
 
 module _ (study : Question) where
   -- a line that is taken
-  pub taken : (n count : ℕ) (s : SharpStanding) (text : List ℕ) (r : SharpJudging) (fault : Option SharpRefusal) → IsReadWithin study count s → IsSharpTaken study s text r fault → SharpStandsAs study (count + 1) (option_map (AtLine n) fault) r (sharp_settle study n s (read_sharp_line study s text) SharpGood)
-  taken n count s text r None i h =
+  pub taken : (n count : ℕ) (s : SharpStanding) (text : List ℕ) (r : SharpJudging) (said : HeldLine) → IsReadWithin study count s → IsSharpTaken study s text r (Ok said) → SharpStandsAs study (count + 1) None r (sharp_settle study n s (read_sharp_line study s text) SharpGood)
+  taken n count s text r said i h =
       subst (λ o. SharpStandsAs study (count + 1) None r (sharp_settle study n s o SharpGood)) (sym h.1)
-      (subst (λ o. SharpStandsAs study (count + 1) None r (sharp_settle_at study n s h.0 o SharpGood)) (sym h.2) (refl, h.3, h.4 count i))
-  taken n count s text r (Some word) i h = by_line (read_sharp_line study s text) h
+      (subst (λ o. SharpStandsAs study (count + 1) None r (sharp_settle_at study n s h.0 o SharpGood)) (sym h.3) (refl, h.4, h.5 count i))
+
+  -- a line that is refused
+  pub refused : (n count : ℕ) (s : SharpStanding) (text : List ℕ) (r : SharpJudging) (word : SharpRefusal) → IsSharpTaken study s text r (Err word) → SharpStandsAs study (count + 1) (Some (AtLine n word)) r (sharp_settle study n s (read_sharp_line study s text) SharpGood)
+  refused n count s text r word h = by_line (read_sharp_line study s text) h
     where
       by_fault : (line : SharpLine) (o : Option SharpRefusal) → o ≡ Some word → SharpStandsAs study (count + 1) (Some (AtLine n word)) r (sharp_settle_at study n s line o SharpGood)
       by_fault line o e = subst (λ o. SharpStandsAs study (count + 1) (Some (AtLine n word)) r (sharp_settle_at study n s line o SharpGood)) (sym e) refl
@@ -50,7 +54,7 @@ module _ (study : Question) where
   -- ---- after other lines
 
   -- one more line, after a result
-  abbrev told_more : ℕ → SharpTold → List ℕ → SharpTold
+  abbrev pub told_more : ℕ → SharpTold → List ℕ → SharpTold
   told_more n (SharpGood s) text = sharp_settle study n s (read_sharp_line study s text) SharpGood
   told_more n (SharpRefused line word) text = SharpRefused line word
 
@@ -75,7 +79,7 @@ module _ (study : Question) where
   longer : (n : ℕ) (lines : List (List ℕ)) (text : List ℕ) → n ≡ length lines → n + 1 ≡ length (lines ++ text ∷ [])
   longer n lines text e = omega (arith, e, length-append lines (text ∷ []))
 
-  told_next : (lines : List (List ℕ)) (text : List ℕ) → sharp_judge study (lines ++ text ∷ []) ≡ told_more (1 + length lines) (sharp_judge study lines) text
+  pub told_next : (lines : List (List ℕ)) (text : List ℕ) → sharp_judge study (lines ++ text ∷ []) ≡ told_more (1 + length lines) (sharp_judge study lines) text
   told_next lines text = judge_snoc 1 sharp_start lines text
 
   -- after a faulty line nothing changes

@@ -31,6 +31,7 @@ use Rattle.sharp_verdicts.specs.SharpJudge.{advance_plain, after_mark}
 use Rattle.sharp_verdicts.specs.SharpLines.{SharpTitle, Plain, InstancesAre}
 use Rattle.sharp_verdicts.specs.SharpPlaces.{SharpPlace, AtSharp, AtReport, AtInstances, AtNeed, AtNeedRow, AtSharpEnd, AtSharpNothing, SharpStanding, is_story_read, not_possible, read_title, read_sharp_at}
 use Rattle.sharp_report.specs.declared.judging.SharpJudging.{SharpJudging}
+use Rattle.sharp_report.specs.declared.lines.SharpLine.TheVariants as said
 use Rattle.sharp_report.specs.declared.places.SharpPlace.TheVariants as place
 use Rattle.sharp_report.specs.Cited.{codes_of_line, names_of_line, says_possible, has_axiom, Cites}
 use Rattle.sharp_report.specs.SharpStands.{held_sharp_place, own_title, HoldsAt, SharpStands, IsReadWithin, SharpTook, IsSharpTaken}
@@ -75,7 +76,7 @@ module _ (study : Question) where
     own_line = ap (λ (t : Standing). read_line study t own) begins ∙ ap (read_line study start) is ∙ own_read
 
     -- it is taken
-    pub title_taken : (told : Judging) (line : HeldLine) → read_title study text ≡ Some SharpTitle → IsTaken study s.told own told (Ok line) → IsSharpTaken study s text (record r { place = place.AtReport; told = told }) None
+    pub title_taken : (told : Judging) (line : HeldLine) → read_title study text ≡ Some SharpTitle → IsTaken study s.told own told (Ok line) → IsSharpTaken study s text (record r { place = place.AtReport; told = told }) (Ok said.Title)
     title_taken told line read h2 =
         let same : h2.0 ≡ Title (own_version study) = some_same h2.0 (Title (own_version study)) (sym h2.1 ∙ own_line) in
         let t : Standing = advance study s.told (Title (own_version study)) in
@@ -84,6 +85,7 @@ module _ (study : Question) where
         let cites : Cites study r.cited.items s.told.earlier s.told.steps = subst (λ (u : Standing). Cites study r.cited.items u.earlier u.steps) (sym begins) (record { are = none; lemmas_named = refl; steps_named = refl }) in (
           SharpTitle,
           ap (λ p. read_sharp_at study p s.told text) at ∙ read,
+          refl,
           refl,
           record { place = refl; told = stands; marks = h.marks; rows = h.rows; at = (refl, cites) },
           λ n i. record { lines = own_title study ∷ []; few = omega arith; good = own_judged ∙ ap (λ (u : Standing). Good (advance study u (Title (own_version study)))) (sym begins) },
@@ -101,7 +103,7 @@ module _ (study : Question) where
         no_word : (word : Refusal) → None ≡ Some word → ⊥
         no_word word e = cc
 
-  pub no_title : (s : SharpStanding) (r : SharpJudging) (text : List ℕ) → s.place ≡ AtSharp → read_title study text ≡ None → IsSharpTaken study s text r (Some (Report Form))
+  pub no_title : (s : SharpStanding) (r : SharpJudging) (text : List ℕ) → s.place ≡ AtSharp → read_title study text ≡ None → IsSharpTaken study s text r (Err (Report Form))
   no_title s r text at e = ap (λ o. option_map_or (sharp_fault study s) o (Some (Report Form))) (ap (λ p. read_sharp_at study p s.told text) at ∙ e)
 
   -- ---- a line of the report
@@ -133,7 +135,7 @@ module _ (study : Question) where
     pub report_taken : (after : SharpJudging) (line : HeldLine) → IsTaken study s.told text after.told (Ok line) → says_possible line ≡ false
         → after.cited.items ≡ r.cited.items ++ codes_of_line study line
         → ((t : Standing) → Stands study after.told t → after.place ≡ held_sharp_place (cond (is_story_read t.place) AtInstances AtReport))
-        → after.marks ≡ r.marks → after.rows ≡ r.rows → IsSharpTaken study s text after None
+        → after.marks ≡ r.marks → after.rows ≡ r.rows → IsSharpTaken study s text after (Ok (said.Plain line))
     report_taken after line h2 other cited placed marks rows =
         let w = h2.0 in
         let t : Standing = advance study s.told w in
@@ -152,13 +154,14 @@ module _ (study : Question) where
         } in (
           Plain w,
           ap (λ p. read_sharp_at study p s.told text) at ∙ ap not_possible h2.1 ∙ other_line study w plain,
+          ap said.Plain h2.2,
           ap (λ p. plain_fault study p s w) at ∙ ap (option_map Report) h2.3,
           subst (λ p. SharpStands study after (advance_plain study p s w)) (sym at) stands,
           λ n i. subst (λ p. IsReadWithin study (n + 1) (advance_plain study p s w)) (sym at) (read_more n s u text w h2.1 h2.3 refl i),
         )
 
     -- it is refused
-    pub report_refused : (after : SharpJudging) (told : Judging) (word : Refusal) → IsTaken study s.told text told (Err word) → IsSharpTaken study s text after (Some (Report word))
+    pub report_refused : (after : SharpJudging) (told : Judging) (word : Refusal) → IsTaken study s.told text told (Err word) → IsSharpTaken study s text after (Err (Report word))
     report_refused after told word h2 =
         ap (λ o. option_map_or (sharp_fault study s) o (Some (Report Form))) (ap (λ p. read_sharp_at study p s.told text) at)
         ∙ by_line (read_line study s.told text) h2

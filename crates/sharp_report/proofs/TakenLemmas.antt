@@ -1,5 +1,5 @@
 -- What it takes to take a line.
-use Rattle.std.proofs.Common.{◌≡◌, refl, sym, ap, ◌∙◌, ℕ, ◌+◌, List, Option, Some, None, arith}
+use Rattle.std.proofs.Common.{◌≡◌, refl, sym, ap, ◌∙◌, ℕ, ◌+◌, List, Option, Some, None, Err, arith}
 use Rattle.std.specs.Option.{option_map_or}
 use Rattle.vocab.specs.Study.{Question}
 use Rattle.verdicts.specs.Judge.{Good}
@@ -11,7 +11,7 @@ use Rattle.sharp_verdicts.specs.SharpJudge.{advance_sharp}
 use Rattle.sharp_verdicts.specs.SharpLines.{SharpLine}
 use Rattle.sharp_verdicts.specs.SharpPlaces.{SharpPlace, SharpStanding, read_sharp_at, read_sharp_line}
 use Rattle.sharp_report.specs.declared.judging.SharpJudging.{SharpJudging}
-use Rattle.sharp_report.specs.SharpStands.{IsReadWithin, SharpTook, IsSharpTaken}
+use Rattle.sharp_report.specs.SharpStands.{held_sharp_line, told_unless, IsReadWithin, SharpTook, IsSharpTaken}
 
 module _ (study : Question) where
   -- more lines than are needed
@@ -20,12 +20,12 @@ module _ (study : Question) where
 
   module _ (s : SharpStanding) (text : List ℕ) (r : SharpJudging) where
     -- a line that is not wanted
-    pub unread : read_sharp_line study s text ≡ None → IsSharpTaken study s text r (Some (Report Form))
+    pub unread : read_sharp_line study s text ≡ None → IsSharpTaken study s text r (Err (Report Form))
     unread e = ap (λ o. option_map_or (sharp_fault study s) o (Some (Report Form))) e
 
     -- a line that is taken or refused
-    pub by_took : (line : SharpLine) (fault : Option SharpRefusal) → read_sharp_line study s text ≡ Some line → (advance_sharp study s line).told ≡ s.told → SharpTook study s line r fault → IsSharpTaken study s text r fault
-    by_took line None e same h = (line, e, sym h.0, h.1 refl, λ n i. wider n s (advance_sharp study s line) same i)
+    pub by_took : (line : SharpLine) (fault : Option SharpRefusal) → read_sharp_line study s text ≡ Some line → (advance_sharp study s line).told ≡ s.told → SharpTook study s line r fault → IsSharpTaken study s text r (told_unless fault (held_sharp_line study line))
+    by_took line None e same h = (line, e, refl, sym h.0, h.1 refl, λ n i. wider n s (advance_sharp study s line) same i)
     by_took line (Some word) e same h = ap (λ o. option_map_or (sharp_fault study s) o (Some (Report Form))) e ∙ sym h.0
 
   -- what is read at a place

@@ -1,23 +1,26 @@
 -- What a checker of sharp texts holds, and what it stands for.
-use Rattle.std.specs.Prelude.{◌≡◌, ℕ, ◌+◌, ◌<◌, ◌≤◌, ◌⊎◌, Bool, true, false, List, [], length, codes, Option, Some, None, IsTrue, if◌then◌else◌}
+use Rattle.std.specs.Prelude.{◌≡◌, ℕ, ◌+◌, ◌<◌, ◌≤◌, ◌⊎◌, Bool, true, false, List, [], length, codes, Option, Some, None, Result, Ok, Err, IsTrue, if◌then◌else◌}
 use Rattle.vocab.specs.declared.kinds.Sort.TheVariants.{Profile}
 use Rattle.vocab.specs.Size.{is_full, sort_count}
 use Rattle.vocab.specs.Study.{Question}
 use Rattle.meaning.specs.Truth.{is_rule}
 use Rattle.verdicts.specs.Places.{Place, AtKind, AtVoters, AtAlternatives, AtBallots, AtAbsent, AtAxioms, AtVerdict, AtCore, AtLemmas, AtLemma, AtSuppose, AtStep, start}
 use Rattle.verdicts.specs.Judge.{Good, judge}
+use Rattle.report_lines.specs.Held.{held_line}
 use Rattle.report.specs.Stands.{Stands}
 use Rattle.report.specs.Taken.{AreOutcomes}
 use Rattle.sharp_verdicts.specs.declared.refusals.SharpRefusal.{SharpRefusal}
 use Rattle.sharp_verdicts.specs.SharpFaults.{listed, sharp_fault, instances_fault, asked_of}
 use Rattle.sharp_verdicts.specs.SharpJudge.{after_mark_row, advance_sharp, sharp_line_fault, SharpTold, SharpGood, SharpRefused, sharp_judge}
-use Rattle.sharp_verdicts.specs.SharpLines.{SharpLine}
+use Rattle.sharp_verdicts.specs.SharpLines.{SharpLine, SharpTitle, Plain, InstancesAre, NeedsRule, NeedsOpen}
 use Rattle.sharp_verdicts.specs.SharpPlaces.{SharpPlace, AtSharp, AtReport, AtInstances, AtNeed, AtNeedRow, AtSharpEnd, AtSharpNothing, SharpStanding, read_sharp_line}
 use Rattle.sharp_report.specs.declared.faults.SharpFault.{SharpFault}
 use Rattle.sharp_report.specs.declared.faults.SharpFault.TheVariants.{Line as AtLine, NoMemory}
 use Rattle.sharp_report.specs.declared.judging.SharpJudging.{SharpJudging}
 use Rattle.sharp_report.specs.declared.places.SharpPlace.{SharpPlace as HeldPlace}
 use Rattle.sharp_report.specs.declared.places.SharpPlace.TheVariants as place
+use Rattle.sharp_report.specs.declared.lines.SharpLine.{SharpLine as HeldLine}
+use Rattle.sharp_report.specs.declared.lines.SharpLine.TheVariants as held
 use Rattle.sharp_report.specs.declared.progress.SharpProgress.{SharpProgress}
 use Rattle.sharp_report.specs.Cited.{Cites}
 
@@ -30,6 +33,19 @@ held_sharp_place AtNeed = place.AtNeed
 held_sharp_place AtNeedRow = place.AtNeedRow
 held_sharp_place AtSharpEnd = place.AtSharpEnd
 held_sharp_place AtSharpNothing = place.AtSharpNothing
+
+-- what a line says, as it is held
+abbrev pub held_sharp_line : Question → SharpLine → HeldLine
+held_sharp_line study SharpTitle = held.Title
+held_sharp_line study (Plain line) = held.Plain (held_line study line)
+held_sharp_line study (InstancesAre n) = held.InstancesAre
+held_sharp_line study (NeedsRule r n) = held.NeedsRule
+held_sharp_line study (NeedsOpen r n) = held.NeedsOpen
+
+-- what a line says that has no fault, or its refusal
+abbrev pub told_unless : Option SharpRefusal → HeldLine → Result HeldLine SharpRefusal
+told_unless None line = Ok line
+told_unless (Some word) line = Err word
 
 -- the title of a report of the version that is printed
 abbrev pub own_title : Question → List ℕ
@@ -52,15 +68,15 @@ is_before_story AtStep = true
 is_before_story _ = false
 
 module _ (study : Question) where
-  -- what is held of the instances at a place: up to the end of the story the numbers of those that it cites, and then these instances; at the rows of a mark one is still due, and the rows are outcomes
+  -- what is held of the instances at a place: up to the end of the story the numbers of those that it cites, and from then on these instances; at the rows of a mark one is still due, and the rows are outcomes
   abbrev pub HoldsAt : SharpPlace → SharpJudging → SharpStanding → Type 0
   HoldsAt AtSharp r s = (s.told ≡ start) × (r.cited.items ≡ [])
   HoldsAt AtReport r s = IsTrue (is_before_story s.told.place) × Cites study r.cited.items s.told.earlier s.told.steps
   HoldsAt AtInstances r s = Cites study r.cited.items s.told.earlier []
   HoldsAt AtNeed r s = (r.instances ≡ listed study s) × (s.rows ≡ [])
   HoldsAt AtNeedRow r s = (r.instances ≡ listed study s) × (length s.marks < length (listed study s)) × AreOutcomes study.size s.rows
-  HoldsAt AtSharpEnd r s = Unit {0}
-  HoldsAt AtSharpNothing r s = Unit {0}
+  HoldsAt AtSharpEnd r s = r.instances ≡ listed study s
+  HoldsAt AtSharpNothing r s = r.instances ≡ listed study s
 
   -- what is held is what the lines so far have given
   pub record SharpStands (r : SharpJudging) (s : SharpStanding) : Type 0 where
@@ -105,12 +121,12 @@ module _ (study : Question) where
   TakesMark s r fault = (fault ≡ instances_fault study s.rows (asked_of study s)) ×
       (length s.rows ≡ sort_count study.size Profile → fault ≡ None → SharpStands r (after_mark_row study s))
 
-  -- the same of a line of a text
-  abbrev pub IsSharpTaken : SharpStanding → List ℕ → SharpJudging → Option SharpRefusal → Type 0
-  IsSharpTaken s text r None = (line : SharpLine) × (read_sharp_line study s text ≡ Some line) ×
-      (sharp_fault study s line ≡ None) × SharpStands r (advance_sharp study s line) ×
+  -- a line of this text is taken: where it has no fault, it is told what it says, and its part is held with what was held; else its refusal is told
+  abbrev pub IsSharpTaken : SharpStanding → List ℕ → SharpJudging → Result HeldLine SharpRefusal → Type 0
+  IsSharpTaken s text r (Ok said) = (line : SharpLine) × (read_sharp_line study s text ≡ Some line) ×
+      (said ≡ held_sharp_line study line) × (sharp_fault study s line ≡ None) × SharpStands r (advance_sharp study s line) ×
       ((count : ℕ) → IsReadWithin count s → IsReadWithin (count + 1) (advance_sharp study s line))
-  IsSharpTaken s text r (Some word) = sharp_line_fault study s text ≡ Some word
+  IsSharpTaken s text r (Err word) = sharp_line_fault study s text ≡ Some word
 
   -- what is held after so many lines of which none is faulty, and after the first faulty one
   abbrev pub SharpStandsAs : ℕ → Option SharpFault → SharpJudging → SharpTold → Type 0

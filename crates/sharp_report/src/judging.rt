@@ -1,9 +1,10 @@
 //! What a checker of sharp texts keeps of the lines that it took.
 
 ghost use Rattle.std.specs.Prelude.{◌≡◌, ◌<◌, IfOk, IfSome, slice_get};
+ghost use Rattle.sharp_verdicts.specs.SharpFaults.{listed};
 ghost use Rattle.sharp_verdicts.specs.SharpJudge.{after_mark};
-ghost use Rattle.sharp_verdicts.specs.SharpPlaces.{SharpStanding, sharp_start};
-ghost use Rattle.sharp_report.specs.SharpStands.{SharpStands, HasMarks};
+ghost use Rattle.sharp_verdicts.specs.SharpPlaces.{AtSharpNothing, SharpStanding, sharp_start};
+ghost use Rattle.sharp_report.specs.SharpStands.{held_sharp_place, SharpStands, HasMarks};
 ghost use Rattle.vocab.specs.Study.{Question};
 
 mod need_lines;
@@ -34,7 +35,7 @@ pub struct SharpJudging {
 
 impl SharpJudging {
     /// Nothing is read.
-    pub(crate) fn new<K: OutcomeKind>(subject: &Subject<K>) -> Result<SharpJudging, NoMemory>
+    pub fn new<K: OutcomeKind>(subject: &Subject<K>) -> Result<SharpJudging, NoMemory>
         ensures { IfOk result (λ judging. SharpStands subject.now.setting.study.now judging sharp_start) }
     {
         Ok(SharpJudging {
@@ -45,6 +46,30 @@ impl SharpJudging {
             marks: 0,
             rows: Items::new(subject.alloc),
         })
+    }
+
+    /// The place in the grammar: which line is wanted next.
+    pub fn place(&self) -> SharpPlace
+        ensures { (study : Question) (s : SharpStanding) → SharpStands study self.now s →
+            result ≡ held_sharp_place s.place }
+    {
+        self.place
+    }
+
+    /// The places of the core's axioms, none before they are read.
+    pub fn core(&self) -> &[u32]
+        ensures { (study : Question) (s : SharpStanding) → SharpStands study self.now s →
+            result.now ≡ s.told.core }
+    {
+        self.told.core()
+    }
+
+    /// The instances that the story cites, once all lines are read.
+    pub fn instances(&self) -> &[Cited]
+        ensures { (study : Question) (s : SharpStanding) → SharpStands study self.now s →
+            s.place ≡ AtSharpNothing → result.now ≡ listed study s }
+    {
+        self.instances.as_slice()
     }
 
     /// The instance whose mark comes next.

@@ -6,11 +6,14 @@ mod citing;
 mod failing;
 mod faults;
 mod judging;
+mod lines;
 mod places;
 mod progress;
 
 pub use checker::SharpChecker;
 pub use faults::SharpFault;
+pub use judging::SharpJudging;
+pub use lines::SharpLine;
 pub use places::SharpPlace;
 pub use progress::SharpProgress;
 pub use report::Subject;

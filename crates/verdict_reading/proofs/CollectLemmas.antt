@@ -93,7 +93,7 @@ module _ (study : Question) where
       by_test false = refl
 
   -- a line without a fault gives the parts that are held with it
-  part_next : (s : Standing) (w : Line) → length s.earlier ≤ 4294967295 → fault_of study s w ≡ None
+  pub part_next : (s : Standing) (w : Line) → length s.earlier ≤ 4294967295 → fault_of study s w ≡ None
       → with_line P study.conflicts (is_witness_row (held_place s.place)) (held_line study w) (parts_of s) ≡ parts_of (advance study s w)
   part_next s (Row p o) few e = row_next s.place s o
   part_next s (So l r) few e =

@@ -1,137 +1,93 @@
 -- What is read of a text and of a file.
-use Rattle.std.proofs.Common.{◌≡◌, refl, sym, ap, ◌∙◌, subst, ℕ, Bool, true, false, true≢false, List, [], ◌∷◌, length, Option, Some, None, Result, Ok, Err, ◌<◌, arith, take, cond, lt-ltb}
-use Rattle.std.proofs.lemmas.Bool.{eqb-true}
-use Rattle.std.specs.Prelude.{◌==◌, IfOk, IfSome, IsSome}
+use Rattle.std.proofs.Common.{◌≡◌, refl, sym, ap, ◌∙◌, ℕ, ◌+◌, Bool, true, false, true≢false, List, length, Option, Some, None, Result, Ok, Err, ◌<◌, arith, cond, take, drop, lt-ltb, take-append-drop}
+use Rattle.std.specs.Prelude.{IfOk, IfSome, IsSome}
 use Rattle.edge.specs.Shelf.{Files}
 use Rattle.vocab.specs.Study.{Question}
-use Rattle.meaning.specs.declared.cores.Witness.{Witness}
-use Rattle.meaning.specs.declared.stories.Lemma.{Lemma}
-use Rattle.verdicts.specs.declared.refusals.Refusal.{Refusal}
-use Rattle.verdicts.specs.declared.refusals.Refusal.TheVariants.{Form}
-use Rattle.verdicts.specs.declared.verdicts.Confirmed.TheVariants as claim
 use Rattle.verdicts.specs.declared.verdicts.Verdict.{Verdict}
-use Rattle.verdicts.specs.declared.verdicts.Verdict.TheVariants.{Possible, Impossible, Undecided}
-use Rattle.verdicts.specs.Places.{Place, Standing, AtNothing}
-use Rattle.verdicts.specs.Judge.{Judgement, Confirmed, Faulty, TooLong, Told as Judged, Good, Refused, judge, at_end, conclude, beyond, answer, answer_within, pieces, front}
+use Rattle.verdicts.specs.Judge.{Judgement, Confirmed, Faulty, TooLong, Told, Good, Refused, judge, conclude, beyond, answer, answer_within, pieces, front, final}
 use Rattle.verdicts.proofs.ClaimLaws.{within_limit}
 use Rattle.verdicts.proofs.JudgeLaws.{judge_sound}
-use Rattle.report_lines.specs.Held.{held_place}
+use Rattle.sharp_verdicts.specs.Judged.{Judged, AsReport, AsSharp, has_sharp_title, judged_within}
+use Rattle.sharp_verdicts.specs.Right.{Pointed}
+use Rattle.sharp_verdicts.specs.SharpJudge.{SharpJudgement, SharpConfirmed, SharpFaulty, SharpTooLong, SharpTold, SharpGood, SharpRefused, sharp_judge, sharp_conclude, sharp_beyond, sharp_answer, sharp_answer_within}
+use Rattle.sharp_laws.proofs.FaultLaws.{within_limit as sharp_within_limit}
+use Rattle.sharp_laws.proofs.JudgeLaws.{judge_sound as sharp_judge_sound}
 use Rattle.report_files.specs.Files.{most_report_bytes}
-use Rattle.report_files.proofs.EndedLemmas.{whole_within, limit_is}
-use Rattle.verdict_reading.specs.declared.collector.Collector.{Collector}
-use Rattle.verdict_reading.specs.declared.lines.Told.{Told}
-use Rattle.verdict_reading.specs.declared.lines.Told.TheVariants as told
+use Rattle.report_files.proofs.EndedLemmas.{within, whole_within, limit_is, whole_is}
+use Rattle.report_files.proofs.PieceLemmas.{pieces_count}
+use Rattle.report_files.proofs.TitleLemmas.{title_within}
 use Rattle.verdict_reading.specs.declared.reading.Reading.{Reading}
 use Rattle.verdict_reading.specs.declared.reading.Reading.TheVariants as reading
-use Rattle.verdict_reading.specs.Collected.{EndsAt, Collects, claim_at, verdict_at}
-use Rattle.verdict_reading.specs.Told.{TellsOf}
-use Rattle.verdict_reading.specs.Readings.{reading_of, judged_end, judged_front, IsRightOf, ReadingHolds, IsFront, IsReadOf}
-
--- ---- the verdict that is read
-
-module _ (s : Standing) where
-  -- a rule
-  pub possible_at : (p : Place) (rows : List ℕ) → EndsAt p s → claim_at (held_place p) ≡ Some claim.Possible → rows ≡ s.rows → Some (Possible rows) ≡ verdict_at p
-  possible_at (AtNothing (Possible table)) rows h e same = ap (λ (t : List ℕ). Some (Possible t)) (same ∙ sym h)
-  possible_at p rows h e same = absurd (cc)
-
-  -- an impossibility
-  pub impossible_at : (p : Place) (core : List ℕ) (story : List Lemma) (witnesses : List Witness) → EndsAt p s → claim_at (held_place p) ≡ Some claim.Impossible
-      → core ≡ s.core → story ≡ s.earlier → witnesses ≡ s.witnesses → Some (Impossible core story witnesses) ≡ verdict_at p
-  impossible_at (AtNothing (Impossible c t w)) core story witnesses h e one two three =
-      ap (λ (x : List ℕ). Some (Impossible x story witnesses)) (one ∙ sym h.0)
-      ∙ ap (λ (x : List Lemma). Some (Impossible c x witnesses)) (two ∙ sym h.1)
-      ∙ ap (λ (x : List Witness). Some (Impossible c t x)) (three ∙ sym h.2)
-  impossible_at p core story witnesses h e one two three = absurd (cc)
-
-  -- none
-  pub none_at : (p : Place) → EndsAt p s → claim_at (held_place p) ≡ None → None ≡ verdict_at p
-  none_at (AtNothing (Possible table)) h e = absurd (cc)
-  none_at (AtNothing (Impossible core story witnesses)) h e = absurd (cc)
-  none_at (AtNothing Undecided) h e = absurd h
-  none_at p h e = refl
-
--- ---- a text of which no line is faulty
-
-no_items : (rest : List ℕ) → true ≡ (length rest == 0) → rest ≡ []
-no_items [] e = refl
-no_items (x ∷ rest) e = let none : length (x ∷ rest) ≡ 0 = eqb-true (length (x ∷ rest)) 0 (sym e) in absurd (let bad : ⊥ = omega (arith, none) in bad)
-
--- it is cut off
-pub cut_off : (whole : Bool) (n : ℕ) (rest : List ℕ) (s : Standing) → whole ≡ false → reading.TooLong ≡ reading_of (judged_end whole n rest (Good s))
-cut_off whole n rest s e = sym (ap (λ b. reading_of (judged_end b n rest (Good s))) e)
-
--- bytes follow the last line end
-pub followed : (whole ended : Bool) (n : ℕ) (rest : List ℕ) (s : Standing) → whole ≡ true → ended ≡ (length rest == 0) → ended ≡ false → reading.Faulty n Form ≡ reading_of (judged_end whole n rest (Good s))
-followed whole ended n [] s e same other = absurd (true≢false (sym same ∙ other))
-followed whole ended n (x ∷ rest) s e same other = sym (ap (λ b. reading_of (judged_end b n (x ∷ rest) (Good s))) e)
-
-module _ (whole ended : Bool) (n : ℕ) (rest : List ℕ) (s : Standing) (all : whole ≡ true) (same : ended ≡ (length rest == 0)) (last : ended ≡ true) where
-  at_last : reading_of (judged_end whole n rest (Good s)) ≡ reading_of (at_end n [] s.place)
-  at_last =
-      ap (λ b. reading_of (judged_end b n rest (Good s))) all
-      ∙ ap (λ (xs : List ℕ). reading_of (at_end n xs s.place)) (no_items rest (sym last ∙ same))
-
-  -- all of a verdict is read
-  pub confirms : (verdict : Verdict) → Some verdict ≡ verdict_at s.place → reading.Confirmed verdict ≡ reading_of (judged_end whole n rest (Good s))
-  confirms verdict e = by_place s.place e ∙ sym at_last
-    where
-      by_place : (p : Place) → Some verdict ≡ verdict_at p → reading.Confirmed verdict ≡ reading_of (at_end n [] p)
-      by_place (AtNothing v) e = let is : verdict ≡ v = cc in ap reading.Confirmed is
-      by_place p e = absurd (cc)
-
-  -- the report goes on
-  pub goes_on : None ≡ verdict_at s.place → reading.Faulty n Form ≡ reading_of (judged_end whole n rest (Good s))
-  goes_on e = by_place s.place e ∙ sym at_last
-    where
-      by_place : (p : Place) → None ≡ verdict_at p → reading.Faulty n Form ≡ reading_of (at_end n [] p)
-      by_place (AtNothing v) e = absurd (cc)
-      by_place p e = refl
-
--- ---- what is told of the lines of a text
-
-told_refused : (study : Question) (c : Collector) (whole : Bool) (judged : Judged) (n line : ℕ) (rest : List ℕ) (word : Refusal)
-    → TellsOf study c judged n rest (told.Refused line word) → reading.Faulty line word ≡ reading_of (judged_end whole n rest judged)
-told_refused study c whole (Good s) n line rest word h = absurd h
-told_refused study c true (Refused m w) n line rest word h = ap (λ k. reading.Faulty k word) h.0 ∙ ap (reading.Faulty m) h.1
-told_refused study c false (Refused m w) n line rest word h = ap (λ k. reading.Faulty k word) h.0 ∙ ap (reading.Faulty m) h.1
-
-pub refused_is : (study : Question) (c : Collector) (whole : Bool) (t : Told) (judged : Judged) (n line : ℕ) (rest : List ℕ) (word : Refusal)
-    → t ≡ told.Refused line word → TellsOf study c judged n rest t → reading.Faulty line word ≡ reading_of (judged_end whole n rest judged)
-refused_is study c whole t judged n line rest word e h = told_refused study c whole judged n line rest word (subst (TellsOf study c judged n rest) e h)
-
-told_good : {E : Type 0} (study : Question) (c : Collector) (whole ended : Bool) (judged : Judged) (n line : ℕ) (rest : List ℕ) (result : Result Reading E)
-    → TellsOf study c judged n rest (told.Good line ended)
-    → ((s : Standing) → Collects study c s → ended ≡ (length rest == 0) → IfOk result (λ r. r ≡ reading_of (judged_end whole line rest (Good s))))
-    → IfOk result (λ r. r ≡ reading_of (judged_end whole n rest judged))
-told_good study c whole ended (Good s) n line rest result h go =
-    subst (λ k. IfOk result (λ r. r ≡ reading_of (judged_end whole k rest (Good s)))) h.1 (go s h.0 h.2)
-told_good study c whole ended (Refused m w) n line rest result h go = absurd h
-
-pub good_is : {E : Type 0} (study : Question) (c : Collector) (whole ended : Bool) (t : Told) (judged : Judged) (n line : ℕ) (rest : List ℕ) (result : Result Reading E)
-    → t ≡ told.Good line ended → TellsOf study c judged n rest t
-    → ((s : Standing) → Collects study c s → ended ≡ (length rest == 0) → IfOk result (λ r. r ≡ reading_of (judged_end whole line rest (Good s))))
-    → IfOk result (λ r. r ≡ reading_of (judged_end whole n rest judged))
-good_is study c whole ended t judged n line rest result e h go = told_good study c whole ended judged n line rest result (subst (TellsOf study c judged n rest) e h) go
+use Rattle.verdict_reading.specs.declared.sharp_verdict.SharpVerdict.{SharpVerdict}
+use Rattle.verdict_reading.specs.SharpCollected.{as_read, as_said}
+use Rattle.verdict_reading.specs.Readings.{reading_of, judged_whole, sharp_judged_end, judged_front, IsRightOf, ReadingHolds, IsFront, IsReadOf}
 
 -- ---- right verdicts
 
-confirmed_is : (a : Judgement) (v : Verdict) → reading_of a ≡ reading.Confirmed v → a ≡ Confirmed v
-confirmed_is (Confirmed w) v e = let same : w ≡ v = cc in ap Confirmed same
-confirmed_is (Faulty line word) v e = absurd (cc)
-confirmed_is TooLong v e = absurd (cc)
+-- a report is confirmed, or a sharp text is
+confirmed_is : (a : Judged) (v : Verdict) → reading_of a ≡ reading.Confirmed v → a ≡ AsReport (Confirmed v)
+confirmed_is (AsReport (Confirmed w)) v e = let same : w ≡ v = cc in ap (λ x. AsReport (Confirmed x)) same
+confirmed_is (AsReport (Faulty line word)) v e = absurd (cc)
+confirmed_is (AsReport TooLong) v e = absurd (cc)
+confirmed_is (AsSharp (SharpConfirmed w)) v e = absurd (cc)
+confirmed_is (AsSharp (SharpFaulty line word)) v e = absurd (cc)
+confirmed_is (AsSharp SharpTooLong) v e = absurd (cc)
 
-pub right_of : (study : Question) (text : List ℕ) (r : Reading) → r ≡ reading_of (answer study text) → IsRightOf study text r
-right_of study text r e = λ v is. judge_sound study text v (confirmed_is (answer study text) v (sym e ∙ is))
+sharp_is : (a : Judged) (v : SharpVerdict) → reading_of a ≡ reading.SharpConfirmed v → a ≡ AsSharp (SharpConfirmed (as_said v))
+sharp_is (AsReport (Confirmed w)) v e = absurd (cc)
+sharp_is (AsReport (Faulty line word)) v e = absurd (cc)
+sharp_is (AsReport TooLong) v e = absurd (cc)
+sharp_is (AsSharp (SharpConfirmed w)) v e = let same : as_read w ≡ v = cc in ap (λ (x : SharpVerdict). AsSharp (SharpConfirmed (as_said x))) same
+sharp_is (AsSharp (SharpFaulty line word)) v e = absurd (cc)
+sharp_is (AsSharp SharpTooLong) v e = absurd (cc)
 
--- what is confirmed of a text is so of one that is whole
-pub front_holds : (study : Question) (whole : Bool) (text : List ℕ) (r : Reading) → r ≡ reading_of (judged_front study whole text) → ReadingHolds study r
-front_holds study true text r e = λ v is. (text, judge_sound study text v (confirmed_is (answer study text) v (sym e ∙ is)))
-front_holds study false text r e = λ v is. absurd (not_beyond (judge study (front (pieces text))) v (confirmed_is (beyond (judge study (front (pieces text)))) v (sym e ∙ is)))
-  where
-    not_beyond : (judged : Judged) (v : Verdict) → beyond judged ≡ Confirmed v → ⊥
-    not_beyond (Good s) v e = cc
-    not_beyond (Refused n word) v e = cc
+-- of two answers, by the title of the text
+by_report : (b : Bool) (x : SharpJudgement) (y z : Judgement) → cond b (AsSharp x) (AsReport y) ≡ AsReport z → y ≡ z
+by_report true x y z e = absurd (cc)
+by_report false x y z e = cc
+
+by_sharp : (b : Bool) (x z : SharpJudgement) (y : Judgement) → cond b (AsSharp x) (AsReport y) ≡ AsSharp z → x ≡ z
+by_sharp true x z y e = cc
+by_sharp false x z y e = absurd (cc)
+
+module _ (study : Question) (text : List ℕ) where
+  pub right_of : (r : Reading) → r ≡ reading_of (judged_whole study text) → IsRightOf study text r
+  right_of r e = record {
+    report = λ v is. judge_sound study text v (by_report (has_sharp_title text) (sharp_answer study text) (answer study text) (Confirmed v) (confirmed_is (judged_whole study text) v (sym e ∙ is)));
+    sharp = λ v is. sharp_judge_sound study text (as_said v) (by_sharp (has_sharp_title text) (sharp_answer study text) (SharpConfirmed (as_said v)) (answer study text) (sharp_is (judged_whole study text) v (sym e ∙ is)));
+  }
+
+  right_within : (r : Reading) → r ≡ reading_of (judged_within most_report_bytes study text) → IsRightOf study text r
+  right_within r e = record {
+    report = λ v is.
+        let confirmed = by_report (has_sharp_title text) (sharp_answer_within study most_report_bytes text) (answer_within most_report_bytes study text) (Confirmed v) (confirmed_is (judged_within most_report_bytes study text) v (sym e ∙ is)) in
+        judge_sound study text v ((within_limit most_report_bytes study text v).0 confirmed).1;
+    sharp = λ v is.
+        let confirmed = by_sharp (has_sharp_title text) (sharp_answer_within study most_report_bytes text) (SharpConfirmed (as_said v)) (answer_within most_report_bytes study text) (sharp_is (judged_within most_report_bytes study text) v (sym e ∙ is)) in
+        sharp_judge_sound study text (as_said v) ((sharp_within_limit most_report_bytes study text (as_said v)).0 confirmed).1;
+  }
+
+  -- the answer to a text that is whole
+  pub whole_is_front : judged_front study true text ≡ judged_whole study text
+  whole_is_front = ap (λ n. cond (has_sharp_title text) (AsSharp (sharp_conclude study n (final (pieces text)) (sharp_judge study (front (pieces text))))) (AsReport (conclude n (final (pieces text)) (judge study (front (pieces text)))))) (sym (pieces_count text))
+
+  -- what is confirmed of a text is so of one that is whole
+  pub front_holds : (whole : Bool) (r : Reading) → r ≡ reading_of (judged_front study whole text) → ReadingHolds study r
+  front_holds true r e =
+      let right = right_of r (e ∙ ap reading_of whole_is_front) in
+      record { report = λ v is. (text, right.report v is); sharp = λ v is. (text, right.sharp v is) }
+  front_holds false r e = record {
+    report = λ v is. absurd (not_beyond (judge study (front (pieces text))) v (by_report (has_sharp_title text) (sharp_beyond study (sharp_judge study (front (pieces text)))) (beyond (judge study (front (pieces text)))) (Confirmed v) (confirmed_is (judged_front study false text) v (sym e ∙ is))));
+    sharp = λ v is. absurd (not_sharp_beyond (sharp_judge study (front (pieces text))) (as_said v) (by_sharp (has_sharp_title text) (sharp_beyond study (sharp_judge study (front (pieces text)))) (SharpConfirmed (as_said v)) (beyond (judge study (front (pieces text)))) (sharp_is (judged_front study false text) v (sym e ∙ is))));
+  }
+    where
+      not_beyond : (judged : Told) (v : Verdict) → beyond judged ≡ Confirmed v → ⊥
+      not_beyond (Good s) v e = cc
+      not_beyond (Refused n word) v e = cc
+
+      not_sharp_beyond : (judged : SharpTold) (v : Pointed) → sharp_beyond study judged ≡ SharpConfirmed v → ⊥
+      not_sharp_beyond (SharpGood s) v e = cc
+      not_sharp_beyond (SharpRefused n word) v e = cc
 
 -- what holds at `Ok`, and what follows from it
 pub if_ok : {T E : Type 0} {P Q : T → Type 0} (result : Result T E) → IfOk result P → ((x : T) → P x → Q x) → IfOk result Q
@@ -145,27 +101,43 @@ pub front_fits : (whole : Bool) (before now : Option (List ℕ)) (bytes : List �
 front_fits true before now bytes h = let fits = h.2 in omega (arith, fits)
 front_fits false before now bytes h = let fits = h.3 in omega (arith, fits)
 
-module _ (study : Question) where
+-- what a judge answers of a file that is held, by what was read of it
+module _ {T J : Type 0} (judged : List (List ℕ) → T) (ends : ℕ → List ℕ → T → J) (past : T → J) where
   front_within : (whole : Bool) (known left : Option (List ℕ)) (bytes held : List ℕ) → IsFront whole known left bytes → known ≡ Some held
-      → answer_within most_report_bytes study held ≡ judged_front study whole bytes
-  front_within true known left bytes held h k = whole_within (judge study) conclude beyond known left false bytes held h k
+      → within judged ends past held ≡ cond whole (ends (length (front (pieces bytes)) + 1) (final (pieces bytes)) (judged (front (pieces bytes)))) (past (judged (front (pieces bytes))))
+  front_within true known left bytes held h k =
+      whole_within judged ends past known left false bytes held h k
+      ∙ ap (λ n. ends n (final (pieces bytes)) (judged (front (pieces bytes)))) (pieces_count bytes)
   front_within false known left bytes held h k =
       let parts = limit_is known left false bytes held h k in
-      ap (λ b. cond b (beyond (judge study (front (pieces (take most_report_bytes held))))) (answer study held)) (lt-ltb most_report_bytes (length held) parts.0)
-      ∙ ap (λ (t : List ℕ). beyond (judge study (front (pieces t)))) parts.1
+      ap (λ b. cond b (past (judged (front (pieces (take most_report_bytes held))))) (ends (length (pieces held)) (final (pieces held)) (judged (front (pieces held))))) (lt-ltb most_report_bytes (length held) parts.0)
+      ∙ ap (λ (t : List ℕ). past (judged (front (pieces t)))) parts.1
 
+-- the front of a file tells which judge it is
+front_title : (whole : Bool) (known left : Option (List ℕ)) (bytes held : List ℕ) → IsFront whole known left bytes → known ≡ Some held → has_sharp_title held ≡ has_sharp_title bytes
+front_title true known left bytes held h k = ap has_sharp_title (whole_is known left false bytes held h k).0
+front_title false known left bytes held h k =
+    let parts = limit_is known left false bytes held h k in
+    let count : length (take most_report_bytes held) ≡ length bytes = ap length parts.1 in
+    ap has_sharp_title (sym (take-append-drop most_report_bytes held))
+    ∙ title_within (take most_report_bytes held) (drop most_report_bytes held) (omega (arith, count, h.3))
+    ∙ ap has_sharp_title parts.1
+
+module _ (study : Question) where
   held_is : (known left : Option (List ℕ)) (whole : Bool) (bytes held : List ℕ) (r : Reading) → IsFront whole known left bytes → known ≡ Some held
-      → r ≡ reading_of (judged_front study whole bytes) → r ≡ reading_of (answer_within most_report_bytes study held)
-  held_is known left whole bytes held r h k e = e ∙ ap reading_of (sym (front_within whole known left bytes held h k))
+      → r ≡ reading_of (judged_front study whole bytes) → r ≡ reading_of (judged_within most_report_bytes study held)
+  held_is known left whole bytes held r h k e =
+      let n = length (front (pieces bytes)) + 1 in
+      let sharp = front_within (sharp_judge study) (sharp_conclude study) (sharp_beyond study) whole known left bytes held h k in
+      let report = front_within (judge study) conclude beyond whole known left bytes held h k in
+      e ∙ sym (ap reading_of (
+      ap (λ b. cond b (AsSharp (sharp_answer_within study most_report_bytes held)) (AsReport (answer_within most_report_bytes study held))) (front_title whole known left bytes held h k)
+      ∙ ap (λ x. cond (has_sharp_title bytes) (AsSharp x) (AsReport (answer_within most_report_bytes study held))) sharp
+      ∙ ap (λ y. cond (has_sharp_title bytes) (AsSharp (sharp_judged_end study whole n (final (pieces bytes)) (sharp_judge study (front (pieces bytes))))) (AsReport y)) report))
 
   -- what is read of the file that is held
-  read_of : (files : Files) (name held : List ℕ) (r : Reading) → files name ≡ Some held → r ≡ reading_of (answer_within most_report_bytes study held) → IsReadOf study files name r
-  read_of files name held r h e = record {
-    bytes = held;
-    held = h;
-    is = e;
-    right = λ v is. judge_sound study held v ((within_limit most_report_bytes study held v).0 (confirmed_is (answer_within most_report_bytes study held) v (sym e ∙ is))).1;
-  }
+  read_of : (files : Files) (name held : List ℕ) (r : Reading) → files name ≡ Some held → r ≡ reading_of (judged_within most_report_bytes study held) → IsReadOf study files name r
+  read_of files name held r h e = record { bytes = held; held = h; is = e; right = right_within study held r e }
 
   -- and where the shelf tells its files
   pub file_read : (told : Option Files) (name : List ℕ) (known left : Option (List ℕ)) (whole : Bool) (bytes : List ℕ) (r : Reading)

@@ -1,5 +1,6 @@
 -- In reading order.
 pub mod Parts
 pub mod Collected
+pub mod SharpCollected
 pub mod Told
 pub mod Readings

@@ -1,40 +1,64 @@
--- What is read of a report: the verdict that it confirms, or why it is refused.
-use Rattle.std.specs.Prelude.{◌≡◌, ℕ, ◌<◌, ◌≤◌, Bool, true, false, List, ◌++◌, length, Option, Some, if◌then◌else◌}
+-- What is read of a report or a sharp text: the verdict that it confirms, or why it is refused.
+use Rattle.std.specs.Prelude.{◌≡◌, ℕ, ◌+◌, ◌<◌, ◌≤◌, Bool, true, false, List, ◌++◌, length, Option, Some, if◌then◌else◌}
 use Rattle.std.specs.Io.KnownBytes.{Consumes, IsAtEnd}
 use Rattle.edge.specs.Shelf.{Files}
 use Rattle.vocab.specs.Study.{Question}
 use Rattle.verdicts.specs.declared.verdicts.Verdict.{Verdict}
-use Rattle.verdicts.specs.Judge.{Judgement, Told, Confirmed, Faulty, TooLong, judge, answer_within, beyond, conclude, pieces, front, final}
+use Rattle.verdicts.specs.Judge.{Judgement, Told, Confirmed, Faulty, TooLong, judge, answer, beyond, conclude, pieces, front, final}
 use Rattle.verdicts.specs.Report.{IsReport}
+use Rattle.sharp_verdicts.specs.Judged.{Judged, AsReport, AsSharp, has_sharp_title, judged_within}
+use Rattle.sharp_verdicts.specs.SharpJudge.{SharpJudgement, SharpConfirmed, SharpFaulty, SharpTooLong, SharpTold, sharp_judge, sharp_answer, sharp_beyond, sharp_conclude}
+use Rattle.sharp_laws.specs.Laws.{IsSharpText}
 use Rattle.report_files.specs.Files.{most_report_bytes}
 use Rattle.verdict_reading.specs.declared.reading.Reading.{Reading}
 use Rattle.verdict_reading.specs.declared.reading.Reading.TheVariants as reading
+use Rattle.verdict_reading.specs.declared.sharp_verdict.SharpVerdict.{SharpVerdict}
+use Rattle.verdict_reading.specs.SharpCollected.{as_read, as_said}
 
--- what is read where the judge of reports answers so
-abbrev pub reading_of : Judgement → Reading
-reading_of (Confirmed verdict) = reading.Confirmed verdict
-reading_of (Faulty line word) = reading.Faulty line word
-reading_of TooLong = reading.TooLong
+-- what is read where the judge answers so, of reports or of sharp texts
+abbrev pub reading_of : Judged → Reading
+reading_of (AsReport (Confirmed verdict)) = reading.Confirmed verdict
+reading_of (AsReport (Faulty line word)) = reading.Faulty line word
+reading_of (AsReport TooLong) = reading.TooLong
+reading_of (AsSharp (SharpConfirmed v)) = reading.SharpConfirmed (as_read v)
+reading_of (AsSharp (SharpFaulty line word)) = reading.SharpFaulty line word
+reading_of (AsSharp SharpTooLong) = reading.SharpTooLong
 
--- what the judge answers of lines that have been judged, and of what follows the last line end with its number: of a text that is whole, or of the front of a longer one
+-- the answer to a text: one with the title of a sharp text is judged as one, and each other text as a report
+abbrev pub judged_whole : Question → List ℕ → Judged
+judged_whole study text = if has_sharp_title text then AsSharp (sharp_answer study text) else AsReport (answer study text)
+
+-- what the judge of reports answers of lines that have been judged, and of what follows the last line end with its number: of a text that is whole, or of the front of a longer one
 abbrev pub judged_end : (whole : Bool) → ℕ → List ℕ → Told → Judgement
 judged_end whole n rest told = if whole then conclude n rest told else beyond told
 
+-- the same of the judge of sharp texts
+abbrev pub sharp_judged_end : Question → (whole : Bool) → ℕ → List ℕ → SharpTold → SharpJudgement
+sharp_judged_end study whole n rest told = if whole then sharp_conclude study n rest told else sharp_beyond study told
+
+-- the same of some lines, of a sharp text or of a report, and of what follows them
+abbrev pub judged_lines : Question → (sharp whole : Bool) → List (List ℕ) → List ℕ → Judged
+judged_lines study sharp whole lines rest =
+    if sharp then AsSharp (sharp_judged_end study whole (length lines + 1) rest (sharp_judge study lines))
+    else AsReport (judged_end whole (length lines + 1) rest (judge study lines))
+
 -- the same of the lines of a text
-abbrev pub judged_front : Question → (whole : Bool) → List ℕ → Judgement
-judged_front study whole text = judged_end whole (length (pieces text)) (final (pieces text)) (judge study (front (pieces text)))
+abbrev pub judged_front : Question → (whole : Bool) → List ℕ → Judged
+judged_front study whole text = judged_lines study (has_sharp_title text) whole (front (pieces text)) (final (pieces text))
 
 -- this is read of a text, or of the front of a longer one
 abbrev pub IsRead : Question → (whole : Bool) → List ℕ → Reading → Type 0
 IsRead study whole text r = r ≡ reading_of (judged_front study whole text)
 
--- a verdict that is read is right, and the text is its report
-abbrev pub IsRightOf : Question → List ℕ → Reading → Type 0
-IsRightOf study text r = (verdict : Verdict) → r ≡ reading.Confirmed verdict → IsReport study verdict text
+-- a verdict that is read is right, and the text is its report, or its sharp text
+pub record IsRightOf (study : Question) (text : List ℕ) (r : Reading) : Type 0 where
+  pub report : (verdict : Verdict) → r ≡ reading.Confirmed verdict → IsReport study verdict text
+  pub sharp : (v : SharpVerdict) → r ≡ reading.SharpConfirmed v → IsSharpText study (as_said v) text
 
--- a verdict that is read is right: some text is its report
-abbrev pub ReadingHolds : Question → Reading → Type 0
-ReadingHolds study r = (verdict : Verdict) → r ≡ reading.Confirmed verdict → (text : List ℕ) × IsReport study verdict text
+-- a verdict that is read is right: some text is its report, or its sharp text
+pub record ReadingHolds (study : Question) (r : Reading) : Type 0 where
+  pub report : (verdict : Verdict) → r ≡ reading.Confirmed verdict → (text : List ℕ) × IsReport study verdict text
+  pub sharp : (v : SharpVerdict) → r ≡ reading.SharpConfirmed v → (text : List ℕ) × IsSharpText study (as_said v) text
 
 -- ---- files
 
@@ -44,9 +68,9 @@ IsFront true before now bytes = Consumes before now bytes × IsAtEnd now × (len
 IsFront false before now bytes = (more : List ℕ) × Consumes before now (bytes ++ more) × (0 < length more) ×
     (length bytes ≡ most_report_bytes)
 
--- the file is held, and this is read of its report
+-- the file is held, and this is read of its report or of its sharp text, as `check` judges it
 pub record IsReadOf (study : Question) (files : Files) (name : List ℕ) (r : Reading) : Type 0 where
   pub bytes : List ℕ
   pub held : files name ≡ Some bytes
-  pub is : r ≡ reading_of (answer_within most_report_bytes study bytes)
+  pub is : r ≡ reading_of (judged_within most_report_bytes study bytes)
   pub right : IsRightOf study bytes r

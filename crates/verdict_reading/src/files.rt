@@ -1,4 +1,4 @@
-//! The verdict of a report in a file.
+//! The verdict of a report or of a sharp text in a file.
 
 ghost use Rattle.std.specs.Prelude.{◌≡◌, ◌≤◌, IfOk, IfSome, IsErrOf};
 ghost use Rattle.edge.specs.Faults.{Rose};
@@ -18,7 +18,7 @@ use vocab::Study;
 /// As many bytes are asked for in one read.
 const CHUNK: usize = 65_536;
 
-/// The most bytes of a report.
+/// The most bytes of a report or a sharp text.
 const MOST_BYTES: usize = 268_435_456;
 
 /// The bytes of a file, or as many of them as are read of a longer one.
@@ -58,10 +58,11 @@ fn read_front<S: Shelf>(alloc: Global, shelf: &mut S, name: &str) -> Result<Fron
     }
 }
 
-/// What is read of the report under the name over the study, which has at most 40 axioms: the verdict exactly
-/// where the judge of reports confirms it, and else its refusal at the same line. The bytes are held while
-/// they are judged, at most 268,435,456 of them. The answer is the same for every number of workers, from 1
-/// to 16. Errors: `FileFault::Failed` where the shelf fails, and `FileFault::NoMemory`.
+/// What is read of the text under the name over the study, which has at most 40 axioms: it is judged as a
+/// sharp text where its first line is `bench sharp 1`, and else as a report. The verdict is read exactly where
+/// that judge confirms the text, and else its refusal at the same line. The bytes are held while they are
+/// judged, at most 268,435,456 of them. The answer is the same for every number of workers, from 1 to 16.
+/// Errors: `FileFault::Failed` where the shelf fails, and `FileFault::NoMemory`.
 pub fn read_verdict_file<R: Threads + Sync, S: Shelf, K: OutcomeKind, G: Gate>(
     rt: &R,
     alloc: Global,

@@ -1,12 +1,15 @@
-//! The parts of a verdict, which the lines of its report give one by one.
+//! The parts of a verdict, which the lines of its report or of its sharp text give one by one.
 
 ghost use Rattle.std.specs.Prelude.{◌≡◌, ◌≤◌, [], OnOk};
 ghost use Rattle.verdicts.specs.declared.verdicts.Verdict.TheVariants.{Possible, Impossible};
-ghost use Rattle.verdict_reading.specs.Parts.{with_lemma, with_row, with_line};
+ghost use Rattle.verdict_reading.specs.Parts.{with_lemma, with_row, with_open, with_line, with_sharp_line};
 
+use crate::sharp_verdict::SharpVerdict;
 use lists::{Items, NoMemory};
 use meaning::{Lemma, Literals, Reason, Steps, StoryStep, Witness, Witnesses};
 use report_lines::Line;
+use sharp_report::SharpLine;
+use sharp_verdicts::Instances;
 use std::alloc::Global;
 use std::mem::replace;
 use verdicts::Verdict;
@@ -70,6 +73,14 @@ impl Parts {
         Ok(())
     }
 
+    /// Puts an open mark to the witnesses, with the limit of its search.
+    fn take_open(&mut self, limit: u32) -> Result<(), NoMemory>
+        ensures { OnOk result (self.new ≡ with_open limit self.old) }
+    {
+        self.witnesses.push(Witness::Open(limit))?;
+        Ok(())
+    }
+
     /// Takes a line, where a table has `count` rows and the searches of the study learn at most `limit`
     /// clauses; `of_witness` tells whether a row is one of a witness.
     pub(crate) fn take(
@@ -96,13 +107,30 @@ impl Parts {
             }
             Line::Clash(reason) => self.end_lemma(alloc, *reason),
             Line::Row(_, outcome) => self.take_row(alloc, count, of_witness, *outcome),
-            Line::WithOpen(_, _) => {
-                self.witnesses.push(Witness::Open(limit))?;
-                Ok(())
-            }
+            Line::WithOpen(_, _) => self.take_open(limit),
             _ => Ok(()),
         }
     }
+
+    /// Takes a line of a sharp text, whose marks are put to the witnesses; `of_mark` tells whether a row is one
+    /// of a mark.
+    pub(crate) fn take_sharp(
+        &mut self,
+        alloc: Global,
+        count: u32,
+        limit: u32,
+        of_mark: bool,
+        line: &SharpLine,
+    ) -> Result<(), NoMemory>
+        ensures { OnOk result (self.new ≡ with_sharp_line count limit of_mark line.now self.old) }
+    {
+        match line {
+            SharpLine::Plain(plain) => self.take(alloc, count, limit, of_mark, plain),
+            SharpLine::NeedsOpen => self.take_open(limit),
+            _ => Ok(()),
+        }
+    }
+
     /// The verdict of the rule that is read.
     pub(crate) fn into_possible(self) -> Verdict
         ensures { result ≡ Possible self.rows }
@@ -132,6 +160,30 @@ impl Parts {
             core,
             story: earlier,
             witnesses,
+        }
+    }
+
+    /// The sharp verdict of the story and the marks that are read, with its core and its instances.
+    pub(crate) fn into_sharp(self, core: Places, instances: Instances) -> SharpVerdict
+        ensures { result ≡ record {
+          core = core;
+          story = self.earlier;
+          instances = instances;
+          marks = self.witnesses;
+        } }
+    {
+        let Parts {
+            earlier,
+            witnesses,
+            suppose: _,
+            steps: _,
+            rows: _,
+        } = self;
+        SharpVerdict {
+            core,
+            story: earlier,
+            instances,
+            marks: witnesses,
         }
     }
 }

@@ -1,37 +1,49 @@
-//! The verdict of a report in memory.
+//! The verdict of a report or of a sharp text in memory.
 
-ghost use Rattle.std.specs.Prelude.{◌≡◌, ◌<◌, ◌≤◌, ◌==◌, ℕ, List, length, IfOk};
+ghost use Rattle.std.specs.Prelude.{◌≡◌, ◌+◌, ◌<◌, ◌≤◌, ◌==◌, ℕ, Bool, List, length, IfOk};
 ghost use Rattle.vocab.specs.Study.{Question, HasFewAxioms};
-ghost use Rattle.verdicts.specs.Judge.{Told as Judged, Good, answer};
+ghost use Rattle.verdicts.specs.Judge.{Good};
 ghost use Rattle.verdicts.specs.Places.{Standing};
+ghost use Rattle.sharp_verdicts.specs.Judged.{AsReport, AsSharp};
+ghost use Rattle.sharp_verdicts.specs.SharpJudge.{SharpGood};
+ghost use Rattle.sharp_verdicts.specs.SharpPlaces.{SharpStanding};
 ghost use Rattle.verdict_reading.specs.Collected.{Collects};
-ghost use Rattle.verdict_reading.specs.Told.{TellsOf};
-ghost use Rattle.verdict_reading.specs.Readings.{reading_of, judged_end, IsRead, IsRightOf};
+ghost use Rattle.verdict_reading.specs.SharpCollected.{SharpCollects};
+ghost use Rattle.verdict_reading.specs.Told.{HasCollected, IsFirstFaulty, TellsOf};
+ghost use Rattle.verdict_reading.specs.Readings.{reading_of, judged_whole, judged_end, sharp_judged_end, judged_lines, IsRead, IsRightOf};
 
 use crate::collector::Collector;
-use crate::lines::{Told, read_lines};
+use crate::lines::{Told, has_sharp_title, read_lines};
+use crate::sharp_collector::SharpCollector;
+use crate::sharp_verdict::SharpVerdict;
+use crate::text_collector::{TextCollector, TextRefusal};
 use crew::Crew;
 use edge::Gate;
 use lists::NoMemory;
 use outcomes::OutcomeKind;
 use report::Subject;
+use sharp_report::SharpRefusal;
 use std::alloc::Global;
 use std::thread::Threads;
 use verdicts::{Refusal, Verdict};
 use vocab::Study;
 
 /// What is read of a report: the verdict that it confirms; its first faulty line, from 1, with the refusal; or
-/// that it has more than 268,435,456 bytes, and no line that ends within them is faulty.
+/// that it has more than 268,435,456 bytes, and no line that ends within them is faulty. The same of a sharp
+/// text, which is a text whose first line is `bench sharp 1`.
 #[derive(Drop)]
 pub enum Reading {
     Confirmed(Verdict),
     Faulty { line: u32, refusal: Refusal },
     TooLong,
+    SharpConfirmed(SharpVerdict),
+    SharpFaulty { line: u32, refusal: SharpRefusal },
+    SharpTooLong,
 }
 
-/// What is read where no line is faulty: of a text that is whole the end has to be read, and nothing may
-/// follow it.
-fn end_of(
+/// What is read of a report where no line is faulty: of one that is whole the end has to be read, and nothing
+/// may follow it.
+fn end_of_report(
     alloc: Global,
     collector: Collector,
     whole: bool,
@@ -40,7 +52,7 @@ fn end_of(
 ) -> Result<Reading, NoMemory>
     ensures { (study : Question) (s : Standing) (rest : List ℕ) → Collects study collector s →
         ended ≡ (length rest == 0) →
-        IfOk result (λ reading. reading ≡ reading_of (judged_end whole line rest (Good s))) }
+        IfOk result (λ reading. reading ≡ reading_of (AsReport (judged_end whole line rest (Good s)))) }
 {
     if !whole {
         return Ok(Reading::TooLong);
@@ -61,19 +73,81 @@ fn end_of(
     }
 }
 
+/// The same of a sharp text.
+fn end_of_sharp(
+    alloc: Global,
+    collector: SharpCollector,
+    whole: bool,
+    line: u32,
+    ended: bool,
+) -> Result<Reading, NoMemory>
+    ensures { (study : Question) (s : SharpStanding) (rest : List ℕ) → SharpCollects study collector s →
+        ended ≡ (length rest == 0) →
+        IfOk result (λ reading.
+        reading ≡ reading_of (AsSharp (sharp_judged_end study whole line rest (SharpGood s)))) }
+{
+    if !whole {
+        return Ok(Reading::SharpTooLong);
+    }
+    if !ended {
+        return Ok(Reading::SharpFaulty {
+            line,
+            refusal: SharpRefusal::Report(Refusal::Form),
+        });
+    }
+    let verdict = collector.into_verdict(alloc)?;
+    match verdict {
+        Some(verdict) => Ok(Reading::SharpConfirmed(verdict)),
+        None => Ok(Reading::SharpFaulty {
+            line,
+            refusal: SharpRefusal::Report(Refusal::Form),
+        }),
+    }
+}
+
+/// What is read of a text where no line is faulty.
+fn end_of(
+    alloc: Global,
+    collector: TextCollector,
+    whole: bool,
+    line: u32,
+    ended: bool,
+) -> Result<Reading, NoMemory>
+    ensures { (study : Question) (sharp : Bool) (lines : List (List ℕ)) (rest : List ℕ) →
+        HasCollected study sharp collector lines → line ≡ length lines + 1 → ended ≡ (length rest == 0) →
+        IfOk result (λ reading. reading ≡ reading_of (judged_lines study sharp whole lines rest)) }
+{
+    match collector {
+        TextCollector::Report(collector) => end_of_report(alloc, collector, whole, line, ended),
+        TextCollector::Sharp(collector) => end_of_sharp(alloc, collector, whole, line, ended),
+    }
+}
+
+/// What is read where this is the first faulty line.
+fn refused_at(line: u32, refusal: TextRefusal) -> Reading
+    ensures { (study : Question) (sharp whole : Bool) (lines : List (List ℕ)) (rest : List ℕ) →
+        IsFirstFaulty study sharp lines line refusal →
+        result ≡ reading_of (judged_lines study sharp whole lines rest) }
+{
+    match refusal {
+        TextRefusal::Report(refusal) => Reading::Faulty { line, refusal },
+        TextRefusal::Sharp(refusal) => Reading::SharpFaulty { line, refusal },
+    }
+}
+
 /// What is read of a text of whose lines this is told, or of the front of a longer one.
 fn reading_at(
     alloc: Global,
-    collector: Collector,
+    collector: TextCollector,
     told: Told,
     whole: bool,
 ) -> Result<Reading, NoMemory>
-    ensures { (study : Question) (judged : Judged) (n : ℕ) (rest : List ℕ) →
-        TellsOf study collector judged n rest told →
-        IfOk result (λ reading. reading ≡ reading_of (judged_end whole n rest judged)) }
+    ensures { (study : Question) (sharp : Bool) (lines : List (List ℕ)) (rest : List ℕ) →
+        TellsOf study sharp collector lines rest told →
+        IfOk result (λ reading. reading ≡ reading_of (judged_lines study sharp whole lines rest)) }
 {
     match told {
-        Told::Refused { line, refusal } => Ok(Reading::Faulty { line, refusal }),
+        Told::Refused { line, refusal } => Ok(refused_at(line, refusal)),
         Told::Good { line, ended } => end_of(alloc, collector, whole, line, ended),
     }
 }
@@ -93,14 +167,15 @@ pub(crate) fn read_text<R: Threads + Sync, G: Gate, K: OutcomeKind>(
     ensures { IfOk result (IsRead study.now whole text.now) }
 {
     let subject = Subject::new(alloc, kind, study, crew.workers)?;
-    let mut collector = Collector::new(&subject)?;
+    let mut collector = TextCollector::new(&subject, has_sharp_title(text))?;
     let told = read_lines(crew, &subject, &mut collector, text)?;
     reading_at(alloc, collector, told, whole)
 }
 
-/// What is read of the text of a report over the study, which has at most 40 axioms: the verdict exactly where
-/// the judge of reports confirms it, and else its refusal at the same line. The axioms of a rule are checked
-/// among 1 to 16 workers, which changes no answer. Error: want of memory.
+/// What is read of a text over the study, which has at most 40 axioms: it is judged as a sharp text where its
+/// first line is `bench sharp 1`, and else as a report. The verdict is read exactly where that judge confirms
+/// the text, and else its refusal at the same line. The axioms of a rule are checked among 1 to 16 workers,
+/// which changes no answer. Error: want of memory.
 pub fn read_verdict<R: Threads + Sync, K: OutcomeKind, G: Gate>(
     rt: &R,
     alloc: Global,
@@ -115,7 +190,7 @@ pub fn read_verdict<R: Threads + Sync, K: OutcomeKind, G: Gate>(
     requires size { study.now.size ≡ K.size kind.now }
     requires listed { HasFewAxioms study.now }
     requires room { length text.now < 4294967294 }
-    ensures value { IfOk result (λ reading. reading ≡ reading_of (answer study.now text.now)) }
+    ensures value { IfOk result (λ reading. reading ≡ reading_of (judged_whole study.now text.now)) }
     ensures right { IfOk result (IsRightOf study.now text.now) }
 {
     let crew = Crew { rt, gate, workers };

@@ -11,6 +11,7 @@ ghost use Rattle.told_instances.specs.Told.{names_instance};
 
 use crate::failing::is_same;
 use crate::judging::SharpJudging;
+use crate::lines::{SharpLine, told_unless};
 use crate::places::SharpPlace;
 use meaning::Reason;
 use outcomes::OutcomeKind;
@@ -26,17 +27,23 @@ impl SharpJudging {
         &mut self,
         subject: &Subject<K>,
         text: &[u8],
-    ) -> Option<SharpRefusal>
+    ) -> Result<SharpLine, SharpRefusal>
         ensures { (s : SharpStanding) → SharpStands subject.now.setting.study.now self.old s →
             s.place ≡ AtNeed →
             IsSharpTaken subject.now.setting.study.now s text.now self.new result }
     {
         let Some(need) = read_need(&subject.indexed, subject.setting.kind.space(), text) else {
-            return Some(SharpRefusal::Report(Refusal::Form));
+            return Err(SharpRefusal::Report(Refusal::Form));
         };
         match need {
-            Need::Rule(reason, count) => self.take_rule(subject, &reason, count),
-            Need::Open(reason, limit) => self.take_open(subject, &reason, limit),
+            Need::Rule(reason, count) => {
+                let fault = self.take_rule(subject, &reason, count);
+                told_unless(fault, SharpLine::NeedsRule)
+            }
+            Need::Open(reason, limit) => {
+                let fault = self.take_open(subject, &reason, limit);
+                told_unless(fault, SharpLine::NeedsOpen)
+            }
         }
     }
 

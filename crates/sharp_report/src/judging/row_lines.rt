@@ -8,10 +8,12 @@ ghost use Rattle.sharp_report.specs.SharpStands.{held_sharp_place, SharpStands, 
 
 use crate::failing::first_failing;
 use crate::judging::SharpJudging;
+use crate::lines::{SharpLine, told_unless};
 use crate::places::SharpPlace;
 use lists::NoMemory;
 use outcomes::OutcomeKind;
 use report::Subject;
+use report_lines::Line;
 use sharp_lines::{is_end, read_mark_row};
 use sharp_verdicts::SharpRefusal;
 use verdicts::Refusal;
@@ -22,7 +24,7 @@ impl SharpJudging {
         &mut self,
         subject: &Subject<K>,
         text: &[u8],
-    ) -> Result<Option<SharpRefusal>, NoMemory>
+    ) -> Result<Result<SharpLine, SharpRefusal>, NoMemory>
         requires read { IsSharpRead subject.now.setting.study.now self.old }
         requires place { self.old.place ≡ held_sharp_place AtNeedRow }
         ensures { (s : SharpStanding) → SharpStands subject.now.setting.study.now self.old s →
@@ -30,16 +32,18 @@ impl SharpJudging {
             IfOk result (IsSharpTaken subject.now.setting.study.now s text.now self.new) }
     {
         let Some((profile, outcome)) = read_mark_row(subject.setting.kind, text) else {
-            return Ok(Some(SharpRefusal::Report(Refusal::Form)));
+            return Ok(Err(SharpRefusal::Report(Refusal::Form)));
         };
         if profile as usize != self.rows.len() {
-            return Ok(Some(SharpRefusal::Report(Refusal::Row)));
+            return Ok(Err(SharpRefusal::Report(Refusal::Row)));
         }
         self.rows.push(outcome)?;
+        let said = SharpLine::Plain(Line::Row(profile, outcome));
         if self.rows.len() == subject.setting.kind.space().count() as usize {
-            Ok(self.take_table(subject))
+            let fault = self.take_table(subject);
+            Ok(told_unless(fault, said))
         } else {
-            Ok(None)
+            Ok(Ok(said))
         }
     }
 
@@ -67,16 +71,16 @@ impl SharpJudging {
         &mut self,
         subject: &Subject<K>,
         text: &[u8],
-    ) -> Option<SharpRefusal>
+    ) -> Result<SharpLine, SharpRefusal>
         ensures { (s : SharpStanding) → SharpStands subject.now.setting.study.now self.old s →
             s.place ≡ AtSharpEnd →
             IsSharpTaken subject.now.setting.study.now s text.now self.new result }
     {
         let _ = subject;
         if !is_end(text) {
-            return Some(SharpRefusal::Report(Refusal::Form));
+            return Err(SharpRefusal::Report(Refusal::Form));
         }
         self.place = SharpPlace::AtSharpNothing;
-        None
+        Ok(SharpLine::Plain(Line::End))
     }
 }

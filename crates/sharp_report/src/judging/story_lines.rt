@@ -9,6 +9,7 @@ ghost use Rattle.sharp_report.specs.SharpStands.{held_sharp_place, own_title, Sh
 
 use crate::citing::{cite, have_axioms, listed};
 use crate::judging::SharpJudging;
+use crate::lines::SharpLine;
 use crate::places::SharpPlace;
 use crew::Crew;
 use edge::Gate;
@@ -59,23 +60,23 @@ impl SharpJudging {
         crew: &Crew<R, G>,
         subject: &Subject<K>,
         text: &[u8],
-    ) -> Result<Option<SharpRefusal>, NoMemory>
+    ) -> Result<Result<SharpLine, SharpRefusal>, NoMemory>
         requires read { IsSharpRead subject.now.setting.study.now self.old }
         ensures { (s : SharpStanding) → SharpStands subject.now.setting.study.now self.old s →
             s.place ≡ AtSharp →
             IfOk result (IsSharpTaken subject.now.setting.study.now s text.now self.new) }
     {
         if !is_title(text) {
-            return Ok(Some(SharpRefusal::Report(Refusal::Form)));
+            return Ok(Err(SharpRefusal::Report(Refusal::Form)));
         }
         let own = own_title(subject.setting.study);
         let taken = self.told.take_line(crew, subject, own)?;
         match taken {
             Ok(_) => {
                 self.place = SharpPlace::AtReport;
-                Ok(None)
+                Ok(Ok(SharpLine::Title))
             }
-            Err(refusal) => Ok(Some(SharpRefusal::Report(refusal))),
+            Err(refusal) => Ok(Err(SharpRefusal::Report(refusal))),
         }
     }
 
@@ -85,7 +86,7 @@ impl SharpJudging {
         crew: &Crew<R, G>,
         subject: &Subject<K>,
         text: &[u8],
-    ) -> Result<Option<SharpRefusal>, NoMemory>
+    ) -> Result<Result<SharpLine, SharpRefusal>, NoMemory>
         requires read { IsSharpRead subject.now.setting.study.now self.old }
         ensures { (s : SharpStanding) → SharpStands subject.now.setting.study.now self.old s →
             s.place ≡ AtReport →
@@ -95,14 +96,14 @@ impl SharpJudging {
         match taken {
             Ok(line) => {
                 if says_possible(&line) {
-                    return Ok(Some(SharpRefusal::Report(Refusal::Form)));
+                    return Ok(Err(SharpRefusal::Report(Refusal::Form)));
                 }
                 let space = subject.setting.kind.space();
                 cite(space, subject.setting.study, &line, &mut self.cited)?;
                 self.place = after_report(self.told.place());
-                Ok(None)
+                Ok(Ok(SharpLine::Plain(line)))
             }
-            Err(refusal) => Ok(Some(SharpRefusal::Report(refusal))),
+            Err(refusal) => Ok(Err(SharpRefusal::Report(refusal))),
         }
     }
 
@@ -111,7 +112,7 @@ impl SharpJudging {
         &mut self,
         subject: &Subject<K>,
         text: &[u8],
-    ) -> Result<Option<SharpRefusal>, NoMemory>
+    ) -> Result<Result<SharpLine, SharpRefusal>, NoMemory>
         requires read { IsSharpRead subject.now.setting.study.now self.old }
         requires place { self.old.place ≡ held_sharp_place AtInstances }
         ensures { (s : SharpStanding) → SharpStands subject.now.setting.study.now self.old s →
@@ -119,16 +120,16 @@ impl SharpJudging {
             IfOk result (IsSharpTaken subject.now.setting.study.now s text.now self.new) }
     {
         let Some(count) = read_instances(text) else {
-            return Ok(Some(SharpRefusal::Report(Refusal::Form)));
+            return Ok(Err(SharpRefusal::Report(Refusal::Form)));
         };
         self.instances = listed(subject.alloc, subject.setting.study, &mut self.cited)?;
         if !have_axioms(&self.instances, self.told.core()) {
-            return Ok(Some(SharpRefusal::Report(Refusal::Core)));
+            return Ok(Err(SharpRefusal::Report(Refusal::Core)));
         }
         if count != self.instances.as_slice().len() as u64 {
-            return Ok(Some(SharpRefusal::Instance));
+            return Ok(Err(SharpRefusal::Instance));
         }
         self.after_mark(subject.alloc);
-        Ok(None)
+        Ok(Ok(SharpLine::InstancesAre))
     }
 }

@@ -1,13 +1,13 @@
 //! Reads a line, and takes it.
 
-ghost use Rattle.std.specs.Prelude.{◌≡◌, ◌≢◌, ◌+◌, ℕ, IfOk, Some, option_map};
+ghost use Rattle.std.specs.Prelude.{◌≢◌, ◌+◌, ℕ, IfOk, Some};
 ghost use Rattle.sharp_verdicts.specs.SharpJudge.{sharp_settle, SharpGood};
 ghost use Rattle.sharp_verdicts.specs.SharpPlaces.{SharpStanding, read_sharp_line};
-ghost use Rattle.sharp_report.specs.declared.faults.SharpFault.TheVariants.{Line as AtLine};
 ghost use Rattle.sharp_report.specs.SharpStands.{SharpStands, IsReadWithin, IsSharpRead, IsSharpTaken, SharpStandsAs};
 
 use crate::faults::SharpFault;
 use crate::judging::SharpJudging;
+use crate::lines::SharpLine;
 use crate::places::SharpPlace;
 use crew::Crew;
 use edge::Gate;
@@ -17,16 +17,6 @@ use report::Subject;
 use sharp_verdicts::SharpRefusal;
 use std::thread::Threads;
 use verdicts::Refusal;
-
-/// The fault of a line with its number.
-fn at_line(line: u32, fault: Option<SharpRefusal>) -> Option<SharpFault>
-    ensures { result ≡ option_map (AtLine line) fault }
-{
-    match fault {
-        None => None,
-        Some(refusal) => Some(SharpFault::Line { line, refusal }),
-    }
-}
 
 impl SharpJudging {
     /// Reads the next line, which has this number, at the place, and takes it: None where it has no fault.
@@ -45,20 +35,21 @@ impl SharpJudging {
             (sharp_settle subject.now.setting.study.now line s
             (read_sharp_line subject.now.setting.study.now s text.now) SharpGood) }
     {
-        match self.take(crew, subject, text) {
-            Ok(fault) => at_line(line, fault),
+        match self.take_line(crew, subject, text) {
+            Ok(Ok(_)) => None,
+            Ok(Err(refusal)) => Some(SharpFault::Line { line, refusal }),
             Err(NoMemory) => Some(SharpFault::NoMemory),
         }
     }
 
-    /// Reads the next line at the place, and takes it: None where it has no fault, and then its part is held
-    /// with what was held.
-    pub(crate) fn take<R: Threads + Sync, G: Gate, K: OutcomeKind>(
+    /// Reads the next line, without its line end, at the place, and takes it: what it says where it has no
+    /// fault, and then its part is held with what was held; else its refusal.
+    pub fn take_line<R: Threads + Sync, G: Gate, K: OutcomeKind>(
         &mut self,
         crew: &Crew<R, G>,
         subject: &Subject<K>,
         text: &[u8],
-    ) -> Result<Option<SharpRefusal>, NoMemory>
+    ) -> Result<Result<SharpLine, SharpRefusal>, NoMemory>
         requires read { IsSharpRead subject.now.setting.study.now self.old }
         ensures { (s : SharpStanding) → SharpStands subject.now.setting.study.now self.old s →
             IfOk result (IsSharpTaken subject.now.setting.study.now s text.now self.new) }
@@ -70,7 +61,7 @@ impl SharpJudging {
             SharpPlace::AtNeed => Ok(self.take_need(subject, text)),
             SharpPlace::AtNeedRow => self.take_row(subject, text),
             SharpPlace::AtSharpEnd => Ok(self.take_end(subject, text)),
-            SharpPlace::AtSharpNothing => Ok(Some(SharpRefusal::Report(Refusal::Form))),
+            SharpPlace::AtSharpNothing => Ok(Err(SharpRefusal::Report(Refusal::Form))),
         }
     }
 }

@@ -16,4 +16,4 @@ returns-clause-read g c =
     (c.in_ok-reading.ensures ∙ ap (λ (bytes : List ℕ). reading_of (judged_front c.args.study.now front.whole bytes)) c.as_slice.ensures)
 
 pub returns-clause-holds : goal.returns-clause-holds
-returns-clause-holds g c = front_holds c.args.study.now c.in_ok-front.front.whole c.as_slice.result.now c.in_ok-reading.reading c.in_ok-reading.ensures
+returns-clause-holds g c = front_holds c.args.study.now c.as_slice.result.now c.in_ok-front.front.whole c.in_ok-reading.reading c.in_ok-reading.ensures

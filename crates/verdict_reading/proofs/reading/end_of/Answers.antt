@@ -1,17 +1,15 @@
-use Rattle.std.proofs.Common.{sym, ◌∙◌}
-use Rattle.verdict_reading.proofs.ReadingLemmas.{cut_off, followed, confirms, goes_on}
+use Rattle.std.proofs.Common.{subst}
+use Rattle.verdict_reading.specs.declared.text_collector.TextCollector.{TextCollector}
+use Rattle.verdict_reading.specs.Told.{HasCollected}
+use Rattle.verdict_reading.proofs.EndLemmas.{report_ends, sharp_ends}
 use Rattle.verdict_reading.proofs.reading.end_of.Goals as goal
 
-pub returns-then-not-whole : goal.returns-then-not-whole
-returns-then-not-whole c = λ study s rest h same. cut_off c.args.whole c.args.line rest s c.if-not-whole.true
+pub returns-in-Report : goal.returns-in-Report
+returns-in-Report c = λ study sharp lines rest h number same.
+    report_ends study lines rest sharp c.args.whole c.args.ended c.in-Report.collector c.args.line c.end_of_report.result (subst (λ (x : TextCollector). HasCollected study sharp x lines) c.in-Report.is h) number
+    (λ s k. c.end_of_report.ensures study s rest k same)
 
-pub returns-then-not-ended : goal.returns-then-not-ended
-returns-then-not-ended c = λ study s rest h same. followed c.args.whole c.args.ended c.args.line rest s c.if-not-whole.false same c.if-not-ended.true
-
-pub returns-in-Some : goal.returns-in-Some
-returns-in-Some c = λ study s rest h same.
-    confirms c.args.whole c.args.ended c.args.line rest s c.if-not-whole.false same c.if-not-ended.false c.in-Some.verdict (sym c.in-Some.is ∙ c.in_ok-verdict.ensures study s h)
-
-pub returns-in-None : goal.returns-in-None
-returns-in-None c = λ study s rest h same.
-    goes_on c.args.whole c.args.ended c.args.line rest s c.if-not-whole.false same c.if-not-ended.false (sym c.in-None.is ∙ c.in_ok-verdict.ensures study s h)
+pub returns-in-Sharp : goal.returns-in-Sharp
+returns-in-Sharp c = λ study sharp lines rest h number same.
+    sharp_ends study lines rest sharp c.args.whole c.args.ended c.in-Sharp.collector c.args.line c.end_of_sharp.result (subst (λ (x : TextCollector). HasCollected study sharp x lines) c.in-Sharp.is h) number
+    (λ s k. c.end_of_sharp.ensures study s rest k same)

@@ -1,5 +1,10 @@
-use Rattle.verdict_reading.proofs.ReadingLemmas.{if_ok, right_of}
+use Rattle.std.proofs.Common.{ap, ◌∙◌}
+use Rattle.verdict_reading.specs.Readings.{reading_of}
+use Rattle.verdict_reading.proofs.ReadingLemmas.{if_ok, right_of, whole_is_front}
 use Rattle.verdict_reading.proofs.reading.read_verdict.Goals as goal
 
+pub returns-clause-value : goal.returns-clause-value
+returns-clause-value g c = if_ok c.read_text.result c.read_text.ensures (λ r e. e ∙ ap reading_of (whole_is_front c.args.study.now c.args.text.now))
+
 pub returns-clause-right : goal.returns-clause-right
-returns-clause-right g c = if_ok c.read_text.result c.read_text.ensures (λ r e. right_of c.args.study.now c.args.text.now r e)
+returns-clause-right g c = if_ok c.read_text.result c.read_text.ensures (λ r e. right_of c.args.study.now c.args.text.now r (e ∙ ap reading_of (whole_is_front c.args.study.now c.args.text.now)))

@@ -3,7 +3,7 @@ use Rattle.verdicts.specs.declared.verdicts.Confirmed.{Confirmed}
 use Rattle.verdicts.specs.declared.verdicts.Verdict.{Verdict}
 use Rattle.verdict_reading.specs.declared.parts.Parts.{Parts}
 use Rattle.verdict_reading.specs.Collected.{claim_at}
-use Rattle.verdict_reading.proofs.ReadingLemmas.{possible_at, impossible_at, none_at}
+use Rattle.verdict_reading.proofs.EndLemmas.{possible_at, impossible_at, none_at}
 use Rattle.verdict_reading.proofs.collector.Collector.into_verdict.Goals as goal
 
 pub returns-in-Some-Possible : goal.returns-in-Some-Possible
