@@ -1,6 +1,6 @@
 //! Whether a passage tells a lemma right.
 
-ghost use Rattle.std.specs.Prelude.{◌≡◌, ◌<◌, ◌&&◌, ◌++◌, [], ◌∷◌, nat_lt, ℕ, length, slice_get, Some, IsTrue};
+ghost use Rattle.std.specs.Prelude.{◌≡◌, ◌<◌, ◌&&◌, nat_lt, ℕ, length, slice_get, Some, IsTrue};
 ghost use Rattle.std.specs.List.{list_all, list_any};
 ghost use Rattle.vocab.specs.Literal.{same_literal};
 ghost use Rattle.meaning.specs.Literals.{is_literal};
@@ -19,9 +19,8 @@ use tellings::{Passage, Placed, Sentence};
 use vocab::{Literal, Size};
 use worlds::Board;
 
-/// Puts what the sentence of a number rests on in place of what is on a board, unless it is there already, as
-/// that of another number. False where there is no such sentence, or where it rests on no literals of the size,
-/// each once.
+/// Puts what the sentence of a number rests on in place of what is on a board, unless it is there already.
+/// False where there is no such sentence, or where it rests on what is no literal of the size, or on one twice.
 fn load(
     size: Size,
     tried: &mut Board,

@@ -50,8 +50,10 @@ impl Forced {
     fn state(&mut self, alloc: Global, step: &StoryStep) -> Result<(), NoMemory>
         requires literal { IsTrue (is_literal self.old.board.size step.now.literal) }
         requires fresh { IsFalse (has self.old.board.literals step.now.literal) }
-        ensures { (axioms : List Titled) (core : List ℕ) → AreForcedSoFar self.old.board.size axioms core self.old →
-            IsTrue (refutes self.old.board.size axioms core [] (opposite_of step.now.literal ∷ []) step.now.reason) →
+        ensures { (axioms : List Titled) (core : List ℕ) →
+            AreForcedSoFar self.old.board.size axioms core self.old →
+            IsTrue (refutes self.old.board.size axioms core []
+            (opposite_of step.now.literal ∷ []) step.now.reason) →
             OnOk result (AreForcedSoFar self.old.board.size axioms core self.new) }
     {
         let by = by_of(&step.reason);

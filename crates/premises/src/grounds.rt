@@ -117,7 +117,8 @@ impl<K: OutcomeKind> Grounds<'_, K> {
         requires tried { tried.old.size ≡ K.size self.now.kind.now }
         ensures tried { tried.new.size ≡ tried.old.size }
         ensures rests { IfOk result (λ found. IfSome found (λ rests.
-            RestsOn (K.size self.now.kind.now) self.now.basis known.now.literals others.now reason.now rests)) }
+            RestsOn (K.size self.now.kind.now) self.now.basis
+            known.now.literals others.now reason.now rests)) }
     {
         let size = self.kind.space().size();
         load(size, known, tried, literals, left_out);
@@ -150,7 +151,8 @@ impl<K: OutcomeKind> Grounds<'_, K> {
             reason.now rests }
         ensures tried { tried.new.size ≡ tried.old.size }
         ensures rests { IfOk result (λ rests.
-            RestsOn (K.size self.now.kind.now) self.now.basis known.now.literals others.now reason.now rests) }
+            RestsOn (K.size self.now.kind.now) self.now.basis
+            known.now.literals others.now reason.now rests) }
     {
         let count = rests.len();
         if count > MOST_TRIED {
@@ -212,7 +214,8 @@ impl<K: OutcomeKind> Grounds<'_, K> {
         requires { IsTrue (refutes_by (K.size self.now.kind.now) self.now.basis
             (known.now.literals ++ others.now) reason.now) }
         ensures { IfOk result (λ rests.
-            RestsOn (K.size self.now.kind.now) self.now.basis known.now.literals others.now reason.now rests) }
+            RestsOn (K.size self.now.kind.now) self.now.basis
+            known.now.literals others.now reason.now rests) }
     {
         all_of(alloc, known.as_slice())
     }
@@ -232,7 +235,8 @@ impl<K: OutcomeKind> Grounds<'_, K> {
             (known.now.literals ++ others.now) reason.now) }
         ensures tried { tried.new.size ≡ tried.old.size }
         ensures rests { IfOk result (λ rests.
-            RestsOn (K.size self.now.kind.now) self.now.basis known.now.literals others.now reason.now rests) }
+            RestsOn (K.size self.now.kind.now) self.now.basis
+            known.now.literals others.now reason.now rests) }
     {
         let candidates = self.candidates(alloc, known, reason)?;
         let all = candidates.len();

@@ -4,7 +4,8 @@ ghost use Rattle.std.specs.Prelude.{◌≡◌, ◌≤◌, ◌<◌, ℕ, length, 
 ghost use Rattle.std.specs.List.{list_all};
 ghost use Rattle.meaning.specs.declared.stories.Lemma.{Lemma};
 ghost use Rattle.tellings.specs.declared.tellings.Telling.{Telling};
-ghost use Rattle.tellings.specs.Tellings.{home_of, is_alone, is_at, is_reached, mentions, names, reaches, takes_in, AreHomes};
+ghost use Rattle.tellings.specs.Tellings.{home_of, is_alone, is_at, is_reached, mentions, names, reaches};
+ghost use Rattle.tellings.specs.Tellings.{takes_in, AreHomes};
 
 use lists::{Items, NoMemory};
 use meaning::{Lemma, Reason};
@@ -31,8 +32,8 @@ fn names(place: usize, reason: &Reason) -> bool
     }
 }
 
-/// The lemma within which the one at a place stands; none for one that stands by itself, and where there is no
-/// lemma.
+/// The lemma within which the one at a place stands; none for one that stands by itself, and where there is
+/// no lemma.
 fn home_of(homes: &[Option<u32>], place: usize) -> Option<u32>
     ensures { result ≡ home_of homes.now place }
 {
@@ -107,8 +108,8 @@ fn names_once(place: usize, lemma: &Lemma, telling: &Telling) -> bool
     }
 }
 
-/// Whether the lemma at a place, if it stands within another, stands within a later one, which stands by itself
-/// and names it exactly once.
+/// Whether the lemma at a place, if it stands within another, stands within a later one, which stands by
+/// itself and names it exactly once.
 fn is_taken_in(homes: &[Option<u32>], story: &[Lemma], tellings: &[Telling], place: usize) -> bool
     ensures { IsTrue result → (m : ℕ) → home_of homes.now place ≡ Some m →
         IsTrue (takes_in homes.now m place (slice_get story.now m) (slice_get tellings.now m)) }

@@ -54,8 +54,8 @@ fn are_alike(left: &[Literal], right: &[Literal]) -> bool {
             .all(|claim| count_of(left, claim) == count_of(right, claim))
 }
 
-/// The level of a sentence that rests on these facts: 1 above the greatest level of a sentence that states one
-/// of them, of those whose levels are known.
+/// The level of a sentence that rests on these facts: 1 above the greatest level of a sentence that states
+/// one of them, of those whose levels are known.
 fn level_of(index: &StepIndex, steps: &[Placed], levels: &[u32], rests: &[Literal]) -> u32 {
     let mut highest: u32 = 0;
     for literal in rests {
@@ -243,7 +243,8 @@ fn renumbered(alloc: Global, numbers: &[u32], steps: &[Placed]) -> Result<Items<
     Ok(new)
 }
 
-/// A passage with its sentences of one shape told as one. Its steps are in the index; the board is for its own use.
+/// A passage with its sentences of one shape told as one. Its steps are in the index; what is on the board
+/// does not count.
 pub(crate) fn joined_by_shape(
     alloc: Global,
     size: Size,

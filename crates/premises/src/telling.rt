@@ -6,7 +6,8 @@ ghost use Rattle.vocab.specs.declared.literals.Literal.{Literal};
 ghost use Rattle.vocab.specs.Literal.{has, opposite_of};
 ghost use Rattle.meaning.specs.Literals.{is_literal};
 ghost use Rattle.meaning.specs.Stories.{are_new, has_literals};
-ghost use Rattle.premises.specs.Grounds.{steps_of, unforced, follow, is_lemma_by, refutes_by, IsToldBy, IsToldSoFar};
+ghost use Rattle.premises.specs.Grounds.{steps_of, unforced, follow, is_lemma_by, refutes_by};
+ghost use Rattle.premises.specs.Grounds.{IsToldBy, IsToldSoFar};
 
 use crate::chains::Chains;
 use crate::grounds::Grounds;
@@ -51,9 +52,10 @@ impl<K: OutcomeKind> Grounds<'_, K> {
         ensures told { (suppose : List Literal) →
             IsToldSoFar (K.size self.now.kind.now) self.now.basis self.now.forced.now.literals suppose
             known.now.literals passage.old →
-            OnOk result (IsToldSoFar (K.size self.now.kind.now) self.now.basis self.now.forced.now.literals suppose
-            (known.now.literals ++ step.now.literal ∷ []) passage.new) }
-        ensures steps { OnOk result (steps_of passage.new.steps ≡ steps_of passage.old.steps ++ step.now ∷ []) }
+            OnOk result (IsToldSoFar (K.size self.now.kind.now) self.now.basis self.now.forced.now.literals
+            suppose (known.now.literals ++ step.now.literal ∷ []) passage.new) }
+        ensures steps { OnOk result
+            (steps_of passage.new.steps ≡ steps_of passage.old.steps ++ step.now ∷ []) }
     {
         let others = [step.literal.opposite()];
         let rests = self.rests_on(alloc, known, tried, &others, &step.reason)?;
@@ -85,8 +87,8 @@ impl<K: OutcomeKind> Grounds<'_, K> {
         ensures told { (suppose : List Literal) →
             IsToldSoFar (K.size self.now.kind.now) self.now.basis self.now.forced.now.literals suppose
             known.now.literals passage.old →
-            OnOk result (IsToldSoFar (K.size self.now.kind.now) self.now.basis self.now.forced.now.literals suppose
-            (known.now.literals ++ step.now.literal ∷ []) passage.new) }
+            OnOk result (IsToldSoFar (K.size self.now.kind.now) self.now.basis self.now.forced.now.literals
+            suppose (known.now.literals ++ step.now.literal ∷ []) passage.new) }
         ensures steps { OnOk result (steps_of passage.new.steps ≡
             steps_of passage.old.steps ++ unforced self.now.forced.now.literals (step.now ∷ [])) }
     {
