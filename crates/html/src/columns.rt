@@ -72,7 +72,8 @@ fn put_rank(out: &mut Html, space: &Space, p: u32, k: u8) -> Result<(), NoMemory
 /// Adds the rows of all places.
 fn put_ranks(out: &mut Html, space: &Space, p: u32) -> Result<(), NoMemory>
     requires { p < sort_count space.now Profile }
-    ensures { OnOk result (out.new ≡ out.old ++ flat_map (rank_html space.now p) (below space.now.alternatives)) }
+    ensures { OnOk result (out.new ≡ out.old ++
+        flat_map (rank_html space.now p) (below space.now.alternatives)) }
 {
     let count = space.size().alternatives();
     for k in 0..count {

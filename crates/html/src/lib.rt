@@ -1,4 +1,5 @@
-//! Bits of pages: texts as HTML has them, facts, profiles and outcomes in words, profiles as columns, and tables for two voters.
+//! Bits of pages: texts as HTML has them, facts, profiles and outcomes in words, profiles as columns, and
+//! tables for two voters.
 #![tactic(auto)]
 
 mod columns;

@@ -1,3 +1,7 @@
+-- In reading order.
 pub mod Words
+pub mod Headings
+pub mod Theorem
+pub mod Witnesses
 pub mod Pages
 pub mod Told

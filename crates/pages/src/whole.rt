@@ -4,7 +4,7 @@ ghost use Rattle.std.specs.Prelude.{◌≡◌, IsTrue, IfOk};
 ghost use Rattle.tellings.specs.Tellings.{IsStoryTold};
 ghost use Rattle.verdicts.specs.declared.verdicts.Verdict.TheVariants.{Impossible};
 ghost use Rattle.verdicts.specs.Report.{is_right};
-ghost use Rattle.pages.specs.Told.{AreTellings, IsPage};
+ghost use Rattle.pages.specs.Told.{IsToldBy, IsPage};
 
 use crate::page::{Source, put_page};
 use html::Html;
@@ -13,19 +13,31 @@ use meaning::{Lemma, Witnesses};
 use outcomes::OutcomeKind;
 use premises::tell_story;
 use std::alloc::Global;
-use tellings::Telling;
+use tellings::{Passage, StoryTelling};
 use verdicts::Verdict;
 use vocab::{Places, Study};
 
+/// No story.
+fn untold(alloc: Global) -> StoryTelling {
+    StoryTelling {
+        forced: Passage {
+            sentences: Items::new(alloc),
+            steps: Items::new(alloc),
+        },
+        lemmas: Items::new(alloc),
+        homes: Items::new(alloc),
+    }
+}
+
 /// How the story of a right impossibility is told.
-fn told<K: OutcomeKind>(
+fn tell<K: OutcomeKind>(
     alloc: Global,
     kind: &K,
     study: &Study,
     core: &Places,
     story: &Items<Lemma>,
     witnesses: &Witnesses,
-) -> Result<Items<Telling>, NoMemory>
+) -> Result<StoryTelling, NoMemory>
     requires size { study.now.size ≡ K.size kind.now }
     requires right { IsTrue (is_right study.now (Impossible core.now story.now witnesses.now)) }
     ensures { IfOk result (IsStoryTold study.now.size study.now.axioms core.now story.now) }
@@ -35,24 +47,24 @@ fn told<K: OutcomeKind>(
 }
 
 /// How the story of a right verdict is told, if it has one.
-fn tellings_of<K: OutcomeKind>(
+fn telling_of<K: OutcomeKind>(
     alloc: Global,
     kind: &K,
     study: &Study,
     verdict: &Verdict,
-) -> Result<Items<Telling>, NoMemory>
+) -> Result<StoryTelling, NoMemory>
     requires size { study.now.size ≡ K.size kind.now }
     requires right { IsTrue (is_right study.now verdict.now) }
-    ensures { IfOk result (AreTellings study.now.size study.now.axioms verdict.now) }
+    ensures { IfOk result (IsToldBy study.now.size study.now.axioms verdict.now) }
 {
     match verdict {
-        Verdict::Possible(_) => Ok(Items::new(alloc)),
+        Verdict::Possible(_) => Ok(untold(alloc)),
         Verdict::Impossible {
             core,
             story,
             witnesses,
-        } => told(alloc, kind, study, core, story, witnesses),
-        Verdict::Undecided => Ok(Items::new(alloc)),
+        } => tell(alloc, kind, study, core, story, witnesses),
+        Verdict::Undecided => Ok(untold(alloc)),
     }
 }
 
@@ -66,11 +78,11 @@ pub fn page_text<K: OutcomeKind>(
 ) -> Result<Html, NoMemory>
     requires size { study.now.size ≡ K.size kind.now }
     requires right { IsTrue (is_right study.now verdict.now) }
-    ensures { IfOk result (IsPage study.now source.now.texts.now source.now.study.now source.now.report.now
+    ensures { IfOk result (IsPage study.now source.now.study.now source.now.report.now
         source.now.version.now verdict.now) }
 {
-    let tellings = tellings_of(alloc, kind, study, verdict)?;
+    let told = telling_of(alloc, kind, study, verdict)?;
     let mut page = Html::new(alloc);
-    put_page(&mut page, kind, study, source, tellings.as_slice(), verdict)?;
+    put_page(alloc, &mut page, kind, study, source, &told, verdict)?;
     Ok(page)
 }

@@ -1,16 +1,24 @@
 //! What stands on each page, and the words of the axioms of the library.
 
 ghost use Rattle.std.specs.Prelude.{◌≡◌};
-ghost use Rattle.pages.specs.Words.{opening, choice_words, ranking_words, set_words, words_of};
+ghost use Rattle.pages.specs.Words.{opening, styles, choice_words, ranking_words, set_words, words_of};
 
 use vocab::Kind;
 
-/// The front of each page: the title and the styles.
+/// The front of each page, up to its title.
 #[tactic(auto, unfolding(crate::specs::Words::opening))]
 pub(crate) fn opening() -> &'static [u8]
     ensures { result.now ≡ opening }
 {
-    b"<!doctype html>\n<html lang=en><head><meta charset=utf-8><title>A report of the theorem bench</title><style>@page{size:A4;margin:11mm}body{font:8.8pt/1.22 Georgia,serif;max-width:188mm;margin:6mm auto;color:#111}h1{font-size:15pt;margin:0 0 4px}h2{font-size:11pt;margin:8px 0 2px}h3{font-size:9.6pt;margin:6px 0 1px}p{margin:2px 0}ul,ol{margin:1px 0;padding-left:20px}section{break-inside:avoid}code{font-size:8.2pt;white-space:nowrap}ul>li>code{white-space:normal;color:#555}i{font-style:italic}.r{display:flex;gap:10px;align-items:flex-start}.r>div{flex:1;min-width:0}li>div,h3 span,p span{display:inline}details{display:inline-block;vertical-align:bottom}details[open]{display:block}li>div+div::before,span+span::before{content:'; '}summary{display:inline;list-style:none}.z,u{color:#888}u{text-decoration:none}table{border-collapse:collapse}td,th{border:1px solid #bbb;font-size:7pt;padding:0 2px;text-align:center;white-space:nowrap;font-weight:normal;min-width:19px;height:13px}th{background:#f1f1f1}td span+span::before{content:''}sup{font-size:5pt;color:#a00}.w{display:flex;flex-wrap:wrap;gap:12px}</style></head><body>\n<h1>A report of the theorem bench</h1>\n"
+    b"<!doctype html>\n<html lang=en><head><meta charset=utf-8><title>"
+}
+
+/// What stands between the title and the heading: the styles.
+#[tactic(auto, unfolding(crate::specs::Words::styles))]
+pub(crate) fn styles() -> &'static [u8]
+    ensures { result.now ≡ styles }
+{
+    b"</title><style>@page{size:A4;margin:7mm 8mm}body{font:9pt/1.2 Georgia,serif;max-width:194mm;margin:5mm auto;color:#111}h1{font-size:13pt;line-height:1.15;margin:0 0 3px}h2{font-size:10.5pt;margin:5px 0 1px}h3{font-size:1.05em;margin:2px 0 0;column-span:all}p{margin:1px 0}ul,ol{margin:0;padding-left:15px}section{columns:2;column-gap:12px}li,tr,h3{break-inside:avoid}h3{break-after:avoid}li:has(.c){break-inside:auto}code{font-size:.88em;letter-spacing:-.3px;white-space:nowrap}.a code{white-space:normal;color:#666;font-size:7pt}.c{border-left:2px solid #ccc;padding-left:4px;margin:2px 0}details{display:inline-block;vertical-align:bottom}details[open]{display:block}summary{display:inline;list-style:none}section div{display:inline}section .c,section .e{display:block}span+span::before,div+div::before{content:'; '}.s div+div::before{content:' and '}.s+div::before,.c+div::before,.e::before,.w div::before,td span+span::before{content:''!important}.z,u{color:#888}u{text-decoration:none}table{border-collapse:collapse;break-inside:avoid}td,th{border:1px solid #bbb;font-size:6.8pt;line-height:1;padding:0 1px;text-align:center;white-space:nowrap;font-weight:normal;min-width:17px;height:11px}th{background:#f1f1f1}td span{font-weight:bold}sup{font-size:4.8pt;font-weight:normal;color:#a00;line-height:0}.p{float:right;margin-left:5px}.p td,.p th{border:0;background:none;min-width:0;height:auto;padding:0 2px}.p th{border-bottom:1px solid #888;color:#777}.w{display:flex;flex-wrap:wrap;gap:10px}.l{columns:100px;list-style:none;padding:0}@media print{body{font-size:8pt;line-height:1.12;margin:0 auto;columns:2;column-gap:10px}body>:not(section){column-span:all}section{columns:auto}h3{column-span:none}td,th{font-size:6.2pt;height:9px}}</style></head><body>\n<h1>"
 }
 
 /// The words of an axiom of the library, where the kind is `choice`.

@@ -1,1 +1,4 @@
+pub mod Names
+pub mod Named
+pub mod Entries
 pub mod Rules

@@ -1,28 +1,19 @@
 -- Rules as tables and as lists.
-use Rattle.std.specs.Prelude.{ℕ, List, [], ◌++◌, codes, slice_get, Option, Some, None, if◌then◌else◌}
-use Rattle.std.specs.List.{flat_map}
+use Rattle.std.specs.Prelude.{ℕ, nat_lt, List, ◌++◌, codes, if◌then◌else◌}
 use Rattle.vocab.specs.declared.kinds.Sort.TheVariants.{Profile}
-use Rattle.vocab.specs.Range.{below}
 use Rattle.vocab.specs.Size.{Extent, sort_count}
-use Rattle.html.specs.Facts.{outcome_html, profile_html}
 use Rattle.html.specs.Grids.{grid_html, is_gridded}
+use Rattle.rule_pages.specs.Entries.{ruled_html, list_html}
 
 module _ (size : Extent) where
-  -- the outcome of a rule at a profile
-  abbrev pub outcome_at : Option ℕ → List ℕ
-  outcome_at None = []
-  outcome_at (Some o) = outcome_html size o
+  -- a table for two voters, and else a list
+  abbrev pub body_html : List ℕ → List ℕ
+  body_html table = if is_gridded size 25 then grid_html size (ruled_html size table) else list_html size table
 
-  abbrev pub ruled_html : List ℕ → ℕ → List ℕ
-  ruled_html table p = outcome_at (slice_get table p)
+  -- a table or a list that stands closed, to be opened
+  abbrev pub folded_html : List ℕ → List ℕ
+  folded_html table = codes "<details><summary>profile by profile</summary>\n" ++ body_html table ++ codes "</details>\n"
 
-  -- a rule as a list of its profiles, each with the outcome
-  abbrev pub entry_html : List ℕ → ℕ → List ℕ
-  entry_html table p = codes "<li>" ++ profile_html size p ++ codes " " ++ ruled_html table p ++ codes "</li>\n"
-
-  abbrev pub list_html : List ℕ → List ℕ
-  list_html table = codes "<details><summary>The rule, profile by profile</summary>\n<ul>\n" ++ flat_map (entry_html table) (below (sort_count size Profile)) ++ codes "</ul></details>\n"
-
-  -- a rule: a table for two voters, and else a list
+  -- a rule: of more than a hundred profiles it stands closed
   abbrev pub rule_html : List ℕ → List ℕ
-  rule_html table = if is_gridded size 25 then grid_html size (ruled_html table) else list_html table
+  rule_html table = if nat_lt 100 (sort_count size Profile) then folded_html table else body_html table

@@ -7,5 +7,5 @@ use Rattle.pages.proofs.page.put_impossible.Goals as goal
 pub returns : goal.returns
 returns g c =
     joined_2 _ _ _ _ _
-    (subst (λ (s : Extent). c.put_proved.new.out ≡ c.args.out.now ++ proved_html s c.args.about.now.axioms.now c.args.about.now.texts.now c.args.about.now.tellings.now c.args.core.now c.args.story.now) c.space.ensures c.in_ok-put_proved.ensures)
+    (subst (λ (s : Extent). c.put_proved.new.out ≡ c.args.out.now ++ proved_html s c.args.about.now.axioms.now c.args.core.now c.args.story.now c.args.told.now) c.space.ensures c.in_ok-put_proved.ensures)
     c.in_ok-put_witnesses.ensures

@@ -1,5 +1,5 @@
-use Rattle.html.proofs.JoinLemmas.{joined_3}
+use Rattle.html.proofs.JoinLemmas.{joined_2}
 use Rattle.pages.proofs.page.put_satisfied.Goals as goal
 
 pub returns : goal.returns
-returns c = rw c.requires (joined_3 _ _ _ _ _ _ _ c.in_ok-append.ensures.ok c.in_ok-put_axioms.ensures c.in_ok-append-2.ensures.ok)
+returns c = rw c.args.about.now.counted (joined_2 _ _ _ _ _ c.in_ok-put_axioms.ensures c.in_ok-put_reading.ensures)

@@ -1,0 +1,5 @@
+use Rattle.html.proofs.JoinLemmas.{joined_3}
+use Rattle.pages.proofs.headings.put_some_rule.Goals as goal
+
+pub returns : goal.returns
+returns c = joined_3 _ _ _ _ _ _ _ c.in_ok-append.ensures.ok c.in_ok-put_for.ensures c.in_ok-put_asked.ensures

@@ -1,6 +1,0 @@
-use Rattle.pages.specs.Pages.{axiom_item}
-use Rattle.html.proofs.RangeLemmas.{goes_on}
-use Rattle.pages.proofs.page.put_all_items.Goals as goal
-
-pub loop-place-preserved : goal.loop-place-preserved
-loop-place-preserved c = goes_on (axiom_item c.args.space.now c.args.axioms.now c.args.texts.now) _ _ _ _ c.loop-place.invariant c.in_ok-put_axiom_item.ensures

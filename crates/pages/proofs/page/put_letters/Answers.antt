@@ -1,6 +1,0 @@
-use Rattle.pages.specs.Pages.{lettered_html}
-use Rattle.html.proofs.RangeLemmas.{goes_on}
-use Rattle.pages.proofs.page.put_letters.Goals as goal
-
-pub loop-x-preserved : goal.loop-x-preserved
-loop-x-preserved c = goes_on (lettered_html) _ _ _ _ c.loop-x.invariant c.in_ok-put_lettered.ensures

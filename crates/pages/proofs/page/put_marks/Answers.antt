@@ -1,6 +1,0 @@
-use Rattle.pages.specs.Pages.{witness_at}
-use Rattle.html.proofs.RangeLemmas.{goes_on}
-use Rattle.pages.proofs.page.put_marks.Goals as goal
-
-pub loop-place-preserved : goal.loop-place-preserved
-loop-place-preserved g c = goes_on (witness_at (g.K.OutcomeKind.size c.args.kind.now) c.args.axioms.now c.args.core.now c.args.witnesses.now) _ _ _ _ c.loop-place.invariant c.in_ok-put_witness_at.ensures

@@ -1,5 +1,0 @@
-use Rattle.html.proofs.JoinLemmas.{joined_2}
-use Rattle.pages.proofs.page.put_some_ballots.Goals as goal
-
-pub returns : goal.returns
-returns c = joined_2 _ _ _ _ _ c.in_ok-append.ensures.ok c.in_ok-put_all_ballots.ensures

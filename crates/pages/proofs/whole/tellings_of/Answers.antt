@@ -1,4 +1,0 @@
-use Rattle.pages.proofs.whole.tellings_of.Goals as goal
-
-pub returns-in-Impossible : goal.returns-in-Impossible
-returns-in-Impossible g c = rw c.in-Impossible.is c.told.ensures

@@ -1,0 +1,36 @@
+-- Rules as lists of their profiles, folded by what the first voter casts.
+use Rattle.std.specs.Prelude.{ℕ, ◌==◌, nat_lt, List, [], ◌++◌, codes, slice_get, slice_index, Option, Some, None, if◌then◌else◌}
+use Rattle.std.specs.List.{flat_map}
+use Rattle.vocab.specs.declared.kinds.Sort.TheVariants.{Ballot, Profile}
+use Rattle.vocab.specs.Range.{below}
+use Rattle.vocab.specs.Size.{Extent, sort_count, cast_count}
+use Rattle.meaning.specs.Space.{casts_of}
+use Rattle.html.specs.Facts.{ballot_html, outcome_html, profile_html}
+
+module _ (size : Extent) where
+  -- the outcome of a rule at a profile
+  abbrev pub outcome_at : Option ℕ → List ℕ
+  outcome_at None = []
+  outcome_at (Some o) = outcome_html size o
+
+  abbrev pub ruled_html : List ℕ → ℕ → List ℕ
+  ruled_html table p = outcome_at (slice_get table p)
+
+  -- a profile with the outcome
+  abbrev pub entry_html : List ℕ → ℕ → List ℕ
+  entry_html table p = codes "<li>" ++ profile_html size p ++ codes " " ++ ruled_html table p ++ codes "</li>\n"
+
+  -- a ballot, or a dash for absence
+  abbrev pub cast_html : ℕ → List ℕ
+  cast_html c = if nat_lt c (sort_count size Ballot) then ballot_html size c else codes "-"
+
+  -- the profiles at which the first voter casts this, each with the outcome
+  abbrev pub entry_of : List ℕ → (c p : ℕ) → List ℕ
+  entry_of table c p = if slice_index (casts_of size p) 0 == c then entry_html table p else []
+
+  abbrev pub fold_html : List ℕ → ℕ → List ℕ
+  fold_html table c = codes "<details><summary>voter 1: " ++ cast_html c ++ codes "</summary><ul class=l>\n" ++ flat_map (entry_of table c) (below (sort_count size Profile)) ++ codes "</ul></details>\n"
+
+  -- a rule as a list
+  abbrev pub list_html : List ℕ → List ℕ
+  list_html table = flat_map (fold_html table) (below (cast_count size))
