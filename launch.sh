@@ -1,6 +1,7 @@
 # What the launchers bench and explain share. Each sets `name`, the program's, `with_files`, a pattern for its commands
-# whose words name files, and `told_under`, the part of docs/FORMATS.md that tells of them, and then reads this file,
-# which runs the program with the launcher's words.
+# whose words name files, `with_one_file`, one for those of whose words only the first names a file, and `told_under`,
+# the part of docs/FORMATS.md that tells of them, and then reads this file, which runs the program with the launcher's
+# words.
 #
 # The program that runs is the proved build, crates/NAME/out/NAME. Where there is none, or a source is newer, it is
 # proved and built first; with BENCH_QUICK=1 the source is then run as it stands, without a proof and without that wait.
@@ -21,14 +22,15 @@ is_built() {
 # hyphen in front is an option, and the word after `--workers` its value.
 words=()
 with_paths() {
-    local command=${1-} word last= ended=
+    local command=${1-} word last= ended= found=
     words=(${1+"$1"})
     shift || return 0
     for word in "$@"; do
-        if [[ -z $ended && ( $word == -?* || $last == --workers ) ]] || [[ $word == /* ]]; then
+        if [[ -z $ended && ( $word == -?* || $last == --workers ) ]]; then
             words+=("$word")
-        elif [[ $command == $with_files ]]; then
-            words+=("$PWD/$word")
+        elif [[ $command == $with_files || ( -z $found && $command == $with_one_file ) ]]; then
+            if [[ $word == /* ]]; then words+=("$word"); else words+=("$PWD/$word"); fi
+            found=yes
         else
             words+=("$word")
         fi

@@ -1,6 +1,7 @@
 #!/usr/bin/env bash
 # Prints each page of pages/, or each page that is named, with headless Chromium (Debian's package), and says for each how many
-# printed A4 pages it has, whether all of it is within the width of the paper, and how many errors `tidy` finds.
+# printed A4 pages it has, whether all of it is within the width of the paper, and how many errors `tidy` finds; and how many lines the
+# story of its report has, in studies/, and how many sentences its proof.
 # Where Chromium or tidy is missing, it says so, and what needs it is left out. It ends with status 1 where a page is too wide or has an
 # error.
 set -u
@@ -15,6 +16,9 @@ faults=0
 
 # Chromium without a screen.
 headless() { timeout 120 "$browser" --headless --no-sandbox --disable-gpu --allow-file-access-from-files "$@" 2>/dev/null; }
+
+# How many sentences the proof of a page has: its items, each of which is one.
+sentences() { sed -n '/^<h2>Proof/,/^<h2>[^P]/p' "$1" | grep -c '<li>'; }
 
 # How many pages a PDF has.
 printed() { grep -a -c '/Type[[:space:]]*/Page\([^s]\|$\)' "$1"; }
@@ -32,10 +36,13 @@ HTML
 for page in "$@"; do
     page=$(readlink -f -- "$page")
     line=$(basename "$page")
+    report=$root/studies/${line%.html}.report
+    lines=$(grep -c '^suppose \|^so \|^clash ' "$report" 2>/dev/null)
+    line="$line: lines of the story ${lines:-?}, sentences $(sentences "$page")"
     if [ -n "$browser" ]; then
         headless --print-to-pdf="$work/page.pdf" "file://$page" >/dev/null
         wide=$(excess "$page")
-        line="$line: printed pages $(printed "$work/page.pdf"), wider by ${wide:-?}"
+        line="$line, printed pages $(printed "$work/page.pdf"), wider by ${wide:-?}"
         [ "${wide:-1}" -le 0 ] || faults=$((faults + 1))
     fi
     if [ -n "$checker" ]; then

@@ -10,7 +10,8 @@
 # none of 84,934,656; a sample is the same line at each run, no words end with status 2, as does a word that is not UTF-8, an absent study
 # with status 5, and a full device with 6. Each front of a report is refused at the line that it lacks, and a study of one byte too many and
 # a list of one clause too many are refused.
-# The pages in pages/ are those that `explain story` writes of the reports of their names.
+# The pages in pages/ are those that `explain story` writes of the reports of their names, and each sharp text has a page.
+# Arrow's axioms without the last leave the two dictators, and independence alone 94 rules (Tang and Lin), as `explain rules` lists them.
 # The launcher, over this program or over one that only ends, and that of explain, has the program's status and standard output, and says in one line on
 # standard error what a status without an answer means, and where the toolchain is missing.
 # docs/PHRASES.md is held by studies/phrases.py, with what it shows of instances, rules and many studies; the sizes of docs/START.md and the
@@ -52,6 +53,20 @@ for page in "$root"/pages/*.html; do
     (cd "$root" && "$explain" story "studies/$name.toml" "studies/$name.report") >"$work/written" || fault "explain gives $name no page"
     cmp -s "$page" "$work/written" || fault "explain does not write pages/$name.html"
 done
+
+for text in "$root"/studies/*.sharp; do
+    name=$(basename "$text" .sharp)
+    "$explain" story "$root/studies/$name.toml" "$text" >"$work/written" || fault "explain gives the sharp text of $name no page"
+    grep -q '^</body></html>$' "$work/written" || fault "the page of the sharp text of $name has no end"
+done
+
+lists() { # ENDING AXIOMS: which ending the list of the rules of two voters over three alternatives has
+    printf '%s\n' 'kind = "ranking"' 'voters = 2' 'alternatives = 3' "axioms = [$2]" >"$work/listed.toml"
+    "$explain" rules "$work/listed.toml" --workers 2 >"$work/written"
+    [ "$(tail -n 2 "$work/written" | head -n 1)" = "$1" ] || fault "explain rules does not end in \"$1\" for $2"
+}
+lists 'rules 2' '"pareto", "independence"'
+lists 'rules 94' '"independence"'
 
 for study in "$root"/studies/*.toml; do
     report=${study%.toml}.report
@@ -159,9 +174,15 @@ said=$("$tree/explain" story "$paradox.toml" "$work/absent" 2>&1)
     fault "the launcher of explain does not say which file could not be read"
 
 said=$("$tree/explain" story "$paradox.toml" 2>&1 >"$work/launched")
-[ $? -eq 2 ] && [ "$said" = "explain: these words are no command; $tree/docs/FORMATS.md explains them under \"The page of a report\"" ] ||
+[ $? -eq 2 ] && [ "$said" = "explain: these words are no command; $tree/docs/FORMATS.md explains them under \"What explain writes\"" ] ||
     fault "the launcher of explain does not say where its words are explained"
-grep -qx '## The page of a report' "$root/docs/FORMATS.md" || fault "docs/FORMATS.md has no part \"The page of a report\""
+grep -qx '## What explain writes' "$root/docs/FORMATS.md" || fault "docs/FORMATS.md has no part \"What explain writes\""
+
+printf '%s\n' 'kind = "choice"' 'voters = 3' 'alternatives = 3' 'axioms = ["strategyproof"]' >"$work/mine.toml"
+"$tree/explain" instance "$work/mine.toml" strategyproof 2280 2>&1 |
+    cmp -s - <(sed -n '/^    axiom strategyproof abc/,/^    body /s/^    //p' "$root/docs/FORMATS.md") ||
+    fault "explain does not tell the instance that docs/FORMATS.md shows"
+(cd "$work" && "$tree/explain" instance mine.toml strategyproof 2280) 2>&1 | grep -q '^body ' || fault "the launcher of explain does not find a study"
 
 ends() { # STATUS SAID: of a program that only ends with a status
     printf '#!/bin/sh\nexit %s\n' "$1" >"$tree/crates/bench/out/bench"
@@ -369,7 +390,7 @@ known check 0 'confirmed possible' "$root/studies/may_ties.toml" plurality
 known check 0 'confirmed possible' choice:strategyproof dictator=2
 known check 1 'refused line 223: fails strategyproof 2280' choice:strategyproof borda
 phrased "$(<"$work/written")"
-begins 1 instance.py PHRASES.md < <(python3 "$root/studies/instance.py" "$program" "$work/size.toml" strategyproof 2280)
+begins 1 explain PHRASES.md < <("$explain" instance "$work/size.toml" strategyproof 2280)
 
 said_by() { # LINE SCRIPT WORDS..
     [ "$(python3 "$root/studies/$2" "${@:3}" 2>&1)" = "$1" ] || fault "$2 does not say: $1"
@@ -378,6 +399,7 @@ known_rules='borda, plurality, condorcet and dictator=I, for a voter I of the st
 said_by "rule: copeland is none of $known_rules" rule.py "$work/size.toml" copeland
 said_by "rule: dictator=4 is none of $known_rules" rule.py "$work/size.toml" dictator=4
 said_by 'rule: ca is no order of the alternatives' rule.py "$work/size.toml" borda ca
+said_by 'abc|bac|bac 1 acb b a' instance.py "$program" "$work/size.toml" strategyproof 2280
 said_by 'cba|cba|cba 3 cba c c' instance.py "$program" "$work/size.toml" strategyproof 34991
 said_by 'instance: strategyproof has 34992 instances, numbered from 0' instance.py "$program" "$work/size.toml" strategyproof 34992
 said_by 'this is no study: kind, voters or alternatives is missing' rule.py "$work/known.report" borda

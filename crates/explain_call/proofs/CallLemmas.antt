@@ -11,7 +11,7 @@ use Rattle.answers.specs.Call.{touched_at}
 use Rattle.answers.specs.Devices.{Devices}
 use Rattle.command_parts.specs.declared.answer.Stop.{Stop}
 use Rattle.command_parts.specs.declared.answer.Stop.TheVariants as stop
-use Rattle.explain_words.specs.Words.{Request, Story, request_of}
+use Rattle.explain_words.specs.Words.{Request, Story, Instance, Rules, request_of}
 use Rattle.explain_call.specs.declared.reply.Reply.{Reply}
 use Rattle.explain_call.specs.declared.reply.Reply.TheVariants as reply
 use Rattle.explain_call.specs.Call.{IsCall, HasReadCause, files_of, statuses_of}
@@ -23,11 +23,15 @@ use Rattle.explain_call.specs.Replies.{Replies, status_of, text_of}
 may_be_cut : (request : Option Request) → IsTrue (list_any (λ n. n == 6) (statuses_of request))
 may_be_cut None = refl
 may_be_cut (Some (Story study report workers)) = refl
+may_be_cut (Some (Instance study axiom_name number)) = refl
+may_be_cut (Some (Rules study most workers)) = refl
 
 -- and each may want memory
-may_want_memory : (request : Option Request) → IsTrue (list_any (λ n. n == 7) (statuses_of request))
+pub may_want_memory : (request : Option Request) → IsTrue (list_any (λ n. n == 7) (statuses_of request))
 may_want_memory None = refl
 may_want_memory (Some (Story study report workers)) = refl
+may_want_memory (Some (Instance study axiom_name number)) = refl
+may_want_memory (Some (Rules study most workers)) = refl
 
 module _ (request : Option Request) (told : Option Files) (left : Files) (faults : List ℕ → ℕ) where
   -- the usage line, for words that are no command

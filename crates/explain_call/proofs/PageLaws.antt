@@ -1,32 +1,32 @@
 -- A page is written exactly where `check` confirms.
-use Rattle.std.proofs.Common.{◌≡◌, ◌≢◌, ◌∙◌, refl, sym, ap, subst, ℕ, ◌<◌, ◌≤◌, ◌^◌, false, cond, List, length, Option, Some, Ok, Err, arith}
+use Rattle.std.proofs.Common.{◌≡◌, ◌≢◌, ◌∙◌, refl, sym, ap, subst, ℕ, ◌≤◌, List, length, Option, Some, Ok, Err, inl, inr, arith}
 use Rattle.std.specs.Io.KnownBytes.{Appends}
 use Rattle.edge.specs.Shelf.{Files}
 use Rattle.vocab.specs.Study.{Question}
 use Rattle.study.proofs.OneAnswer.{studies_once}
 use Rattle.study.specs.Reading.{IsStudyOf}
 use Rattle.verdicts.specs.declared.verdicts.Verdict.{Verdict}
-use Rattle.verdicts.specs.Judge.{Judgement, Confirmed, Faulty, TooLong}
-use Rattle.verdicts.specs.Report.{lemma_count, IsReport}
-use Rattle.verdicts.specs.Words.{answer_text}
+use Rattle.verdicts.specs.Judge.{Confirmed, Faulty, TooLong}
+use Rattle.verdicts.specs.Report.{IsReport}
 use Rattle.verdicts.proofs.ClaimLaws.{within_limit}
 use Rattle.verdicts.proofs.JudgeLaws.{judge_sound}
-use Rattle.verdicts.proofs.LineEndLaws.{lemmas_fit}
-use Rattle.verdicts.proofs.ReportLaws.{right_is_confirmed}
-use Rattle.sharp_verdicts.specs.Judged.{AsReport, AsSharp, has_sharp_title, judged_text}
-use Rattle.sharp_verdicts.specs.SharpJudge.{sharp_answer_within}
+use Rattle.sharp_verdicts.specs.Judged.{Judged, AsReport, AsSharp, judged_text}
+use Rattle.sharp_verdicts.specs.Right.{Pointed}
+use Rattle.sharp_verdicts.specs.SharpJudge.{SharpConfirmed, SharpFaulty, SharpTooLong}
+use Rattle.sharp_laws.specs.Laws.{IsSharpText}
 use Rattle.answers.specs.Call.{AreFiles, are_told}
-use Rattle.answers.specs.Check.{judgement, judged, judged_status, status_of, IsChecked, IsJudged}
+use Rattle.answers.specs.Check.{judged, judged_status, IsChecked}
 use Rattle.answers.specs.Devices.{Devices}
 use Rattle.answers.specs.FileLimits.{most_report_bytes, most_study_bytes, Holds}
 use Rattle.answers.specs.Studies.{GivesStudy, RefusesStudy, too_long, no_study, study_refused, study_given}
 use Rattle.answers.proofs.ReportLaws.{reportable, listed}
-use Rattle.explain_call.specs.Page.{IsPage}
 use Rattle.explain_words.specs.Words.{Request, Story, request_of}
+use Rattle.explain_call.specs.Page.{IsPage, IsSharpPage}
 use Rattle.explain_call.specs.Story.{IsSaid, IsStory, IsToldOf, bare_run}
 use Rattle.explain_call.specs.Lawful.{Lawful, IsAnswer}
 use Rattle.explain_call.specs.Call.{IsCall, files_of}
 use Rattle.explain_call.specs.Laws.{IsPageOf, IsPageExact, PagesAreExact, IsPageWritten, PagesAreWritten}
+use Rattle.explain_call.proofs.JudgedLemmas.{report_answered, report_checked, sharp_answered, sharp_checked}
 
 some_same : {A : Type 0} (o : Option A) (x y : A) → o ≡ Some x → o ≡ Some y → x ≡ y
 some_same o x y h k = cc
@@ -37,7 +37,7 @@ module _ (files : Files) (name : List ℕ) (study : Question) (g : GivesStudy fi
   same_bytes : (bytes : List ℕ) → files name ≡ Some bytes → bytes ≡ g.bytes
   same_bytes bytes held = some_same (files name) bytes g.bytes held g.holds.held
 
-  not_refused : (text : List ℕ) → RefusesStudy files name text → ⊥
+  pub not_refused : (text : List ℕ) → RefusesStudy files name text → ⊥
   not_refused text (too_long h e) =
       let same : length h.bytes ≡ length g.bytes = ap length (same_bytes h.bytes h.held) in
       let long = h.long in
@@ -46,7 +46,7 @@ module _ (files : Files) (name : List ℕ) (study : Question) (g : GivesStudy fi
   not_refused text (no_study bytes fault h read e) =
       let same = studies_once g.bytes (Err fault) (Ok study) (subst (λ (b : List ℕ). IsStudyOf b (Err fault)) (same_bytes bytes h.held) read) g.read in absurd (cc)
 
-  one_study : (s : Question) → GivesStudy files name s → s ≡ study
+  pub one_study : (s : Question) → GivesStudy files name s → s ≡ study
   one_study s h =
       let same = studies_once g.bytes (Ok s) (Ok study) (subst (λ (b : List ℕ). IsStudyOf b (Ok s)) (same_bytes h.bytes h.holds.held) h.read) g.read in cc
 
@@ -57,56 +57,60 @@ module _ (files : Files) (name : List ℕ) (study : Question) (g : GivesStudy fi
 -- ---- what is told of the bytes
 
 module _ (study : Question) (name report bytes : List ℕ) where
-  confirmed_page : (a : Judgement) (text : List ℕ) → judgement study bytes ≡ a → status_of a ≡ 0 → IsSaid study name report a text → IsPageOf study name report bytes text
-  confirmed_page (Confirmed v) text e zero is =
-      let c = (within_limit most_report_bytes study bytes v).0 e in
-      record { verdict = v; right = judge_sound study bytes v c.1; fits = c.0; page = is }
-  confirmed_page (Faulty line word) text e zero is = absurd (omega (arith, zero))
-  confirmed_page TooLong text e zero is = absurd (omega (arith, zero))
+  confirmed_page : (a : Judged) (text : List ℕ) → judged study bytes ≡ a → judged_status a ≡ 0 → IsSaid study name report a text → IsPageOf study name report bytes text
+  confirmed_page (AsReport (Confirmed v)) text e zero is =
+      let c = (within_limit most_report_bytes study bytes v).0 (report_answered study bytes (Confirmed v) e) in
+      inl (record { verdict = v; right = judge_sound study bytes v c.1; fits = c.0; page = is })
+  confirmed_page (AsReport (Faulty line word)) text e zero is = absurd (omega (arith, zero))
+  confirmed_page (AsReport TooLong) text e zero is = absurd (omega (arith, zero))
+  confirmed_page (AsSharp (SharpConfirmed v)) text e zero is =
+      let c = sharp_answered study bytes v e in inr (record { verdict = v; right = c.0; fits = c.1; page = is })
+  confirmed_page (AsSharp (SharpFaulty line word)) text e zero is = absurd (omega (arith, zero))
+  confirmed_page (AsSharp SharpTooLong) text e zero is = absurd (omega (arith, zero))
 
-  refused_text : (a : Judgement) (status : ℕ) (text : List ℕ) → status ≡ status_of a → status ≢ 0 → IsSaid study name report a text → (status ≡ 1) × (text ≡ answer_text a)
-  refused_text (Confirmed v) status text e other is = absurd (other e)
-  refused_text (Faulty line word) status text e other is = (e, is)
-  refused_text TooLong status text e other is = (e, is)
-
-  judged_as_report : has_sharp_title bytes ≡ false → judged study bytes ≡ AsReport (judgement study bytes)
-  judged_as_report e = ap (λ b. cond b (AsSharp (sharp_answer_within study most_report_bytes bytes)) (AsReport (judgement study bytes))) e
+  refused_text : (a : Judged) (status : ℕ) (text : List ℕ) → status ≡ judged_status a → status ≢ 0 → IsSaid study name report a text → text ≡ judged_text a
+  refused_text (AsReport (Confirmed v)) status text e other is = absurd (other e)
+  refused_text (AsReport (Faulty line word)) status text e other is = is
+  refused_text (AsReport TooLong) status text e other is = is
+  refused_text (AsSharp (SharpConfirmed v)) status text e other is = absurd (other e)
+  refused_text (AsSharp (SharpFaulty line word)) status text e other is = is
+  refused_text (AsSharp SharpTooLong) status text e other is = is
 
 module _ (files : Files) (name report bytes : List ℕ) (study : Question) (g : GivesStudy files name study) (held : files report ≡ Some bytes) where
   module _ (status : ℕ) (text : List ℕ) (told : IsToldOf files name report study status text) where
     same : told.bytes ≡ bytes
     same = some_same (files report) told.bytes bytes told.held held
 
-    ends : status ≡ status_of (judgement study bytes)
-    ends = told.ends ∙ ap (λ (b : List ℕ). status_of (judgement study b)) same
+    ends : status ≡ judged_status (judged study bytes)
+    ends = told.ends ∙ ap (λ (b : List ℕ). judged_status (judged study b)) same
 
-    is : IsSaid study name report (judgement study bytes) text
-    is = subst (λ (b : List ℕ). IsSaid study name report (judgement study b) text) same told.said
+    is : IsSaid study name report (judged study bytes) text
+    is = subst (λ (b : List ℕ). IsSaid study name report (judged study b) text) same told.said
 
     all_right : (verdict : Verdict) → IsReport study verdict bytes → length bytes ≤ most_report_bytes → (status ≡ 0) × IsPage study name report verdict text
     all_right verdict right fits =
-        let few : lemma_count verdict < 2 ^ 64 = omega (arith, lemmas_fit study bytes verdict right, fits) in
-        let judged : judgement study bytes ≡ Confirmed verdict =
-        (within_limit most_report_bytes study bytes verdict).1 (fits, right_is_confirmed study (reportable files name study g) (listed files name study g) bytes verdict right few) in
-        (ends ∙ ap status_of judged, subst (λ (a : Judgement). IsSaid study name report a text) judged is)
+        let e = report_checked study bytes verdict (reportable files name study g) (listed files name study g) right fits in
+        (ends ∙ ap judged_status e, subst (λ (a : Judged). IsSaid study name report a text) e is)
 
-    checked : has_sharp_title bytes ≡ false → status ≢ 0 → IsChecked files name report (bare_run status) text
-    checked plain other =
-        let row = refused_text study name report bytes (judgement study bytes) status text ends other is in
-        let as_report : AsReport (judgement study bytes) ≡ judged study bytes = sym (judged_as_report study name report bytes plain) in
-        study_given study g (record {
-          bytes = bytes;
-          held = held;
-          ends = record { ends = ends ∙ ap judged_status as_report; no_verdict = refl; no_logs = refl; no_sharp = refl };
-          is = row.1 ∙ ap judged_text as_report;
-        })
+    all_sharp : (v : Pointed) → IsSharpText study v bytes → length bytes ≤ most_report_bytes → (status ≡ 0) × IsSharpPage study name report v text
+    all_sharp v right fits =
+        let e = sharp_checked study bytes v (reportable files name study g) (listed files name study g) right fits in
+        (ends ∙ ap judged_status e, subst (λ (a : Judged). IsSaid study name report a text) e is)
+
+    checked : status ≢ 0 → IsChecked files name report (bare_run status) text
+    checked other = study_given study g (record {
+      bytes = bytes;
+      held = held;
+      ends = record { ends = ends; no_verdict = refl; no_logs = refl; no_sharp = refl };
+      is = refused_text study name report bytes (judged study bytes) status text ends other is;
+    })
 
     exact : IsPageExact files name report study bytes status text
     exact = record {
-      right = λ zero. confirmed_page study name report bytes (judgement study bytes) text refl (sym ends ∙ zero) is;
+      right = λ zero. confirmed_page study name report bytes (judged study bytes) text refl (sym ends ∙ zero) is;
       all = all_right;
-      refused = λ other. refused_text study name report bytes (judgement study bytes) status text ends other is;
-      as_check = checked;
+      all_sharp = all_sharp;
+      refused = checked;
     }
 
 pub pages_exact : PagesAreExact
@@ -115,7 +119,7 @@ pages_exact words files status workers text name report bytes study lawful asked
     exact files name report bytes study g held status text (told_of files name study g report text status row)
 
 pub pages_written : PagesAreWritten
-pages_written words d files status workers name report bytes study call told asked g held = record { right = right; all = all }
+pages_written words d files status workers name report bytes study call told asked g held = record { right = right; all = all; all_sharp = all_sharp }
   where
     there : status ≤ 4 → (text : List ℕ) × IsPageExact files name report study bytes status text × Appends d.taken_before d.taken_now text
     there low =
@@ -130,4 +134,10 @@ pages_written words d files status workers name report bytes study call told ask
     all low verdict report_is fits =
         let t = there low in
         let row = t.1.all verdict report_is fits in
+        (row.0, t.0, row.1, t.2)
+
+    all_sharp : status ≤ 4 → (v : Pointed) → IsSharpText study v bytes → length bytes ≤ most_report_bytes → (status ≡ 0) × (text : List ℕ) × IsSharpPage study name report v text × Appends d.taken_before d.taken_now text
+    all_sharp low v text_is fits =
+        let t = there low in
+        let row = t.1.all_sharp v text_is fits in
         (row.0, t.0, row.1, t.2)

@@ -7,8 +7,10 @@ use Rattle.std.proofs.lemmas.Bool.{or_parts}
 use Rattle.edge.specs.Shelf.{Files, OthersStay, NoneFell}
 use Rattle.edge.specs.Faults.{Rose}
 use Rattle.vocab.specs.Study.{Question}
-use Rattle.verdicts.specs.Judge.{Judgement, Confirmed, Faulty, TooLong}
-use Rattle.answers.specs.Check.{judgement, status_of as judged_status}
+use Rattle.verdicts.specs.Judge.{Confirmed, Faulty, TooLong}
+use Rattle.sharp_verdicts.specs.Judged.{Judged, AsReport, AsSharp}
+use Rattle.sharp_verdicts.specs.SharpJudge.{SharpConfirmed, SharpFaulty, SharpTooLong}
+use Rattle.answers.specs.Check.{judged, judged_status}
 use Rattle.answers.specs.Studies.{GivesStudy, study_refused, study_given}
 use Rattle.answers.specs.Call.{AreFiles, are_told, none_read, touched_at}
 use Rattle.command_parts.specs.declared.answer.Answer.{Answer}
@@ -30,38 +32,57 @@ use Rattle.explain_call.specs.Replies.{HasText, IsReplyTo, Replies, status_of, t
 -- ---- what is replied to what was read
 
 module _ (study : Question) (name report : List ℕ) where
-  abbrev RepliesAs : Judgement → Reply → Type 0
+  abbrev RepliesAs : Judged → Reply → Type 0
   RepliesAs a r = (status_of r ≡ judged_status a) × IsSaid study name report a (text_of r)
 
-  by_judgement : (a : Judgement) (r : Reply) → IsReplyTo study name report (reading_of a) r → RepliesAs a r
-  by_judgement (Confirmed verdict) (reply.Page page) h = (refl, h)
-  by_judgement (Confirmed verdict) reply.Usage h = absurd h
-  by_judgement (Confirmed verdict) (reply.Refused answer) h = absurd h
-  by_judgement (Faulty line word) r h = subst (λ (x : Reply). RepliesAs (Faulty line word) x) (sym h) (refl, refl)
-  by_judgement TooLong r h = subst (λ (x : Reply). RepliesAs TooLong x) (sym h) (refl, refl)
+  by_judgement : (a : Judged) (r : Reply) → IsReplyTo study name report (reading_of a) r → RepliesAs a r
+  by_judgement (AsReport (Confirmed verdict)) (reply.Page page) h = (refl, h)
+  by_judgement (AsReport (Confirmed verdict)) reply.Usage h = absurd h
+  by_judgement (AsReport (Confirmed verdict)) (reply.Refused answer) h = absurd h
+  by_judgement (AsReport (Confirmed verdict)) (reply.Instance said) h = absurd h
+  by_judgement (AsReport (Confirmed verdict)) (reply.Rules s list) h = absurd h
+  by_judgement (AsReport (Faulty line word)) r h = subst (λ (x : Reply). RepliesAs (AsReport (Faulty line word)) x) (sym h) (refl, refl)
+  by_judgement (AsReport TooLong) r h = subst (λ (x : Reply). RepliesAs (AsReport TooLong) x) (sym h) (refl, refl)
+  by_judgement (AsSharp (SharpConfirmed v)) (reply.Page page) h = (refl, h)
+  by_judgement (AsSharp (SharpConfirmed v)) reply.Usage h = absurd h
+  by_judgement (AsSharp (SharpConfirmed v)) (reply.Refused answer) h = absurd h
+  by_judgement (AsSharp (SharpConfirmed v)) (reply.Instance said) h = absurd h
+  by_judgement (AsSharp (SharpConfirmed v)) (reply.Rules s list) h = absurd h
+  by_judgement (AsSharp (SharpFaulty line word)) r h = subst (λ (x : Reply). RepliesAs (AsSharp (SharpFaulty line word)) x) (sym h) (refl, refl)
+  by_judgement (AsSharp SharpTooLong) r h = subst (λ (x : Reply). RepliesAs (AsSharp SharpTooLong) x) (sym h) (refl, refl)
 
   pub told_reply : (told : Option Files) (read : Reading) (r : Reply) → IfSome told (λ files. IsReadOf study files report read) → IsReplyTo study name report read r
       → (files : Files) → told ≡ Some files → IsToldOf files name report study (status_of r) (text_of r)
   told_reply told read r is h files e =
       let i = if_some told (λ files. IsReadOf study files report read) files is e in
-      let said = by_judgement (judgement study i.bytes) r (subst (λ (x : Reading). IsReplyTo study name report x r) i.is h) in
+      let said = by_judgement (judged study i.bytes) r (subst (λ (x : Reading). IsReplyTo study name report x r) i.is h) in
       record { bytes = i.bytes; held = i.held; ends = said.0; said = said.1 }
 
-  -- its status is at most 1
-  pub reply_low : (read : Reading) (r : Reply) → IsReplyTo study name report read r → status_of r ≤ 1
-  reply_low (reading.Confirmed verdict) (reply.Page page) h = omega arith
-  reply_low (reading.Confirmed verdict) reply.Usage h = absurd h
-  reply_low (reading.Confirmed verdict) (reply.Refused answer) h = absurd h
-  reply_low (reading.Faulty line word) r h = subst (λ (x : Reply). status_of x ≤ 1) (sym h) (omega arith)
-  reply_low reading.TooLong r h = subst (λ (x : Reply). status_of x ≤ 1) (sym h) (omega arith)
+  -- its status is at most 1, and it has a text
+  abbrev IsLowReply : Reply → Type 0
+  IsLowReply r = (status_of r ≤ 1) × HasText r
 
-  -- it has a text
+  reply_is_low : (read : Reading) (r : Reply) → IsReplyTo study name report read r → IsLowReply r
+  reply_is_low (reading.Confirmed verdict) (reply.Page page) h = (omega arith, tt)
+  reply_is_low (reading.Confirmed verdict) reply.Usage h = absurd h
+  reply_is_low (reading.Confirmed verdict) (reply.Refused answer) h = absurd h
+  reply_is_low (reading.Confirmed verdict) (reply.Instance said) h = absurd h
+  reply_is_low (reading.Confirmed verdict) (reply.Rules s list) h = absurd h
+  reply_is_low (reading.Faulty line word) r h = subst IsLowReply (sym h) (omega arith, tt)
+  reply_is_low reading.TooLong r h = subst IsLowReply (sym h) (omega arith, tt)
+  reply_is_low (reading.SharpConfirmed v) (reply.Page page) h = (omega arith, tt)
+  reply_is_low (reading.SharpConfirmed v) reply.Usage h = absurd h
+  reply_is_low (reading.SharpConfirmed v) (reply.Refused answer) h = absurd h
+  reply_is_low (reading.SharpConfirmed v) (reply.Instance said) h = absurd h
+  reply_is_low (reading.SharpConfirmed v) (reply.Rules s list) h = absurd h
+  reply_is_low (reading.SharpFaulty line word) r h = subst IsLowReply (sym h) (omega arith, tt)
+  reply_is_low reading.SharpTooLong r h = subst IsLowReply (sym h) (omega arith, tt)
+
+  pub reply_low : (read : Reading) (r : Reply) → IsReplyTo study name report read r → status_of r ≤ 1
+  reply_low read r h = (reply_is_low read r h).0
+
   pub reply_has_text : (read : Reading) (r : Reply) → IsReplyTo study name report read r → HasText r
-  reply_has_text (reading.Confirmed verdict) (reply.Page page) h = tt
-  reply_has_text (reading.Confirmed verdict) reply.Usage h = absurd h
-  reply_has_text (reading.Confirmed verdict) (reply.Refused answer) h = absurd h
-  reply_has_text (reading.Faulty line word) r h = subst (λ (x : Reply). HasText x) (sym h) tt
-  reply_has_text reading.TooLong r h = subst (λ (x : Reply). HasText x) (sym h) tt
+  reply_has_text read r h = (reply_is_low read r h).1
 
 -- ---- statuses
 

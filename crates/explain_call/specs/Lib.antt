@@ -1,6 +1,8 @@
 -- In reading order.
 pub mod Page
 pub mod Story
+pub mod Instance
+pub mod Rules
 pub mod Lawful
 pub mod Call
 pub mod Replies

@@ -4,18 +4,23 @@ use Rattle.std.specs.List.{list_any}
 use Rattle.edge.specs.Shelf.{Files}
 use Rattle.vocab.specs.Study.{Question}
 use Rattle.report_files.specs.declared.worths.Worth.TheVariants as worth
+use Rattle.report_files.specs.declared.worths.SharpWorth.TheVariants as sharp_worth
 use Rattle.report_files.specs.declared.worths.JudgedWorth.TheVariants as judged
 use Rattle.verdict_reading.specs.declared.reading.Reading.{Reading}
 use Rattle.verdict_reading.specs.declared.reading.Reading.TheVariants as reading
+use Rattle.verdict_reading.specs.SharpCollected.{as_said}
 use Rattle.answers.specs.Call.{AreFiles, AreUntouched}
 use Rattle.command_parts.specs.declared.answer.Answer.TheVariants.{Judged}
 use Rattle.command_parts.specs.declared.answer.Stop.{Stop}
 use Rattle.command_parts.specs.declared.answer.Stop.TheVariants as stop
 use Rattle.command_parts.specs.Answers.{HasText as AnswerHasText, status_of as answer_status, text_of as answer_text}
+use Rattle.rules_text.specs.RulesText.{are_rules, rules_text}
 use Rattle.explain_words.specs.Words.{Request}
 use Rattle.explain_call.specs.declared.reply.Reply.{Reply}
 use Rattle.explain_call.specs.declared.reply.Reply.TheVariants as reply
-use Rattle.explain_call.specs.Page.{IsPage}
+use Rattle.explain_call.specs.Instance.{instance_status}
+use Rattle.explain_call.specs.Rules.{rules_status}
+use Rattle.explain_call.specs.Page.{IsPage, IsSharpPage}
 use Rattle.explain_call.specs.Lawful.{IsAnswer, usage_line}
 use Rattle.explain_call.specs.Call.{HasReadCause, files_of, statuses_of}
 
@@ -23,23 +28,32 @@ abbrev pub status_of : Reply → ℕ
 status_of reply.Usage = 2
 status_of (reply.Refused answer) = answer_status answer
 status_of (reply.Page page) = 0
+status_of (reply.Instance said) = instance_status said.there
+status_of (reply.Rules study list) = rules_status list.ending
 
 abbrev pub text_of : Reply → List ℕ
 text_of reply.Usage = usage_line
 text_of (reply.Refused answer) = answer_text answer
 text_of (reply.Page page) = page
+text_of (reply.Instance said) = said.text
+text_of (reply.Rules study list) = rules_text study list
 
--- an answer of `check` has a text
+-- an answer of `check` has a text, and so has a list of rules of the size
 abbrev pub HasText : Reply → Type 0
 HasText (reply.Refused answer) = AnswerHasText answer
+HasText (reply.Rules study list) = are_rules study.size list.tables
 HasText r = Unit {0}
 
--- the reply to what was read of a report: a page of the verdict, and one that is refused is answered as `check` answers
+-- the reply to what was read of a report or a sharp text: a page of the verdict, and what is refused is answered as `check` answers
 abbrev pub IsReplyTo : Question → (name report : List ℕ) → Reading → Reply → Type 0
 IsReplyTo study name report (reading.Confirmed verdict) (reply.Page page) = IsPage study name report verdict page
 IsReplyTo study name report (reading.Faulty line word) r = r ≡ reply.Refused (Judged (judged.Report (worth.Faulty line word)))
 IsReplyTo study name report reading.TooLong r = r ≡ reply.Refused (Judged (judged.Report worth.TooLong))
+IsReplyTo study name report (reading.SharpConfirmed v) (reply.Page page) = IsSharpPage study name report (as_said v) page
+IsReplyTo study name report (reading.SharpFaulty line word) r = r ≡ reply.Refused (Judged (judged.Sharp (sharp_worth.Faulty line word)))
+IsReplyTo study name report reading.SharpTooLong r = r ≡ reply.Refused (Judged (judged.Sharp sharp_worth.TooLong))
 IsReplyTo study name report (reading.Confirmed verdict) r = ⊥
+IsReplyTo study name report (reading.SharpConfirmed v) r = ⊥
 
 -- the status of a result
 abbrev pub ended_with : Result Reply Stop → ℕ

@@ -1,26 +1,30 @@
--- `story STUDY REPORT`: the page of what a report says of a study.
+-- `story STUDY REPORT`: the page of what a report or a sharp text says of a study.
 use Rattle.std.specs.Prelude.{◌≡◌, ℕ, List, [], None, Some}
 use Rattle.edge.specs.Shelf.{Files}
 use Rattle.vocab.specs.Study.{Question}
-use Rattle.verdicts.specs.Judge.{Judgement, Confirmed, Faulty, TooLong}
-use Rattle.verdicts.specs.Words.{answer_text}
-use Rattle.answers.specs.Check.{judgement, status_of}
+use Rattle.verdicts.specs.Judge.{Confirmed, Faulty, TooLong}
+use Rattle.sharp_verdicts.specs.Judged.{Judged, AsReport, AsSharp, judged_text}
+use Rattle.sharp_verdicts.specs.SharpJudge.{SharpConfirmed, SharpFaulty, SharpTooLong}
+use Rattle.answers.specs.Check.{judged, judged_status}
 use Rattle.answers.specs.declared.runs.Run.{Run}
 use Rattle.answers.specs.Studies.{OverStudy}
-use Rattle.explain_call.specs.Page.{IsPage}
+use Rattle.explain_call.specs.Page.{IsPage, IsSharpPage}
 
--- what is written of a report: a page of the verdict that it confirms, and where it is refused what `check` says
-abbrev pub IsSaid : Question → (name report : List ℕ) → Judgement → (text : List ℕ) → Type 0
-IsSaid study name report (Confirmed verdict) text = IsPage study name report verdict text
-IsSaid study name report (Faulty line word) text = text ≡ answer_text (Faulty line word)
-IsSaid study name report TooLong text = text ≡ answer_text TooLong
+-- what is written of a report or a sharp text: a page of the verdict that it confirms, and where it is refused what `check` says
+abbrev pub IsSaid : Question → (name report : List ℕ) → Judged → (text : List ℕ) → Type 0
+IsSaid study name report (AsReport (Confirmed verdict)) text = IsPage study name report verdict text
+IsSaid study name report (AsReport (Faulty line word)) text = text ≡ judged_text (AsReport (Faulty line word))
+IsSaid study name report (AsReport TooLong) text = text ≡ judged_text (AsReport TooLong)
+IsSaid study name report (AsSharp (SharpConfirmed v)) text = IsSharpPage study name report v text
+IsSaid study name report (AsSharp (SharpFaulty line word)) text = text ≡ judged_text (AsSharp (SharpFaulty line word))
+IsSaid study name report (AsSharp SharpTooLong) text = text ≡ judged_text (AsSharp SharpTooLong)
 
 -- the report of a file is judged over a study: the status is that of `check`, and the text is what is written of it
 pub record IsToldOf (files : Files) (name report : List ℕ) (study : Question) (status : ℕ) (text : List ℕ) : Type 0 where
   pub bytes : List ℕ
   pub held : files report ≡ Some bytes
-  pub ends : status ≡ status_of (judgement study bytes)
-  pub said : IsSaid study name report (judgement study bytes) text
+  pub ends : status ≡ judged_status (judged study bytes)
+  pub said : IsSaid study name report (judged study bytes) text
 
 -- a run that has this status, and tells of no search and of nothing sharp
 abbrev pub bare_run : ℕ → Run

@@ -1,6 +1,6 @@
 //! What holds of calls. Each law is the contract of a function that does nothing.
 
-ghost use Rattle.explain_call.specs.Laws.{PagesAreExact, PagesAreWritten};
+ghost use Rattle.explain_call.specs.Laws.{PagesAreExact, PagesAreWritten, InstancesAreExact, InstancesAreWritten, RulesAreExact, RulesAreWritten};
 
 /// A page is written exactly where the file is the report of a right verdict, within its limit, and it is the
 /// page of that verdict; of other files the status and the text are those of `check`.
@@ -12,4 +12,25 @@ pub fn pages_are_exact()
 /// page, faults and want of memory aside.
 pub fn pages_are_written()
     ensures { PagesAreWritten }
+{}
+
+/// Of a study that a file gives an instance is told as it is defined, with status 0, or it is said why there is
+/// none, with status 3.
+pub fn instances_are_exact()
+    ensures { InstancesAreExact }
+{}
+
+/// The sink takes that, faults and want of memory aside.
+pub fn instances_are_written()
+    ensures { InstancesAreWritten }
+{}
+
+/// A right list of rules is written of a study whose clauses are not refused.
+pub fn rules_are_exact()
+    ensures { RulesAreExact }
+{}
+
+/// At a status below 5 the sink took it.
+pub fn rules_are_written()
+    ensures { RulesAreWritten }
 {}

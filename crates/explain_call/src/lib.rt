@@ -2,12 +2,16 @@
 //! a sink.
 #![tactic(auto)]
 
+mod instance_command;
 pub mod laws;
 mod page;
 mod reply;
+mod rules_command;
 mod story_command;
 mod top;
 
+pub use instance_command::instance;
 pub use reply::Reply;
+pub use rules_command::rules;
 pub use story_command::story;
 pub use top::explain;

@@ -1,15 +1,26 @@
 //! Replies, a variant for each row of the table.
 
 ghost use Rattle.std.specs.Prelude.{◌≡◌};
+ghost use Rattle.texts.specs.Page.{Pours};
+ghost use Rattle.rules_text.specs.RulesText.{are_rules, rules_text};
+ghost use Rattle.explain_call.specs.Instance.{instance_status};
+ghost use Rattle.explain_call.specs.Rules.{rules_status};
 ghost use Rattle.explain_call.specs.Replies.{HasText, status_of, text_of};
 
 use command_parts::Answer;
 use edge::{Bytes, Failed, Sink};
+use instance_text::Said;
+use kinds::over_kind;
+use outcomes::{OutcomeKind, Setting};
+use rule_lists::{Ending, RuleList};
+use rules_text::pour_rules;
 use std::alloc::Global;
 use texts::{Page, Text};
+use vocab::Study;
 
 /// What is said to words that are no command.
-const USAGE: &[u8] = b"usage: explain story STUDY REPORT [--workers K]\n";
+const USAGE: &[u8] =
+    b"usage: explain story STUDY REPORT [--workers K] | instance STUDY AXIOM NUMBER | rules STUDY [--most N] [--workers K]\n";
 
 /// What is answered.
 #[derive(Drop)]
@@ -20,6 +31,59 @@ pub enum Reply {
     Refused(Answer),
     /// The page of the verdict that the report confirms.
     Page(Bytes),
+    /// What is said of an instance.
+    Instance(Said),
+    /// The rules of a study.
+    Rules(Study, RuleList),
+}
+
+/// The status of what is said of an instance.
+fn instance_status(there: bool) -> u8
+    ensures { result ≡ instance_status there }
+{
+    if there { 0 } else { 3 }
+}
+
+/// The status of a list of rules: 4 where it is not known whether there are more.
+fn rules_status(ending: Ending) -> u8
+    ensures { result ≡ rules_status ending }
+{
+    match ending {
+        Ending::Whole => 0,
+        Ending::More => 0,
+        Ending::Open => 4,
+    }
+}
+
+/// Adds the text of a list of rules of a study beside its kind.
+fn pour_over<K: OutcomeKind, O: Sink>(
+    kind: &K,
+    study: &Study,
+    list: &RuleList,
+    page: &mut Page,
+    out: &mut O,
+) -> Result<(), Failed>
+    requires size { study.now.size ≡ K.size kind.now }
+    requires rules { are_rules study.now.size list.now.tables }
+    ensures { Pours (O.taken out.old) (O.taken out.new) page.old page.new
+        (O.faults out.old) (O.faults out.new) result (rules_text study.now list.now) }
+{
+    let setting = Setting { kind, study };
+    pour_rules(&setting, list, page, out)
+}
+
+/// Adds the text of a list of rules of a study.
+fn pour_list<O: Sink>(
+    study: &Study,
+    list: &RuleList,
+    page: &mut Page,
+    out: &mut O,
+) -> Result<(), Failed>
+    requires { are_rules study.now.size list.now.tables }
+    ensures { Pours (O.taken out.old) (O.taken out.new) page.old page.new
+        (O.faults out.old) (O.faults out.new) result (rules_text study.now list.now) }
+{
+    over_kind!(study.size(), kind, pour_over(&kind, study, list, page, out))
 }
 
 impl Reply {
@@ -31,6 +95,8 @@ impl Reply {
             Reply::Usage => 2,
             Reply::Refused(answer) => answer.into_run(alloc).status,
             Reply::Page(_) => 0,
+            Reply::Instance(said) => instance_status(said.there),
+            Reply::Rules(_, list) => rules_status(list.ending),
         }
     }
 }
@@ -45,6 +111,8 @@ impl Text for Reply {
             Reply::Usage => page.put(out, USAGE),
             Reply::Refused(answer) => answer.pour(page, out),
             Reply::Page(bytes) => page.put(out, bytes.as_slice()),
+            Reply::Instance(said) => page.put(out, said.text.as_slice()),
+            Reply::Rules(study, list) => pour_list(study, list, page, out),
         }
     }
 }

@@ -1,4 +1,4 @@
-//! The command `story`: reads a study, and then the verdict that a report over it confirms.
+//! The command `story`: reads a study, and then the verdict that a report or a sharp text over it confirms.
 
 ghost use Rattle.std.specs.Prelude.{◌≡◌, ◌≤◌, Some, IfSome, IfOk, IsErrOf};
 ghost use Rattle.edge.specs.Faults.{Rose};
@@ -9,7 +9,7 @@ ghost use Rattle.explain_words.specs.Words.{Story};
 ghost use Rattle.explain_call.specs.Story.{IsToldOf};
 ghost use Rattle.explain_call.specs.Replies.{HasText, IsReplyTo, Replies, status_of, text_of};
 
-use pages::make_page;
+use crate::page::{make_page, make_sharp_page};
 use crate::reply::Reply;
 use command_parts::{Answer, Opened, Stop, open_study};
 use crew::Crew;
@@ -17,7 +17,7 @@ use edge::{Gate, Shelf};
 use kinds::over_kind;
 use lists::NoMemory;
 use outcomes::OutcomeKind;
-use report_files::{FileFault, JudgedWorth, Worth};
+use report_files::{FileFault, JudgedWorth, SharpWorth, Worth};
 use std::alloc::Global;
 use std::thread::Threads;
 use verdict_reading::{Reading, read_verdict_file};
@@ -100,6 +100,19 @@ fn reply_to(
             }),
         ))),
         Reading::TooLong => Ok(Reply::Refused(Answer::Judged(JudgedWorth::Report(Worth::TooLong)))),
+        Reading::SharpConfirmed(sharp) => {
+            let page = make_sharp_page(alloc, study, name, report, sharp)?;
+            Ok(Reply::Page(page))
+        }
+        Reading::SharpFaulty { line, refusal } => Ok(Reply::Refused(Answer::Judged(
+            JudgedWorth::Sharp(SharpWorth::Faulty {
+                line: *line,
+                refusal: *refusal,
+            }),
+        ))),
+        Reading::SharpTooLong => Ok(Reply::Refused(Answer::Judged(JudgedWorth::Sharp(
+            SharpWorth::TooLong,
+        )))),
     }
 }
 

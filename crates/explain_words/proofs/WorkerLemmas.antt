@@ -5,9 +5,9 @@ use Rattle.std.specs.Str.{bytes_eq}
 use Rattle.std.proofs.lemmas.Bool.{and_parts, leb-true}
 use Rattle.verdicts.specs.Numbers.{read_number}
 use Rattle.clap.specs.Words.{Row, Text, first_of}
-use Rattle.words.specs.Values.{number_within, workers_in}
+use Rattle.words.specs.Values.{number_in, number_within, workers_in}
 use Rattle.explain_words.specs.declared.commands.Command.{Command}
-use Rattle.explain_words.specs.Words.{Request, Story, HasWorkers, asked, request_under}
+use Rattle.explain_words.specs.Words.{Request, Story, Instance, Rules, HasWorkers, asked, most_in, request_under}
 
 abbrev Good : Option Request → Type 0
 Good o = IfSome o HasWorkers
@@ -38,10 +38,26 @@ made (Some r) None w few = tt
 made (Some r) (Some s) None few = tt
 made (Some r) (Some s) (Some n) few = few
 
+-- one without
+counted : (axiom_name study : Option Text) (n : Option ℕ) → Good (option_and_then (λ a. option_and_then (λ s. option_map (Instance s a) n) study) axiom_name)
+counted None study n = tt
+counted (Some a) None n = tt
+counted (Some a) (Some s) None = tt
+counted (Some a) (Some s) (Some n) = tt
+
+-- one of a name, a number and such a number
+listed : (study : Option Text) (m w : Option ℕ) → IfSome w IsFew → Good (option_and_then (λ s. option_and_then (λ n. option_map (Rules s n) w) m) study)
+listed None m w few = tt
+listed (Some s) None w few = tt
+listed (Some s) (Some n) None few = tt
+listed (Some s) (Some n) (Some k) few = few
+
 under : (rows : List Row) (name : Text) → Good (request_under name rows)
 under rows name =
     either (bytes_eq name (codes "story")) _ _
-    (made (first_of (codes "report") rows) (first_of (codes "study") rows) (workers_in rows) (few_in (first_of (codes "workers") rows))) tt
+    (made (first_of (codes "report") rows) (first_of (codes "study") rows) (workers_in rows) (few_in (first_of (codes "workers") rows)))
+    (either (bytes_eq name (codes "instance")) _ _ (counted (first_of (codes "axiom") rows) (first_of (codes "study") rows) (number_in rows))
+    (either (bytes_eq name (codes "rules")) _ _ (listed (first_of (codes "study") rows) (most_in rows) (workers_in rows) (few_in (first_of (codes "workers") rows))) tt))
 
 -- so has each command that was found
 pub found : (command : Option Command) (name : Text) (rows : List Row) → option_map asked command ≡ request_under name rows → IfSome command (λ it. HasWorkers (asked it))

@@ -1,23 +1,32 @@
 -- Which words are a command of `explain`: those that `clap` takes for the program below, where the values have their forms.
-use Rattle.std.specs.Prelude.{◌≤◌, ℕ, true, false, List, [], ◌∷◌, codes, if◌then◌else◌, Option, None, option_map, option_and_then}
+use Rattle.std.specs.Prelude.{◌≤◌, ℕ, true, false, List, [], ◌∷◌, codes, if◌then◌else◌, Option, None, Some, option_map, option_and_then}
 use Rattle.std.specs.Str.{bytes_eq}
-use Rattle.clap.specs.Words.{App, Kinds, Row, Shape, Text, fault_of, first_of, subcommand_of}
-use Rattle.clap.specs.Simple.{new_shape}
-use Rattle.words.specs.Values.{workers_in}
+use Rattle.clap.specs.Words.{App, Kinds, Row, Rule, Shape, Text, fault_of, first_of, subcommand_of}
+use Rattle.clap.specs.Simple.{new_rule, new_shape}
+use Rattle.words.specs.Values.{number_in, number_within, workers_in}
 use Rattle.words.specs.Words.{place, workers_option, with_arguments}
 use Rattle.explain_words.specs.declared.commands.Command.{Command}
+use Rattle.explain_words.specs.declared.commands.Command.TheVariants as command
 
--- what may be asked: the page of the story that a report tells of a study, by the names of the two files
+-- what may be asked: the page of the story that a report tells of a study, by the names of the two files; an instance of
+-- an axiom of a study, by the names of the file and of the axiom; or all rules that satisfy the axioms of a study, and no
+-- more than so many
 pub data Request : Type 0 where
   Story : (study report : Text) (workers : ℕ) → Request
+  Instance : (study axiom_name : Text) (number : ℕ) → Request
+  Rules : (study : Text) (most workers : ℕ) → Request
 
 -- the request of a command
 abbrev pub asked : Command → Request
-asked command = Story command.study.now command.report.now command.workers
+asked (command.Story study report workers) = Story study.now report.now workers
+asked (command.Instance study axiom_name number) = Instance study.now axiom_name.now number
+asked (command.Rules study most workers) = Rules study.now most workers
 
 -- a number of workers is from 1 to 16
 abbrev pub HasWorkers : Request → Type 0
 HasWorkers (Story study report workers) = (1 ≤ workers) × (workers ≤ 16)
+HasWorkers (Rules study most workers) = (1 ≤ workers) × (workers ≤ 16)
+HasWorkers _ = Unit {0}
 
 -- ---- the program, as `clap` is told of it
 
@@ -25,12 +34,23 @@ abbrev pub story_shape : Shape
 story_shape =
     with_arguments (codes "story") (place (codes "study") ∷ place (codes "report") ∷ workers_option ∷ [])
 
+abbrev pub instance_shape : Shape
+instance_shape =
+    with_arguments (codes "instance") (place (codes "study") ∷ place (codes "axiom") ∷ place (codes "number") ∷ [])
+
+-- `--most N`, which is 100 where it is not given
+abbrev pub most_option : Rule
+most_option = record (new_rule (codes "most")) { long = Some (codes "most"); defaults = codes "100" ∷ [] }
+
+abbrev pub rules_shape : Shape
+rules_shape = with_arguments (codes "rules") (place (codes "study") ∷ most_option ∷ workers_option ∷ [])
+
 -- the words are those after the program's name, and a command is wanted
 abbrev pub top_shape : Shape
 top_shape = record (new_shape (codes "explain")) { no_binary_name = true; subcommand_required = true }
 
 abbrev pub explain_app : App
-explain_app = record { top = record top_shape { is_leaf = false }; subs = story_shape ∷ [] }
+explain_app = record { top = record top_shape { is_leaf = false }; subs = story_shape ∷ instance_shape ∷ rules_shape ∷ [] }
 
 -- ---- the request that the words are
 
@@ -38,9 +58,25 @@ abbrev pub story_in : List Row → Option Request
 story_in rows = option_and_then (λ report. option_and_then (λ study. option_map (Story study report) (workers_in rows))
     (first_of (codes "study") rows)) (first_of (codes "report") rows)
 
+abbrev pub instance_in : List Row → Option Request
+instance_in rows = option_and_then (λ axiom_name. option_and_then (λ study. option_map (Instance study axiom_name) (number_in rows))
+    (first_of (codes "study") rows)) (first_of (codes "axiom") rows)
+
+-- the value of `--most` is from 1 to 10,000
+abbrev pub most_in : List Row → Option ℕ
+most_in rows = option_and_then (number_within 1 10000) (first_of (codes "most") rows)
+
+abbrev pub rules_in : List Row → Option Request
+rules_in rows = option_and_then (λ study. option_and_then (λ most. option_map (Rules study most) (workers_in rows)) (most_in rows))
+    (first_of (codes "study") rows)
+
 -- the request of a command by its name, with the values that `clap` found
 abbrev pub request_under : Text → List Row → Option Request
-request_under name rows = if bytes_eq name (codes "story") then story_in rows else None
+request_under name rows =
+    if bytes_eq name (codes "story") then story_in rows
+    else if bytes_eq name (codes "instance") then instance_in rows
+    else if bytes_eq name (codes "rules") then rules_in rows
+    else None
 
 abbrev pub request_in : Option (Text × List Row) → Option Request
 request_in = option_and_then (λ met. request_under met.0 met.1)

@@ -1,9 +1,9 @@
 //! What the program tells `clap` of its words.
 
 ghost use Rattle.std.specs.Prelude.{◌≡◌, IfOk, false};
-ghost use Rattle.clap.specs.Words.{app_of, rule_of};
+ghost use Rattle.clap.specs.Words.{App, Shape, app_of, rule_of, with_subcommand};
 ghost use Rattle.words.specs.Words.{place, workers_option, IsLeaf};
-ghost use Rattle.explain_words.specs.Words.{story_shape, top_shape, explain_app};
+ghost use Rattle.explain_words.specs.Words.{story_shape, instance_shape, most_option, rules_shape, top_shape, explain_app};
 
 use clap::{Arg, Command};
 use std::alloc::{AllocError, Global};
@@ -26,12 +26,38 @@ fn workers_option<'a>(alloc: Global) -> Arg<'a>
         .default_value("1")
 }
 
+/// `--most N`.
+fn most_option<'a>(alloc: Global) -> Arg<'a>
+    ensures rule { rule_of result ≡ most_option }
+    ensures local { result.global ≡ false }
+{
+    Arg::new(alloc, "most").long("most").default_value("100")
+}
+
 /// `story STUDY REPORT`.
 fn story_command<'a>(alloc: Global) -> Result<Command<'a>, AllocError>
     ensures { IfOk result (IsLeaf story_shape) }
 {
     let command = Command::new(alloc, "story").arg(place(alloc, "study"))?;
     let command = command.arg(place(alloc, "report"))?;
+    command.arg(workers_option(alloc))
+}
+
+/// `instance STUDY AXIOM NUMBER`.
+fn instance_command<'a>(alloc: Global) -> Result<Command<'a>, AllocError>
+    ensures { IfOk result (IsLeaf instance_shape) }
+{
+    let command = Command::new(alloc, "instance").arg(place(alloc, "study"))?;
+    let command = command.arg(place(alloc, "axiom"))?;
+    command.arg(place(alloc, "number"))
+}
+
+/// `rules STUDY`.
+fn rules_command<'a>(alloc: Global) -> Result<Command<'a>, AllocError>
+    ensures { IfOk result (IsLeaf rules_shape) }
+{
+    let command = Command::new(alloc, "rules").arg(place(alloc, "study"))?;
+    let command = command.arg(most_option(alloc))?;
     command.arg(workers_option(alloc))
 }
 
@@ -44,10 +70,24 @@ fn top_command<'a>(alloc: Global) -> Command<'a>
         .subcommand_required(true)
 }
 
+/// A command with one more below it, where both could be made. (Both are handed over as they come, so that
+/// one place alone lets a command go where memory ends.)
+fn add_command<'a>(
+    command: Result<Command<'a>, AllocError>,
+    below: Result<Command<'a>, AllocError>,
+) -> Result<Command<'a>, AllocError>
+    ensures { (app : App) (shape : Shape) → IfOk command.entry (λ c. app_of c ≡ app) →
+        IfOk below.entry (IsLeaf shape) →
+        IfOk result (λ c. app_of c ≡ with_subcommand app shape) }
+{
+    command?.subcommand(below?)
+}
+
 /// The program with all its commands.
 pub(crate) fn explain_command<'a>(alloc: Global) -> Result<Command<'a>, AllocError>
     ensures { IfOk result (λ command. app_of command ≡ explain_app) }
 {
-    let story = story_command(alloc)?;
-    top_command(alloc).subcommand(story)
+    let command = add_command(Ok(top_command(alloc)), story_command(alloc));
+    let command = add_command(command, instance_command(alloc));
+    add_command(command, rules_command(alloc))
 }

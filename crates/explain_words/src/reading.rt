@@ -2,9 +2,9 @@
 
 ghost use Rattle.std.specs.Prelude.{◌≡◌, IfOk, IfSome, option_map};
 ghost use Rattle.clap.specs.Words.{first_of, found_of, rows_of, subcommand_rows_of};
-ghost use Rattle.words.specs.Values.{number_within, workers_in};
+ghost use Rattle.words.specs.Values.{number_within, number_in, workers_in};
 ghost use Rattle.words.specs.Words.{texts};
-ghost use Rattle.explain_words.specs.Words.{HasWorkers, asked, story_in, request_under, request_in, request_of};
+ghost use Rattle.explain_words.specs.Words.{HasWorkers, asked, story_in, instance_in, most_in, rules_in, request_under, request_in, request_of};
 
 use crate::commands::Command;
 use crate::grammar::explain_command;
@@ -47,9 +47,75 @@ fn story_in<'a>(matches: &ArgMatches<'a>) -> Option<Command<'a>>
     let report = value_at(matches, "report")?;
     let study = value_at(matches, "study")?;
     let workers = workers_in(matches)?;
-    Some(Command {
+    Some(Command::Story {
         study,
         report,
+        workers,
+    })
+}
+
+/// A number of 32 bits.
+fn number_of(word: &str) -> Option<u32>
+    ensures { result ≡ number_within 0 4294967295 word.now }
+{
+    let number = read_number(word.as_bytes())?;
+    if number <= 4_294_967_295 {
+        Some(number as u32)
+    } else {
+        None
+    }
+}
+
+/// The number that was found.
+fn number_in(matches: &ArgMatches<'_>) -> Option<u32>
+    ensures { result ≡ number_in (rows_of (found_of matches.now)) }
+{
+    number_of(value_at(matches, "number")?)
+}
+
+/// `instance STUDY AXIOM NUMBER`.
+fn instance_in<'a>(matches: &ArgMatches<'a>) -> Option<Command<'a>>
+    ensures { option_map asked result ≡ instance_in (rows_of (found_of matches.now)) }
+{
+    let axiom_name = value_at(matches, "axiom")?;
+    let study = value_at(matches, "study")?;
+    let number = number_in(matches)?;
+    Some(Command::Instance {
+        study,
+        axiom_name,
+        number,
+    })
+}
+
+/// A number of rules.
+fn most_of(word: &str) -> Option<u32>
+    ensures { result ≡ number_within 1 10000 word.now }
+{
+    let count = read_number(word.as_bytes())?;
+    if 1 <= count && count <= 10_000 {
+        Some(count as u32)
+    } else {
+        None
+    }
+}
+
+/// The number of rules that was found, or 100.
+fn most_in(matches: &ArgMatches<'_>) -> Option<u32>
+    ensures { result ≡ most_in (rows_of (found_of matches.now)) }
+{
+    most_of(value_at(matches, "most")?)
+}
+
+/// `rules STUDY`.
+fn rules_in<'a>(matches: &ArgMatches<'a>) -> Option<Command<'a>>
+    ensures { option_map asked result ≡ rules_in (rows_of (found_of matches.now)) }
+{
+    let study = value_at(matches, "study")?;
+    let most = most_in(matches)?;
+    let workers = workers_in(matches)?;
+    Some(Command::Rules {
+        study,
+        most,
         workers,
     })
 }
@@ -60,6 +126,8 @@ fn command_under<'a>(name: &str, matches: &ArgMatches<'a>) -> Option<Command<'a>
 {
     match name {
         "story" => story_in(matches),
+        "instance" => instance_in(matches),
+        "rules" => rules_in(matches),
         _ => None,
     }
 }

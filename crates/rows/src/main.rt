@@ -1,4 +1,4 @@
-//! Rows of words over real files: runs each through the top call, and prints what it comes to.
+//! Rows of words over real files: runs each through the top call of its program, and prints what it comes to.
 //!
 //! Each argument names a file of rows. Its lines are printed one by one, and behind that of a row its answer:
 //!
@@ -8,6 +8,7 @@
 //! | `file NAME OLD N` | the same, but these stand in place of line N, from 1, of the file OLD |
 //! | `\|TEXT`, `/TEXT` | the text is a line of the file, with a line end or without one |
 //! | `run WORDS`, `run WORDS > NAME` | a row: the words, one blank between two; the file gets what is written |
+//! | `explain WORDS` | a row of the program `explain` |
 //! | `# TEXT`, an empty line | nothing |
 #![tactic(auto)]
 
@@ -29,7 +30,7 @@ fn obey<R: Files + Print + AllocGlobal + Threads + Sync>(
         *draft = Draft::read(rt, head)?;
         return Ok(());
     }
-    if line == "run" || line.starts_with("run ") {
+    if line == "run" || line.starts_with("run ") || line.starts_with("explain ") {
         return row::run(rt, line);
     }
     if line.is_empty() || line.starts_with("# ") {

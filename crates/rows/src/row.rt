@@ -2,6 +2,7 @@
 
 use answers::Run;
 use edge::{FileShelf, MemorySink, Open};
+use explain_call::explain;
 use std::io::{ErrorKind, Write};
 use std::rt::Files;
 use std::thread::Threads;
@@ -45,7 +46,7 @@ fn learned_by(run: &Run) -> usize {
     learned
 }
 
-/// What the words behind `run` come to, over the files that they name.
+/// What the words behind `run` or `explain` come to, over the files that they name.
 fn answer<R: Files + Print + AllocGlobal + Threads + Sync>(rt: &R, line: &str) -> io::Result<Told> {
     let alloc = rt.alloc();
     let mut words = Vec::new(alloc);
@@ -56,11 +57,15 @@ fn answer<R: Files + Print + AllocGlobal + Threads + Sync>(rt: &R, line: &str) -
         return Err(io::Error::from(ErrorKind::OutOfMemory));
     };
     let mut shelf = FileShelf::new(rt);
-    let run = bench(rt, alloc, &words, &mut shelf, &mut out, &Open);
-    let learned = learned_by(&run);
+    let (status, learned) = if line.starts_with("explain ") {
+        (explain(rt, alloc, &words, &mut shelf, &mut out, &Open), 0)
+    } else {
+        let run = bench(rt, alloc, &words, &mut shelf, &mut out, &Open);
+        (run.status, learned_by(&run))
+    };
     let bytes = out.bytes().to_vec(alloc)?;
     Ok(Told {
-        status: run.status,
+        status,
         learned,
         bytes,
     })
@@ -129,7 +134,7 @@ fn print_text<R: Print>(rt: &R, text: &[u8]) -> io::Result<()> {
     Ok(())
 }
 
-/// Runs `run WORDS` or `run WORDS > NAME`, and prints what it comes to; the file NAME gets the text.
+/// Runs `run WORDS`, `explain WORDS` or one of them with `> NAME` behind it, and prints what it comes to; the file NAME gets the text.
 pub fn run<R: Files + Print + AllocGlobal + Threads + Sync>(rt: &R, line: &str) -> io::Result<()> {
     let (words, name) = match line.split_once(" > ") {
         Some((words, name)) => (words, Some(name)),

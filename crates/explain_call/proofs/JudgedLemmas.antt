@@ -1,0 +1,112 @@
+-- Which judge answers of a text, and that it confirms what is right.
+use Rattle.std.proofs.Common.{◌≡◌, ◌∙◌, refl, sym, ap, ℕ, ◌<◌, ◌≤◌, ◌^◌, Bool, true, false, cond, List, [], ◌∷◌, ◌++◌, length, take, drop, arith}
+use Rattle.std.specs.Prelude.{codes, nat_lt, ◌==◌}
+use Rattle.std.specs.Str.{bytes_eq}
+use Rattle.std.proofs.lemmas.List.{take-append-drop, take-take}
+use Rattle.std.proofs.lemmas.List.Splits.{length-slice_split}
+use Rattle.std.proofs.lemmas.Slice.Eq.{bytes_eq-Decides}
+use Rattle.vocab.specs.Study.{Question, HasFewAxioms}
+use Rattle.verdicts.specs.declared.refusals.Refusal.TheVariants.{Form}
+use Rattle.verdicts.specs.declared.verdicts.Verdict.{Verdict}
+use Rattle.verdicts.specs.Judge.{Refused, judge, pieces, front, Judgement, Confirmed, Faulty, answer, beyond, answer_within}
+use Rattle.verdicts.specs.Laws.{IsReportable}
+use Rattle.verdicts.specs.Report.{lemma_count, IsReport}
+use Rattle.verdicts.proofs.ClaimLaws.{within_limit}
+use Rattle.verdicts.proofs.LineEndLaws.{lemmas_fit}
+use Rattle.verdicts.proofs.ReportLaws.{right_is_confirmed}
+use Rattle.verdicts.proofs.WordLaws.{split_ended}
+use Rattle.sharp_verdicts.specs.Judged.{Judged, AsReport, AsSharp, sharp_title, has_sharp_title}
+use Rattle.sharp_verdicts.specs.Right.{Pointed}
+use Rattle.sharp_verdicts.specs.SharpJudge.{SharpJudgement, SharpConfirmed, sharp_answer_within}
+use Rattle.sharp_verdicts.specs.SharpLines.{sharp_text}
+use Rattle.sharp_laws.specs.Laws.{IsSharpText}
+use Rattle.sharp_laws.proofs.AnswerLaws.{texts_confirmed}
+use Rattle.sharp_laws.proofs.ApartLaws.{no_report}
+use Rattle.sharp_laws.proofs.FaultLaws.{within_limit as sharp_within_limit}
+use Rattle.sharp_laws.proofs.JudgeLaws.{judge_sound as sharp_judge_sound}
+use Rattle.answers.specs.FileLimits.{most_report_bytes}
+use Rattle.answers.specs.Check.{judgement, judged}
+
+-- which of two answers was given
+report_given : (b : Bool) (s : SharpJudgement) (r a : Judgement) → cond b (AsSharp s) (AsReport r) ≡ AsReport a → r ≡ a
+report_given true s r a e = absurd (cc)
+report_given false s r a e = cc
+
+sharp_given : (b : Bool) (s : SharpJudgement) (r : Judgement) (a : SharpJudgement) → cond b (AsSharp s) (AsReport r) ≡ AsSharp a → s ≡ a
+sharp_given true s r a e = cc
+sharp_given false s r a e = absurd (cc)
+
+-- the text of a sharp verdict has its title
+text_titled : (study : Question) (v : Pointed) → has_sharp_title (sharp_text study v) ≡ true
+text_titled study v = refl
+
+-- what follows that title
+titled_split : (text : List ℕ) → has_sharp_title text ≡ true → text ≡ sharp_title ++ drop (length sharp_title) text
+titled_split text e =
+    sym (take-append-drop (length sharp_title) text) ∙ ap (λ start. start ++ drop (length sharp_title) text) ((bytes_eq-Decides _ sharp_title).0 e)
+
+-- the judge of reports refuses it, whatever lines follow
+title_refused : (study : Question) (rest : List ℕ) → judge study (front (pieces (sharp_title ++ rest))) ≡ Refused 1 Form
+title_refused study rest =
+    ap (λ ps. judge study (front ps)) (split_ended 10 (codes "bench sharp 1" ∷ []) rest refl)
+    ∙ by_rest (pieces rest) (let some : 0 < length (pieces rest) = omega (arith, length-slice_split (λ b. b == 10) rest) in some)
+  where
+    by_rest : (ps : List (List ℕ)) → 0 < length ps → judge study (front (codes "bench sharp 1" ∷ ps)) ≡ Refused 1 Form
+    by_rest [] h = absurd (omega (arith, h))
+    by_rest (p ∷ ps) h = refl
+
+-- so it does wherever so much of a text is read
+titled_within : (limit : ℕ) (study : Question) (text : List ℕ) → 14 ≤ limit → has_sharp_title text ≡ true → answer_within limit study text ≡ Faulty 1 Form
+titled_within limit study text fits e = by (nat_lt limit (length text))
+  where
+    begins : has_sharp_title (take limit text) ≡ true
+    begins = ap (λ start. bytes_eq start sharp_title) (take-take 14 limit text fits) ∙ e
+
+    by : (long : Bool) → cond long (beyond (judge study (front (pieces (take limit text))))) (answer study text) ≡ Faulty 1 Form
+    by true =
+        ap (λ read. beyond (judge study (front (pieces read)))) (titled_split (take limit text) begins)
+        ∙ ap beyond (title_refused study (drop (length sharp_title) (take limit text)))
+    by false = no_report study text (drop (length sharp_title) text) (titled_split text e)
+
+module _ (study : Question) (text : List ℕ) where
+  -- a text with that title is no report
+  titled_is_faulty : has_sharp_title text ≡ true → judgement study text ≡ Faulty 1 Form
+  titled_is_faulty e = titled_within most_report_bytes study text (omega arith) e
+
+  -- a report that its judge confirms is judged as one
+  report_judged : (verdict : Verdict) → judgement study text ≡ Confirmed verdict → judged study text ≡ AsReport (Confirmed verdict)
+  report_judged verdict e = by (has_sharp_title text) refl
+    where
+      by : (b : Bool) → has_sharp_title text ≡ b → cond b (AsSharp (sharp_answer_within study most_report_bytes text)) (AsReport (judgement study text)) ≡ AsReport (Confirmed verdict)
+      by true h = let no : Faulty 1 Form ≡ Confirmed verdict = sym (titled_is_faulty h) ∙ e in absurd (cc)
+      by false h = ap AsReport e
+
+  -- a sharp text that its judge confirms is judged as one
+  sharp_judged : (v : Pointed) → sharp_answer_within study most_report_bytes text ≡ SharpConfirmed v → judged study text ≡ AsSharp (SharpConfirmed v)
+  sharp_judged v e =
+      let is = (sharp_judge_sound study text v ((sharp_within_limit most_report_bytes study text v).0 e).1).is in
+      let titled : has_sharp_title text ≡ true = ap has_sharp_title is ∙ text_titled study v in
+      ap (λ (b : Bool). cond b (AsSharp (sharp_answer_within study most_report_bytes text)) (AsReport (judgement study text))) titled ∙ ap AsSharp e
+
+  -- ---- texts of what is right
+
+  pub report_checked : (verdict : Verdict) → IsReportable study → HasFewAxioms study → IsReport study verdict text → length text ≤ most_report_bytes
+      → judged study text ≡ AsReport (Confirmed verdict)
+  report_checked verdict whole few is fits =
+      let count : lemma_count verdict < 2 ^ 64 = omega (arith, lemmas_fit study text verdict is, fits) in
+      report_judged verdict ((within_limit most_report_bytes study text verdict).1 (fits, right_is_confirmed study whole few text verdict is count))
+
+  pub sharp_checked : (v : Pointed) → IsReportable study → HasFewAxioms study → IsSharpText study v text → length text ≤ most_report_bytes
+      → judged study text ≡ AsSharp (SharpConfirmed v)
+  sharp_checked v whole few is fits = sharp_judged v ((texts_confirmed most_report_bytes study whole few (omega arith) text v).1 (fits, is))
+
+  -- ---- what is confirmed
+
+  pub report_answered : (a : Judgement) → judged study text ≡ AsReport a → judgement study text ≡ a
+  report_answered a e = report_given (has_sharp_title text) (sharp_answer_within study most_report_bytes text) (judgement study text) a e
+
+  pub sharp_answered : (v : Pointed) → judged study text ≡ AsSharp (SharpConfirmed v) → IsSharpText study v text × (length text ≤ most_report_bytes)
+  sharp_answered v e =
+      let is = sharp_given (has_sharp_title text) (sharp_answer_within study most_report_bytes text) (judgement study text) (SharpConfirmed v) e in
+      let within = (sharp_within_limit most_report_bytes study text v).0 is in
+      (sharp_judge_sound study text v within.1, within.0)

@@ -1,0 +1,195 @@
+-- Commands over the study of one file, from what each part promises to what the command does.
+use Rattle.std.proofs.Common.{◌≡◌, ◌∙◌, sym, refl, subst, cond, ℕ, ◌≤◌, Bool, true, false, List, [], ◌∷◌, Option, None, Some, Result, Ok, Err, IfOk, IsErrOf, arith}
+use Rattle.std.specs.Prelude.{◌==◌, ◌≢◌, IsTrue, IsFalse}
+use Rattle.std.specs.List.{list_all, list_any, AllByRecursion}
+use Rattle.std.proofs.lemmas.Bool.{and_from}
+use Rattle.std.specs.Str.{bytes_eq}
+use Rattle.edge.specs.Shelf.{Files, OthersStay}
+use Rattle.edge.specs.Faults.{Rose}
+use Rattle.vocab.specs.Study.{Question}
+use Rattle.clause_form.specs.declared.refusals.GroundFault.{GroundFault}
+use Rattle.clause_form.specs.declared.refusals.GroundFault.TheVariants.{Wide, Full, NoMemory}
+use Rattle.clause_form.specs.Refusals.{IsRefused}
+use Rattle.meaning.specs.Truth.{is_rule}
+use Rattle.rule_lists.specs.declared.answers.Ending.{Ending}
+use Rattle.rule_lists.specs.declared.answers.Ending.TheVariants.{Whole, More, Open}
+use Rattle.rule_lists.specs.declared.answers.RuleList.{RuleList}
+use Rattle.rule_lists.specs.RuleLists.{IsRuleOf, IsRuleList}
+use Rattle.rule_lists.proofs.LeavingLaws.{rule_of}
+use Rattle.rules_text.specs.RulesText.{are_rules, rules_text}
+use Rattle.answers.specs.Grounding.{fault_of, OverClauses, clauses_refused, clauses_made}
+use Rattle.answers.specs.Studies.{OverStudy, study_refused, study_given}
+use Rattle.answers.specs.Call.{AreFiles, are_told, none_read, touched_at}
+use Rattle.command_parts.specs.declared.answer.Answer.{Answer}
+use Rattle.command_parts.specs.declared.answer.Answer.TheVariants.{NoClauses}
+use Rattle.command_parts.specs.declared.answer.Stop.{Stop}
+use Rattle.command_parts.specs.declared.answer.Stop.TheVariants as stop
+use Rattle.command_parts.specs.declared.studies.Opened.{Opened}
+use Rattle.command_parts.specs.Opened.{IsRead, Refuses}
+use Rattle.command_parts.proofs.OpenLemmas.{given}
+use Rattle.command_parts.proofs.StudyLemmas.{not_first}
+use Rattle.explain_words.specs.Words.{Request, Instance, Rules}
+use Rattle.explain_call.specs.declared.reply.Reply.{Reply}
+use Rattle.explain_call.specs.declared.reply.Reply.TheVariants as reply
+use Rattle.explain_call.specs.Instance.{IsInstanceSaid, instance_status}
+use Rattle.explain_call.specs.Rules.{IsListed, rules_status}
+use Rattle.explain_call.specs.Lawful.{IsAnswer}
+use Rattle.explain_call.specs.Story.{bare_run}
+use Rattle.explain_call.specs.Call.{at_study, files_of, statuses_of}
+use Rattle.explain_call.specs.Replies.{HasText, Replies, status_of, text_of}
+use Rattle.explain_call.proofs.CallLemmas.{may_want_memory}
+use Rattle.instance_text.specs.Said.{is_there}
+
+-- of one file the status takes none away
+touched_one : (s : ℕ) (name : List ℕ) → touched_at s (name ∷ []) ≡ name ∷ []
+touched_one s name = go (s == 3)
+  where
+    go : (b : Bool) → cond b (name ∷ []) (name ∷ []) ≡ name ∷ []
+    go true = refl
+    go false = refl
+
+-- a status of a command that is below 5
+abbrev pub IsLow : Option Request → ℕ → Type 0
+IsLow request s = IsTrue (list_any (λ n. n == s) (statuses_of request)) × (s ≤ 4)
+
+-- a command reads this file alone, and its row is a study that is refused, or one of which the rest holds
+pub record IsStudyCommand (request : Option Request) (name : List ℕ) (IsRest : Question → ℕ → List ℕ → Type 0) : Type 0 where
+  pub one : files_of request ≡ name ∷ []
+  pub into : (files : Files) (status : ℕ) (text : List ℕ) → OverStudy files name (bare_run status) text (λ study. IsRest study status text) → IsAnswer request files status text
+  pub can_refuse : IsLow request 3
+  pub can_fail : IsTrue (list_any (λ n. n == 5) (statuses_of request))
+  pub ends : (study : Question) (status : ℕ) (text : List ℕ) → IsRest study status text → IsLow request status
+
+module _ (request : Option Request) (name : List ℕ) (IsRest : Question → ℕ → List ℕ → Type 0) (command : IsStudyCommand request name IsRest)
+    (told : Option Files) (left_before left_now : Files) (faults_before faults_now : List ℕ → ℕ) (others : OthersStay left_before left_now name) where
+  abbrev Promised : Result Reply Stop → Type 0
+  Promised result = Replies request told left_before left_now faults_before faults_now result
+
+  files_are : (files : Files) → AreFiles told (files_of request) files → told ≡ Some files
+  files_are files (are_told e) = e
+  files_are files (none_read e) = let no : name ∷ [] ≡ [] = sym command.one ∙ e in absurd (cc)
+
+  others_stay : (s : ℕ) (other : List ℕ) → IsFalse (list_any (bytes_eq other) (touched_at s (files_of request))) → left_now other ≡ left_before other
+  others_stay s other free =
+      let names : touched_at s (files_of request) ≡ name ∷ [] = subst (λ (ns : List (List ℕ)). touched_at s ns ≡ name ∷ []) (sym command.one) (touched_one s name) in
+      others other (not_first other name [] (subst (λ (ns : List (List ℕ)). list_any (bytes_eq other) ns ≡ false) names free))
+
+  reads_one : files_of request ≡ [] → ⊥
+  reads_one e = let no : name ∷ [] ≡ [] = sym command.one ∙ e in cc
+
+  ended : (r : Reply) → IsLow request (status_of r) → HasText r → ((files : Files) → told ≡ Some files → IsAnswer request files (status_of r) (text_of r)) → Promised (Ok r)
+  ended r low has_text row = record {
+    lawful = λ files h. row files (files_are files h);
+    known = low.0;
+    low = low.1;
+    has_text = has_text;
+    read_fault = λ e. absurd (cc);
+    untouched = others_stay (status_of r);
+    uncounted = λ e. absurd (reads_one e);
+  }
+
+  wanting : Promised (Err stop.NoMemory)
+  wanting = record {
+    lawful = λ files h. tt;
+    known = may_want_memory request;
+    low = tt;
+    has_text = tt;
+    read_fault = λ e. absurd (cc);
+    untouched = others_stay 7;
+    uncounted = λ e. absurd (reads_one e);
+  }
+
+  -- the study was read, and the rest holds of the reply
+  pub study_reply : (study : Question) (result : Result Reply Stop) → IsRead told name study → IfOk result (λ r. IsRest study (status_of r) (text_of r)) → IfOk result HasText
+      → result ≢ Err stop.ReadFault → Promised result
+  study_reply study (Ok r) read rest has_text none =
+      ended r (command.ends study (status_of r) (text_of r) rest) has_text
+      (λ files e. command.into files (status_of r) (text_of r) (study_given study (given told name study files read e) rest))
+  study_reply study (Err stop.ReadFault) read rest has_text none = absurd (none refl)
+  study_reply study (Err stop.NoMemory) read rest has_text none = wanting
+
+  -- the study is refused
+  pub refused_study : (answer : Answer) → Refuses told name answer → Promised (Ok (reply.Refused answer))
+  refused_study answer refuses =
+      let three : status_of (reply.Refused answer) ≡ 3 = refuses.bare.ends in
+      ended (reply.Refused answer) (subst (IsLow request) (sym three) command.can_refuse) refuses.has_text
+      (λ files e. command.into files (status_of (reply.Refused answer)) (text_of (reply.Refused answer))
+      (study_refused (refuses.line files e) (record { ends = three; no_verdict = refl; no_logs = refl; no_sharp = refl })))
+
+  -- or could not be read
+  pub stopped_study : (e : Stop) → (IsErrOf {T = Opened} (Err e) stop.ReadFault → Rose (faults_before name) (faults_now name)) → Promised (Err e)
+  stopped_study stop.ReadFault rose = record {
+    lawful = λ files h. tt;
+    known = command.can_fail;
+    low = tt;
+    has_text = tt;
+    read_fault = λ e. at_study name [] command.one (rose refl) others;
+    untouched = others_stay 5;
+    uncounted = λ e. absurd (reads_one e);
+  }
+  stopped_study stop.NoMemory rose = wanting
+
+-- ---- the commands
+
+-- `instance` is such a command
+module _ (name axiom_name : List ℕ) (number : ℕ) where
+  abbrev asked : Option Request
+  asked = Some (Instance name axiom_name number)
+
+  instance_low : (there : Bool) (status : ℕ) → status ≡ instance_status there → IsLow asked status
+  instance_low true status e = subst (IsLow asked) (sym e) (refl, omega arith)
+  instance_low false status e = subst (IsLow asked) (sym e) (refl, omega arith)
+
+  pub instance_command : IsStudyCommand asked name (λ study status text. IsInstanceSaid study axiom_name number status text)
+  instance_command = record {
+    one = refl;
+    into = λ files status text row. row;
+    can_refuse = (refl, omega arith);
+    can_fail = refl;
+    ends = λ study status text is. instance_low (is_there study axiom_name number) status is.ends;
+  }
+
+-- `rules` is such a command
+module _ (name : List ℕ) (most workers : ℕ) where
+  abbrev listing : Option Request
+  listing = Some (Rules name most workers)
+
+  listed_low : (ending : Ending) (status : ℕ) → status ≡ rules_status ending → IsLow listing status
+  listed_low Whole status e = subst (IsLow listing) (sym e) (refl, omega arith)
+  listed_low More status e = subst (IsLow listing) (sym e) (refl, omega arith)
+  listed_low Open status e = subst (IsLow listing) (sym e) (refl, omega arith)
+
+  over_low : (study : Question) (status : ℕ) (text : List ℕ) → OverClauses study (bare_run status) text (IsListed study most status text) → IsLow listing status
+  over_low study status text (clauses_refused fault e line bare) = subst (IsLow listing) (sym bare.ends) (refl, omega arith)
+  over_low study status text (clauses_made none is) = listed_low is.list.ending status is.ends
+
+  pub rules_command : IsStudyCommand listing name (λ study status text. OverClauses study (bare_run status) text (IsListed study most status text))
+  rules_command = record {
+    one = refl;
+    into = λ files status text row. row;
+    can_refuse = (refl, omega arith);
+    can_fail = refl;
+    ends = over_low;
+  }
+
+-- a refusal other than want of memory is the one of the clauses
+refused_as : (fault : GroundFault) (wanted : Option GroundFault) → fault ≢ NoMemory → IsRefused fault wanted → wanted ≡ Some fault
+refused_as (Wide place instance counts) wanted known is = is
+refused_as (Full place) wanted known is = is
+refused_as NoMemory wanted known is = absurd (known refl)
+
+-- the clauses are refused
+pub no_clauses : (study : Question) (fault : GroundFault) (P : Type 0) → fault ≢ NoMemory → IsRefused fault (fault_of study)
+    → OverClauses study (bare_run (status_of (reply.Refused (NoClauses study fault)))) (text_of (reply.Refused (NoClauses study fault))) P
+no_clauses study fault P known is =
+    clauses_refused fault (refused_as fault (fault_of study) known is) refl (record { ends = refl; no_verdict = refl; no_logs = refl; no_sharp = refl })
+
+-- the rules that satisfy the axioms are rules of the size
+pub are_rules_of : (study : Question) (tables : List (List ℕ)) → AllByRecursion (IsRuleOf study) tables → are_rules study.size tables
+are_rules_of study [] h = refl
+are_rules_of study (table ∷ tables) h = and_from (is_rule study.size table) (list_all (is_rule study.size) tables) (rule_of study table h.0) (are_rules_of study tables h.1)
+
+-- a right list of rules is what is said
+pub listed : (study : Question) (most : ℕ) (list : RuleList) → fault_of study ≡ None → IsRuleList study most list
+    → OverClauses study (bare_run (rules_status list.ending)) (rules_text study list) (IsListed study most (rules_status list.ending) (rules_text study list))
+listed study most list none right = clauses_made none (record { list = list; right = right; ends = refl; lines = refl })
