@@ -1,7 +1,7 @@
 -- In proof order.
 mod RowLemmas
 mod FitLemmas
-mod JudgedLaws
+pub mod JudgedLaws
 mod DecidedLaws
 pub mod ReportLaws
 mod ClauseLaws

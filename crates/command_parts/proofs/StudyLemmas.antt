@@ -34,7 +34,7 @@ not_first name other names free same =
     true≢false (sym (subst (λ (n : List ℕ). bytes_eq name n ≡ true) same (same_bytes name)) ∙ (or_parts (bytes_eq name other) _ free).0)
 
 -- of one file the status takes none away
-touched_one : (s : ℕ) (name : List ℕ) → touched_at s (name ∷ []) ≡ name ∷ []
+pub touched_one : (s : ℕ) (name : List ℕ) → touched_at s (name ∷ []) ≡ name ∷ []
 touched_one s name = go (s == 3)
   where
     go : (b : Bool) → cond b (name ∷ []) (name ∷ []) ≡ name ∷ []

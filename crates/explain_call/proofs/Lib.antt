@@ -2,7 +2,6 @@
 mod ReplyLemmas
 mod CallLemmas
 mod StudyReplies
-mod JudgedLemmas
 mod PageLaws
 mod InstanceLaws
 mod RulesLaws

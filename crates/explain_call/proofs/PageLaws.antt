@@ -26,7 +26,7 @@ use Rattle.explain_call.specs.Story.{IsSaid, IsStory, IsToldOf, bare_run}
 use Rattle.explain_call.specs.Lawful.{Lawful, IsAnswer}
 use Rattle.explain_call.specs.Call.{IsCall, files_of}
 use Rattle.explain_call.specs.Laws.{IsPageOf, IsPageExact, PagesAreExact, IsPageWritten, PagesAreWritten}
-use Rattle.explain_call.proofs.JudgedLemmas.{report_answered, report_checked, sharp_answered, sharp_checked}
+use Rattle.answers.proofs.JudgedLaws.{report_answered, report_checked, sharp_answered, sharp_checked}
 
 some_same : {A : Type 0} (o : Option A) (x y : A) → o ≡ Some x → o ≡ Some y → x ≡ y
 some_same o x y h k = cc

@@ -27,7 +27,7 @@ use Rattle.command_parts.specs.declared.answer.Stop.TheVariants as stop
 use Rattle.command_parts.specs.declared.studies.Opened.{Opened}
 use Rattle.command_parts.specs.Opened.{IsRead, Refuses}
 use Rattle.command_parts.proofs.OpenLemmas.{given}
-use Rattle.command_parts.proofs.StudyLemmas.{not_first}
+use Rattle.command_parts.proofs.StudyLemmas.{not_first, touched_one}
 use Rattle.explain_words.specs.Words.{Request, Instance, Rules}
 use Rattle.explain_call.specs.declared.reply.Reply.{Reply}
 use Rattle.explain_call.specs.declared.reply.Reply.TheVariants as reply
@@ -39,14 +39,6 @@ use Rattle.explain_call.specs.Call.{at_study, files_of, statuses_of}
 use Rattle.explain_call.specs.Replies.{HasText, Replies, status_of, text_of}
 use Rattle.explain_call.proofs.CallLemmas.{may_want_memory}
 use Rattle.instance_text.specs.Said.{is_there}
-
--- of one file the status takes none away
-touched_one : (s : ℕ) (name : List ℕ) → touched_at s (name ∷ []) ≡ name ∷ []
-touched_one s name = go (s == 3)
-  where
-    go : (b : Bool) → cond b (name ∷ []) (name ∷ []) ≡ name ∷ []
-    go true = refl
-    go false = refl
 
 -- a status of a command that is below 5
 abbrev pub IsLow : Option Request → ℕ → Type 0

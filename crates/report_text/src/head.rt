@@ -38,9 +38,11 @@ impl Text for Names<'_> {
 
 /// The names of the axioms at some places, each with a blank before it.
 #[derive(Drop)]
-pub(crate) struct CoreNames<'a> {
-    pub(crate) study: &'a Study,
-    pub(crate) core: &'a [u32],
+pub struct CoreNames<'a> {
+    /// The study.
+    pub study: &'a Study,
+    /// The places, each below the number of its axioms.
+    pub core: &'a [u32],
 }
 
 impl Text for CoreNames<'_> {

@@ -9,7 +9,7 @@ mod verdict;
 mod words;
 
 pub use counts::Count;
-pub use head::About;
+pub use head::{About, CoreNames};
 pub use lines::Told;
 pub use rules::Rows;
 pub use verdict::{pour_verdict, print};

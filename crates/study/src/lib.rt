@@ -15,5 +15,6 @@ mod sentences;
 
 pub use entries::{Entries, Entry, copied};
 pub use faults::{StudyFault, Text};
+pub use limits::{atoms, instances};
 pub use listing::Listing;
-pub use reading::{answer_of, read_study};
+pub use reading::{answer_of, listing_in, read_study};

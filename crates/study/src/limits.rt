@@ -21,7 +21,7 @@ enum Limit {
 
 /// How many instances a sentence has, at most 2^64 - 1.
 #[tactic(auto, using(crate::proofs::Counting::told_times))]
-fn instances(size: Size, sentence: &Formula) -> u64
+pub fn instances(size: Size, sentence: &Formula) -> u64
     ensures { result ≡ told (instance_count size (tree_of sentence.now)) }
 {
     match sentence {
@@ -35,7 +35,7 @@ fn instances(size: Size, sentence: &Formula) -> u64
 
 /// How many atoms a formula has, quantifiers written out, at most 2^64 - 1.
 #[tactic(auto, using(crate::proofs::Counting::told_times, crate::proofs::Counting::told_plus))]
-fn atoms(size: Size, formula: &Formula) -> u64
+pub fn atoms(size: Size, formula: &Formula) -> u64
     ensures { result ≡ told (atom_count size (tree_of formula.now)) }
 {
     match formula {

@@ -48,9 +48,9 @@ pub fn answer_of(alloc: Global, listing: &Listing) -> Result<Study, StudyFault>
     }
 }
 
-/// What the bytes list, or the first refusal of their document.
+/// What the bytes list, or the first refusal of their document, before any text of an axiom is read.
 #[tactic(auto, using(crate::proofs::Whole::bytes_refused))]
-fn listing_in(alloc: Global, bytes: &[u8]) -> Result<Listing, StudyFault>
+pub fn listing_in(alloc: Global, bytes: &[u8]) -> Result<Listing, StudyFault>
     ensures { Gives (listing_in (document_of bytes.now)) result }
 {
     let table = match toml::table_from_slice(alloc, bytes) {

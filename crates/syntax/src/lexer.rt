@@ -38,7 +38,8 @@ fn goes_on(c: u8) -> bool
     is_lower_byte(c) || is_digit_byte(c) || c == b'_'
 }
 
-fn is_blank_byte(c: u8) -> bool
+/// Whether a byte is a tab, a line feed, a carriage return or a space.
+pub fn is_blank_byte(c: u8) -> bool
     ensures { result ≡ is_blank c }
 {
     c == b'\t' || c == b'\n' || c == b'\r' || c == b' '
@@ -202,8 +203,8 @@ fn mark_or_constant(c: u8, rest: &[u8]) -> Option<(Lexeme, &[u8])>
     }
 }
 
-/// The lexeme that the bytes begin with, and what follows it.
-fn first_lexeme(bytes: &[u8]) -> Option<(Lexeme, &[u8])>
+/// The lexeme that the bytes begin with, and what follows it; None where none begins there, as at a blank.
+pub fn first_lexeme(bytes: &[u8]) -> Option<(Lexeme, &[u8])>
     ensures { MatchOption result (lexeme_at bytes.now ≡ None)
         (λ x. lexeme_at bytes.now ≡ Some (x.0, x.1.now)) }
 {
