@@ -1,8 +1,8 @@
 #!/usr/bin/env bash
 # Seconds of a processor that the gate takes for each crate: for its proof, for the proof and the run of its tests, and for its
 # must-fail edits, dearest crate first. `measure/gate.sh LOG [TIMES [WORD..]]`: where TIMES (LOG.times, if none is named) is not there,
-# it first runs `rt ci --anew`, or `rt ci` with the words that are given, writes what that says to LOG, and writes a line to TIMES for
-# each process of it that ended, `CRATE PART SECONDS`; else it reads the two. It ends with the status of that run.
+# it first runs the gate from nothing, or `rt ci` with the words that are given, writes what that says to LOG, and writes a line to TIMES
+# for each process of it that ended, `CRATE PART SECONDS`; else it reads the two. It ends with the status of that run.
 # The log tells no times, so the processes of the run are looked at ten times in a second. What one spent after the last look is
 # taken from the seconds of ended processes that the system keeps for the run, in equal parts for those that ended since; what no
 # process of a crate accounts for (the gate's own work, formatting) is the row `others`. So the last line, `sum S`, is what the run spent.
@@ -13,7 +13,8 @@ times=${2:-$log.times}
 shift $(($# < 2 ? $# : 2))
 status=0
 if [ ! -e "$times" ]; then
-    [ $# -gt 0 ] || set -- --anew
+    # (a toolchain that keeps what passed has a word for a run from nothing; one that keeps nothing has none)
+    [ $# -gt 0 ] || ! rt help 2>&1 | grep -q -e ' --anew' || set -- --anew
     python3 - "$root" "$log" "$times" rt ci "$@" <<'PY' || status=$?
 import os, re, resource, subprocess, sys, time
 root, log, times, *words = sys.argv[1:]
