@@ -1,0 +1,2 @@
+mod CallRows
+mod Confirming
