@@ -1,5 +1,5 @@
 -- What `lrat` says with status 0.
-use Rattle.std.proofs.Common.{◌≡◌, ◌∙◌, sym, ap, subst, ℕ, Bool, true, false, cond, List, Option, None, Some, Result, Ok, Err, arith}
+use Rattle.std.proofs.Common.{◌≡◌, ◌∙◌, refl, sym, ℕ, Bool, true, false, cond, List, Option, None, Some, Result, Ok, Err, arith}
 use Rattle.std.specs.Prelude.{codes, nat_lt, length}
 use Rattle.edge.specs.Shelf.{Files}
 use Rattle.cnf.specs.declared.derivations.Line.{Line}
@@ -10,7 +10,7 @@ use Rattle.clause_text.specs.ReadDimacs.{Formula}
 use Rattle.clause_text.specs.ReadLrat.{read_lrat}
 use Rattle.answers.specs.declared.runs.Run.{Run}
 use Rattle.answers.specs.FileLimits.{most_proof_bytes}
-use Rattle.answers.specs.Lrat.{IsConfirmedBy, formula_refused, proof_judged, Said, of_derivation, of_reading, said_of, refused}
+use Rattle.answers.specs.Lrat.{IsConfirmedBy, formula_refused, proof_judged, of_derivation, of_reading, said_of, refused}
 
 zero_derivation : (fault : Option (ℕ × LineFault)) → (of_derivation fault).status ≡ 0 → (of_derivation fault).text ≡ codes "confirmed\n"
 zero_derivation None e = refl

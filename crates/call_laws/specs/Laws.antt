@@ -5,7 +5,6 @@ use Rattle.edge.specs.Shelf.{Files}
 use Rattle.vocab.specs.declared.kinds.Kind.TheVariants.{Sets}
 use Rattle.vocab.specs.Study.{Question}
 use Rattle.cnf.specs.Sat.{IsUnsatisfiable}
-use Rattle.verdicts.specs.declared.verdicts.Verdict.{Verdict}
 use Rattle.verdicts.specs.declared.verdicts.Verdict.TheVariants.{Possible}
 use Rattle.verdicts.specs.Judge.{Confirmed}
 use Rattle.choice_sets.specs.Laws.{HasNoGain}
@@ -16,7 +15,6 @@ use Rattle.answers.specs.declared.runs.Run.{Run}
 use Rattle.answers.specs.Call.{IsCall}
 use Rattle.answers.specs.Check.{judgement}
 use Rattle.answers.specs.Devices.{Devices}
-use Rattle.answers.specs.Gain.{said_of_gain}
 use Rattle.answers.specs.Lrat.{GivesFormula}
 use Rattle.answers.specs.RowLaws.{IsProofRight, IsSampleRight, SaysStudy}
 use Rattle.answers.specs.Studies.{GivesStudy}

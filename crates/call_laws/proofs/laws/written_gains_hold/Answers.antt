@@ -1,4 +1,4 @@
-use Rattle.std.proofs.Common.{Some, sym, subst, ℕ, List, Option, arith}
+use Rattle.std.proofs.Common.{Some, sym, subst, Option, arith}
 use Rattle.words.specs.Words.{Request, Gain}
 use Rattle.answers.specs.Call.{are_told}
 use Rattle.answers.specs.Lawful.{IsAnswer}
