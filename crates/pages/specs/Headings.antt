@@ -40,7 +40,9 @@ module _ (size : Extent) where
 
   -- for whom a rule is
   abbrev pub for_html : List ℕ
-  for_html = codes " for " ++ voters_html size.voters ++ away_html ++ codes " and " ++ alternatives_html size.alternatives ++ domain_html
+  for_html =
+      codes " for " ++ voters_html size.voters ++ away_html ++ codes " and "
+      ++ alternatives_html size.alternatives ++ domain_html
 
 -- ---- names
 

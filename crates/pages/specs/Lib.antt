@@ -5,3 +5,4 @@ pub mod Theorem
 pub mod Witnesses
 pub mod Pages
 pub mod Told
+pub mod Laws

@@ -50,8 +50,11 @@ module _ (size : Extent) where
   -- the size, and what a rule is
   abbrev pub size_html : List ℕ
   size_html =
-      codes "<p>Voters: " ++ decimal size.voters ++ codes ". Alternatives:" ++ flat_map lettered_html (below size.alternatives) ++ codes ". Each voter casts " ++ ballots_html ++ absent_words size
-      ++ codes ". A rule gives " ++ gives_words size.kind ++ codes ", at each of the " ++ decimal (sort_count size Profile) ++ codes " profiles of ballots.</p>\n"
+      codes "<p>Voters: " ++ decimal size.voters ++ codes ". Alternatives:"
+      ++ flat_map lettered_html (below size.alternatives) ++ codes ". Each voter casts " ++ ballots_html
+      ++ absent_words size
+      ++ codes ". A rule gives " ++ gives_words size.kind ++ codes ", at each of the "
+      ++ decimal (sort_count size Profile) ++ codes " profiles of ballots.</p>\n"
 
 -- ---- the axioms
 
@@ -60,7 +63,8 @@ abbrev pub code_html : List ℕ → List ℕ
 code_html text = codes " <code>" ++ escaped text ++ codes "</code>"
 
 module _ (size : Extent) where
-  -- the sentence of an axiom: that which the library has under its name, or else its own, each variable by the letter of its sort and its place
+  -- the sentence of an axiom: that which the library has under its name, or else its own, each variable
+  -- by the letter of its sort and its place
   abbrev pub sentence_text : Titled → List ℕ
   sentence_text a = unwrap_or (text_under size.kind a.name) (text_of (named_sentence size a.sentence))
 
@@ -71,7 +75,9 @@ module _ (size : Extent) where
   module _ (axioms : List Titled) where
     -- the axiom at a place: its name, its words and its sentence
     abbrev pub axiom_item : ℕ → List ℕ
-    axiom_item k = codes "<li>" ++ axiom_html axioms k ++ words_of size.kind (name_at axioms k) ++ sentence_of (slice_get axioms k) ++ codes "</li>\n"
+    axiom_item k =
+        codes "<li>" ++ axiom_html axioms k ++ words_of size.kind (name_at axioms k)
+        ++ sentence_of (slice_get axioms k) ++ codes "</li>\n"
 
     -- axioms by their places
     abbrev pub axioms_html : List ℕ → List ℕ
@@ -81,19 +87,23 @@ module _ (size : Extent) where
 
 -- what is grey in a proof, and what small numbers are
 abbrev pub grey_words : Bool → List ℕ
-grey_words told = if told then codes " Grey is supposed, or forced without a supposition; a small number is that of the sentence which states the fact." else []
+grey_words told =
+    if told then codes " Grey is supposed, or forced without a supposition; a small number is that of the sentence which states the fact." else []
 
 module _ (size : Extent) where
   -- how a profile is read, by one of them
   abbrev pub example_html : List ℕ
-  example_html = profile_html size 1 ++ codes " is a profile: voter 1's ballot comes first, and in each ballot the best alternative."
+  example_html =
+      profile_html size 1
+      ++ codes " is a profile: voter 1's ballot comes first, and in each ballot the best alternative."
 
   abbrev pub profile_words : List ℕ
   profile_words = if nat_lt 1 (sort_count size Profile) then example_html else []
 
   -- how a table is read
   abbrev pub table_words : List ℕ
-  table_words = if is_gridded size 25 then codes " In a table the row is voter 1's ballot, and the column voter 2's." else []
+  table_words =
+      if is_gridded size 25 then codes " In a table the row is voter 1's ballot, and the column voter 2's." else []
 
   abbrev pub reading_html : Bool → List ℕ
   reading_html told = codes "<p class=z>" ++ profile_words ++ table_words ++ grey_words told ++ codes "</p>\n"

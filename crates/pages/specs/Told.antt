@@ -16,7 +16,8 @@ IsToldBy size axioms (Impossible core story witnesses) told = IsStoryTold size a
 IsToldBy size axioms Undecided told = Unit
 
 -- the page of a verdict, with its story told right: the names of the files, and the version
-pub record IsPage (study : Question) (study_file report_file version : List ℕ) (verdict : Verdict) (page : List ℕ) : Type 0 where
+pub record IsPage (study : Question) (study_file report_file version : List ℕ) (verdict : Verdict)
+    (page : List ℕ) : Type 0 where
   pub telling : StoryTelling
   pub told : IsToldBy study.size study.axioms verdict telling
   pub is : page ≡ page_of study study_file report_file version telling verdict

@@ -15,7 +15,9 @@ module _ (size : Extent) where
   -- the mark of an axiom of the core: a rule that satisfies the others, or that none was found
   abbrev pub mark_of : Witness → List ℕ
   mark_of (Rule table) = name_html size table ++ codes "</p>\n" ++ rule_html size table
-  mark_of (Open limit) = codes " it is not known whether some rule satisfies the others: the search gave up after " ++ decimal limit ++ codes " conflicts.</p>\n"
+  mark_of (Open limit) =
+      codes " it is not known whether some rule satisfies the others: the search gave up after "
+      ++ decimal limit ++ codes " conflicts.</p>\n"
 
   module _ (axioms : List Titled) where
     abbrev pub witness_html : ℕ → Witness → List ℕ
@@ -31,4 +33,5 @@ module _ (size : Extent) where
     -- the marks of a core
     abbrev pub witnesses_html : List ℕ → List Witness → List ℕ
     witnesses_html core witnesses =
-        codes "<h2>Without one of the axioms: a rule that satisfies the others</h2>\n<div class=w>\n" ++ flat_map (witness_at core witnesses) (below (length witnesses)) ++ codes "</div>\n"
+        codes "<h2>Without one of the axioms: a rule that satisfies the others</h2>\n<div class=w>\n"
+        ++ flat_map (witness_at core witnesses) (below (length witnesses)) ++ codes "</div>\n"

@@ -3,6 +3,7 @@
 
 mod axioms;
 mod headings;
+pub mod laws;
 mod page;
 mod theorem;
 mod whole;

@@ -233,7 +233,8 @@ fn put_whole<K: OutcomeKind>(
     Ok(())
 }
 
-/// Adds the page of a verdict on a study, whose story is told so, if it has one. The only error is want of memory.
+/// Adds the page of a verdict on a study, whose story is told so, if it has one. The only error is want of
+/// memory.
 pub fn put_page<K: OutcomeKind>(
     alloc: Global,
     out: &mut Html,

@@ -90,7 +90,8 @@ fn put_marks<K: OutcomeKind>(
     witnesses: &[Witness],
 ) -> Result<(), NoMemory>
     ensures { OnOk result (out.new ≡ out.old ++
-        flat_map (witness_at (K.size kind.now) axioms.now core.now witnesses.now) (below (length witnesses.now))) }
+        flat_map (witness_at (K.size kind.now) axioms.now core.now witnesses.now)
+        (below (length witnesses.now))) }
 {
     let count = witnesses.len();
     for place in 0..count {

@@ -1,8 +1,8 @@
 -- One forced fact more.
-use Rattle.std.proofs.Common.{◌≡◌, refl, sym, ap, ◌∙◌, subst, ℕ, zero, suc, ◌+◌, ◌<◌, ◌≤◌, inl, inr, Bool, true, ◌&&◌, List, [], ◌∷◌, ◌++◌, map, length, arith, Option, Some, None, IsSomeAnd, eq-eqb}
+use Rattle.std.proofs.Common.{◌≡◌, sym, ap, ◌∙◌, subst, ℕ, ◌<◌, inl, inr, Bool, true, List, [], ◌∷◌, ◌++◌, length, Option, Some, None, IsSomeAnd, eq-eqb}
 use Rattle.std.specs.Prelude.{◌==◌, slice_get}
 use Rattle.std.specs.List.{list_all}
-use Rattle.std.proofs.lemmas.Bool.{and_parts, and_from, cases_lt}
+use Rattle.std.proofs.lemmas.Bool.{cases_lt}
 use Rattle.std.proofs.lemmas.List.{map-append}
 use Rattle.vocab.specs.declared.literals.Literal.{Literal}
 use Rattle.vocab.specs.Literal.{opposite_of}
@@ -11,7 +11,7 @@ use Rattle.vocab.specs.Titled.{Titled}
 use Rattle.meaning.specs.Stories.{refutes}
 use Rattle.meaning.specs.declared.stories.StoryStep.{StoryStep}
 use Rattle.story.proofs.PlaceLemmas.{all_at}
-use Rattle.tellings.specs.Tellings.{by_of, facts_of, is_by}
+use Rattle.tellings.specs.Tellings.{by_of, facts_of}
 use Rattle.tellings.specs.declared.tellings.By.{By}
 use Rattle.tellings.specs.declared.tellings.Placed.{Placed}
 use Rattle.tellings.specs.declared.tellings.Sentence.{Sentence}

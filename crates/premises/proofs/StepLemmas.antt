@@ -1,8 +1,8 @@
 -- The first of the steps that follow, and the lemmas of a story.
-use Rattle.std.proofs.Common.{◌≡◌, refl, sym, ap, ◌∙◌, subst, ℕ, zero, suc, ◌+◌, ◌<◌, ◌≤◌, Bool, true, false, not, ◌&&◌, ◌||◌, List, [], ◌∷◌, ◌++◌, map, take, drop, get_or, length, arith, Some, append-nil, append_assoc, true≢false, inl, inr, length-append}
+use Rattle.std.proofs.Common.{◌≡◌, refl, sym, ap, ◌∙◌, subst, ℕ, zero, suc, ◌+◌, ◌<◌, Bool, true, false, not, ◌&&◌, List, [], ◌∷◌, ◌++◌, take, drop, get_or, length, Some, append-nil, append_assoc, true≢false}
 use Rattle.std.specs.Prelude.{slice_get, ◌==◌}
 use Rattle.std.specs.List.{list_all}
-use Rattle.std.proofs.lemmas.Bool.{and_parts, and_from, or_parts, cases_lt}
+use Rattle.std.proofs.lemmas.Bool.{and_parts, and_from, or_parts}
 use Rattle.std.proofs.lemmas.List.{drop_more, take_more}
 use Rattle.std.proofs.lemmas.List.Elements.{filter-append}
 use Rattle.vocab.specs.declared.literals.Literal.{Literal}
@@ -13,7 +13,7 @@ use Rattle.meaning.specs.declared.stories.Lemma.{Lemma}
 use Rattle.meaning.specs.declared.stories.Reason.{Reason}
 use Rattle.meaning.specs.declared.stories.StoryStep.{StoryStep}
 use Rattle.meaning.specs.Literals.{is_literal}
-use Rattle.meaning.specs.Stories.{are_forced, are_new, has_literals, is_decided, is_lemma, is_story_from, refutes}
+use Rattle.meaning.specs.Stories.{are_forced, are_new, has_literals, is_decided, is_lemma, is_story_from}
 use Rattle.premises.specs.declared.basis.Basis.{Basis}
 use Rattle.meaning.proofs.TestLaws.{all_read}
 use Rattle.premises.specs.Grounds.{follow, is_lemma_by, refutes_by, unforced}

@@ -6,4 +6,5 @@ use Rattle.tellings.specs.Tellings.{rests_of}
 
 -- the literals are those that the sentence of the number rests on, if there is one
 abbrev pub IsLoaded : List Sentence → ℕ → List Literal → Type 0
-IsLoaded sentences number literals = number < length sentences → literals ≡ rests_of (slice_get sentences number)
+IsLoaded sentences number literals =
+    number < length sentences → literals ≡ rests_of (slice_get sentences number)

@@ -8,7 +8,8 @@ use Rattle.premises.specs.declared.forced.Forced.{Forced}
 use Rattle.premises.specs.Grounds.{are_numbered}
 
 -- each fact on the board is stated by a sentence that rests on nothing, and says it
-pub record AreForcedSoFar (size : Extent) (axioms : List Titled) (core : List ℕ) (forced : Forced) : Type 0 where
+pub record AreForcedSoFar (size : Extent) (axioms : List Titled) (core : List ℕ) (forced : Forced)
+    : Type 0 where
   pub sized : forced.board.size ≡ size
   pub numbered : IsTrue (are_numbered (length forced.passage.sentences) forced.passage.steps)
   pub said : IsTrue (are_said size axioms core [] forced.passage)

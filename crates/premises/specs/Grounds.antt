@@ -1,10 +1,9 @@
 -- What a reason rests on, and a lemma that is told so far.
-use Rattle.std.specs.Prelude.{◌≡◌, ℕ, ◌+◌, ◌<◌, ◌≤◌, nat_lt, ◌==◌, not, Bool, IsTrue, Option, Some, List, [], ◌∷◌, ◌++◌, map, filter, length, slice_get, IsSomeAnd}
+use Rattle.std.specs.Prelude.{◌≡◌, ℕ, ◌<◌, ◌≤◌, nat_lt, not, Bool, IsTrue, Option, List, ◌++◌, map, filter, length, slice_get, IsSomeAnd}
 use Rattle.std.specs.List.{list_all}
 use Rattle.vocab.specs.declared.literals.Literal.{Literal}
 use Rattle.vocab.specs.Literal.{has}
 use Rattle.vocab.specs.Size.{Extent}
-use Rattle.vocab.specs.Titled.{Titled}
 use Rattle.meaning.specs.declared.stories.Lemma.{Lemma}
 use Rattle.meaning.specs.declared.stories.Reason.{Reason}
 use Rattle.meaning.specs.declared.stories.StoryStep.{StoryStep}
@@ -14,7 +13,7 @@ use Rattle.tellings.specs.declared.tellings.Passage.{Passage}
 use Rattle.tellings.specs.declared.tellings.Placed.{Placed}
 use Rattle.tellings.specs.declared.tellings.Sentence.{Sentence}
 use Rattle.tellings.specs.declared.tellings.Telling.{Telling}
-use Rattle.tellings.specs.Tellings.{are_said, facts_of, is_by, rests_of, says, stands_before, IsTold}
+use Rattle.tellings.specs.Tellings.{are_said, is_by, rests_of, says, stands_before, IsTold}
 use Rattle.premises.specs.declared.basis.Basis.{Basis}
 
 -- a sentence names this reason and rests on these facts
@@ -22,7 +21,8 @@ pub record IsSentence (by : By) (rests : List Literal) (sentence : Sentence) : T
   pub named : IsTrue (is_by sentence.by by)
   pub same : sentence.rests ≡ rests
 
--- the sentences are those of before, or one more, which is the one of the number; that one names this reason and rests on these facts
+-- the sentences are those of before, or one more, which is the one of the number; that one names this reason
+-- and rests on these facts
 pub record IsJoined (old new : List Sentence) (by : By) (rests : List Literal) (number : ℕ) : Type 0 where
   pub within : number < length new
   pub is : IsSomeAnd (slice_get new number) (IsSentence by rests)
@@ -57,7 +57,8 @@ module _ (size : Extent) (basis : Basis) where
 
   -- each step is new and forced, and the last reason refutes all
   abbrev pub follow : Reason → List Literal → List StoryStep → Bool
-  follow last known steps = are_forced size basis.study.now.axioms basis.core.now basis.earlier.now last known steps
+  follow last known steps =
+      are_forced size basis.study.now.axioms basis.core.now basis.earlier.now last known steps
 
   -- a lemma follows from the earlier ones
   abbrev pub is_lemma_by : Lemma → Bool
@@ -65,7 +66,8 @@ module _ (size : Extent) (basis : Basis) where
 
   -- a lemma is told right
   abbrev pub IsToldBy : List Literal → Lemma → Telling → Type 0
-  IsToldBy forced lemma telling = IsTold size basis.study.now.axioms basis.core.now basis.earlier.now forced lemma telling
+  IsToldBy forced lemma telling =
+      IsTold size basis.study.now.axioms basis.core.now basis.earlier.now forced lemma telling
 
   -- a reason rests on these facts: they are known, and with the others the reason refutes them
   pub record RestsOn (known others : List Literal) (reason : Reason) (rests : List Literal) : Type 0 where
@@ -76,11 +78,15 @@ module _ (size : Extent) (basis : Basis) where
   pub record IsToldSoFar (forced suppose known : List Literal) (passage : Passage) : Type 0 where
     pub numbered : IsTrue (are_numbered (length passage.sentences) passage.steps)
     pub said : IsTrue (are_said_by passage)
-    pub grounded : (k : ℕ) → IsTrue (list_all (stands_before forced suppose passage.steps k) (rests_of (slice_get passage.sentences k)))
-    pub stands : IsTrue (list_all (stands_before forced suppose passage.steps (length passage.sentences)) known)
+    pub grounded : (k : ℕ)
+        → IsTrue (list_all (stands_before forced suppose passage.steps k) (rests_of (slice_get passage.sentences k)))
+    pub stands :
+        IsTrue (list_all (stands_before forced suppose passage.steps (length passage.sentences)) known)
 
   -- a passage tells a lemma right up to its end
   pub record Upholds (forced suppose : List Literal) (end : List Literal) (passage : Passage) : Type 0 where
     pub said : IsTrue (are_said_by passage)
-    pub grounded : (k : ℕ) → IsTrue (list_all (stands_before forced suppose passage.steps k) (rests_of (slice_get passage.sentences k)))
-    pub end_stands : IsTrue (list_all (stands_before forced suppose passage.steps (length passage.sentences)) end)
+    pub grounded : (k : ℕ)
+        → IsTrue (list_all (stands_before forced suppose passage.steps k) (rests_of (slice_get passage.sentences k)))
+    pub end_stands :
+        IsTrue (list_all (stands_before forced suppose passage.steps (length passage.sentences)) end)

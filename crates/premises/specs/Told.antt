@@ -10,5 +10,6 @@ use Rattle.tellings.specs.Tellings.{IsTold}
 -- each telling tells its lemma by the lemmas before it
 abbrev pub AreTold : Extent → List Titled → List ℕ → List Lemma → List Literal → List Telling → Type 0
 AreTold size axioms core story forced tellings =
-    (j : ℕ) (lemma : Lemma) (telling : Telling) → slice_get story j ≡ Some lemma → slice_get tellings j ≡ Some telling →
+    (j : ℕ) (lemma : Lemma) (telling : Telling) →
+    slice_get story j ≡ Some lemma → slice_get tellings j ≡ Some telling →
     IsTold size axioms core (take j story) forced lemma telling

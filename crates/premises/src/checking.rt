@@ -20,7 +20,8 @@ use vocab::{Literal, Size};
 use worlds::Board;
 
 /// Puts what the sentence of a number rests on in place of what is on a board, unless it is there already.
-/// False where there is no such sentence, or where it rests on what is no literal of the size, or on one twice.
+/// False where there is no such sentence, or where it rests on what is no literal of the size, or on one
+/// twice.
 fn load(
     size: Size,
     tried: &mut Board,

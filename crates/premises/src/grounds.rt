@@ -101,8 +101,8 @@ impl<K: OutcomeKind> Grounds<'_, K> {
         }
     }
 
-    /// Whether a reason rests on those of some literals that are known, but for the one at a place: these, if it
-    /// does. The reason has to refute them together with the others.
+    /// Whether a reason rests on those of some literals that are known, but for the one at a place: these, if
+    /// it does. The reason has to refute them together with the others.
     fn attempt(
         &self,
         alloc: Global,
@@ -168,9 +168,16 @@ impl<K: OutcomeKind> Grounds<'_, K> {
         Ok(kept)
     }
 
-    /// The literals that an instance of the axiom at a place of the core speaks of.
-    fn spoken_by(&self, alloc: Global, place: u32, values: &Env) -> Result<Literals, NoMemory>
-        requires { (a : Titled) → slice_get self.now.basis.study.now.axioms place ≡ Some a →
+    /// The known literals of which an instance of the axiom at a place of the core speaks.
+    fn spoken_by(
+        &self,
+        alloc: Global,
+        known: &Board,
+        place: u32,
+        values: &Env,
+    ) -> Result<Literals, NoMemory>
+        requires known { known.now.size ≡ K.size self.now.kind.now }
+        requires values { (a : Titled) → slice_get self.now.basis.study.now.axioms place ≡ Some a →
             IsTrue (pointwise nat_lt values.now (bases_of (K.size self.now.kind.now) a.sentence)) }
     {
         bodies_have_values();
@@ -179,7 +186,7 @@ impl<K: OutcomeKind> Grounds<'_, K> {
             return Ok(Literals::new(alloc));
         }
         let sentence = axioms.get(place as usize).sentence();
-        literals_of(alloc, self.kind.space(), sentence.body(), values)
+        literals_of(alloc, self.kind.space(), known, sentence.body(), values)
     }
 
     /// Facts that a reason may rest on; those that are not known do not count.
@@ -189,12 +196,13 @@ impl<K: OutcomeKind> Grounds<'_, K> {
         known: &Board,
         reason: &Reason,
     ) -> Result<Literals, NoMemory>
-        requires { (k : ℕ) (values : List ℕ) → reason.now ≡ Reason.Axiom k values → (a : Titled) →
+        requires known { known.now.size ≡ K.size self.now.kind.now }
+        requires values { (k : ℕ) (values : List ℕ) → reason.now ≡ Reason.Axiom k values → (a : Titled) →
             slice_get self.now.basis.study.now.axioms k ≡ Some a →
             IsTrue (pointwise nat_lt values (bases_of (K.size self.now.kind.now) a.sentence)) }
     {
         match reason {
-            Reason::Axiom(place, values) => self.spoken_by(alloc, *place, values),
+            Reason::Axiom(place, values) => self.spoken_by(alloc, known, *place, values),
             Reason::Outcome(p) => at_profile(alloc, known.as_slice(), *p),
             Reason::Lemma(place) => match self.basis.earlier.get(*place as usize) {
                 Some(lemma) => all_of(alloc, lemma.suppose.as_slice()),

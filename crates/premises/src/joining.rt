@@ -5,7 +5,7 @@ ghost use Rattle.tellings.specs.Tellings.{by_of, is_by};
 ghost use Rattle.premises.specs.Grounds.{IsJoined, IsSentence};
 
 use crate::chains::Chains;
-use crate::literals::{is_same, place_of as place_of_literal};
+use crate::literals::{is_same, profile_of};
 use lists::{Items, NoMemory};
 use meaning::{Literals, Reason};
 use tellings::{By, Sentence};
@@ -56,10 +56,11 @@ fn is_sentence(sentence: &Sentence, by: By, rests: &[Literal]) -> bool
     is_by(sentence.by, by) && are_same(sentence.rests.as_slice(), rests)
 }
 
-/// The key by which a sentence is found: the place of the first fact that it rests on; without one, 0.
+/// The key by which a sentence is found: the profile of the first fact that it rests on, from 1; without one,
+/// 0.
 pub(crate) fn key_of(rests: &[Literal]) -> usize {
     match rests.first() {
-        Some(literal) => place_of_literal(literal).saturating_add(1),
+        Some(literal) => (profile_of(literal) as usize).saturating_add(1),
         None => 0,
     }
 }

@@ -233,7 +233,7 @@ fn join_by(
 fn renumbered(alloc: Global, numbers: &[u32], steps: &[Placed]) -> Result<Items<Placed>, NoMemory>
     ensures { IfOk result (λ new. steps_of new ≡ steps_of steps.now) }
 {
-    let mut new = Items::new(alloc);
+    let mut new = Items::with_room(alloc, steps.len())?;
     for placed in steps {
         new.push(Placed {
             sentence: at(numbers, placed.sentence as usize),

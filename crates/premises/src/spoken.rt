@@ -1,22 +1,37 @@
-//! The literals that a formula speaks of.
+//! The known literals that a formula speaks of.
 
+ghost use Rattle.std.specs.Prelude.{◌≡◌};
 ghost use Rattle.vocab.specs.Tree.{tree_of};
 ghost use Rattle.worlds.specs.Conditions.{IsFormulaAt};
 
+use crate::literals::is_literal;
 use lists::NoMemory;
 use meaning::Literals;
 use profiles::Space;
 use std::alloc::Global;
-use vocab::{Env, Formula, Literal};
-use worlds::{Algebra, eval};
+use vocab::{Env, Formula, Literal, Size};
+use worlds::{Algebra, Board, eval};
 
-/// Keeps each literal that it meets, and its opposite.
+/// Keeps each literal that it meets, and its opposite, if it is known.
 #[derive(Drop)]
-struct Spoken {
+struct Spoken<'a> {
+    size: Size,
+    known: &'a Board,
     seen: Literals,
+    ghost same: { known.now.size ≡ size },
 }
 
-impl Algebra for Spoken {
+impl Spoken<'_> {
+    /// Keeps a literal of the size that is known.
+    fn keep(&mut self, literal: &Literal) -> Result<(), NoMemory> {
+        if is_literal(self.size, literal) && self.known.has(literal) {
+            self.seen.push(*literal)?;
+        }
+        Ok(())
+    }
+}
+
+impl Algebra for Spoken<'_> {
     type V = ();
 
     type Stop = NoMemory;
@@ -32,8 +47,8 @@ impl Algebra for Spoken {
     }
 
     fn literal(&mut self, literal: &Literal) -> Result<(), NoMemory> {
-        self.seen.push(*literal)?;
-        self.seen.push(literal.opposite())?;
+        self.keep(literal)?;
+        self.keep(&literal.opposite())?;
         Ok(())
     }
 
@@ -54,22 +69,31 @@ impl Algebra for Spoken {
     }
 }
 
-/// The literals that a formula speaks of at the values of its free variables, and their opposites.
+/// Those of the known literals of which, or of whose opposites, a formula speaks at the values of its free
+/// variables.
 pub(crate) fn literals_of(
     alloc: Global,
     space: &Space,
+    known: &Board,
     body: &Formula,
     values: &Env,
 ) -> Result<Literals, NoMemory>
-    requires { IsFormulaAt space.now (tree_of body.now) values.now }
+    requires size { known.now.size ≡ space.now }
+    requires body { IsFormulaAt space.now (tree_of body.now) values.now }
 {
     let mut algebra = Spoken {
+        size: space.size(),
+        known,
         seen: Literals::new(alloc),
     };
     match eval(space, body, values, &mut algebra) {
         Ok(()) => {}
         Err(NoMemory) => return Err(NoMemory),
     }
-    let Spoken { seen } = algebra;
+    let Spoken {
+        size: _,
+        known: _,
+        seen,
+    } = algebra;
     Ok(seen)
 }

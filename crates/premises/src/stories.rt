@@ -13,7 +13,6 @@ use crate::chains::Chains;
 use crate::forced::forced_in;
 use crate::grounds::Grounds;
 use crate::homes::homes_of;
-use crate::literals::places;
 use crate::shapes::joined_by_shape;
 use crate::step_index::StepIndex;
 use crate::telling::suppose;
@@ -22,7 +21,7 @@ use meaning::Lemma;
 use outcomes::OutcomeKind;
 use std::alloc::Global;
 use tellings::{StoryTelling, Telling};
-use vocab::{Places, Study};
+use vocab::{Places, Sort, Study};
 use worlds::Board;
 
 /// What is used anew for each lemma: two boards, and tables by the places of literals.
@@ -44,7 +43,10 @@ impl Desk {
         Ok(Desk {
             known: Board::new(alloc, kind)?,
             tried: Board::new(alloc, kind)?,
-            chains: Chains::new(alloc, places(size).saturating_add(1))?,
+            chains: Chains::new(
+                alloc,
+                (size.sort_len(Sort::Profile) as usize).saturating_add(1),
+            )?,
             index: StepIndex::new(alloc, size)?,
         })
     }

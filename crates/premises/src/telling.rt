@@ -124,7 +124,7 @@ impl<K: OutcomeKind> Grounds<'_, K> {
     {
         let mut passage = Passage {
             sentences: Items::new(alloc),
-            steps: Items::new(alloc),
+            steps: Items::with_room(alloc, lemma.steps.len())?,
         };
         for step in lemma.steps.as_slice() {
             self.take_step(alloc, known, tried, chains, &mut passage, step)?;

@@ -44,7 +44,9 @@ module _ (axioms : List Titled) where
       ++ all_instances instances marks ++ codes "</p>\n"
 
 -- the page that claims so, of what a sharp text says: the names of the files, the version, and how the story is told
-abbrev pub sharp_html : Extent → List Titled → (claim : Verdict) → (study_file report_file version : List ℕ) → StoryTelling → Pointed → List ℕ
+abbrev pub sharp_html :
+    Extent → List Titled → (claim : Verdict) → (study_file report_file version : List ℕ) → StoryTelling → Pointed →
+    List ℕ
 sharp_html size axioms claim study_file report_file version told v =
     front_html size axioms claim ++ proved_html size axioms v.core v.story told
     ++ instances_html axioms v.instances v.marks ++ check_html study_file report_file version ++ codes "</body></html>\n"
@@ -55,7 +57,8 @@ sharp_page_of study study_file report_file version told v =
     sharp_html study.size study.axioms (Impossible v.core [] []) study_file report_file version told v
 
 -- the page of a sharp verdict, with its story told right
-pub record IsSharpPage (study : Question) (study_file report_file version : List ℕ) (v : Pointed) (page : List ℕ) : Type 0 where
+pub record IsSharpPage (study : Question) (study_file report_file version : List ℕ) (v : Pointed)
+    (page : List ℕ) : Type 0 where
   pub telling : StoryTelling
   pub told : IsStoryTold study.size study.axioms v.core v.story telling
   pub is : page ≡ sharp_page_of study study_file report_file version telling v

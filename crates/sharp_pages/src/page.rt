@@ -127,7 +127,8 @@ pub fn sharp_page_text<K: OutcomeKind>(
       instances = instances.now;
       marks = marks.now;
     }) }
-    ensures { IfOk result (IsSharpPage study.now source.now.study.now source.now.report.now source.now.version.now
+    ensures { IfOk result (IsSharpPage study.now source.now.study.now source.now.report.now
+        source.now.version.now
         (record {
           core = core.now;
           story = story.now;

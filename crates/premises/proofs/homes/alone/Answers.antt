@@ -1,4 +1,4 @@
-use Rattle.std.proofs.Common.{◌≡◌, sym, subst, ℕ, List, Option}
+use Rattle.std.proofs.Common.{sym, subst, ℕ, List, Option}
 use Rattle.tellings.specs.Tellings.{AreHomes}
 use Rattle.premises.proofs.HomeLemmas.{none_are_homes}
 use Rattle.premises.proofs.homes.alone.Goals as goal

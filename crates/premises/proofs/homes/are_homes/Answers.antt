@@ -1,4 +1,4 @@
-use Rattle.std.proofs.Common.{◌≡◌, sym, ◌∙◌, ◌+◌, ◌<◌, ◌≤◌, inl, inr, true, length, arith, rules}
+use Rattle.std.proofs.Common.{◌≡◌, sym, ◌∙◌, inl, inr, true, arith, rules}
 use Rattle.std.proofs.lemmas.Bool.{cases_lt}
 use Rattle.premises.proofs.HomeLemmas.{checked_homes, reached_more, taken_more}
 use Rattle.premises.proofs.homes.are_homes.Goals as goal

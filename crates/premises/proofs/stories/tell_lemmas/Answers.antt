@@ -1,4 +1,4 @@
-use Rattle.std.proofs.Common.{◌≡◌, ◌∙◌, [], length, slice_get, Some}
+use Rattle.std.proofs.Common.{◌∙◌, []}
 use Rattle.meaning.specs.Stories.{has_literals}
 use Rattle.story.proofs.PlaceLemmas.{all_first}
 use Rattle.premises.proofs.StepLemmas.{story_literals, lemma_there}

@@ -1,7 +1,7 @@
-use Rattle.std.proofs.Common.{◌≡◌, sym, subst, List}
+use Rattle.std.proofs.Common.{sym, subst, List}
 use Rattle.std.specs.Prelude.{take}
 use Rattle.vocab.specs.declared.literals.Literal.{Literal}
-use Rattle.tellings.specs.Tellings.{AreHomes, IsTold}
+use Rattle.tellings.specs.Tellings.{IsTold}
 use Rattle.premises.proofs.stories.tell_story.Goals as goal
 
 pub returns : goal.returns

@@ -1,4 +1,3 @@
-use Rattle.std.proofs.Common.{◌≡◌}
 use Rattle.premises.proofs.ToldLemmas.{told_more}
 use Rattle.premises.proofs.grounds.Grounds.tell_step.Goals as goal
 

@@ -1,10 +1,8 @@
-use Rattle.std.proofs.Common.{◌≡◌, refl, sym, ap, ◌∙◌, subst, ◌+◌, true, List, ◌++◌, [], ◌∷◌, drop, take, length}
-use Rattle.std.proofs.lemmas.List.{take_all}
+use Rattle.std.proofs.Common.{◌≡◌, refl, sym, ap, ◌∙◌, subst, ◌+◌, true, List, ◌++◌, [], ◌∷◌, drop, take}
 use Rattle.vocab.specs.declared.literals.Literal.{Literal}
 use Rattle.vocab.specs.Size.{Extent}
 use Rattle.meaning.specs.declared.stories.StoryStep.{StoryStep}
 use Rattle.meaning.specs.Literals.{is_literal}
-use Rattle.tellings.specs.declared.tellings.Passage.{Passage}
 use Rattle.premises.specs.Grounds.{follow, steps_of, unforced, IsToldSoFar}
 use Rattle.premises.proofs.ToldLemmas.{told_none}
 use Rattle.premises.proofs.StepLemmas.{NextForced, its_literal, next_forced, unforced_more}
@@ -19,8 +17,8 @@ loop-step-init g c =
     record {
       known_size = refl;
       tried_size = refl;
-      told = rw (c.requires.supposed, c.new.ensures, c.new-2.ensures) (told_none size basis forced suppose);
-      so_far = ap steps_of c.new-2.ensures;
+      told = rw (c.requires.supposed, c.new.ensures, c.in_ok-with_room.ensures) (told_none size basis forced suppose);
+      so_far = ap steps_of c.in_ok-with_room.ensures;
       others = rw (c.requires.supposed, c.as_slice-step-items.ensures) c.requires.follows;
     }
 
