@@ -1,0 +1,3 @@
+pub mod LexemeKinds
+pub mod Fronts
+pub mod Expected
