@@ -1,0 +1,5 @@
+use Rattle.study_hints.proofs.HelpLemmas.{three}
+use Rattle.study_hints.proofs.values.put_all_ballots.Goals as goal
+
+pub returns : goal.returns
+returns c = three _ _ _ _ _ _ _ c.in_ok-append.ensures.ok c.in_ok-put_ballots.ensures c.in_ok-append-2.ensures.ok

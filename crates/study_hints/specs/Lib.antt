@@ -1,0 +1,4 @@
+-- In reading order.
+pub mod Words
+pub mod Values
+pub mod Hints
