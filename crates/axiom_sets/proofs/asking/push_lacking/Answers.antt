@@ -1,0 +1,9 @@
+use Rattle.std.proofs.Common.{ap, ◌∙◌}
+use Rattle.axiom_sets.specs.Next.{lacks_some}
+use Rattle.axiom_sets.proofs.AskLaws.{full_at}
+use Rattle.axiom_sets.proofs.asking.push_lacking.Goals as goal
+
+pub returns-in-Err-push-clause-full : goal.returns-in-Err-push-clause-full
+returns-in-Err-push-clause-full c = λ e.
+    full_at c.loop-set.clauses c.args.clauses.now.clauses lacks_some c.args.sets.now c.loop-set.set-index c.set-item.result c.loop-set-test.true c.set-item.is c.loop-set.invariant
+    c.as_slice-in-Ok.result.now (c.as_slice-in-Ok.ensures.value ∙ c.in-Ok.ensures ∙ ap lacks_some c.as_slice.ensures) (c.push.ensures.full.0 (c.in-Err-push.is ∙ e))
