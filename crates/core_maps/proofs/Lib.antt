@@ -1,0 +1,5 @@
+pub mod FlagLaws
+pub mod SetLaws
+pub mod PassLaws
+pub mod KnownLaws
+pub mod MapLaws

@@ -1,0 +1,4 @@
+-- In reading order.
+pub mod CoreMaps
+pub mod Asking
+pub mod Laws
