@@ -19,14 +19,14 @@ is_built() {
 }
 
 # The words, each file word of a command as a path that does not depend on where the program runs. Before `--` a word with a
-# hyphen in front is an option, and the word after `--workers` its value.
+# hyphen in front is an option, and the word after `--workers` or `--most` its value.
 words=()
 with_paths() {
     local command=${1-} word last= ended= found=
     words=(${1+"$1"})
     shift || return 0
     for word in "$@"; do
-        if [[ -z $ended && ( $word == -?* || $last == --workers ) ]]; then
+        if [[ -z $ended && ( $word == -?* || $last == --workers || $last == --most ) ]]; then
             words+=("$word")
         elif [[ $command == $with_files || ( -z $found && $command == $with_one_file ) ]]; then
             if [[ $word == /* ]]; then words+=("$word"); else words+=("$PWD/$word"); fi

@@ -1,5 +1,5 @@
 -- From the reply of a command to the promises of a call.
-use Rattle.std.proofs.Common.{◌≡◌, ◌≢◌, ◌∙◌, sym, refl, subst, ℕ, ◌≤◌, inl, inr, cond, Bool, true, false, ◌||◌, List, [], ◌∷◌, take, Option, None, Some, Result, Ok, Err, arith}
+use Rattle.std.proofs.Common.{◌≡◌, ◌≢◌, sym, refl, subst, ℕ, ◌≤◌, inl, inr, cond, Bool, true, false, ◌||◌, List, [], ◌∷◌, take, Option, None, Some, Result, Ok, Err, arith}
 use Rattle.std.specs.Prelude.{◌==◌, IsTrue, IsFalse}
 use Rattle.std.specs.List.{list_any}
 use Rattle.std.specs.Str.{bytes_eq}
@@ -11,7 +11,7 @@ use Rattle.answers.specs.Call.{touched_at}
 use Rattle.answers.specs.Devices.{Devices}
 use Rattle.command_parts.specs.declared.answer.Stop.{Stop}
 use Rattle.command_parts.specs.declared.answer.Stop.TheVariants as stop
-use Rattle.explain_words.specs.Words.{Request, Story, Instance, Rules, request_of}
+use Rattle.explain_words.specs.Words.{Request, Story, Instance, Rules, Cores, Look, request_of}
 use Rattle.explain_call.specs.declared.reply.Reply.{Reply}
 use Rattle.explain_call.specs.declared.reply.Reply.TheVariants as reply
 use Rattle.explain_call.specs.Call.{IsCall, HasReadCause, files_of, statuses_of}
@@ -25,6 +25,8 @@ may_be_cut None = refl
 may_be_cut (Some (Story study report workers)) = refl
 may_be_cut (Some (Instance study axiom_name number)) = refl
 may_be_cut (Some (Rules study most workers)) = refl
+may_be_cut (Some (Cores study workers)) = refl
+may_be_cut (Some (Look study workers)) = refl
 
 -- and each may want memory
 pub may_want_memory : (request : Option Request) → IsTrue (list_any (λ n. n == 7) (statuses_of request))
@@ -32,6 +34,8 @@ may_want_memory None = refl
 may_want_memory (Some (Story study report workers)) = refl
 may_want_memory (Some (Instance study axiom_name number)) = refl
 may_want_memory (Some (Rules study most workers)) = refl
+may_want_memory (Some (Cores study workers)) = refl
+may_want_memory (Some (Look study workers)) = refl
 
 module _ (request : Option Request) (told : Option Files) (left : Files) (faults : List ℕ → ℕ) where
   -- the usage line, for words that are no command

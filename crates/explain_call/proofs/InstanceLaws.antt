@@ -1,11 +1,11 @@
 -- Of a study that a file gives an instance is told.
-use Rattle.std.proofs.Common.{◌≡◌, subst, ℕ, ◌≤◌, List, Option, Some}
+use Rattle.std.proofs.Common.{subst, ℕ, List, Option}
 use Rattle.std.specs.Io.KnownBytes.{Appends}
 use Rattle.edge.specs.Shelf.{Files}
 use Rattle.vocab.specs.Study.{Question}
 use Rattle.answers.specs.Call.{AreFiles, are_told}
 use Rattle.answers.specs.Studies.{GivesStudy, study_refused, study_given}
-use Rattle.explain_words.specs.Words.{Request, Instance, request_of}
+use Rattle.explain_words.specs.Words.{Request, request_of}
 use Rattle.explain_call.specs.Instance.{IsInstance, IsInstanceSaid}
 use Rattle.explain_call.specs.Lawful.{IsAnswer}
 use Rattle.explain_call.specs.Call.{files_of}

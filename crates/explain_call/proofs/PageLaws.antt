@@ -16,16 +16,15 @@ use Rattle.sharp_verdicts.specs.SharpJudge.{SharpConfirmed, SharpFaulty, SharpTo
 use Rattle.sharp_laws.specs.Laws.{IsSharpText}
 use Rattle.answers.specs.Call.{AreFiles, are_told}
 use Rattle.answers.specs.Check.{judged, judged_status, IsChecked}
-use Rattle.answers.specs.Devices.{Devices}
-use Rattle.answers.specs.FileLimits.{most_report_bytes, most_study_bytes, Holds}
+use Rattle.answers.specs.FileLimits.{most_report_bytes}
 use Rattle.answers.specs.Studies.{GivesStudy, RefusesStudy, too_long, no_study, study_refused, study_given}
 use Rattle.answers.proofs.ReportLaws.{reportable, listed}
-use Rattle.explain_words.specs.Words.{Request, Story, request_of}
+use Rattle.explain_words.specs.Words.{Request, request_of}
 use Rattle.explain_call.specs.Page.{IsPage, IsSharpPage}
 use Rattle.explain_call.specs.Story.{IsSaid, IsStory, IsToldOf, bare_run}
-use Rattle.explain_call.specs.Lawful.{Lawful, IsAnswer}
-use Rattle.explain_call.specs.Call.{IsCall, files_of}
-use Rattle.explain_call.specs.Laws.{IsPageOf, IsPageExact, PagesAreExact, IsPageWritten, PagesAreWritten}
+use Rattle.explain_call.specs.Lawful.{IsAnswer}
+use Rattle.explain_call.specs.Call.{files_of}
+use Rattle.explain_call.specs.Laws.{IsPageOf, IsPageExact, PagesAreExact, PagesAreWritten}
 use Rattle.answers.proofs.JudgedLaws.{report_answered, report_checked, sharp_answered, sharp_checked}
 
 some_same : {A : Type 0} (o : Option A) (x y : A) → o ≡ Some x → o ≡ Some y → x ≡ y

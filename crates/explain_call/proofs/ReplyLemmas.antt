@@ -26,7 +26,7 @@ use Rattle.explain_words.specs.Words.{Request, Story}
 use Rattle.explain_call.specs.declared.reply.Reply.{Reply}
 use Rattle.explain_call.specs.declared.reply.Reply.TheVariants as reply
 use Rattle.explain_call.specs.Story.{IsSaid, IsStory, IsToldOf}
-use Rattle.explain_call.specs.Call.{at_study, at_report, files_of, statuses_of}
+use Rattle.explain_call.specs.Call.{at_study, at_report}
 use Rattle.explain_call.specs.Replies.{HasText, IsReplyTo, Replies, status_of, text_of}
 
 -- ---- what is replied to what was read
@@ -41,6 +41,9 @@ module _ (study : Question) (name report : List ℕ) where
   by_judgement (AsReport (Confirmed verdict)) (reply.Refused answer) h = absurd h
   by_judgement (AsReport (Confirmed verdict)) (reply.Instance said) h = absurd h
   by_judgement (AsReport (Confirmed verdict)) (reply.Rules s list) h = absurd h
+  by_judgement (AsReport (Confirmed verdict)) (reply.Cores s map) h = absurd h
+  by_judgement (AsReport (Confirmed verdict)) (reply.Look s look) h = absurd h
+  by_judgement (AsReport (Confirmed verdict)) (reply.Helped helped) h = absurd h
   by_judgement (AsReport (Faulty line word)) r h = subst (λ (x : Reply). RepliesAs (AsReport (Faulty line word)) x) (sym h) (refl, refl)
   by_judgement (AsReport TooLong) r h = subst (λ (x : Reply). RepliesAs (AsReport TooLong) x) (sym h) (refl, refl)
   by_judgement (AsSharp (SharpConfirmed v)) (reply.Page page) h = (refl, h)
@@ -48,6 +51,9 @@ module _ (study : Question) (name report : List ℕ) where
   by_judgement (AsSharp (SharpConfirmed v)) (reply.Refused answer) h = absurd h
   by_judgement (AsSharp (SharpConfirmed v)) (reply.Instance said) h = absurd h
   by_judgement (AsSharp (SharpConfirmed v)) (reply.Rules s list) h = absurd h
+  by_judgement (AsSharp (SharpConfirmed v)) (reply.Cores s map) h = absurd h
+  by_judgement (AsSharp (SharpConfirmed v)) (reply.Look s look) h = absurd h
+  by_judgement (AsSharp (SharpConfirmed v)) (reply.Helped helped) h = absurd h
   by_judgement (AsSharp (SharpFaulty line word)) r h = subst (λ (x : Reply). RepliesAs (AsSharp (SharpFaulty line word)) x) (sym h) (refl, refl)
   by_judgement (AsSharp SharpTooLong) r h = subst (λ (x : Reply). RepliesAs (AsSharp SharpTooLong) x) (sym h) (refl, refl)
 
@@ -68,6 +74,9 @@ module _ (study : Question) (name report : List ℕ) where
   reply_is_low (reading.Confirmed verdict) (reply.Refused answer) h = absurd h
   reply_is_low (reading.Confirmed verdict) (reply.Instance said) h = absurd h
   reply_is_low (reading.Confirmed verdict) (reply.Rules s list) h = absurd h
+  reply_is_low (reading.Confirmed verdict) (reply.Cores s map) h = absurd h
+  reply_is_low (reading.Confirmed verdict) (reply.Look s look) h = absurd h
+  reply_is_low (reading.Confirmed verdict) (reply.Helped helped) h = absurd h
   reply_is_low (reading.Faulty line word) r h = subst IsLowReply (sym h) (omega arith, tt)
   reply_is_low reading.TooLong r h = subst IsLowReply (sym h) (omega arith, tt)
   reply_is_low (reading.SharpConfirmed v) (reply.Page page) h = (omega arith, tt)
@@ -75,6 +84,9 @@ module _ (study : Question) (name report : List ℕ) where
   reply_is_low (reading.SharpConfirmed v) (reply.Refused answer) h = absurd h
   reply_is_low (reading.SharpConfirmed v) (reply.Instance said) h = absurd h
   reply_is_low (reading.SharpConfirmed v) (reply.Rules s list) h = absurd h
+  reply_is_low (reading.SharpConfirmed v) (reply.Cores s map) h = absurd h
+  reply_is_low (reading.SharpConfirmed v) (reply.Look s look) h = absurd h
+  reply_is_low (reading.SharpConfirmed v) (reply.Helped helped) h = absurd h
   reply_is_low (reading.SharpFaulty line word) r h = subst IsLowReply (sym h) (omega arith, tt)
   reply_is_low reading.SharpTooLong r h = subst IsLowReply (sym h) (omega arith, tt)
 

@@ -1,8 +1,8 @@
 -- Commands over the study of one file, from what each part promises to what the command does.
-use Rattle.std.proofs.Common.{◌≡◌, ◌∙◌, sym, refl, subst, cond, ℕ, ◌≤◌, Bool, true, false, List, [], ◌∷◌, Option, None, Some, Result, Ok, Err, IfOk, IsErrOf, arith}
+use Rattle.std.proofs.Common.{◌≡◌, ◌∙◌, sym, refl, subst, ℕ, ◌≤◌, Bool, true, false, List, [], ◌∷◌, length, Option, None, Some, Result, Ok, Err, IfOk, IsErrOf, arith}
 use Rattle.std.specs.Prelude.{◌==◌, ◌≢◌, IsTrue, IsFalse}
 use Rattle.std.specs.List.{list_all, list_any, AllByRecursion}
-use Rattle.std.proofs.lemmas.Bool.{and_from}
+use Rattle.std.proofs.lemmas.Bool.{and_from, and_parts}
 use Rattle.std.specs.Str.{bytes_eq}
 use Rattle.edge.specs.Shelf.{Files, OthersStay}
 use Rattle.edge.specs.Faults.{Rose}
@@ -16,7 +16,14 @@ use Rattle.rule_lists.specs.declared.answers.Ending.TheVariants.{Whole, More, Op
 use Rattle.rule_lists.specs.declared.answers.RuleList.{RuleList}
 use Rattle.rule_lists.specs.RuleLists.{IsRuleOf, IsRuleList}
 use Rattle.rule_lists.proofs.LeavingLaws.{rule_of}
+use Rattle.axiom_sets.specs.Sets.{is_set}
+use Rattle.core_maps.specs.declared.answers.CoreMap.{CoreMap}
+use Rattle.core_maps.specs.declared.answers.Ending.{Ending as MapEnding}
+use Rattle.core_maps.specs.declared.answers.Ending.TheVariants as map_ends
+use Rattle.core_maps.specs.CoreMaps.{IsMapping}
+use Rattle.core_reduce.proofs.CoreLaws.{core_in_range}
 use Rattle.rules_text.specs.RulesText.{are_rules, rules_text}
+use Rattle.map_text.specs.MapText.{HasNames, are_named, is_named, map_text}
 use Rattle.answers.specs.Grounding.{fault_of, OverClauses, clauses_refused, clauses_made}
 use Rattle.answers.specs.Studies.{OverStudy, study_refused, study_given}
 use Rattle.answers.specs.Call.{AreFiles, are_told, none_read, touched_at}
@@ -28,9 +35,10 @@ use Rattle.command_parts.specs.declared.studies.Opened.{Opened}
 use Rattle.command_parts.specs.Opened.{IsRead, Refuses}
 use Rattle.command_parts.proofs.OpenLemmas.{given}
 use Rattle.command_parts.proofs.StudyLemmas.{not_first, touched_one}
-use Rattle.explain_words.specs.Words.{Request, Instance, Rules}
+use Rattle.explain_words.specs.Words.{Request, Instance, Rules, Cores}
 use Rattle.explain_call.specs.declared.reply.Reply.{Reply}
 use Rattle.explain_call.specs.declared.reply.Reply.TheVariants as reply
+use Rattle.explain_call.specs.Cores.{IsMapped, cores_status, ending_status}
 use Rattle.explain_call.specs.Instance.{IsInstanceSaid, instance_status}
 use Rattle.explain_call.specs.Rules.{IsListed, rules_status}
 use Rattle.explain_call.specs.Lawful.{IsAnswer}
@@ -44,32 +52,30 @@ use Rattle.instance_text.specs.Said.{is_there}
 abbrev pub IsLow : Option Request → ℕ → Type 0
 IsLow request s = IsTrue (list_any (λ n. n == s) (statuses_of request)) × (s ≤ 4)
 
--- a command reads this file alone, and its row is a study that is refused, or one of which the rest holds
-pub record IsStudyCommand (request : Option Request) (name : List ℕ) (IsRest : Question → ℕ → List ℕ → Type 0) : Type 0 where
+-- a command reads this file alone, and may fail at it
+pub record ReadsOne (request : Option Request) (name : List ℕ) : Type 0 where
   pub one : files_of request ≡ name ∷ []
-  pub into : (files : Files) (status : ℕ) (text : List ℕ) → OverStudy files name (bare_run status) text (λ study. IsRest study status text) → IsAnswer request files status text
-  pub can_refuse : IsLow request 3
   pub can_fail : IsTrue (list_any (λ n. n == 5) (statuses_of request))
-  pub ends : (study : Question) (status : ℕ) (text : List ℕ) → IsRest study status text → IsLow request status
 
-module _ (request : Option Request) (name : List ℕ) (IsRest : Question → ℕ → List ℕ → Type 0) (command : IsStudyCommand request name IsRest)
+module _ (request : Option Request) (name : List ℕ) (reads : ReadsOne request name)
     (told : Option Files) (left_before left_now : Files) (faults_before faults_now : List ℕ → ℕ) (others : OthersStay left_before left_now name) where
-  abbrev Promised : Result Reply Stop → Type 0
-  Promised result = Replies request told left_before left_now faults_before faults_now result
+  abbrev Done : Result Reply Stop → Type 0
+  Done result = Replies request told left_before left_now faults_before faults_now result
 
   files_are : (files : Files) → AreFiles told (files_of request) files → told ≡ Some files
   files_are files (are_told e) = e
-  files_are files (none_read e) = let no : name ∷ [] ≡ [] = sym command.one ∙ e in absurd (cc)
+  files_are files (none_read e) = let no : name ∷ [] ≡ [] = sym reads.one ∙ e in absurd (cc)
 
   others_stay : (s : ℕ) (other : List ℕ) → IsFalse (list_any (bytes_eq other) (touched_at s (files_of request))) → left_now other ≡ left_before other
   others_stay s other free =
-      let names : touched_at s (files_of request) ≡ name ∷ [] = subst (λ (ns : List (List ℕ)). touched_at s ns ≡ name ∷ []) (sym command.one) (touched_one s name) in
+      let names : touched_at s (files_of request) ≡ name ∷ [] = subst (λ (ns : List (List ℕ)). touched_at s ns ≡ name ∷ []) (sym reads.one) (touched_one s name) in
       others other (not_first other name [] (subst (λ (ns : List (List ℕ)). list_any (bytes_eq other) ns ≡ false) names free))
 
   reads_one : files_of request ≡ [] → ⊥
-  reads_one e = let no : name ∷ [] ≡ [] = sym command.one ∙ e in cc
+  reads_one e = let no : name ∷ [] ≡ [] = sym reads.one ∙ e in cc
 
-  ended : (r : Reply) → IsLow request (status_of r) → HasText r → ((files : Files) → told ≡ Some files → IsAnswer request files (status_of r) (text_of r)) → Promised (Ok r)
+  -- a reply that is a row of the table
+  pub ended : (r : Reply) → IsLow request (status_of r) → HasText r → ((files : Files) → told ≡ Some files → IsAnswer request files (status_of r) (text_of r)) → Done (Ok r)
   ended r low has_text row = record {
     lawful = λ files h. row files (files_are files h);
     known = low.0;
@@ -80,7 +86,8 @@ module _ (request : Option Request) (name : List ℕ) (IsRest : Question → ℕ
     uncounted = λ e. absurd (reads_one e);
   }
 
-  wanting : Promised (Err stop.NoMemory)
+  -- no memory was found
+  pub wanting : Done (Err stop.NoMemory)
   wanting = record {
     lawful = λ files h. tt;
     known = may_want_memory request;
@@ -91,35 +98,57 @@ module _ (request : Option Request) (name : List ℕ) (IsRest : Question → ℕ
     uncounted = λ e. absurd (reads_one e);
   }
 
+  -- the file could not be read
+  pub unread : Rose (faults_before name) (faults_now name) → Done (Err stop.ReadFault)
+  unread rose = record {
+    lawful = λ files h. tt;
+    known = reads.can_fail;
+    low = tt;
+    has_text = tt;
+    read_fault = λ e. at_study name [] reads.one rose others;
+    untouched = others_stay 5;
+    uncounted = λ e. absurd (reads_one e);
+  }
+
+-- its row is a study that is refused, or one of which the rest holds
+pub record IsStudyCommand (request : Option Request) (name : List ℕ) (IsRest : Question → ℕ → List ℕ → Type 0) : Type 0 where
+  pub reads : ReadsOne request name
+  pub into : (files : Files) (status : ℕ) (text : List ℕ) → OverStudy files name (bare_run status) text (λ study. IsRest study status text) → IsAnswer request files status text
+  pub can_refuse : IsLow request 3
+  pub ends : (study : Question) (status : ℕ) (text : List ℕ) → IsRest study status text → IsLow request status
+
+module _ (request : Option Request) (name : List ℕ) (IsRest : Question → ℕ → List ℕ → Type 0) (command : IsStudyCommand request name IsRest)
+    (told : Option Files) (left_before left_now : Files) (faults_before faults_now : List ℕ → ℕ) (others : OthersStay left_before left_now name) where
+  abbrev Promised : Result Reply Stop → Type 0
+  Promised result = Replies request told left_before left_now faults_before faults_now result
+
+  row_ended : (r : Reply) → IsLow request (status_of r) → HasText r → ((files : Files) → told ≡ Some files → IsAnswer request files (status_of r) (text_of r)) → Promised (Ok r)
+  row_ended r low has_text row = ended request name command.reads told left_before left_now faults_before faults_now others r low has_text row
+
+  row_wanting : Promised (Err stop.NoMemory)
+  row_wanting = wanting request name command.reads told left_before left_now faults_before faults_now others
+
   -- the study was read, and the rest holds of the reply
   pub study_reply : (study : Question) (result : Result Reply Stop) → IsRead told name study → IfOk result (λ r. IsRest study (status_of r) (text_of r)) → IfOk result HasText
       → result ≢ Err stop.ReadFault → Promised result
   study_reply study (Ok r) read rest has_text none =
-      ended r (command.ends study (status_of r) (text_of r) rest) has_text
+      row_ended r (command.ends study (status_of r) (text_of r) rest) has_text
       (λ files e. command.into files (status_of r) (text_of r) (study_given study (given told name study files read e) rest))
   study_reply study (Err stop.ReadFault) read rest has_text none = absurd (none refl)
-  study_reply study (Err stop.NoMemory) read rest has_text none = wanting
+  study_reply study (Err stop.NoMemory) read rest has_text none = row_wanting
 
   -- the study is refused
   pub refused_study : (answer : Answer) → Refuses told name answer → Promised (Ok (reply.Refused answer))
   refused_study answer refuses =
       let three : status_of (reply.Refused answer) ≡ 3 = refuses.bare.ends in
-      ended (reply.Refused answer) (subst (IsLow request) (sym three) command.can_refuse) refuses.has_text
+      row_ended (reply.Refused answer) (subst (IsLow request) (sym three) command.can_refuse) refuses.has_text
       (λ files e. command.into files (status_of (reply.Refused answer)) (text_of (reply.Refused answer))
       (study_refused (refuses.line files e) (record { ends = three; no_verdict = refl; no_logs = refl; no_sharp = refl })))
 
   -- or could not be read
   pub stopped_study : (e : Stop) → (IsErrOf {T = Opened} (Err e) stop.ReadFault → Rose (faults_before name) (faults_now name)) → Promised (Err e)
-  stopped_study stop.ReadFault rose = record {
-    lawful = λ files h. tt;
-    known = command.can_fail;
-    low = tt;
-    has_text = tt;
-    read_fault = λ e. at_study name [] command.one (rose refl) others;
-    untouched = others_stay 5;
-    uncounted = λ e. absurd (reads_one e);
-  }
-  stopped_study stop.NoMemory rose = wanting
+  stopped_study stop.ReadFault rose = unread request name command.reads told left_before left_now faults_before faults_now others (rose refl)
+  stopped_study stop.NoMemory rose = row_wanting
 
 -- ---- the commands
 
@@ -134,12 +163,17 @@ module _ (name axiom_name : List ℕ) (number : ℕ) where
 
   pub instance_command : IsStudyCommand asked name (λ study status text. IsInstanceSaid study axiom_name number status text)
   instance_command = record {
-    one = refl;
+    reads = record { one = refl; can_fail = refl };
     into = λ files status text row. row;
     can_refuse = (refl, omega arith);
-    can_fail = refl;
     ends = λ study status text is. instance_low (is_there study axiom_name number) status is.ends;
   }
+
+-- the status of an answer over the clauses of a study
+pub over_clauses : (request : Option Request) (study : Question) (status : ℕ) (text : List ℕ) (IsRest : Type 0) → IsLow request 3 → (IsRest → IsLow request status)
+    → OverClauses study (bare_run status) text IsRest → IsLow request status
+over_clauses request study status text IsRest three low (clauses_refused fault e line bare) = subst (IsLow request) (sym bare.ends) three
+over_clauses request study status text IsRest three low (clauses_made none is) = low is
 
 -- `rules` is such a command
 module _ (name : List ℕ) (most workers : ℕ) where
@@ -151,17 +185,30 @@ module _ (name : List ℕ) (most workers : ℕ) where
   listed_low More status e = subst (IsLow listing) (sym e) (refl, omega arith)
   listed_low Open status e = subst (IsLow listing) (sym e) (refl, omega arith)
 
-  over_low : (study : Question) (status : ℕ) (text : List ℕ) → OverClauses study (bare_run status) text (IsListed study most status text) → IsLow listing status
-  over_low study status text (clauses_refused fault e line bare) = subst (IsLow listing) (sym bare.ends) (refl, omega arith)
-  over_low study status text (clauses_made none is) = listed_low is.list.ending status is.ends
-
   pub rules_command : IsStudyCommand listing name (λ study status text. OverClauses study (bare_run status) text (IsListed study most status text))
   rules_command = record {
-    one = refl;
+    reads = record { one = refl; can_fail = refl };
     into = λ files status text row. row;
     can_refuse = (refl, omega arith);
-    can_fail = refl;
-    ends = over_low;
+    ends = λ study status text. over_clauses listing study status text (IsListed study most status text) (refl, omega arith) (λ is. listed_low is.list.ending status is.ends);
+  }
+
+-- `cores` is such a command
+module _ (name : List ℕ) (workers : ℕ) where
+  abbrev mapping : Option Request
+  mapping = Some (Cores name workers)
+
+  mapped_low : (ending : MapEnding) (open_sets : List (List ℕ)) (status : ℕ) → status ≡ ending_status ending open_sets → IsLow mapping status
+  mapped_low map_ends.Cut open_sets status e = subst (IsLow mapping) (sym e) (refl, omega arith)
+  mapped_low map_ends.Whole [] status e = subst (IsLow mapping) (sym e) (refl, omega arith)
+  mapped_low map_ends.Whole (set ∷ open_sets) status e = subst (IsLow mapping) (sym e) (refl, omega arith)
+
+  pub cores_command : IsStudyCommand mapping name (λ study status text. OverClauses study (bare_run status) text (IsMapped study status text))
+  cores_command = record {
+    reads = record { one = refl; can_fail = refl };
+    into = λ files status text row. row;
+    can_refuse = (refl, omega arith);
+    ends = λ study status text. over_clauses mapping study status text (IsMapped study status text) (refl, omega arith) (λ is. mapped_low is.map.ending is.map.sets.open status is.ends);
   }
 
 -- a refusal other than want of memory is the one of the clauses
@@ -185,3 +232,23 @@ are_rules_of study (table ∷ tables) h = and_from (is_rule study.size table) (l
 pub listed : (study : Question) (most : ℕ) (list : RuleList) → fault_of study ≡ None → IsRuleList study most list
     → OverClauses study (bare_run (rules_status list.ending)) (rules_text study list) (IsListed study most (rules_status list.ending) (rules_text study list))
 listed study most list none right = clauses_made none (record { list = list; right = right; ends = refl; lines = refl })
+
+-- the places of sets of axioms are places of axioms
+sets_named : (study : Question) (sets : List (List ℕ)) → IsTrue (list_all (is_set (length study.axioms)) sets) → are_named study sets
+sets_named study [] h = refl
+sets_named study (set ∷ sets) h =
+    let p = and_parts (is_set (length study.axioms) set) (list_all (is_set (length study.axioms)) sets) h in
+    and_from (is_named study set) (list_all (is_named study) sets) (core_in_range 0 (length study.axioms) set p.0) (sets_named study sets p.1)
+
+-- those of a map of the study are
+pub has_names : (study : Question) (map : CoreMap) → IsMapping study map → HasNames study map.sets
+has_names study map right = record {
+  impossible = sets_named study map.sets.impossible right.tidy.impossible;
+  possible = sets_named study map.sets.possible right.tidy.possible;
+  open_sets = sets_named study map.sets.open right.tidy.open_sets;
+}
+
+-- a right map is what is said
+pub mapped : (study : Question) (map : CoreMap) → fault_of study ≡ None → IsMapping study map
+    → OverClauses study (bare_run (cores_status map)) (map_text study map) (IsMapped study (cores_status map) (map_text study map))
+mapped study map none right = clauses_made none (record { map = map; right = right; ends = refl; lines = refl })

@@ -10,7 +10,7 @@ use Rattle.vocab.specs.Study.{Question}
 use Rattle.answers.specs.Studies.{GivesStudy}
 use Rattle.answers.specs.Call.{AreFiles, AreUntouched}
 use Rattle.answers.specs.Devices.{Devices}
-use Rattle.explain_words.specs.Words.{Request, Story, Instance, Rules, request_of}
+use Rattle.explain_words.specs.Words.{Request, Story, Instance, Rules, Cores, Look, request_of}
 use Rattle.explain_call.specs.Lawful.{Lawful}
 
 -- ---- what a command may touch and answer
@@ -21,6 +21,8 @@ files_of None = []
 files_of (Some (Story study report workers)) = study ∷ report ∷ []
 files_of (Some (Instance study axiom_name number)) = study ∷ []
 files_of (Some (Rules study most workers)) = study ∷ []
+files_of (Some (Cores study workers)) = study ∷ []
+files_of (Some (Look study workers)) = study ∷ []
 
 -- the statuses of a command; those of `story` are those of `check`
 abbrev pub statuses_of : Option Request → List ℕ
@@ -28,6 +30,8 @@ statuses_of None = 2 ∷ 6 ∷ 7 ∷ []
 statuses_of (Some (Story study report workers)) = 0 ∷ 1 ∷ 3 ∷ 5 ∷ 6 ∷ 7 ∷ []
 statuses_of (Some (Instance study axiom_name number)) = 0 ∷ 3 ∷ 5 ∷ 6 ∷ 7 ∷ []
 statuses_of (Some (Rules study most workers)) = 0 ∷ 3 ∷ 4 ∷ 5 ∷ 6 ∷ 7 ∷ []
+statuses_of (Some (Cores study workers)) = 0 ∷ 3 ∷ 4 ∷ 5 ∷ 6 ∷ 7 ∷ []
+statuses_of (Some (Look study workers)) = 0 ∷ 3 ∷ 5 ∷ 6 ∷ 7 ∷ []
 
 -- ---- the promises
 

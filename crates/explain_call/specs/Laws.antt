@@ -1,5 +1,5 @@
 -- What holds of calls of `explain`. Each is proved as the contract of a function of the same name in src/laws.rt.
-use Rattle.std.specs.Prelude.{◌≡◌, ◌≢◌, ◌≤◌, ◌⊎◌, ℕ, List, length, codes, None, Some, IsTrue, IsFalse}
+use Rattle.std.specs.Prelude.{◌≡◌, ◌≢◌, ◌≤◌, ◌⊎◌, ℕ, List, length, None, Some}
 use Rattle.std.specs.Io.KnownBytes.{Appends}
 use Rattle.edge.specs.Shelf.{Files}
 use Rattle.vocab.specs.Study.{Question}
@@ -12,9 +12,12 @@ use Rattle.answers.specs.Devices.{Devices}
 use Rattle.answers.specs.Grounding.{fault_of}
 use Rattle.answers.specs.FileLimits.{most_report_bytes}
 use Rattle.answers.specs.Studies.{GivesStudy}
-use Rattle.explain_words.specs.Words.{Story, Instance, Rules, request_of}
+use Rattle.explain_words.specs.Words.{Story, Instance, Rules, Cores, Look, request_of}
 use Rattle.instance_text.specs.Said.{is_there, said}
+use Rattle.study_text.specs.LookText.{study_text}
+use Rattle.explain_call.specs.Cores.{IsMapped}
 use Rattle.explain_call.specs.Instance.{IsInstanceSaid, instance_status}
+use Rattle.explain_call.specs.Look.{IsLooked}
 use Rattle.explain_call.specs.Page.{IsPage, IsSharpPage}
 use Rattle.explain_call.specs.Rules.{IsListed}
 use Rattle.explain_call.specs.Story.{bare_run}
@@ -102,3 +105,34 @@ RulesAreWritten =
     IsCall words d status → d.told ≡ Some files → request_of words ≡ Some (Rules name most workers) →
     GivesStudy files name study → fault_of study ≡ None → status ≤ 4 →
     (text : List ℕ) × IsListed study most status text × Appends d.taken_before d.taken_now text
+
+-- of a study that a file gives, whose clauses are not refused, a right map of its axioms is written: where it is whole and
+-- has no open set, it tells of each set of them whether some rule of the size satisfies it
+abbrev pub CoresAreExact : Type 0
+CoresAreExact =
+    (words : List (List ℕ)) (files : Files) (status workers : ℕ) (text name : List ℕ) (study : Question) →
+    Lawful words files status text → request_of words ≡ Some (Cores name workers) →
+    GivesStudy files name study → fault_of study ≡ None → IsMapped study status text
+
+-- so over devices: the sink takes such a map, faults and want of memory aside
+abbrev pub CoresAreWritten : Type 0
+CoresAreWritten =
+    (words : List (List ℕ)) (d : Devices) (files : Files) (status workers : ℕ) (name : List ℕ) (study : Question) →
+    IsCall words d status → d.told ≡ Some files → request_of words ≡ Some (Cores name workers) →
+    GivesStudy files name study → fault_of study ≡ None → status ≤ 4 →
+    (text : List ℕ) × IsMapped study status text × Appends d.taken_before d.taken_now text
+
+-- of a study that a file gives, whose clauses are not refused, it is told what it asks
+abbrev pub LooksAreExact : Type 0
+LooksAreExact =
+    (words : List (List ℕ)) (files : Files) (status workers : ℕ) (text name : List ℕ) (study : Question) →
+    Lawful words files status text → request_of words ≡ Some (Look name workers) →
+    GivesStudy files name study → fault_of study ≡ None → IsLooked study status text
+
+-- so over devices: the sink takes it, faults and want of memory aside
+abbrev pub LooksAreWritten : Type 0
+LooksAreWritten =
+    (words : List (List ℕ)) (d : Devices) (files : Files) (status workers : ℕ) (name : List ℕ) (study : Question) →
+    IsCall words d status → d.told ≡ Some files → request_of words ≡ Some (Look name workers) →
+    GivesStudy files name study → fault_of study ≡ None → status ≤ 4 →
+    (status ≡ 0) × Appends d.taken_before d.taken_now (study_text study)

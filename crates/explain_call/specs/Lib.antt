@@ -3,6 +3,8 @@ pub mod Page
 pub mod Story
 pub mod Instance
 pub mod Rules
+pub mod Cores
+pub mod Look
 pub mod Lawful
 pub mod Call
 pub mod Replies

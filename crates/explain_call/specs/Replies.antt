@@ -1,5 +1,5 @@
 -- What is said with a reply: its status and its text.
-use Rattle.std.specs.Prelude.{◌≡◌, ℕ, ◌==◌, ◌≤◌, List, [], Option, Result, Ok, Err, IfOk, IsErrOf, IsTrue}
+use Rattle.std.specs.Prelude.{◌≡◌, ℕ, ◌==◌, ◌≤◌, List, [], ◌++◌, Option, Result, Ok, Err, IfOk, IsErrOf, IsTrue}
 use Rattle.std.specs.List.{list_any}
 use Rattle.edge.specs.Shelf.{Files}
 use Rattle.vocab.specs.Study.{Question}
@@ -15,9 +15,12 @@ use Rattle.command_parts.specs.declared.answer.Stop.{Stop}
 use Rattle.command_parts.specs.declared.answer.Stop.TheVariants as stop
 use Rattle.command_parts.specs.Answers.{HasText as AnswerHasText, status_of as answer_status, text_of as answer_text}
 use Rattle.rules_text.specs.RulesText.{are_rules, rules_text}
+use Rattle.map_text.specs.MapText.{HasNames, map_text}
+use Rattle.study_text.specs.LookText.{made_text}
 use Rattle.explain_words.specs.Words.{Request}
 use Rattle.explain_call.specs.declared.reply.Reply.{Reply}
 use Rattle.explain_call.specs.declared.reply.Reply.TheVariants as reply
+use Rattle.explain_call.specs.Cores.{cores_status}
 use Rattle.explain_call.specs.Instance.{instance_status}
 use Rattle.explain_call.specs.Rules.{rules_status}
 use Rattle.explain_call.specs.Page.{IsPage, IsSharpPage}
@@ -30,6 +33,9 @@ status_of (reply.Refused answer) = answer_status answer
 status_of (reply.Page page) = 0
 status_of (reply.Instance said) = instance_status said.there
 status_of (reply.Rules study list) = rules_status list.ending
+status_of (reply.Cores study map) = cores_status map
+status_of (reply.Look study look) = 0
+status_of (reply.Helped helped) = answer_status helped.refusal
 
 abbrev pub text_of : Reply → List ℕ
 text_of reply.Usage = usage_line
@@ -37,11 +43,16 @@ text_of (reply.Refused answer) = answer_text answer
 text_of (reply.Page page) = page
 text_of (reply.Instance said) = said.text
 text_of (reply.Rules study list) = rules_text study list
+text_of (reply.Cores study map) = map_text study map
+text_of (reply.Look study look) = made_text study look
+text_of (reply.Helped helped) = answer_text helped.refusal ++ helped.help
 
--- an answer of `check` has a text, and so has a list of rules of the size
+-- an answer of `check` has a text, and so have a list of rules of the size and a map of the study's axioms
 abbrev pub HasText : Reply → Type 0
 HasText (reply.Refused answer) = AnswerHasText answer
 HasText (reply.Rules study list) = are_rules study.size list.tables
+HasText (reply.Cores study map) = HasNames study map.sets
+HasText (reply.Helped helped) = AnswerHasText helped.refusal
 HasText r = Unit {0}
 
 -- the reply to what was read of a report or a sharp text: a page of the verdict, and what is refused is answered as `check` answers

@@ -1,6 +1,6 @@
 //! What holds of calls. Each law is the contract of a function that does nothing.
 
-ghost use Rattle.explain_call.specs.Laws.{PagesAreExact, PagesAreWritten, InstancesAreExact, InstancesAreWritten, RulesAreExact, RulesAreWritten};
+ghost use Rattle.explain_call.specs.Laws.{PagesAreExact, PagesAreWritten, InstancesAreExact, InstancesAreWritten, RulesAreExact, RulesAreWritten, CoresAreExact, CoresAreWritten, LooksAreExact, LooksAreWritten};
 
 /// A page is written exactly where the file is the report of a right verdict, within its limit, and it is the
 /// page of that verdict; of other files the status and the text are those of `check`.
@@ -33,4 +33,24 @@ pub fn rules_are_exact()
 /// At a status below 5 the sink took it.
 pub fn rules_are_written()
     ensures { RulesAreWritten }
+{}
+
+/// A right map is written of a study whose clauses are not refused.
+pub fn cores_are_exact()
+    ensures { CoresAreExact }
+{}
+
+/// At a status below 5 the sink took it.
+pub fn cores_are_written()
+    ensures { CoresAreWritten }
+{}
+
+/// Of a study that a file gives it is told what it asks.
+pub fn looks_are_exact()
+    ensures { LooksAreExact }
+{}
+
+/// So of what a call has written.
+pub fn looks_are_written()
+    ensures { LooksAreWritten }
 {}

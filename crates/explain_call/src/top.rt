@@ -5,10 +5,12 @@ ghost use Rattle.explain_words.specs.Words.{request_of};
 ghost use Rattle.explain_call.specs.Call.{IsCall};
 ghost use Rattle.explain_call.specs.Replies.{Replies};
 
+use crate::cores_command::cores;
 use crate::instance_command::instance;
 use crate::reply::Reply;
 use crate::rules_command::rules;
 use crate::story_command::story;
+use crate::study_command::look;
 use command_parts::Stop;
 use edge::{Failed, Gate, Shelf, Sink};
 use explain_words::{Command, command_of};
@@ -55,16 +57,22 @@ fn reply<R: Threads + Sync, S: Shelf, G: Gate>(
                 },
             ),
         ) => rules(rt, alloc, gate, workers, shelf, study, most),
+        Ok(Some(Command::Cores { study, workers })) => {
+            cores(rt, alloc, gate, workers, shelf, study)
+        }
+        Ok(Some(Command::Look { study, workers })) => {
+            look(rt, alloc, gate, workers, shelf, study)
+        }
         Ok(None) => Ok(Reply::Usage),
         Err(_) => Err(Stop::NoMemory),
     }
 }
 
 /// All that the program does: replies to the words, over the files of the shelf, into the sink. The status is
-/// 0 where a page, an instance or a list of rules was written, 1 where the report is refused, 2 where the words
-/// are no command, 3 where the study is refused or has no such instance, 4 where a search spent the limit
-/// before the list of rules was known to be whole, 5 where a file could not be read, 6 where the text could not
-/// be written, and 7 where no memory was found.
+/// 0 where a page, an instance, a list of rules, a map or what a study asks was written, 1 where the report is
+/// refused, 2 where the words are no command, 3 where the study is refused or has no such instance, 4 where a
+/// search spent its limit before the list of rules was known to be whole, or before the map was, 5 where a file
+/// could not be read, 6 where the text could not be written, and 7 where no memory was found.
 pub fn explain<R: Threads + Sync, S: Shelf, K: Sink, G: Gate>(
     rt: &R,
     alloc: Global,

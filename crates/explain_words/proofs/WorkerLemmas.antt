@@ -7,7 +7,7 @@ use Rattle.verdicts.specs.Numbers.{read_number}
 use Rattle.clap.specs.Words.{Row, Text, first_of}
 use Rattle.words.specs.Values.{number_in, number_within, workers_in}
 use Rattle.explain_words.specs.declared.commands.Command.{Command}
-use Rattle.explain_words.specs.Words.{Request, Story, Instance, Rules, HasWorkers, asked, most_in, request_under}
+use Rattle.explain_words.specs.Words.{Request, Story, Instance, Rules, Cores, Look, HasWorkers, asked, most_in, request_under}
 
 abbrev Good : Option Request → Type 0
 Good o = IfSome o HasWorkers
@@ -52,12 +52,26 @@ listed (Some s) None w few = tt
 listed (Some s) (Some n) None few = tt
 listed (Some s) (Some n) (Some k) few = few
 
+-- one of a name and such a number
+mapped : (study : Option Text) (w : Option ℕ) → IfSome w IsFew → Good (option_and_then (λ s. option_map (Cores s) w) study)
+mapped None w few = tt
+mapped (Some s) None few = tt
+mapped (Some s) (Some k) few = few
+
+-- the same of what a study asks
+looked : (study : Option Text) (w : Option ℕ) → IfSome w IsFew → Good (option_and_then (λ s. option_map (Look s) w) study)
+looked None w few = tt
+looked (Some s) None few = tt
+looked (Some s) (Some k) few = few
+
 under : (rows : List Row) (name : Text) → Good (request_under name rows)
 under rows name =
     either (bytes_eq name (codes "story")) _ _
     (made (first_of (codes "report") rows) (first_of (codes "study") rows) (workers_in rows) (few_in (first_of (codes "workers") rows)))
     (either (bytes_eq name (codes "instance")) _ _ (counted (first_of (codes "axiom") rows) (first_of (codes "study") rows) (number_in rows))
-    (either (bytes_eq name (codes "rules")) _ _ (listed (first_of (codes "study") rows) (most_in rows) (workers_in rows) (few_in (first_of (codes "workers") rows))) tt))
+    (either (bytes_eq name (codes "rules")) _ _ (listed (first_of (codes "study") rows) (most_in rows) (workers_in rows) (few_in (first_of (codes "workers") rows)))
+    (either (bytes_eq name (codes "cores")) _ _ (mapped (first_of (codes "study") rows) (workers_in rows) (few_in (first_of (codes "workers") rows)))
+    (either (bytes_eq name (codes "study")) _ _ (looked (first_of (codes "study") rows) (workers_in rows) (few_in (first_of (codes "workers") rows))) tt))))
 
 -- so has each command that was found
 pub found : (command : Option Command) (name : Text) (rows : List Row) → option_map asked command ≡ request_under name rows → IfSome command (λ it. HasWorkers (asked it))

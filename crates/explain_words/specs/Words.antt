@@ -9,23 +9,29 @@ use Rattle.explain_words.specs.declared.commands.Command.{Command}
 use Rattle.explain_words.specs.declared.commands.Command.TheVariants as command
 
 -- what may be asked: the page of the story that a report tells of a study, by the names of the two files; an instance of
--- an axiom of a study, by the names of the file and of the axiom; or all rules that satisfy the axioms of a study, and no
--- more than so many
+-- an axiom of a study, by the names of the file and of the axiom; all rules that satisfy the axioms of a study, and no more
+-- than so many; the map of the axioms of a study; or what a study asks
 pub data Request : Type 0 where
   Story : (study report : Text) (workers : ℕ) → Request
   Instance : (study axiom_name : Text) (number : ℕ) → Request
   Rules : (study : Text) (most workers : ℕ) → Request
+  Cores : (study : Text) (workers : ℕ) → Request
+  Look : (study : Text) (workers : ℕ) → Request
 
 -- the request of a command
 abbrev pub asked : Command → Request
 asked (command.Story study report workers) = Story study.now report.now workers
 asked (command.Instance study axiom_name number) = Instance study.now axiom_name.now number
 asked (command.Rules study most workers) = Rules study.now most workers
+asked (command.Cores study workers) = Cores study.now workers
+asked (command.Look study workers) = Look study.now workers
 
 -- a number of workers is from 1 to 16
 abbrev pub HasWorkers : Request → Type 0
 HasWorkers (Story study report workers) = (1 ≤ workers) × (workers ≤ 16)
 HasWorkers (Rules study most workers) = (1 ≤ workers) × (workers ≤ 16)
+HasWorkers (Cores study workers) = (1 ≤ workers) × (workers ≤ 16)
+HasWorkers (Look study workers) = (1 ≤ workers) × (workers ≤ 16)
 HasWorkers _ = Unit {0}
 
 -- ---- the program, as `clap` is told of it
@@ -45,12 +51,18 @@ most_option = record (new_rule (codes "most")) { long = Some (codes "most"); def
 abbrev pub rules_shape : Shape
 rules_shape = with_arguments (codes "rules") (place (codes "study") ∷ most_option ∷ workers_option ∷ [])
 
+abbrev pub cores_shape : Shape
+cores_shape = with_arguments (codes "cores") (place (codes "study") ∷ workers_option ∷ [])
+
+abbrev pub look_shape : Shape
+look_shape = with_arguments (codes "study") (place (codes "study") ∷ workers_option ∷ [])
+
 -- the words are those after the program's name, and a command is wanted
 abbrev pub top_shape : Shape
 top_shape = record (new_shape (codes "explain")) { no_binary_name = true; subcommand_required = true }
 
 abbrev pub explain_app : App
-explain_app = record { top = record top_shape { is_leaf = false }; subs = story_shape ∷ instance_shape ∷ rules_shape ∷ [] }
+explain_app = record { top = record top_shape { is_leaf = false }; subs = story_shape ∷ instance_shape ∷ rules_shape ∷ cores_shape ∷ look_shape ∷ [] }
 
 -- ---- the request that the words are
 
@@ -70,12 +82,20 @@ abbrev pub rules_in : List Row → Option Request
 rules_in rows = option_and_then (λ study. option_and_then (λ most. option_map (Rules study most) (workers_in rows)) (most_in rows))
     (first_of (codes "study") rows)
 
+abbrev pub cores_in : List Row → Option Request
+cores_in rows = option_and_then (λ study. option_map (Cores study) (workers_in rows)) (first_of (codes "study") rows)
+
+abbrev pub look_in : List Row → Option Request
+look_in rows = option_and_then (λ study. option_map (Look study) (workers_in rows)) (first_of (codes "study") rows)
+
 -- the request of a command by its name, with the values that `clap` found
 abbrev pub request_under : Text → List Row → Option Request
 request_under name rows =
     if bytes_eq name (codes "story") then story_in rows
     else if bytes_eq name (codes "instance") then instance_in rows
     else if bytes_eq name (codes "rules") then rules_in rows
+    else if bytes_eq name (codes "cores") then cores_in rows
+    else if bytes_eq name (codes "study") then look_in rows
     else None
 
 abbrev pub request_in : Option (Text × List Row) → Option Request

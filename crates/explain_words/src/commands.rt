@@ -21,4 +21,14 @@ pub enum Command<'a> {
         most: u32,
         workers: u8,
     },
+    /// `cores STUDY`, with `--workers K`.
+    Cores {
+        study: &'a str,
+        workers: u8,
+    },
+    /// `study STUDY`, with `--workers K`.
+    Look {
+        study: &'a str,
+        workers: u8,
+    },
 }

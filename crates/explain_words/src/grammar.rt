@@ -3,7 +3,7 @@
 ghost use Rattle.std.specs.Prelude.{◌≡◌, IfOk, false};
 ghost use Rattle.clap.specs.Words.{App, Shape, app_of, rule_of, with_subcommand};
 ghost use Rattle.words.specs.Words.{place, workers_option, IsLeaf};
-ghost use Rattle.explain_words.specs.Words.{story_shape, instance_shape, most_option, rules_shape, top_shape, explain_app};
+ghost use Rattle.explain_words.specs.Words.{story_shape, instance_shape, most_option, rules_shape, cores_shape, look_shape, top_shape, explain_app};
 
 use clap::{Arg, Command};
 use std::alloc::{AllocError, Global};
@@ -61,6 +61,22 @@ fn rules_command<'a>(alloc: Global) -> Result<Command<'a>, AllocError>
     command.arg(workers_option(alloc))
 }
 
+/// `cores STUDY`.
+fn cores_command<'a>(alloc: Global) -> Result<Command<'a>, AllocError>
+    ensures { IfOk result (IsLeaf cores_shape) }
+{
+    let command = Command::new(alloc, "cores").arg(place(alloc, "study"))?;
+    command.arg(workers_option(alloc))
+}
+
+/// `study STUDY`.
+fn look_command<'a>(alloc: Global) -> Result<Command<'a>, AllocError>
+    ensures { IfOk result (IsLeaf look_shape) }
+{
+    let command = Command::new(alloc, "study").arg(place(alloc, "study"))?;
+    command.arg(workers_option(alloc))
+}
+
 /// The program before its commands: one of them is wanted.
 fn top_command<'a>(alloc: Global) -> Command<'a>
     ensures { IsLeaf top_shape result }
@@ -89,5 +105,7 @@ pub(crate) fn explain_command<'a>(alloc: Global) -> Result<Command<'a>, AllocErr
 {
     let command = add_command(Ok(top_command(alloc)), story_command(alloc));
     let command = add_command(command, instance_command(alloc));
-    add_command(command, rules_command(alloc))
+    let command = add_command(command, rules_command(alloc));
+    let command = add_command(command, cores_command(alloc));
+    add_command(command, look_command(alloc))
 }

@@ -4,7 +4,7 @@ ghost use Rattle.std.specs.Prelude.{◌≡◌, IfOk, IfSome, option_map};
 ghost use Rattle.clap.specs.Words.{first_of, found_of, rows_of, subcommand_rows_of};
 ghost use Rattle.words.specs.Values.{number_within, number_in, workers_in};
 ghost use Rattle.words.specs.Words.{texts};
-ghost use Rattle.explain_words.specs.Words.{HasWorkers, asked, story_in, instance_in, most_in, rules_in, request_under, request_in, request_of};
+ghost use Rattle.explain_words.specs.Words.{HasWorkers, asked, story_in, instance_in, most_in, rules_in, cores_in, look_in, request_under, request_in, request_of};
 
 use crate::commands::Command;
 use crate::grammar::explain_command;
@@ -120,6 +120,24 @@ fn rules_in<'a>(matches: &ArgMatches<'a>) -> Option<Command<'a>>
     })
 }
 
+/// `cores STUDY`.
+fn cores_in<'a>(matches: &ArgMatches<'a>) -> Option<Command<'a>>
+    ensures { option_map asked result ≡ cores_in (rows_of (found_of matches.now)) }
+{
+    let study = value_at(matches, "study")?;
+    let workers = workers_in(matches)?;
+    Some(Command::Cores { study, workers })
+}
+
+/// `study STUDY`.
+fn look_in<'a>(matches: &ArgMatches<'a>) -> Option<Command<'a>>
+    ensures { option_map asked result ≡ look_in (rows_of (found_of matches.now)) }
+{
+    let study = value_at(matches, "study")?;
+    let workers = workers_in(matches)?;
+    Some(Command::Look { study, workers })
+}
+
 /// The command of a name, with the values that were found.
 fn command_under<'a>(name: &str, matches: &ArgMatches<'a>) -> Option<Command<'a>>
     ensures { option_map asked result ≡ request_under name.now (rows_of (found_of matches.now)) }
@@ -128,6 +146,8 @@ fn command_under<'a>(name: &str, matches: &ArgMatches<'a>) -> Option<Command<'a>
         "story" => story_in(matches),
         "instance" => instance_in(matches),
         "rules" => rules_in(matches),
+        "cores" => cores_in(matches),
+        "study" => look_in(matches),
         _ => None,
     }
 }

@@ -1,4 +1,4 @@
-use Rattle.std.proofs.Common.{rules, subst, sym}
+use Rattle.std.proofs.Common.{rules}
 use Rattle.explain_call.proofs.StudyReplies.{are_rules_of, listed, no_clauses}
 use Rattle.explain_call.proofs.rules_command.list_over.Goals as goal
 
