@@ -1,14 +1,14 @@
 #!/usr/bin/env bash
-# Refuses each allocation of the program in turn, against the answer that it gives undisturbed: with a refused allocation it must give
+# Refuses each allocation of the two programs, `bench` and `explain`, in turn, against the answer that it gives undisturbed: with a refused allocation it must give
 # that answer, status and text, or end with status 7 and nothing written. A signal, another status, another text and anything on standard
 # error are wrong, and the script ends at the first such, with what was run and what came.
 # Each command runs once for each of its allocations, by number, in two ways: that one alone is refused; that one and all after it are.
 # No command has more than 100,000; where one has more than the number that is given to the script, only every kth is tried, and its
 # line says so.
 # Commands that share work run with 2 workers too, over inputs for which threads are started; with 1 worker an allocation has the same
-# number at each run. The commands are those of the tests over failing devices (crates/top_call/src/fault_tests.rt), and others: larger
-# studies, clauses that are refused, searches that spend their limit, and reports with open marks.
-# What is tried is the program that LLVM built, on the paths of these commands, where a call from its own code of malloc and the like is
+# number at each run. The commands are those of the tests over failing devices (fault_tests.rt of crates/top_call and crates/explain_call), and
+# others: larger studies, clauses that are refused, searches that spend their limit, and reports with open marks.
+# What are tried are the programs that LLVM built, on the paths of these commands, where a call from its own code of malloc and the like is
 # refused (measure/refuse.c). What the C library and the loader ask for themselves, as for the stack of a thread, is always given; the
 # program's own piece for starting a thread is refused as any other. A system that gives memory and then lacks it is not tried, and
 # neither is another study, nor two refused allocations with a given one between them.
@@ -18,13 +18,17 @@
 set -eu
 . "$(dirname -- "$(readlink -f -- "${BASH_SOURCE[0]}")")/setup.sh"
 build_program
+env -u BENCH_QUICK "$root/explain" rules "$root/studies/dictatorship.toml" >/dev/null
 cc -O2 -Wall -shared -fPIC -o "$work/refuse.so" "$root/measure/refuse.c"
 ulimit -c 0
-python3 - "$program" "$root/studies" "$root/crates/rows/data" "$work" "${1-100000}" <<'PY'
+python3 - "$program" "$root/crates/explain/out/explain" "$root/studies" "$root/crates/rows/data" "$work" "${1-100000}" <<'PY'
 import itertools, multiprocessing, os, re, struct, subprocess, sys
-program, studies, rows, work, most = sys.argv[1:]
+bench, explain, studies, rows, work, most = sys.argv[1:]
 MOST, SECONDS = int(most), 600
 WAYS = ("alone", "with all after")
+
+def program(words): # the words that start it: those of `explain` begin with its name
+    return [explain, *words[1:]] if words[:1] == ["explain"] else [bench, *words]
 
 def run(words, refused=None): # the answer; with `refused`, also how many allocations were asked for, and how many refused
     told, setting = "%s/told.%d" % (work, os.getpid()), {}
@@ -32,7 +36,7 @@ def run(words, refused=None): # the answer; with `refused`, also how many alloca
         if os.path.exists(told): os.remove(told)
         setting = {"LD_PRELOAD": work + "/refuse.so", "REFUSE_TOLD": told, **refused}
     try:
-        ended = subprocess.run([program, *words], env=setting, stdin=subprocess.DEVNULL, capture_output=True, timeout=SECONDS)
+        ended = subprocess.run(program(words), env=setting, stdin=subprocess.DEVNULL, capture_output=True, timeout=SECONDS)
         answer = ended.returncode, ended.stdout, ended.stderr
     except subprocess.TimeoutExpired as late:
         answer = None, late.stdout or b"", late.stderr or b""
@@ -51,7 +55,7 @@ def wrong(words, setting, answer, why):
     status, out, err = answer
     came = "no end within %d s" % SECONDS if status is None else "signal %d" % -status if status < 0 else "status %d" % status
     sys.exit("refuse: %s\n  run: %s\n  came: %s; standard output %r; standard error %r"
-             % (why, " ".join([*("%s=%s" % pair for pair in setting.items()), "bench", *words]), came, out[:400], err[:400]))
+             % (why, " ".join([*("%s=%s" % pair for pair in setting.items()), *program(words)]), came, out[:400], err[:400]))
 
 def try_all(pool, words, status): # in how many runs an allocation was refused; the command, where not each of its allocations was
     plain = run(words)
@@ -150,6 +154,25 @@ favour = "all p: profile. ((casts(#1, <ab>, p) & casts(#2, <ba>, p)) -> wins(@a,
         each("adopt", study, texts["proof"], "--workers", "2")
     for command in ("export", "proof"):
         each(command, arrow)
+    each("explain", status=2)
+    each("explain", "story", unanimity, unanimity[:-5] + ".report")
+    each("explain", "story", symmetric, story)
+    each("explain", "story", liberal, marked)
+    each("explain", "story", liberal, hold("liberal.sharp", run(["sharpen", liberal])[1].decode()), "--workers", "2")
+    each("explain", "story", unanimity, story, status=1)
+    each("explain", "instance", unanimity, "unanimity", "3")
+    each("explain", "instance", unanimity, "unanimity", "4", status=3)
+    for words in (("story", unanimity, absent), ("instance", absent, "unanimity", "0"), ("rules", absent), ("cores", absent), ("study", absent)):
+        each("explain", *words, status=5)
+    for command in ("rules", "cores", "study"):
+        for study in (unanimity, symmetric):
+            each("explain", command, study)
+        each("explain", command, liberal, "--workers", "2")
+        each("explain", command, far, status=3)
+    each("explain", "rules", spent, status=4)
+    each("explain", "cores", spent, status=4)
+    each("explain", "study", hold("slip.toml", head(2, 2, "slip") + '[sentences]\nslip = "all p: profile. (wins(@a, p) or wins(@b, p))"\n'), status=3)
+    each("explain", "study", hold("name.toml", head(2, 2, "parreto")), status=3)
     each("sample", "0")
     each("sample", "29")
 print("sampled %d of %d%s" % (len(sampled), commands, "".join("; " + command for command in sampled)))
