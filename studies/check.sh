@@ -10,8 +10,10 @@
 # none of 84,934,656; a sample is the same line at each run, no words end with status 2, as does a word that is not UTF-8, an absent study
 # with status 5, and a full device with 6. Each front of a report is refused at the line that it lacks, and a study of one byte too many and
 # a list of one clause too many are refused.
-# The pages in pages/ are those that `explain story` writes of the reports of their names, and each sharp text has a page.
-# Arrow's axioms without the last leave the two dictators, and independence alone 94 rules (Tang and Lin), as `explain rules` lists them.
+# The pages in pages/ are those that `explain story` writes of the reports of their names, and each sharp text has a page; their words for
+# the axioms of the library are those of docs/START.md.
+# Arrow's axioms without the last leave the two dictators, and independence alone 94 rules (Tang and Lin), as `explain rules` lists them; of
+# all three `explain cores` writes the map of docs/START.md.
 # The launcher, over this program or over one that only ends, and that of explain, has the program's status and standard output, and says in one line on
 # standard error what a status without an answer means, and where the toolchain is missing.
 # docs/PHRASES.md is held by studies/phrases.py, with what it shows of instances, rules and many studies; the sizes of docs/START.md and the
@@ -54,6 +56,13 @@ for page in "$root"/pages/*.html; do
     cmp -s "$page" "$work/written" || fault "explain does not write pages/$name.html"
 done
 
+# What a page says of an axiom of the library is what docs/START.md says of it.
+sed -n 's/^ *return b": \(.*\)\.";$/\1/p' "$root/crates/pages/src/words.rt" >"$work/worded"
+[ "$(wc -l <"$work/worded")" -eq 21 ] || fault "pages have words for another number of axioms than 21"
+while IFS= read -r words; do
+    grep -qF "| $words |" "$root/docs/START.md" || fault "docs/START.md does not say of an axiom what pages do: $words"
+done <"$work/worded"
+
 for text in "$root"/studies/*.sharp; do
     name=$(basename "$text" .sharp)
     "$explain" story "$root/studies/$name.toml" "$text" >"$work/written" || fault "explain gives the sharp text of $name no page"
@@ -67,6 +76,10 @@ lists() { # ENDING AXIOMS: which ending the list of the rules of two voters over
 }
 lists 'rules 2' '"pareto", "independence"'
 lists 'rules 94' '"independence"'
+
+"$explain" cores "$root/studies/arrow.toml" >"$work/written"
+[ $? -eq 0 ] && sed -n '/^    impossible /,/^$/s/^    //p' "$root/docs/START.md" | cmp -s - <(grep -E '^(im)?possible ' "$work/written") ||
+    fault "explain does not map Arrow's axioms as docs/START.md shows"
 
 for study in "$root"/studies/*.toml; do
     report=${study%.toml}.report
@@ -173,6 +186,11 @@ said=$("$tree/explain" story "$paradox.toml" "$work/absent" 2>&1)
 [ $? -eq 5 ] && [ "$said" = "explain: this file could not be read: $work/absent (it is not there)" ] ||
     fault "the launcher of explain does not say which file could not be read"
 
+for words in 'rules --most 3' 'rules' 'cores --workers 2'; do
+    said=$(cd "$work" && "$tree/explain" $words absent 2>&1)
+    [ $? -eq 5 ] && [ "$said" = "explain: this file could not be read: $work/absent (it is not there)" ] ||
+        fault "the launcher of explain does not say which study of $words could not be read"
+done
 said=$("$tree/explain" story "$paradox.toml" 2>&1 >"$work/launched")
 [ $? -eq 2 ] && [ "$said" = "explain: these words are no command; $tree/docs/FORMATS.md explains them under \"What explain writes\"" ] ||
     fault "the launcher of explain does not say where its words are explained"
