@@ -117,6 +117,8 @@ def hold(what, study): # one study; the ratio, where the map is found by decide 
     if own is not None and not own["open"] and not sets["open"] and not more:
         for word in own:
             if own[word] != [tuple(names) for names in sets[word]]: differ(what, "other %s sets than by decide: %s" % (word, own[word]))
+    if own is not None and not own["open"] and (sets["open"] or more) and "conflicts" not in study.head:
+        differ(what, "open sets, or a map cut short, where decide leaves none open")
     if own is not None: ratio = seconds / best
     lines = go_over(what, study, sets, more)
     ratio_told = "" if ratio is None else ", ratio %.1f" % ratio
