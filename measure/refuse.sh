@@ -6,7 +6,7 @@
 # No command has more than 100,000; where one has more than the number that is given to the script, only every kth is tried, and its
 # line says so.
 # Commands that share work run with 2 workers too, over inputs for which threads are started; with 1 worker an allocation has the same
-# number at each run. The commands are those of the tests over failing devices (fault_tests.rt of crates/top_call and crates/explain_call), and
+# number at each run. The commands are those of the tests over failing devices (fault_tests.rt of crates/top_call and crates/explain_tests), and
 # others: larger studies, clauses that are refused, searches that spend their limit, and reports with open marks.
 # What are tried are the programs that LLVM built, on the paths of these commands, where a call from its own code of malloc and the like is
 # refused (measure/refuse.c). What the C library and the loader ask for themselves, as for the stack of a thread, is always given; the

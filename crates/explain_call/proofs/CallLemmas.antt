@@ -1,6 +1,6 @@
 -- From the reply of a command to the promises of a call.
 use Rattle.std.proofs.Common.{◌≡◌, ◌≢◌, sym, refl, subst, ℕ, ◌≤◌, inl, inr, cond, Bool, true, false, ◌||◌, List, [], ◌∷◌, take, Option, None, Some, Result, Ok, Err, arith}
-use Rattle.std.specs.Prelude.{◌==◌, IsTrue, IsFalse}
+use Rattle.std.specs.Prelude.{◌==◌, Contains, IsFalse}
 use Rattle.std.specs.List.{list_any}
 use Rattle.std.specs.Str.{bytes_eq}
 use Rattle.std.specs.Io.KnownBytes.{Appends, Keeps}
@@ -12,37 +12,33 @@ use Rattle.answers.specs.Devices.{Devices}
 use Rattle.command_parts.specs.declared.answer.Stop.{Stop}
 use Rattle.command_parts.specs.declared.answer.Stop.TheVariants as stop
 use Rattle.explain_words.specs.Words.{Request, Story, Instance, Rules, Cores, Look, request_of}
-use Rattle.explain_call.specs.declared.reply.Reply.{Reply}
-use Rattle.explain_call.specs.declared.reply.Reply.TheVariants as reply
-use Rattle.explain_call.specs.Call.{IsCall, HasReadCause, files_of, statuses_of}
-use Rattle.explain_call.specs.Replies.{Replies, status_of, text_of}
+use Rattle.explain_answers.specs.Call.{IsCall, HasReadCause, files_of, statuses_of}
+use Rattle.explain_answers.proofs.StatusLemmas.{found_among}
+use Rattle.explain_parts.specs.declared.reply.Reply.{Reply}
+use Rattle.explain_parts.specs.declared.reply.Reply.TheVariants as reply
+use Rattle.explain_parts.specs.Replies.{Replies, status_of, text_of}
+use Rattle.explain_parts.proofs.StudyReplies.{may_want_memory}
 
 -- ---- commands
 
--- the text of each command may be cut short
-may_be_cut : (request : Option Request) → IsTrue (list_any (λ n. n == 6) (statuses_of request))
-may_be_cut None = refl
-may_be_cut (Some (Story study report workers)) = refl
-may_be_cut (Some (Instance study axiom_name number)) = refl
-may_be_cut (Some (Rules study most workers)) = refl
-may_be_cut (Some (Cores study workers)) = refl
-may_be_cut (Some (Look study workers)) = refl
+cuts_short : (request : Option Request) → list_any (λ n. n == 6) (statuses_of request) ≡ true
+cuts_short None = refl
+cuts_short (Some (Story study report workers)) = refl
+cuts_short (Some (Instance study axiom_name number)) = refl
+cuts_short (Some (Rules study most workers)) = refl
+cuts_short (Some (Cores study workers)) = refl
+cuts_short (Some (Look study workers)) = refl
 
--- and each may want memory
-pub may_want_memory : (request : Option Request) → IsTrue (list_any (λ n. n == 7) (statuses_of request))
-may_want_memory None = refl
-may_want_memory (Some (Story study report workers)) = refl
-may_want_memory (Some (Instance study axiom_name number)) = refl
-may_want_memory (Some (Rules study most workers)) = refl
-may_want_memory (Some (Cores study workers)) = refl
-may_want_memory (Some (Look study workers)) = refl
+-- the text of each command may be cut short
+may_be_cut : (request : Option Request) → Contains (statuses_of request) 6
+may_be_cut request = found_among (statuses_of request) 6 (cuts_short request)
 
 module _ (request : Option Request) (told : Option Files) (left : Files) (faults : List ℕ → ℕ) where
   -- the usage line, for words that are no command
   pub usage_reply : request ≡ None → Replies request told left left faults faults (Ok reply.Usage)
   usage_reply asked = subst (λ (r : Option Request). Replies r told left left faults faults (Ok reply.Usage)) (sym asked) (record {
     lawful = λ files h. (refl, refl);
-    known = refl;
+    known = found_among (statuses_of None) 2 refl;
     low = omega arith;
     has_text = tt;
     read_fault = λ e. absurd (cc);
@@ -121,7 +117,7 @@ module _ (words : List (List ℕ)) (d : Devices) where
   }
 
   -- nothing was
-  silent_call : (s : ℕ) → 5 ≤ s → s ≢ 6 → d.taken_now ≡ d.taken_before → IsTrue (list_any (λ n. n == s) (statuses_of (request_of words)))
+  silent_call : (s : ℕ) → 5 ≤ s → s ≢ 6 → d.taken_now ≡ d.taken_before → Contains (statuses_of (request_of words)) s
       → (s ≡ 5 → HasReadCause d.told d.left_before d.left_now d.faults_before d.faults_now (files_of (request_of words)))
       → ((name : List ℕ) → IsFalse (list_any (bytes_eq name) (touched_at s (files_of (request_of words)))) → d.left_now name ≡ d.left_before name)
       → (files_of (request_of words) ≡ [] → (name : List ℕ) → d.faults_now name ≡ d.faults_before name) → IsCall words d s

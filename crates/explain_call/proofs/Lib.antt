@@ -1,11 +1,3 @@
 -- In proof order.
-mod ReplyLemmas
 mod CallLemmas
-mod StudyReplies
-mod PageLaws
-mod InstanceLaws
-mod ClauseLaws
-mod RulesLaws
-mod CoresLaws
-mod LookLaws
-mod LookReplies
+mod CalmLemmas

@@ -2,17 +2,16 @@
 
 ghost use Rattle.words.specs.Words.{texts};
 ghost use Rattle.explain_words.specs.Words.{request_of};
-ghost use Rattle.explain_call.specs.Call.{IsCall};
-ghost use Rattle.explain_call.specs.Replies.{Replies};
+ghost use Rattle.explain_answers.specs.Call.{IsCall};
+ghost use Rattle.explain_answers.specs.Completeness.{AreAnswered, calm_devices};
+ghost use Rattle.explain_parts.specs.Replies.{Replies};
 
-use crate::cores_command::cores;
-use crate::instance_command::instance;
-use crate::reply::Reply;
-use crate::rules_command::rules;
-use crate::story_command::story;
-use crate::study_command::look;
 use command_parts::Stop;
-use edge::{Failed, Gate, Shelf, Sink};
+use edge::{CalmShelf, CalmSink, Failed, Gate, Shelf, Sink};
+use explain_answers::laws;
+use explain_commands::{cores, instance, look, rules};
+use explain_parts::Reply;
+use explain_story::story;
 use explain_words::{Command, command_of};
 use std::alloc::Global;
 use std::thread::Threads;
@@ -102,4 +101,22 @@ pub fn explain<R: Threads + Sync, S: Shelf, K: Sink, G: Gate>(
         Ok(()) => reply.into_status(alloc),
         Err(Failed) => 6,
     }
+}
+
+/// A call over devices that never fail: what the row says is answered, or memory is wanting.
+pub fn explain_calmly<R: Threads + Sync, G: Gate>(
+    rt: &R,
+    alloc: Global,
+    words: &[String],
+    shelf: &mut CalmShelf,
+    gate: &G,
+) -> u8
+    ensures call { IsCall (texts words.now) (calm_devices (⟦<CalmShelf as Shelf>⟧.files shelf.old)
+        (⟦<CalmShelf as Shelf>⟧.left shelf.old) (⟦<CalmShelf as Shelf>⟧.left shelf.new)) result }
+    ensures answered { AreAnswered (texts words.now) (calm_devices (⟦<CalmShelf as Shelf>⟧.files shelf.old)
+        (⟦<CalmShelf as Shelf>⟧.left shelf.old) (⟦<CalmShelf as Shelf>⟧.left shelf.new)) result }
+{
+    let status = explain(rt, alloc, words, shelf, &mut CalmSink::new(), gate);
+    laws::calls_are_complete();
+    status
 }

@@ -1,0 +1,10 @@
+-- In proof order.
+pub mod StatusLemmas
+mod PageLaws
+mod InstanceLaws
+mod ClauseLaws
+mod RulesLaws
+mod CoresLaws
+mod LookLaws
+mod CallLaws
+mod LeftLaws

@@ -1,0 +1,11 @@
+-- In reading order.
+pub mod Page
+pub mod Story
+pub mod Instance
+pub mod Rules
+pub mod Cores
+pub mod Look
+pub mod Lawful
+pub mod Call
+pub mod Laws
+pub mod Completeness

@@ -1,5 +1,0 @@
-use Rattle.explain_call.proofs.InstanceLaws.{instances_exact}
-use Rattle.explain_call.proofs.laws.instances_are_exact.Goals as goal
-
-pub returns : goal.returns
-returns c = instances_exact

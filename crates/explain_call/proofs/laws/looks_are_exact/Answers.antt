@@ -1,5 +1,0 @@
-use Rattle.explain_call.proofs.LookLaws.{looks_exact}
-use Rattle.explain_call.proofs.laws.looks_are_exact.Goals as goal
-
-pub returns : goal.returns
-returns c = looks_exact

@@ -1,5 +1,0 @@
-use Rattle.explain_call.proofs.PageLaws.{pages_exact}
-use Rattle.explain_call.proofs.laws.pages_are_exact.Goals as goal
-
-pub returns : goal.returns
-returns c = pages_exact

@@ -1,5 +1,0 @@
-use Rattle.explain_call.proofs.PageLaws.{pages_written}
-use Rattle.explain_call.proofs.laws.pages_are_written.Goals as goal
-
-pub returns : goal.returns
-returns c = pages_written

@@ -1,5 +1,0 @@
-use Rattle.explain_call.proofs.RulesLaws.{rules_written}
-use Rattle.explain_call.proofs.laws.rules_are_written.Goals as goal
-
-pub returns : goal.returns
-returns c = rules_written

@@ -1,0 +1,5 @@
+-- In proof order.
+mod InstanceReplies
+mod RulesReplies
+mod CoresReplies
+mod LookReplies

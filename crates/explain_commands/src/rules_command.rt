@@ -1,0 +1,90 @@
+//! The command `rules`: reads a study, and lists the rules that satisfy its axioms.
+
+ghost use Rattle.std.specs.Prelude.{◌≡◌, ◌≢◌, ◌≤◌, Some, Err, IfOk};
+ghost use Rattle.answers.specs.Grounding.{OverClauses};
+ghost use Rattle.explain_words.specs.Words.{Rules};
+ghost use Rattle.explain_answers.specs.Rules.{IsListed};
+ghost use Rattle.explain_answers.specs.Story.{bare_run};
+ghost use Rattle.explain_parts.specs.Replies.{HasText, Replies, status_of, text_of};
+
+use clause_form::GroundFault;
+use command_parts::{Answer, Opened, Stop, ground_all, open_study};
+use crew::Crew;
+use edge::{Gate, Shelf};
+use explain_parts::Reply;
+use kinds::over_kind;
+use outcomes::OutcomeKind;
+use rule_lists::all_rules;
+use std::alloc::Global;
+use std::thread::Threads;
+use vocab::Study;
+
+/// Lists the rules of a study of a kind, or says why its clauses are refused.
+fn list_over<R: Threads + Sync, K: OutcomeKind, G: Gate>(
+    alloc: Global,
+    crew: &Crew<R, G>,
+    kind: &K,
+    study: Study,
+    most: u32,
+) -> Result<Reply, Stop>
+    requires size { study.size ≡ K.size kind.now }
+    ensures row { IfOk result (λ reply. OverClauses study (bare_run (status_of reply)) (text_of reply)
+        (IsListed study most (status_of reply) (text_of reply))) }
+    ensures has_text { IfOk result HasText }
+    ensures read { result ≢ Err Stop.ReadFault }
+{
+    let clauses = match ground_all(alloc, crew, kind, &study) {
+        Ok(clauses) => clauses,
+        Err(GroundFault::NoMemory) => return Err(Stop::NoMemory),
+        Err(fault) => return Ok(Reply::Refused(Answer::NoClauses(study, fault))),
+    };
+    let list = all_rules(alloc, kind, &study, &clauses, most)?;
+    Ok(Reply::Rules(study, list))
+}
+
+/// Lists the rules of a study, or says why its clauses are refused.
+fn list_study<R: Threads + Sync, G: Gate>(
+    alloc: Global,
+    crew: &Crew<R, G>,
+    study: Study,
+    most: u32,
+) -> Result<Reply, Stop>
+    ensures row { IfOk result (λ reply. OverClauses study (bare_run (status_of reply)) (text_of reply)
+        (IsListed study most (status_of reply) (text_of reply))) }
+    ensures has_text { IfOk result HasText }
+    ensures read { result ≢ Err Stop.ReadFault }
+{
+    over_kind!(
+        study.size(),
+        kind,
+        list_over(alloc, crew, &kind, study, most)
+    )
+}
+
+/// Reads the study, makes the clauses of its axioms, and lists the rules that satisfy all of them, at most
+/// `most`. The study and its clauses are refused as `decide` refuses them. The clauses are made among 1 to 16
+/// workers, which changes no reply; the gate is told of each piece of that work. Errors: `Stop::ReadFault`
+/// where the shelf fails, and `Stop::NoMemory`.
+pub fn rules<R: Threads + Sync, S: Shelf, G: Gate>(
+    rt: &R,
+    alloc: Global,
+    gate: &G,
+    workers: u8,
+    shelf: &mut S,
+    study: &str,
+    most: u32,
+) -> Result<Reply, Stop>
+    requires some { 1 ≤ workers }
+    requires few { workers ≤ 16 }
+    ensures { Replies (Some (Rules study.now most workers)) (S.files shelf.old)
+        (S.left shelf.old) (S.left shelf.new) (S.faults shelf.old) (S.faults shelf.new) result }
+{
+    match open_study(alloc, shelf, study) {
+        Ok(Opened::Study(question)) => {
+            let crew = Crew { rt, gate, workers };
+            list_study(alloc, &crew, question, most)
+        }
+        Ok(Opened::Refused(answer)) => Ok(Reply::Refused(answer)),
+        Err(stop) => Err(stop),
+    }
+}

@@ -1,0 +1,2 @@
+-- What a command over a study promises.
+pub mod StudyReplies

@@ -1,0 +1,2 @@
+-- From what each part promises to the reply.
+mod StoryLemmas

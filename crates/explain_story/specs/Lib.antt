@@ -1,0 +1,2 @@
+-- What is replied.
+pub mod Replied
