@@ -2,9 +2,10 @@
 """Counts the definitions that a claim rests on, for the table in docs/PROVED.md: python3 measure/believed.py [FILE.NAME ..]
 
 From the names that a claim is stated in it follows each definition of crates/*/specs to the ones that it is stated in, and counts their
-lines, with their comments, file by file. Types of the program (`declared`) are not followed, nor definitions of the kit, of which it says how
-many names are used. Each row counts what the rows that it names do not; then comes all that laws give, and that a call promises. With words it
-follows these names alone, as verdicts/Claims.HasNoRule.
+lines, with their comments, file by file, and the words and signs in them, with blanks between, of which one reads some 150 a minute aloud.
+Types of the program (`declared`) are not followed, nor definitions of the kit, of which it says how many names are used. Each row counts what the
+rows that it names do not; then comes all that laws give, and that a call promises. With words it follows these names alone, as
+verdicts/Claims.HasNoRule.
 """
 import collections
 import glob
@@ -39,6 +40,7 @@ WHOLES = [
     ("export", ["answers/RowLaws.SaysStudy"]),
     ("proof", ["answers/RowLaws.IsProofRight"]),
     ("a call", ["answers/Call.IsCall"]),
+    ("a call of explain", ["explain_call/Call.IsCall"]),
 ]
 
 
@@ -116,10 +118,11 @@ def of_kit(definitions):
 
 
 def tell(claim, definitions):
-    counts = collections.Counter()
+    counts, words = collections.Counter(), 0
     for place, name in definitions:
         counts[place] += len(FILES[place].lines[name])
-    print(f"{claim}: {sum(counts.values())} lines in {len(counts)} files")
+        words += sum(len(line.split()) for line in FILES[place].lines[name])
+    print(f"{claim}: {sum(counts.values())} lines in {len(counts)} files, {words} words and signs, {round(words / 150)} minutes aloud")
     print("    " + ", ".join(f"{place} {count}" for place, count in sorted(counts.items())))
     print("    names of the kit: " + ", ".join(f"{crate} {count}" for crate, count in sorted(of_kit(definitions).items())))
 

@@ -450,7 +450,16 @@ def map_of(judge, most):
 LETTERS = {"voter": "i", "alt": "x", "ballot": "b", "profile": "p"}
 
 
-def canonical(part, scope, level=1):
+def constants(study, parts):
+    """The texts of two constants that are compared: of a study their sorts are not kept, so they stand as those of the first sort that has both."""
+    values = [resolved(study, part)[2] for part in parts]
+    alternatives, voters = [f"@{letter}" for letter in "abcde"[: len(study.alts)]], [f"#{i + 1}" for i in range(len(study.voters))]
+    for texts in (alternatives, voters, [f"<{ballot}>" for ballot in study.ballots]):
+        if max(values) < len(texts):
+            return [texts[value] for value in values]
+
+
+def canonical(study, part, scope, level=1):
     """The text of a formula of refusals.py, its variables named by their sorts and places."""
     head, *rest = part
     if head == "variable":
@@ -459,12 +468,14 @@ def canonical(part, scope, level=1):
         return f"#{int(rest[1][1:])}" if rest[0] == "voter" else rest[1]
     if head in ("all", "some"):
         name = f"{LETTERS[rest[1]]}{level}"
-        return f"{head} {name}: {rest[1]}. {canonical(rest[2], {**scope, rest[0]: name}, level + 1)}"
+        return f"{head} {name}: {rest[1]}. {canonical(study, rest[2], {**scope, rest[0]: name}, level + 1)}"
     if head == "!":
-        return "!" + canonical(rest[0], scope, level)
+        return "!" + canonical(study, rest[0], scope, level)
     if head == "call":
-        return f"{rest[0]}({', '.join(canonical(other, scope, level) for other in rest[1:])})"
-    first, second = (canonical(other, scope, level) for other in rest)
+        return f"{rest[0]}({', '.join(canonical(study, other, scope, level) for other in rest[1:])})"
+    if head == "=" and all(other[0] == "constant" for other in rest):
+        return " = ".join(constants(study, rest))
+    first, second = (canonical(study, other, scope, level) for other in rest)
     return f"{first} = {second}" if head == "=" else f"({first} {head} {second})"
 
 
@@ -490,7 +501,7 @@ def look_of(judge, dear):
     text += " ".join(["axioms", *judge.names]) + "\n" + share("profiles", len(s.profiles), 20_000)
     text += f"variables {len(s.profiles) * len(s.pairs if judge.kind == 'ranking' else s.alts)}\n"
     for name, axiom in judge.axioms.items():
-        text += f"axiom {name}\nsentence {canonical(axiom.sentence, {})}\n" + share("instances", axiom.count, 40_000_000, f"{name}: ")
+        text += f"axiom {name}\nsentence {canonical(s, axiom.sentence, {})}\n" + share("instances", axiom.count, 40_000_000, f"{name}: ")
         text += share("body", size.atoms(leading(axiom.sentence)[1]), 1_000_000, f"{name}: ")
         text += share("work", size.atoms(axiom.sentence), 200_000_000, f"{name}: ")
         kept = kept_clauses((body for _, body in judge.instances(name)), dear)
