@@ -79,7 +79,6 @@ PY
 # The C library's calls of a program get other names, as its `main` does.
 renamed=()
 for call in open close read write; do renamed+=(--redefine-sym "$call=given_$call"); done
-renamed+=(--redefine-sym __write=given_write)
 for name in bench explain; do
     mapfile -t words < <(words_for "$name")
     (cd "$root/crates/$name" && "$kit/bin/rattle" build "${words[@]}" --toolchain "$work/toolchain" --backend llvm -o "$work/$name.o") >"$work/$name.log" 2>&1 ||
