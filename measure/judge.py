@@ -387,18 +387,24 @@ def export_of(judge, dear):
 
 
 def instance_of(judge, name, number):
-    """The status and the first line of `explain instance`."""
+    """The status and the text of `explain instance`."""
     if name not in judge.axioms:
-        return 3, f"instance: no axiom {name}"
-    axiom = judge.axioms[name]
+        return 3, f"instance: no axiom {name}\n"
+    axiom, part, scope = judge.axioms[name], judge.axioms[name].sentence, {}
     if number >= axiom.count:
-        return 3, f"instance: {name} has {axiom.count} instances, numbered from 0"
+        return 3, f"instance: {name} has {axiom.count} instances, numbered from 0\n"
     shown = {"profile": list(judge.profiles), "voter": "12345678", "alt": judge.letters, "ballot": judge.study.ballots}
     words = []
     for sort, choices in zip(reversed(axiom.sorts), reversed(axiom.ranges)):
         number, at = divmod(number, len(choices))
         words.insert(0, shown[sort][at])
-    return 0, " ".join(["axiom", name, *words])
+    lines = [" ".join(["axiom", name, *words])]
+    for level, word in enumerate(words, 1):
+        _, variable, sort, part = part
+        told = f"{LETTERS[sort]}{level}"
+        lines.append(f"{told} {sort} {word}")
+        scope[variable] = {"profile": told, "voter": f"#{word}", "alt": f"@{word}", "ballot": f"<{word}>"}[sort]
+    return 0, "\n".join([*lines, f"body {canonical(judge.study, part, scope, len(words) + 1)}", ""])
 
 
 # ---- All rules of a small study.

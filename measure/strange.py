@@ -440,7 +440,7 @@ class Run:
         """What else is refused with status 3."""
         if command == "instance":
             want(re.fullmatch(rb"instance: (no axiom .*|%s has \d+ instances, numbered from 0)\n" % A, self.out, re.S), "no line of instance")
-            self.told_instance(self.out.decode()[:-1])
+            self.told_instance()
         elif command == "gain":
             want(self.out == b"study: kind not sets\n", "no line of gain")
         elif command != "sharpen" or not re.fullmatch(rb"study: total \d+ \d+\n", self.out):
@@ -575,13 +575,13 @@ class Run:
             self.programs.hold("answer", looks.report_of(size, table).encode())
             want(self.house.check(self.names[0], "answer") == (0, b"confirmed possible\n"), "check does not confirm a listed rule")
 
-    def told_instance(self, line):
+    def told_instance(self):
         wanted = self.judged(judge.instance_of, self.values[1].decode(), int(self.values[2]))
-        want(wanted in (None, (self.status, line)), f"{line!r} in place of {wanted}")
+        want(wanted in (None, (self.status, self.out.decode())), f"{self.out.decode()!r} in place of {wanted}")
 
     def instance(self):
+        self.told_instance()
         lines = self.text().split("\n")
-        self.told_instance(lines[0])
         want(lines.pop() == "" and len(lines) >= 2, "a text of another form")
         axiom, values = lines[0].split(" ")[1], lines[0].split(" ")[2:]
         want(lines[0].startswith("axiom ") and axiom.encode() == self.values[1], "the first line has another form")
