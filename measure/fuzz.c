@@ -1,8 +1,10 @@
 // Hands what libFuzzer draws to the two programs `bench` and `explain`, as words and files, in one process (measure/fuzz.sh builds it, and says
 // what the targets are). The programs are the objects that the toolchain made, with their `main` under the names `bench_main` and
-// `explain_main`, and with these functions in place of the C library's `open`, `read`, `write` and `close`: they open the files of a call by
-// their names and nothing else, and keep what is written. What is wrong ends the process by `abort`, with a line that says what came.
+// `explain_main`, and with these functions in place of the C library's `open`, `read`, `write`, `close` and `_exit`: they open the files of a
+// call by their names and nothing else, keep what is written, and go back to the call at its end. What is wrong ends the process by `abort`, with
+// a line that says what came.
 #include <errno.h>
+#include <setjmp.h>
 #include <stdbool.h>
 #include <stdint.h>
 #include <stdio.h>
@@ -107,12 +109,25 @@ static bool is_same(const struct told *one, const struct told *other) {
 
 static bool begins(const struct told *told, const char *front) { return strncmp(told->text, front, strlen(front)) == 0; }
 
+// A program ends by `_exit`, once all that it has made is let go of.
+static jmp_buf end;
+static int ended;
+
+void given_exit(int status) {
+    ended = status;
+    longjmp(end, 1);
+}
+
 static struct told once(bool explains, size_t most) {
     piece = most;
     answered = 0;
     given_write(1, "", 0);
-    struct told told = {explains ? explain_main() : bench_main(), NULL, answered};
-    told.text = malloc(answered + 1);
+    if (setjmp(end) == 0) {
+        if (explains) explain_main();
+        else bench_main();
+        abort();
+    }
+    struct told told = {ended, malloc(answered + 1), answered};
     if (!told.text) abort();
     memcpy(told.text, answer, answered + 1);
     return told;

@@ -79,6 +79,7 @@ PY
 # The C library's calls of a program get other names, as its `main` does.
 renamed=()
 for call in open close read write; do renamed+=(--redefine-sym "$call=given_$call"); done
+renamed+=(--redefine-sym _exit=given_exit)
 for name in bench explain; do
     mapfile -t words < <(words_for "$name")
     (cd "$root/crates/$name" && "$kit/bin/rattle" build "${words[@]}" --toolchain "$work/toolchain" --backend llvm -o "$work/$name.o") >"$work/$name.log" 2>&1 ||
@@ -129,7 +130,7 @@ for command, (program, forms, options, _, _) in strange.COMMANDS.items():
         hold("words", b"".join(word + b"\0" for word in words))
 for target in ("study", "report", "lrat", "adopt", "words"):
     texts = [open(file.path, "rb").read() for file in os.scandir(f"{work}/first_{target}")]
-    found = sorted({word for text in texts for word in re.findall(rb"[A-Za-z_]+|[^\sA-Za-z_0-9]{1,3}|[0-9]+", text[:4000]) if len(word) <= 32}, key=len)
+    found = sorted({word for text in texts for word in re.findall(rb"[A-Za-z_]+|[^\sA-Za-z_0-9]{1,3}|[0-9]+", text[:4000]) if len(word) <= 32}, key=lambda word: (len(word), word))
     with open(f"{work}/{target}.dict", "w") as file:
         for word in found[:400]:
             file.write('"' + "".join(f"\\x{byte:02x}" for byte in word) + '"\n')
