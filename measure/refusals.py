@@ -234,7 +234,7 @@ def keys_of(text):
     """The document, and each of its values of the right type."""
     refuse(len(text) > 1_048_576, "too long")
     try:
-        document = tomllib.loads(decoded(text))
+        document = tomllib.loads(decoded(text), parse_float=finite)
     except (ValueError, RecursionError) as fault:
         if LATER.search(text):
             raise Unsaid from fault
@@ -256,6 +256,14 @@ def keys_of(text):
     for key in sorted(document, key=str.encode):
         refuse(key not in KEYS and key != "sentences", f"key {key}")
     return document
+
+
+def finite(text):
+    """The number of a text, which is no TOML where it is too large for one, as 1e1000."""
+    value = float(text)
+    if math.isinf(value) and "inf" not in text:
+        raise ValueError
+    return value
 
 
 def decoded(text):
