@@ -1,12 +1,13 @@
 #!/usr/bin/env bash
-# The least stack within which each command over a study answers as with 64 MB, over the deepest sentences that a study may have: depth
-# 64, by signs, by groups, by calls, and by 12 quantifiers with signs, of rules that choose; by signs and by quantifiers of rules that rank
-# too. Those by signs and by groups stand beside an axiom that contradicts them, so that there is a story. Each with one worker and with
-# two. The limit is a quarter of the 8 MB that a main thread has.
+# The least stack within which each command of `bench` and of `explain` over a study answers as with 64 MB, over the deepest sentences that a
+# study may have: depth 64, by signs, by groups, by calls, and by 12 quantifiers with signs, of rules that choose; by signs and by
+# quantifiers of rules that rank too. Those by signs and by groups stand beside an axiom that contradicts them, so that there is a story. Each
+# with one worker and with two, where it has workers. The limit is a quarter of the 8 MB that a main thread has.
 # Prints `COMMAND K KB of 2048` for each command, the most of all sentences, and ends with status 1 where one is above.
 set -eu
 . "$(dirname -- "$(readlink -f -- "${BASH_SOURCE[0]}")")/setup.sh"
 build_program
+env -u BENCH_QUICK "$root/explain" rules "$root/studies/dictatorship.toml" >/dev/null
 repeated() { # PIECE TIMES
     local i
     for ((i = 0; i < $2; i++)); do printf '%s' "$1"; done
@@ -41,7 +42,7 @@ for name in "${names[@]}"; do
     "$program" proof "$work/$name.toml" >"$work/$name.lrat"
 done
 answers() { # KB, WORDS: what is written within so much stack, and the status
-    (ulimit -s "$1" && shift && "$program" "$@"; echo "status $?") 2>/dev/null || true
+    (ulimit -s "$1" && shift && "$ran" "$@"; echo "status $?") 2>/dev/null || true
 }
 least() { # WORDS: the least stack by halving, to 16 KB
     local low=0 high=65536 middle wanted
@@ -54,17 +55,25 @@ least() { # WORDS: the least stack by halving, to 16 KB
     echo "$high"
 }
 status=0
-for command in decide check export proof adopt sharpen; do
+for command in decide check export proof adopt sharpen story rules cores study instance; do
     most=0
+    ran=$program counts=(1 2)
+    case $command in
+        story | rules | cores | study) ran=$root/crates/explain/out/explain ;;
+        instance) ran=$root/crates/explain/out/explain counts=(0) ;;
+    esac
     for name in "${names[@]}"; do
         words=("$command" "$work/$name.toml")
         case $command-$name in
-            check-*) words+=("$work/$name.report") ;;
+            check-* | story-*) words+=("$work/$name.report") ;;
+            instance-*) words+=(deep 0) ;;
             adopt-calls | adopt-*quantifiers) continue ;;
             adopt-*) words+=("$work/$name.lrat") ;;
         esac
-        for workers in 1 2; do
-            found=$(least "${words[@]}" --workers "$workers")
+        for workers in "${counts[@]}"; do
+            with=()
+            [ "$workers" = 0 ] || with=(--workers "$workers")
+            found=$(least "${words[@]}" "${with[@]}")
             if [ "$found" -gt "$most" ]; then most=$found; fi
         done
     done
