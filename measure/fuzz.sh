@@ -19,10 +19,11 @@
 # the executable in out/, nor what Rattle's own compiler makes. Files and output are those of measure/fuzz.c, in memory.
 # The first texts are studies/, the rows of crates/rows, and what the programs write of these, by measure/strange.py.
 #
-# Prints for each target the texts that were run, the seconds, the edges of both programs that were reached, the texts kept for what they
-# reach, the longest run of one and the most memory, and how many texts failed, which are kept in ./fuzz_TARGET (crash-.., timeout-.., oom-..,
-# leak-..). Edges are those of the two programs together, much of which no reader meets. FUZZ_CORPUS names a folder where texts that reach
-# something new are kept, and from which a later run goes on. The status is 1 where a text failed.
+# Prints for each target the texts that were run, the seconds and those of a processor, the edges of both programs that were reached, the texts
+# kept for what they reach, the longest run of one and the most memory, and how many texts failed, which are kept in ./fuzz_TARGET (crash-..,
+# timeout-.., oom-.., leak-..). Edges are those of the two programs together, much of which no reader meets. The status is 1 where a text failed.
+# FUZZ_CORPUS names a folder where texts that reach something new are kept, and from which a later run goes on. FUZZ_BUILT names one where what is
+# built, in some minutes, is kept, and taken from by later runs, also by several side by side, each with another target.
 # Wants Debian's clang, with its libFuzzer, beside the toolchain.
 set -eu
 . "$(dirname -- "$(readlink -f -- "${BASH_SOURCE[0]}")")/setup.sh"
@@ -30,25 +31,28 @@ seconds=${1-60}
 [ $# -eq 0 ] || shift
 targets=("$@")
 [ $# -gt 0 ] || targets=(study report lrat adopt words)
+built=${FUZZ_BUILT-$work}
 kit=$(dirname -- "$(dirname -- "$(readlink -f -- "$(command -v rt)")")")
 build_program
 env -u BENCH_QUICK "$root/explain" rules "$root/studies/dictatorship.toml" >/dev/null
 
-# The toolchain with a clang that is asked for more.
-mkdir -p "$work/toolchain/bin"
-ln -s "$kit/toolchain/lib" "$work/toolchain/lib"
-for tool in "$kit"/toolchain/bin/*; do ln -s "$tool" "$work/toolchain/bin/"; done
-rm "$work/toolchain/bin/clang"
-cat >"$work/toolchain/bin/clang" <<CLANG
+# The toolchain with a clang that is asked for more. AddressSanitizer goes over the functions with its attribute, and the module marks none.
+make_toolchain() {
+    mkdir -p "$built/toolchain/bin"
+    ln -sfn "$kit/toolchain/lib" "$built/toolchain/lib"
+    ln -sf "$kit"/toolchain/bin/* "$built/toolchain/bin/"
+    rm "$built/toolchain/bin/clang"
+    cat >"$built/toolchain/bin/clang" <<CLANG
 #!/bin/sh
 set -e
-# AddressSanitizer goes over the functions with its attribute, and the module marks none.
-"$kit/toolchain/bin/clang" --no-default-config --target=x86_64-unknown-linux-gnu -S -emit-llvm -Xclang -disable-llvm-passes -x ir module.bc -o marked.ll
+clang=$kit/toolchain/bin/clang
+"\$clang" --no-default-config --target=x86_64-unknown-linux-gnu -S -emit-llvm -Xclang -disable-llvm-passes -x ir module.bc -o marked.ll
 sed 's/^attributes #[0-9]* = { /&sanitize_address /' marked.ll >module.bc
 rm marked.ll
-exec "$kit/toolchain/bin/clang" "\$@" -fsanitize=address -fsanitize-coverage=inline-8bit-counters,pc-table,trace-cmp
+exec "\$clang" "\$@" -fsanitize=address -fsanitize-coverage=inline-8bit-counters,pc-table,trace-cmp
 CLANG
-chmod +x "$work/toolchain/bin/clang"
+    chmod +x "$built/toolchain/bin/clang"
+}
 
 # The words with which the toolchain builds a program over the libraries that were proved.
 words_for() {
@@ -76,97 +80,60 @@ words += ["--antt-project", f"{kit}/rattle/logic/antt-project.json", "--logic-bu
 print("\n".join(words))
 PY
 }
-# The C library's calls of a program get other names, as its `main` does.
-renamed=()
-for call in open close read write; do renamed+=(--redefine-sym "$call=given_$call"); done
-renamed+=(--redefine-sym _exit=given_exit)
-for name in bench explain; do
-    mapfile -t words < <(words_for "$name")
-    (cd "$root/crates/$name" && "$kit/bin/rattle" build "${words[@]}" --toolchain "$work/toolchain" --backend llvm -o "$work/$name.o") >"$work/$name.log" 2>&1 ||
-        { tail -n 20 "$work/$name.log" >&2; exit 1; }
-    objcopy "${renamed[@]}" --redefine-sym "main=${name}_main" "$work/$name.o"
-done
-clang -O2 -g -Wall -D_GNU_SOURCE -fsanitize=address,fuzzer -o "$work/fuzz" "$root/measure/fuzz.c" "$work/bench.o" "$work/explain.o" \
-    "$kit/c/libos_c.a" "$kit/c/liblibc_c.a" -lpthread
-
-python3 - "$root" "$work" <<'PY'
-import os, re, sys
-root, work = sys.argv[1:]
-sys.path.insert(0, f"{root}/measure")
-import strange
-programs = strange.Programs(f"{root}/crates/bench/out/bench", f"{root}/crates/explain/out/explain", f"{work}")
-seeds, loose = strange.seeds_of(programs)
-def hold(target, text):
-    folder = f"{work}/first_{target}"
-    os.makedirs(folder, exist_ok=True)
-    with open(f"{folder}/{len(os.listdir(folder))}", "wb") as file:
-        file.write(text)
-os.makedirs(f"{work}/held")
-small = [s for s in seeds if s.profiles <= 36 and s.dearest <= 5_000 and not s.refused and any(len(t) < 6_000 for t in s.texts["report"] + s.texts["sharp"])][:64]
-for number, seed in enumerate(small):
-    with open(f"{work}/held/{number}", "wb") as file:
-        file.write(seed.study)
-    for text in seed.texts["report"] + seed.texts["sharp"]:
-        if len(text) < 6_000:
-            hold("report", bytes([number]) + text)
-    for text in seed.texts["proof"]:
-        if len(text) < 6_000:
-            hold("adopt", bytes([number]) + text)
-for seed in seeds:
-    if len(seed.study) < 6_000:
-        hold("study", seed.study)
-    loose += zip(seed.texts["cnf"], seed.texts["proof"])
-for cnf, proof in loose:
-    if len(cnf) + len(proof) < 6_000:
-        hold("lrat", cnf + b"\0" + proof)
-one = next(s for s in small if s.texts["report"] and s.texts["cnf"] and s.texts["proof"])
-for name, text in (("study", one.study), ("report", one.texts["report"][0]), ("cnf", one.texts["cnf"][0]), ("proof", one.texts["proof"][0])):
-    with open(f"{work}/held/{name}", "wb") as file:
-        file.write(text)
-names = {strange.STUDY: b"study", strange.REPORT: b"report", strange.CNF: b"cnf", strange.PROOF: b"proof", b"KIND": b"sets", b"N": b"7", b"AXIOM": b"pareto", b"NUMBER": b"1"}
-for command, (program, forms, options, _, _) in strange.COMMANDS.items():
-    plain = [program.encode(), command.encode(), *(names[form] for form in forms)]
-    for words in [plain, *(plain + more for option in options for more in ([option, b"2"], [option + b"=2"], [b"--", option]))]:
-        hold("words", b"".join(word + b"\0" for word in words))
-for target in ("study", "report", "lrat", "adopt", "words"):
-    texts = [open(file.path, "rb").read() for file in os.scandir(f"{work}/first_{target}")]
-    found = sorted({word for text in texts for word in re.findall(rb"[A-Za-z_]+|[^\sA-Za-z_0-9]{1,3}|[0-9]+", text[:4000]) if len(word) <= 32}, key=lambda word: (len(word), word))
-    with open(f"{work}/{target}.dict", "w") as file:
-        for word in found[:400]:
-            file.write('"' + "".join(f"\\x{byte:02x}" for byte in word) + '"\n')
-PY
-
-status=0
-for target in "${targets[@]}"; do
-    corpus=${FUZZ_CORPUS-$work/corpus}/$target
-    mkdir -p "$corpus" "fuzz_$target"
-    log=fuzz_$target/log
-    longest=6000
-    [ "$target" != words ] || longest=400
-    # One text that failed does not end the run: the next goes on with what was kept, for the seconds that are left.
-    end=$((SECONDS + seconds)) failed=0 run=0
-    : >"$log"
-    while [ $SECONDS -lt $end ]; do
-        FUZZ_TARGET=$target FUZZ_HELD=$work/held ASAN_OPTIONS=detect_leaks=1:allocator_may_return_null=1 \
-            "$work/fuzz" -max_total_time=$((end - SECONDS)) -max_len=$longest -timeout=20 -rss_limit_mb=2048 -malloc_limit_mb=2048 -use_value_profile=1 \
-            -dict="$work/$target.dict" -artifact_prefix="fuzz_$target/" -print_final_stats=1 "$corpus" "$work/first_$target" >>"$log" 2>&1 && break
-        failed=$((failed + 1))
-        [ $failed -lt 20 ] || break
+# The fuzzer: both programs, whose calls of the C library get other names, as their `main` does.
+build_fuzzer() {
+    local name call words renamed=(--redefine-sym _exit=given_exit)
+    make_toolchain
+    for call in open close read write; do renamed+=(--redefine-sym "$call=given_$call"); done
+    for name in bench explain; do
+        mapfile -t words < <(words_for "$name")
+        (cd "$root/crates/$name" && "$kit/bin/rattle" build "${words[@]}" --toolchain "$built/toolchain" --backend llvm -o "$built/$name.o") \
+            >"$built/$name.log" 2>&1 || { tail -n 20 "$built/$name.log" >&2; exit 1; }
+        objcopy "${renamed[@]}" --redefine-sym "main=${name}_main" "$built/$name.o"
     done
-    python3 - "$target" "$log" "$failed" "$corpus" <<'PY'
+    python3 "$root/measure/fuzz_texts.py" "$built"
+    clang -O2 -g -Wall -D_GNU_SOURCE -fsanitize=address,fuzzer -o "$built/fuzz" "$root/measure/fuzz.c" "$built/bench.o" "$built/explain.o" \
+        "$kit/c/libos_c.a" "$kit/c/liblibc_c.a" -lpthread
+}
+[ -x "$built/fuzz" ] || build_fuzzer
+
+# Says what a run came to, from what libFuzzer wrote.
+tell() { # TARGET SECONDS LOG FAILED CORPUS SPENT
+    python3 - "$@" <<'PY'
 import os, re, sys
-target, log, failed, corpus = sys.argv[1:]
+target, seconds, log, failed, corpus, spent = sys.argv[1:]
 with open(log, errors="replace") as file:
     text = file.read()
-def sum_of(form, join=sum):
-    found = [int(number) for number in re.findall(form, text)]
-    return join(found) if found else 0
-runs = sum_of(r"^stat::number_of_executed_units: +(\d+)".replace("^", "(?m)^"))
-edges, all_edges = sum_of(r"cov: (\d+)", max), sum_of(r"\((\d+) inline 8-bit counters\)", max)
-spent = sum_of(r"(?m)^Done \d+ runs in (\d+) second")
-print(f"{target}: {runs} texts in {spent} s, {edges} of {all_edges} edges, {len(os.listdir(corpus))} texts kept; "
-      f"longest {sum_of(r'slowest_unit_time_sec: +(\d+)', max)} s, {sum_of(r'peak_rss_mb: +(\d+)', max)} MB; {failed} failed", flush=True)
+def found(form, join=max):
+    return join(map(int, re.findall(form, text) or [0]))
+runs, edges, all_edges = found(r"stat::number_of_executed_units: +(\d+)", sum), found(r"cov: (\d+)"), found(r"\((\d+) inline 8-bit counters\)")
+longest, most = found(r"slowest_unit_time_sec: +(\d+)"), found(r"peak_rss_mb: +(\d+)")
+kept = len(os.listdir(corpus))
+with open(spent) as lines:
+    processor = sum(float(word) for line in lines for word in line.split())
+print(f"{target}: {runs} texts in {seconds} s, {processor:.0f} s of a processor, {edges} of {all_edges} edges, {kept} texts kept; longest {longest} s, {most} MB; {failed} failed", flush=True)
 PY
-    [ $failed -eq 0 ] || status=1
+}
+# A text that failed does not end the run: the next goes on with what was kept, for the seconds that are left, up to twenty times.
+run_target() { # TARGET
+    local target=$1 corpus=${FUZZ_CORPUS-$work/corpus}/$1 log=fuzz_$1/log longest=6000 start=$SECONDS failed=0 left
+    local TIMEFORMAT='%U %S'
+    mkdir -p "$corpus" "fuzz_$target"
+    [ "$target" != words ] || longest=400
+    : >"$log"
+    : >"$work/spent"
+    while left=$((start + seconds - SECONDS)) && [ $left -gt 0 ] && [ $failed -lt 20 ]; do
+        { time FUZZ_TARGET=$target FUZZ_HELD=$built/held ASAN_OPTIONS=detect_leaks=1:allocator_may_return_null=1 "$built/fuzz" \
+            -max_total_time=$left -max_len=$longest -timeout=20 -rss_limit_mb=2048 -malloc_limit_mb=2048 -use_value_profile=1 \
+            -dict="$built/$target.dict" -artifact_prefix="fuzz_$target/" -print_final_stats=1 "$corpus" "$built/first_$target" >>"$log" 2>&1; } \
+            2>>"$work/spent" && break
+        failed=$((failed + 1))
+    done
+    tell "$target" $((SECONDS - start)) "$log" "$failed" "$corpus" "$work/spent"
+    [ "$failed" -eq 0 ]
+}
+status=0
+for target in "${targets[@]}"; do
+    run_target "$target" || status=1
 done
 exit $status
