@@ -9,7 +9,7 @@ ghost use Rattle.simpler_proofs.specs.Made.{EachPasses, IsPassing, IsProof, is_s
 
 use crate::made::{MOST_LINES, assume, finish, learn, settle};
 use crate::reasons::{reasons, unmark};
-use cnf::{Clauses, Derivation, Lit};
+use cnf::{Clauses, Derivation, Lit, Lits};
 use lists::{Items, NoMemory};
 use propagate::Trail;
 use std::alloc::Global;
@@ -100,7 +100,7 @@ fn probe(
     }
 }
 
-/// Tries a literal of a variable, where this has no value and the budget allows it.
+/// Tries a literal, where its variable has no value and the budget allows it.
 fn attempt(
     alloc: Global,
     clauses: &Clauses,
@@ -108,25 +108,23 @@ fn attempt(
     seen: &mut Vec<bool>,
     lines: &mut Derivation,
     budget: &mut u32,
-    variable: u32,
-    positive: bool,
+    lit: Lit,
 ) -> Result<bool, NoMemory>
     requires passing { IsPassing is_single clauses.now.clauses trail.old seen.old.items lines.old }
     requires level { trail.old.level ≡ 0 }
     requires settled { trail.old.settled ≡ true }
-    requires least { 1 ≤ variable }
-    requires most { variable ≤ trail.old.variables }
-    requires few { variable < 2 ^ 31 }
     ensures passing { OnOk result
         (IsPassing is_single clauses.now.clauses trail.new seen.new.items lines.new) }
     ensures level { OnOk result (trail.new.level ≡ 0) }
     ensures settled { IfOk result (λ ended. ended ≡ false → trail.new.settled ≡ true) }
     ensures variables { OnOk result (trail.new.variables ≡ trail.old.variables) }
 {
-    if *budget == 0 || lines.len() > MOST_LINES || trail.value(variable).is_some() {
+    if *budget == 0 || lines.len() > MOST_LINES || lit.variable() as usize > seen.len() {
         return Ok(false);
     }
-    let lit = Lit::new(variable, positive);
+    if trail.value(lit.variable()).is_some() {
+        return Ok(false);
+    }
     let ended = probe(alloc, clauses, trail, seen, lines, budget, lit)?;
     Ok(ended)
 }
@@ -146,12 +144,24 @@ fn turned(place: u32, first: u32, variables: u32) -> u32
     }
 }
 
-/// Tries both literals of each variable in turn.
+/// Both literals of each variable in turn, those of the variables after the first ones before these.
+fn literals_in_turn(alloc: Global, variables: u32, first: u32) -> Result<Lits, NoMemory>
+    requires few { variables < 2 ^ 31 }
+    requires first { first ≤ variables }
+{
+    let mut tried = Items::new(alloc);
+    for place in 0..2 * variables {
+        let variable = turned(place / 2, first, variables);
+        tried.push(Lit::new(variable, place % 2 == 0))?;
+    }
+    Ok(tried)
+}
+
+/// Tries literals in turn.
 fn round(
     alloc: Global,
     clauses: &Clauses,
-    variables: u32,
-    first: u32,
+    tried: &[Lit],
     trail: &mut Trail,
     seen: &mut Vec<bool>,
     lines: &mut Derivation,
@@ -160,21 +170,14 @@ fn round(
     requires passing { IsPassing is_single clauses.now.clauses trail.old seen.old.items lines.old }
     requires level { trail.old.level ≡ 0 }
     requires settled { trail.old.settled ≡ true }
-    requires few { variables < 2 ^ 31 }
-    requires first { first ≤ variables }
-    requires variables { variables ≡ trail.old.variables }
     ensures passing { OnOk result
         (IsPassing is_single clauses.now.clauses trail.new seen.new.items lines.new) }
     ensures level { OnOk result (trail.new.level ≡ 0) }
     ensures settled { IfOk result (λ ended. ended ≡ false → trail.new.settled ≡ true) }
     ensures variables { OnOk result (trail.new.variables ≡ trail.old.variables) }
 {
-    for place in 0..2 * variables {
-        let variable = turned(place / 2, first, variables);
-        let positive = place % 2 == 0;
-        if attempt(
-            alloc, clauses, trail, seen, lines, budget, variable, positive,
-        )? {
+    for lit in tried {
+        if attempt(alloc, clauses, trail, seen, lines, budget, *lit)? {
             return Ok(true);
         }
     }
@@ -185,8 +188,7 @@ fn round(
 fn rounds(
     alloc: Global,
     clauses: &Clauses,
-    variables: u32,
-    first: u32,
+    tried: &[Lit],
     trail: &mut Trail,
     seen: &mut Vec<bool>,
     lines: &mut Derivation,
@@ -194,9 +196,6 @@ fn rounds(
 ) -> Result<bool, NoMemory>
     requires passing { IsPassing is_single clauses.now.clauses trail.old seen.old.items lines.old }
     requires level { trail.old.level ≡ 0 }
-    requires few { variables < 2 ^ 31 }
-    requires first { first ≤ variables }
-    requires variables { variables ≡ trail.old.variables }
     requires room { length lines.old < 1000000 }
     ensures passing { OnOk result
         (IsPassing is_single clauses.now.clauses trail.new seen.new.items lines.new) }
@@ -205,9 +204,9 @@ fn rounds(
     if close(alloc, clauses, trail, seen, lines)? {
         return Ok(true);
     }
-    for _ in 0..variables {
+    for _ in 0..tried.len() {
         let before = lines.len();
-        if round(alloc, clauses, variables, first, trail, seen, lines, budget)? {
+        if round(alloc, clauses, tried, trail, seen, lines, budget)? {
             return Ok(true);
         }
         if lines.len() == before {
@@ -215,6 +214,35 @@ fn rounds(
         }
     }
     Ok(false)
+}
+
+/// A refutation of the clauses in which each clause has at most one literal, by failed literals: these are
+/// tried in turn, round after round. No variable of a clause is above the number of variables, and a literal
+/// of a variable above it is not tried. `budget` is how many entries propagation may make, and becomes how
+/// many are left; where it is spent, or no literal is left that fails, there is no refutation.
+pub fn by_literals(
+    alloc: Global,
+    clauses: &Clauses,
+    variables: u32,
+    tried: &[Lit],
+    budget: &mut u32,
+) -> Result<Option<Derivation>, NoMemory>
+    requires few { variables < 2 ^ 31 }
+    requires range { All (λ clause. All (λ l. l.variable ≤ variables) clause) clauses.now.clauses }
+    ensures proof { IfOk result (λ made. IfSome made (IsProof clauses.now.clauses)) }
+    ensures over { IfOk result (λ made. IfSome made (AreOver variables)) }
+    ensures single { IfOk result (λ made. IfSome made (EachPasses is_single)) }
+{
+    let mut trail = Trail::new(alloc, clauses, variables)?;
+    let mut seen = vec![in alloc; false; variables as usize]?;
+    let mut lines = Items::new(alloc);
+    if rounds(
+        alloc, clauses, tried, &mut trail, &mut seen, &mut lines, budget,
+    )? {
+        let made = finish(alloc, clauses, &lines)?;
+        return Ok(made);
+    }
+    Ok(None)
 }
 
 /// A refutation of the clauses in which each clause has at most one literal, by failed literals: those of the
@@ -235,14 +263,7 @@ pub fn by_failed_literals(
     ensures over { IfOk result (λ made. IfSome made (AreOver variables)) }
     ensures single { IfOk result (λ made. IfSome made (EachPasses is_single)) }
 {
-    let mut trail = Trail::new(alloc, clauses, variables)?;
-    let mut seen = vec![in alloc; false; variables as usize]?;
-    let mut lines = Items::new(alloc);
-    if rounds(
-        alloc, clauses, variables, first, &mut trail, &mut seen, &mut lines, budget,
-    )? {
-        let made = finish(alloc, clauses, &lines)?;
-        return Ok(made);
-    }
-    Ok(None)
+    let tried = literals_in_turn(alloc, variables, first)?;
+    let made = by_literals(alloc, clauses, variables, tried.as_slice(), budget)?;
+    Ok(made)
 }

@@ -3,10 +3,15 @@
 #![tactic(auto)]
 
 mod failed_literals;
+mod leaving_out;
+mod literal_sets;
 mod made;
 mod reasons;
+mod rebuilding;
 mod simplifying;
+mod thinning;
 mod vivification;
+mod ways;
 
 pub use failed_literals::by_failed_literals;
 pub use simplifying::simplify;

@@ -1,55 +1,38 @@
 //! A simpler refutation in place of a given one.
 
-ghost use Rattle.std.specs.Prelude.{◌≡◌, ◌<◌, ◌≤◌, ◌^◌, ◌⊎◌, Some, All, IfOk, IfSome};
+ghost use Rattle.std.specs.Prelude.{◌<◌, ◌≤◌, ◌^◌, All, IfOk, IfSome};
 ghost use Rattle.cnf.specs.Fresh.{AreOver};
 ghost use Rattle.simpler_proofs.specs.Made.{EachPasses, IsProof, AreSimpler, is_single};
 
 use crate::failed_literals::by_failed_literals;
+use crate::leaving_out::{mark_cited, marked_clauses, shorter, with_fewer_lines};
+use crate::rebuilding::thinned;
 use crate::vivification::vivify;
-use cnf::{Clauses, Derivation, Step};
+use cnf::{Clauses, Derivation};
 use lists::NoMemory;
+use propagate::stay_within;
 use std::alloc::Global;
 
 /// How many entries propagation may make.
 const BUDGET: u32 = 10_000_000;
 
+/// How many entries, clauses and variables the tries may take in which lines are left out.
+const LINES: u32 = 1_000_000;
+
+/// How many clauses and variables may be looked at for shorter ways to conflicts, each time.
+const LOOKS: u32 = 3_000_000;
+
 /// In how many orders literals are tried.
 const ORDERS: u32 = 8;
 
-/// How many hints the lines have.
-fn hints_of(lines: &Derivation) -> usize {
-    let mut count: usize = 0;
-    for line in lines.as_slice() {
-        if let Step::Add { hints, .. } = &line.step {
-            count = count.saturating_add(hints.len());
-        }
-    }
-    count
-}
-
-/// The one with fewer hints, and the first of two with as many.
-pub fn shorter(best: Option<Derivation>, made: Derivation) -> Option<Derivation>
-    ensures { (result ≡ best) ⊎ (result ≡ Some made) }
-{
-    match best {
-        None => Some(made),
-        Some(old) => {
-            if hints_of(&made) < hints_of(&old) {
-                Some(made)
-            } else {
-                Some(old)
-            }
-        }
-    }
-}
-
 /// The refutation with the fewest hints of those by failed literals, in orders that begin at different
 /// variables. Where one order refutes nothing, no other does. Of the budget each order takes as many as there
-/// are clauses, beside its entries.
+/// are clauses, beside its entries. The clauses that one of them cites are marked.
 fn shortest(
     alloc: Global,
     clauses: &Clauses,
     variables: u32,
+    cited: &mut Vec<bool>,
 ) -> Result<Option<Derivation>, NoMemory>
     requires few { variables < 2 ^ 31 }
     requires range { All (λ clause. All (λ l. l.variable ≤ variables) clause) clauses.now.clauses }
@@ -63,11 +46,82 @@ fn shortest(
         let first = turn * (variables / ORDERS);
         match by_failed_literals(alloc, clauses, variables, first, &mut budget)? {
             None => return Ok(best),
-            Some(made) => best = shorter(best, made),
+            Some(made) => {
+                mark_cited(&made, cited);
+                best = shorter(best, made);
+            }
         }
         budget = budget.saturating_sub(clauses.len());
     }
     Ok(best)
+}
+
+/// A refutation of the clauses by clauses that are marked alone, made of a given one: with fewer lines, and
+/// with fewer hints in each. None where the marked clauses don't refute, or a budget is spent.
+fn rebuilt(
+    alloc: Global,
+    clauses: &Clauses,
+    variables: u32,
+    marked: &[bool],
+    given: &Derivation,
+) -> Result<Option<Derivation>, NoMemory>
+    requires few { variables < 2 ^ 31 }
+    ensures proof { IfOk result (λ made. IfSome made (IsProof clauses.now.clauses)) }
+    ensures over { IfOk result (λ made. IfSome made (AreOver variables)) }
+    ensures single { IfOk result (λ made. IfSome made (EachPasses is_single)) }
+{
+    let part = marked_clauses(alloc, clauses, marked)?;
+    if !stay_within(&part, variables) {
+        return Ok(None);
+    }
+    let Some(lines) = with_fewer_lines(alloc, &part, variables, given, LINES)? else {
+        return Ok(None);
+    };
+    let made = thinned(alloc, clauses, &part, variables, &lines, LOOKS)?;
+    Ok(made)
+}
+
+/// A refutation made of a given one, with fewer hints in its lines, which may cite any clause. None where it
+/// is not accepted.
+fn thinned_by_all(
+    alloc: Global,
+    clauses: &Clauses,
+    variables: u32,
+    given: &Derivation,
+) -> Result<Option<Derivation>, NoMemory>
+    ensures proof { IfOk result (λ made. IfSome made (IsProof clauses.now.clauses)) }
+    ensures over { IfOk result (λ made. IfSome made (AreOver variables)) }
+    ensures single { IfOk result (λ made. IfSome made (EachPasses is_single)) }
+{
+    let all = vec![in alloc; true; clauses.len() as usize]?;
+    let whole = marked_clauses(alloc, clauses, all.as_slice())?;
+    let made = thinned(alloc, clauses, &whole, variables, given, LOOKS)?;
+    Ok(made)
+}
+
+/// A refutation by failed literals, the shortest that was found.
+fn by_single(
+    alloc: Global,
+    clauses: &Clauses,
+    variables: u32,
+) -> Result<Option<Derivation>, NoMemory>
+    requires few { variables < 2 ^ 31 }
+    requires range { All (λ clause. All (λ l. l.variable ≤ variables) clause) clauses.now.clauses }
+    ensures proof { IfOk result (λ made. IfSome made (IsProof clauses.now.clauses)) }
+    ensures over { IfOk result (λ made. IfSome made (AreOver variables)) }
+    ensures single { IfOk result (λ made. IfSome made (EachPasses is_single)) }
+{
+    let mut cited = vec![in alloc; false; clauses.len() as usize]?;
+    let Some(given) = shortest(alloc, clauses, variables, &mut cited)? else {
+        return Ok(None);
+    };
+    let Some(made) = rebuilt(alloc, clauses, variables, cited.as_slice(), &given)? else {
+        return Ok(Some(given));
+    };
+    match thinned_by_all(alloc, clauses, variables, &made)? {
+        None => Ok(shorter(Some(given), made)),
+        Some(last) => Ok(shorter(shorter(Some(given), made), last)),
+    }
 }
 
 /// A simpler refutation of the same clauses, by failed literals or else by vivification, each within a budget;
@@ -86,7 +140,7 @@ pub fn simplify(
     ensures over { IfOk result (λ made. IfSome made (AreOver variables)) }
     ensures simpler { IfOk result (λ made. IfSome made (AreSimpler given.now)) }
 {
-    match shortest(alloc, clauses, variables)? {
+    match by_single(alloc, clauses, variables)? {
         Some(made) => Ok(Some(made)),
         None => {
             let made = vivify(alloc, clauses, variables, given, BUDGET)?;

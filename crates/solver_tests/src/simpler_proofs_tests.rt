@@ -93,6 +93,21 @@ static LONG_AND_SHORT: [i32; 36] = [
     0, 5, -6, 0, -5, -6, 0,
 ];
 
+/// -2 follows by -1 and two clauses, and by three without -1; and -4 by -3 and two, or by three without -3. With
+/// -2 and -4 two clauses refute. Each of eight orders over 12 variables tries 1 before 2, or 3 before 4.
+static ONE_LINE_TOO_MANY: [i32; 54] = [
+    -1, 5, 0, -1, -5, 0, -2, 1, 6, 0, -2, 1, -6, 0, -2, 7, 0, -7, 8, 0, -8, -2, 0, -3, 5, 0, -3,
+    -5, 0, -4, 3, 6, 0, -4, 3, -6, 0, -4, 9, 0, -9, 10, 0, -10, -4, 0, 2, 4, 11, 0, 2, 4, -11, 0,
+];
+
+/// 9 forces 1, 2 and 10, then 1 and 2 force 3, and 10 forces 11; 3 and 11 force 12, which fails. But 11 forces 3
+/// too. Each of eight orders over 12 variables tries 9 before 10 to 12. With -9 four clauses are left, in which
+/// 5 fails.
+static ONE_STEP_TOO_MANY: [i32; 45] = [
+    -9, 1, 0, -9, 2, 0, -9, 10, 0, -1, -2, 3, 0, -10, 11, 0, -11, 3, 0, -3, -11, 12, 0, -12, 4, 0,
+    -12, -4, 0, 9, 5, 6, 0, 9, 5, -6, 0, 9, -5, 6, 0, 9, -5, -6, 0,
+];
+
 // Each list is handed out as a slice, so that the proof of a test need not read it.
 fn cube() -> &'static [i32] {
     &CUBE
@@ -104,6 +119,14 @@ fn cube_and_square() -> &'static [i32] {
 
 fn long_and_short() -> &'static [i32] {
     &LONG_AND_SHORT
+}
+
+fn one_line_too_many() -> &'static [i32] {
+    &ONE_LINE_TOO_MANY
+}
+
+fn one_step_too_many() -> &'static [i32] {
+    &ONE_STEP_TOO_MANY
 }
 
 #[test]
@@ -202,32 +225,66 @@ fn hints_in(lines: &Derivation) -> usize {
 
 /// How many hints the proof by failed literals has that begins at a variable; and that of the simpler
 /// proof.
-fn hints_from(alloc: Global, first: u32) -> Result<usize, Fail>
+fn hints_from(alloc: Global, numbers: &[i32], first: u32) -> Result<usize, Fail>
     requires { first ≤ 12 }
 {
-    let clauses = narrow(alloc, long_and_short())?;
+    let clauses = narrow(alloc, numbers)?;
     let mut budget = 1000;
     let made = by_failed_literals(alloc, &clauses, 12, first, &mut budget)?.ok_or("a proof")?;
     Ok(hints_in(&made))
 }
 
-fn hints_of_simpler(alloc: Global) -> Result<usize, Fail> {
-    let clauses = narrow(alloc, long_and_short())?;
+fn hints_of_simpler(alloc: Global, numbers: &[i32]) -> Result<usize, Fail> {
+    let clauses = narrow(alloc, numbers)?;
     let given = lines_of(alloc, &[])?;
     let made = simplify(alloc, &clauses, 12, &given)?.ok_or("a proof")?;
     Ok(hints_in(&made))
+}
+
+/// The fewest hints of a proof by failed literals, of the orders that `simplify` tries.
+fn fewest_in_turn(alloc: Global, numbers: &[i32]) -> Result<usize, Fail> {
+    let mut fewest = usize::MAX;
+    for first in 0..8 {
+        fewest = fewest.min(hints_from(alloc, numbers, first)?);
+    }
+    Ok(fewest)
 }
 
 // The order that begins at the first variable has more hints, and so has the last one.
 #[test]
 fn the_proof_with_the_fewest_hints_is_taken(rt: HostRuntime) -> Result<(), Fail> {
     let alloc = rt.alloc();
-    let mut fewest = usize::MAX;
-    for first in 0..8 {
-        fewest = fewest.min(hints_from(alloc, first)?);
-    }
-    let simpler = hints_of_simpler(alloc)?;
+    let fewest = fewest_in_turn(alloc, long_and_short())?;
+    let simpler = hints_of_simpler(alloc, long_and_short())?;
     assert!(rt; simpler == fewest);
-    assert!(rt; fewest < hints_from(alloc, 0)? && fewest < hints_from(alloc, 7)?);
+    let ends = [
+        hints_from(alloc, long_and_short(), 0)?,
+        hints_from(alloc, long_and_short(), 7)?,
+    ];
+    assert!(rt; fewest < ends[0] && fewest < ends[1]);
+    Ok(())
+}
+
+// The order that begins at 2 has the fewest hints, 3 for -2, 2 for -3, 3 for -4 and 4 at the end. The line of -3
+// is left out, and -4 then takes 3.
+#[test]
+fn a_line_that_others_make_needless_is_left_out(rt: HostRuntime) -> Result<(), Fail> {
+    let alloc = rt.alloc();
+    let fewest = fewest_in_turn(alloc, one_line_too_many())?;
+    let simpler = hints_of_simpler(alloc, one_line_too_many())?;
+    assert!(rt; fewest == 12);
+    assert!(rt; simpler == 10);
+    assert!(rt; simplified(alloc, one_line_too_many(), &[])? == 1110);
+    Ok(())
+}
+
+// Each order has 8 hints for -9, 3 for -5 and 4 at the end. Without 1 and 2 there are 6 for -9.
+#[test]
+fn a_literal_that_a_line_need_not_force_is_left_out(rt: HostRuntime) -> Result<(), Fail> {
+    let alloc = rt.alloc();
+    let fewest = fewest_in_turn(alloc, one_step_too_many())?;
+    let simpler = hints_of_simpler(alloc, one_step_too_many())?;
+    assert!(rt; fewest == 15);
+    assert!(rt; simpler == 13);
     Ok(())
 }

@@ -7,5 +7,5 @@ invariant-loop l = record {
   passing : IsPassing is_single l.clauses.clauses l.trail l.seen.items l.lines;
   level : l.trail.level ≡ 0;
   settled : l.trail.settled ≡ true;
-  variables : l.trail.variables ≡ l.variables;
+  variables : l.trail.variables ≡ l.fn.trail.variables;
 }

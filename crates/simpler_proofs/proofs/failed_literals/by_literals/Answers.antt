@@ -2,7 +2,7 @@ use Rattle.std.proofs.Common.{subst, ap, ◌∙◌, ◌≡◌, ℕ}
 use Rattle.cnf.specs.Fresh.{AreOver}
 use Rattle.propagate.specs.TrailState.{TrailState}
 use Rattle.simpler_proofs.proofs.Passing.{over_made}
-use Rattle.simpler_proofs.proofs.failed_literals.by_failed_literals.Goals as goal
+use Rattle.simpler_proofs.proofs.failed_literals.by_literals.Goals as goal
 
 pub returns-then-branch-clause-over : goal.returns-then-branch-clause-over
 returns-then-branch-clause-over c =
