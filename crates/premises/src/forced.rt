@@ -174,8 +174,9 @@ fn is_forced<K: OutcomeKind>(
     }
 }
 
-/// The facts of a story's lemmas that an axiom of the core forces where nothing is supposed.
-pub(crate) fn forced_in<K: OutcomeKind>(
+/// The facts of a story's lemmas that an axiom of the core forces where nothing is supposed. What is on the
+/// board does not count.
+fn forced_in<K: OutcomeKind>(
     alloc: Global,
     kind: &K,
     study: &Study,
@@ -186,13 +187,30 @@ pub(crate) fn forced_in<K: OutcomeKind>(
     requires study { study.now.size ≡ K.size kind.now }
     requires core { IsTrue (has_places study.now.axioms core.now) }
     requires tried { tried.old.size ≡ K.size kind.now }
-    ensures tried { tried.new.size ≡ tried.old.size }
-    ensures so_far { IfOk result (AreForcedSoFar (K.size kind.now) study.now.axioms core.now) }
+    ensures { IfOk result (AreForcedSoFar (K.size kind.now) study.now.axioms core.now) }
 {
     let mut forced = Forced::new(alloc, kind)?;
     for place in 0..story.len() {
         let steps = story[place].steps.as_slice();
         forced.take_all(alloc, kind, study, core, tried, steps)?;
     }
+    Ok(forced)
+}
+
+/// The facts of a story's lemmas that an axiom of the core forces where nothing is supposed. The board on which
+/// they are tried is let go with the return.
+pub(crate) fn forced_facts<K: OutcomeKind>(
+    alloc: Global,
+    kind: &K,
+    study: &Study,
+    core: &Places,
+    story: &[Lemma],
+) -> Result<Forced, NoMemory>
+    requires study { study.now.size ≡ K.size kind.now }
+    requires core { IsTrue (has_places study.now.axioms core.now) }
+    ensures { IfOk result (AreForcedSoFar (K.size kind.now) study.now.axioms core.now) }
+{
+    let mut tried = Board::new(alloc, kind)?;
+    let forced = forced_in(alloc, kind, study, core, &mut tried, story)?;
     Ok(forced)
 }

@@ -1,16 +1,20 @@
 //! Sentences of one shape told as one: those with the same reason and the same level that rest on the same
-//! claims, be it at other profiles. Nothing is proved here of what comes out, but that it has the same steps:
-//! it is checked before it is taken.
+//! claims, be it at other profiles. Nothing is proved here of what comes out, but that it has the steps of the
+//! lemma: it is checked before it is taken.
 
-ghost use Rattle.std.specs.Prelude.{◌≡◌, IfOk};
-ghost use Rattle.premises.specs.Grounds.{steps_of};
+ghost use Rattle.std.specs.Prelude.{◌≡◌, [], ◌∷◌, ◌++◌, IsTrue, IfOk, OnOk};
+ghost use Rattle.meaning.specs.Literals.{is_literal};
+ghost use Rattle.meaning.specs.Stories.{has_literals};
+ghost use Rattle.premises.specs.Grounds.{steps_of, unforced, is_lemma_by};
 
 use crate::chains::Chains;
+use crate::grounds::Grounds;
 use crate::joining::is_by;
 use crate::literals::{is_literal, is_same_claim};
 use crate::step_index::StepIndex;
 use lists::{Items, NoMemory};
-use meaning::Literals;
+use meaning::{Lemma, Literals, StoryStep};
+use outcomes::OutcomeKind;
 use std::alloc::Global;
 use tellings::{By, Passage, Placed, Sentence};
 use vocab::{Literal, Size};
@@ -229,39 +233,98 @@ fn join_by(
     Ok(joined)
 }
 
-/// Steps with the new numbers of their sentences.
-fn renumbered(alloc: Global, numbers: &[u32], steps: &[Placed]) -> Result<Items<Placed>, NoMemory>
-    ensures { IfOk result (λ new. steps_of new ≡ steps_of steps.now) }
-{
-    let mut new = Items::with_room(alloc, steps.len())?;
+/// The new numbers of the sentences of steps.
+fn renumbered(alloc: Global, numbers: &[u32], steps: &[Placed]) -> Result<Vec<u32>, NoMemory> {
+    let mut new = Vec::with_capacity(alloc, steps.len())?;
     for placed in steps {
-        new.push(Placed {
-            sentence: at(numbers, placed.sentence as usize),
-            step: placed.step,
-        })?;
+        new.push(at(numbers, placed.sentence as usize))?;
     }
     Ok(new)
 }
 
-/// A passage with its sentences of one shape told as one. Its steps are in the index; what is on the board
-/// does not count.
-pub(crate) fn joined_by_shape(
+/// Sentences, and the number of the one that says the step at each place of a passage.
+#[derive(Drop)]
+pub(crate) struct Reshaped {
+    sentences: Items<Sentence>,
+    numbers: Vec<u32>,
+}
+
+/// The sentences of a passage with those of one shape as one, and which says which step. Its steps are in the
+/// index; what is on the board does not count. The passage is let go with the return.
+pub(crate) fn reshape(
     alloc: Global,
     size: Size,
     union: &mut Board,
     index: &StepIndex,
-    passage: &Passage,
-) -> Result<Passage, NoMemory>
+    passage: Passage,
+) -> Result<Reshaped, NoMemory>
     requires { union.old.size ≡ size }
-    ensures size { union.new.size ≡ union.old.size }
-    ensures steps { IfOk result (λ new. steps_of new.steps ≡ steps_of passage.now.steps) }
+    ensures { union.new.size ≡ union.old.size }
 {
-    let shapes = shapes_of(alloc, index, passage)?;
+    let shapes = shapes_of(alloc, index, &passage)?;
     let numbers = numbers_of(alloc, &shapes)?;
     let numbers = numbers.as_slice();
     let order = in_order(alloc, numbers, shapes.firsts.len())?;
     let sentences = passage.sentences.as_slice();
     let sentences = join_by(alloc, size, union, sentences, numbers, order.as_slice())?;
-    let steps = renumbered(alloc, numbers, passage.steps.as_slice())?;
-    Ok(Passage { sentences, steps })
+    let numbers = renumbered(alloc, numbers, passage.steps.as_slice())?;
+    Ok(Reshaped { sentences, numbers })
+}
+
+impl<K: OutcomeKind> Grounds<'_, K> {
+    /// Puts a step to those that are told, with the next of some numbers, unless its fact is forced.
+    fn place(
+        &self,
+        placed: &mut Items<Placed>,
+        numbers: &[u32],
+        step: &StoryStep,
+    ) -> Result<(), NoMemory>
+        requires literal { IsTrue (is_literal (K.size self.now.kind.now) step.now.literal) }
+        ensures { OnOk result (steps_of placed.new ≡
+            steps_of placed.old ++ unforced self.now.forced.now.literals (step.now ∷ [])) }
+    {
+        if self.forced.has(&step.literal) {
+            return Ok(());
+        }
+        let sentence = at(numbers, placed.len());
+        placed.push(Placed {
+            sentence,
+            step: *step,
+        })?;
+        Ok(())
+    }
+
+    /// The steps of a lemma with the numbers of their sentences, but for those whose facts are forced.
+    fn place_all(
+        &self,
+        alloc: Global,
+        numbers: &[u32],
+        lemma: &Lemma,
+    ) -> Result<Items<Placed>, NoMemory>
+        requires { IsTrue (has_literals (K.size self.now.kind.now) lemma.now) }
+        ensures { IfOk result (λ placed.
+            steps_of placed ≡ unforced self.now.forced.now.literals lemma.now.steps) }
+    {
+        let mut placed = Items::with_room(alloc, numbers.len())?;
+        for step in lemma.steps.as_slice() {
+            self.place(&mut placed, numbers, step)?;
+        }
+        Ok(placed)
+    }
+
+    /// A lemma in these sentences.
+    pub(crate) fn told_in(
+        &self,
+        alloc: Global,
+        reshaped: Reshaped,
+        lemma: &Lemma,
+    ) -> Result<Passage, NoMemory>
+        requires { IsTrue (is_lemma_by (K.size self.now.kind.now) self.now.basis lemma.now) }
+        ensures { IfOk result (λ passage.
+            steps_of passage.steps ≡ unforced self.now.forced.now.literals lemma.now.steps) }
+    {
+        let Reshaped { sentences, numbers } = reshaped;
+        let steps = self.place_all(alloc, numbers.as_slice(), lemma)?;
+        Ok(Passage { sentences, steps })
+    }
 }

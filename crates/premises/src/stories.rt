@@ -1,6 +1,6 @@
 //! Stories told by their lemmas.
 
-ghost use Rattle.std.specs.Prelude.{◌≡◌, ℕ, [], take, length, slice_get, Some, IsTrue, IfOk};
+ghost use Rattle.std.specs.Prelude.{◌≡◌, ℕ, [], take, length, slice_get, Some, IsTrue, IfOk, IfSome};
 ghost use Rattle.meaning.specs.declared.stories.Lemma.{Lemma};
 ghost use Rattle.meaning.specs.Stories.{is_story};
 ghost use Rattle.story.specs.Conditions.{has_places};
@@ -10,10 +10,10 @@ ghost use Rattle.premises.specs.Told.{AreTold};
 
 use crate::basis::Basis;
 use crate::chains::Chains;
-use crate::forced::forced_in;
+use crate::forced::forced_facts;
 use crate::grounds::Grounds;
 use crate::homes::homes_of;
-use crate::shapes::joined_by_shape;
+use crate::shapes::reshape;
 use crate::step_index::StepIndex;
 use crate::telling::suppose;
 use lists::{Items, NoMemory};
@@ -53,15 +53,15 @@ impl Desk {
 }
 
 impl<K: OutcomeKind> Grounds<'_, K> {
-    /// A telling in which sentences of one shape are told as one, where it tells the lemma right; else the
-    /// given one.
+    /// A telling in which sentences of one shape are told as one, where it tells the lemma right. The given one
+    /// is let go before the steps are told anew, so that they stand in memory once.
     fn shorten(
         &self,
         alloc: Global,
         desk: &mut Desk,
         lemma: &Lemma,
         telling: Telling,
-    ) -> Result<Telling, NoMemory>
+    ) -> Result<Option<Telling>, NoMemory>
         requires known { desk.old.known.size ≡ K.size self.now.kind.now }
         requires tried { desk.old.tried.size ≡ K.size self.now.kind.now }
         requires lemma { IsTrue (is_lemma_by (K.size self.now.kind.now) self.now.basis lemma.now) }
@@ -69,29 +69,25 @@ impl<K: OutcomeKind> Grounds<'_, K> {
             lemma.now telling }
         ensures known { desk.new.known.size ≡ desk.old.known.size }
         ensures tried { desk.new.tried.size ≡ desk.old.tried.size }
-        ensures told { IfOk result
-            (IsToldBy (K.size self.now.kind.now) self.now.basis self.now.forced.now.literals lemma.now) }
+        ensures told { IfOk result (λ found. IfSome found
+            (IsToldBy (K.size self.now.kind.now) self.now.basis self.now.forced.now.literals lemma.now)) }
     {
         let size = self.kind.space().size();
-        desk.index.enter_all(telling.passage.steps.as_slice());
-        let passage = joined_by_shape(alloc, size, &mut desk.tried, &desk.index, &telling.passage)?;
+        let Telling { passage, end } = telling;
+        desk.index.enter_all(passage.steps.as_slice());
+        let reshaped = reshape(alloc, size, &mut desk.tried, &desk.index, passage)?;
+        let passage = self.told_in(alloc, reshaped, lemma)?;
         desk.known.clear();
         suppose(&mut desk.known, lemma.suppose.as_slice());
-        let end = telling.end.as_slice();
-        if self.upholds(&desk.known, &mut desk.tried, &desk.index, &passage, end) {
-            let Telling { passage: _, end } = telling;
-            return Ok(Telling { passage, end });
+        let facts = end.as_slice();
+        if self.upholds(&desk.known, &mut desk.tried, &desk.index, &passage, facts) {
+            return Ok(Some(Telling { passage, end }));
         }
-        Ok(telling)
+        Ok(None)
     }
 
-    /// Tells a lemma that follows from the earlier ones.
-    fn tell_shortly(
-        &self,
-        alloc: Global,
-        desk: &mut Desk,
-        lemma: &Lemma,
-    ) -> Result<Telling, NoMemory>
+    /// Tells a lemma that follows from the earlier ones, at a desk.
+    fn tell_at(&self, alloc: Global, desk: &mut Desk, lemma: &Lemma) -> Result<Telling, NoMemory>
         requires known { desk.old.known.size ≡ K.size self.now.kind.now }
         requires tried { desk.old.tried.size ≡ K.size self.now.kind.now }
         requires lemma { IsTrue (is_lemma_by (K.size self.now.kind.now) self.now.basis lemma.now) }
@@ -107,7 +103,31 @@ impl<K: OutcomeKind> Grounds<'_, K> {
             &mut desk.chains,
             lemma,
         )?;
-        self.shorten(alloc, desk, lemma, telling)
+        Ok(telling)
+    }
+
+    /// Tells a lemma that follows from the earlier ones, with sentences of one shape as one where that tells it
+    /// right; else it is told again.
+    fn tell_shortly(
+        &self,
+        alloc: Global,
+        desk: &mut Desk,
+        lemma: &Lemma,
+    ) -> Result<Telling, NoMemory>
+        requires known { desk.old.known.size ≡ K.size self.now.kind.now }
+        requires tried { desk.old.tried.size ≡ K.size self.now.kind.now }
+        requires lemma { IsTrue (is_lemma_by (K.size self.now.kind.now) self.now.basis lemma.now) }
+        ensures known { desk.new.known.size ≡ desk.old.known.size }
+        ensures tried { desk.new.tried.size ≡ desk.old.tried.size }
+        ensures told { IfOk result
+            (IsToldBy (K.size self.now.kind.now) self.now.basis self.now.forced.now.literals lemma.now) }
+    {
+        let telling = self.tell_at(alloc, desk, lemma)?;
+        let shorter = self.shorten(alloc, desk, lemma, telling)?;
+        match shorter {
+            Some(telling) => Ok(telling),
+            None => self.tell_at(alloc, desk, lemma),
+        }
     }
 }
 
@@ -160,8 +180,7 @@ pub fn tell_story<K: OutcomeKind>(
     requires accepted { IsTrue (is_story (K.size kind.now) study.now.axioms core.now story.now) }
     ensures { IfOk result (IsStoryTold (K.size kind.now) study.now.axioms core.now story.now) }
 {
-    let mut tried = Board::new(alloc, kind)?;
-    let forced = forced_in(alloc, kind, study, core, &mut tried, story.as_slice())?;
+    let forced = forced_facts(alloc, kind, study, core, story.as_slice())?;
     let lemmas = tell_lemmas(alloc, kind, study, core, &forced.board, story)?;
     let homes = homes_of(alloc, story.as_slice(), lemmas.as_slice())?;
     Ok(StoryTelling {

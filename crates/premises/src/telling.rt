@@ -12,6 +12,7 @@ ghost use Rattle.premises.specs.Grounds.{IsToldBy, IsToldSoFar};
 use crate::chains::Chains;
 use crate::grounds::Grounds;
 use crate::joining::{by_of, forget, join};
+use crate::literals::is_literal;
 use lists::{Items, NoMemory};
 use meaning::{Lemma, StoryStep};
 use outcomes::OutcomeKind;
@@ -98,6 +99,19 @@ impl<K: OutcomeKind> Grounds<'_, K> {
         self.tell_step(alloc, known, tried, chains, passage, step)
     }
 
+    /// Whether a fact of the size is forced.
+    fn is_forced(&self, literal: &Literal) -> bool {
+        is_literal(self.kind.space().size(), literal) && self.forced.has(literal)
+    }
+
+    /// How many of some steps are told: those whose facts are not forced.
+    fn count_told(&self, steps: &[StoryStep]) -> usize {
+        steps
+            .iter()
+            .filter(|step| !self.is_forced(&step.literal))
+            .count()
+    }
+
     /// Tells the steps of a lemma, whose suppositions are on the board.
     fn tell_steps(
         &self,
@@ -122,9 +136,10 @@ impl<K: OutcomeKind> Grounds<'_, K> {
         ensures ended { OnOk result (IsTrue (refutes_by (K.size self.now.kind.now) self.now.basis
             known.new.literals lemma.now.last)) }
     {
+        let told = self.count_told(lemma.steps.as_slice());
         let mut passage = Passage {
             sentences: Items::new(alloc),
-            steps: Items::with_room(alloc, lemma.steps.len())?,
+            steps: Items::with_room(alloc, told)?,
         };
         for step in lemma.steps.as_slice() {
             self.take_step(alloc, known, tried, chains, &mut passage, step)?;

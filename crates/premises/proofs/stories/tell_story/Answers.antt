@@ -10,10 +10,10 @@ returns g c =
     let axioms = c.args.study.now.axioms in
     let core = c.args.core.now in
     record {
-      forced = c.told.ensures.forced size axioms core c.in_ok-forced.ensures.so_far;
+      forced = c.told.ensures.forced size axioms core c.in_ok-forced.ensures;
       all = c.in_ok-lemmas.ensures.all;
       each = λ j lemma telling at there.
-          subst (λ (facts : List Literal). IsTold size axioms core (take j c.args.story.now) facts lemma telling) (sym (c.told.ensures.facts size axioms core c.in_ok-forced.ensures.so_far))
+          subst (λ (facts : List Literal). IsTold size axioms core (take j c.args.story.now) facts lemma telling) (sym (c.told.ensures.facts size axioms core c.in_ok-forced.ensures))
           (c.in_ok-lemmas.ensures.each j lemma telling at there);
       placed = rw (c.as_slice-2.ensures, c.as_slice-3.ensures) at c.in_ok-homes.ensures;
     }
