@@ -6,6 +6,7 @@ ghost use Rattle.edge.specs.Shelf.{NoneFell, OthersStay};
 ghost use Rattle.vocab.specs.Study.{HasFewAxioms};
 ghost use Rattle.verdict_reading.specs.Readings.{IsFront, IsReadOf, ReadingHolds};
 
+use crate::fitting::fitted;
 use crate::reading::{Reading, read_text};
 use crew::Crew;
 use edge::{Bytes, Gate, Shelf};
@@ -58,6 +59,21 @@ fn read_front<S: Shelf>(alloc: Global, shelf: &mut S, name: &str) -> Result<Fron
     }
 }
 
+/// Reads what is left under the name, up to the limit. The bytes then take no more memory than they need.
+fn read_fitted<S: Shelf>(alloc: Global, shelf: &mut S, name: &str) -> Result<Front, FileFault>
+    ensures read { IfOk result (λ front. IsFront front.whole
+        (S.left shelf.old name.now) (S.left shelf.new name.now) front.bytes) }
+    ensures failed { IsErrOf result FileFault.Failed →
+        Rose (S.faults shelf.old name.now) (S.faults shelf.new name.now) }
+    ensures same { S.files shelf.new ≡ S.files shelf.old }
+    ensures others { OthersStay (S.left shelf.old) (S.left shelf.new) name.now }
+    ensures none_fell { NoneFell (S.faults shelf.old) (S.faults shelf.new) }
+{
+    let Front { bytes, whole } = read_front(alloc, shelf, name)?;
+    let bytes = fitted(alloc, bytes)?;
+    Ok(Front { bytes, whole })
+}
+
 /// What is read of the text under the name over the study, which has at most 40 axioms: it is judged as a
 /// sharp text where its first line is `bench sharp 1`, and else as a report. The verdict is read exactly where
 /// that judge confirms the text, and else its refusal at the same line. The bytes are held while they are
@@ -87,7 +103,7 @@ pub fn read_verdict_file<R: Threads + Sync, S: Shelf, K: OutcomeKind, G: Gate>(
     ensures none_fell { NoneFell (S.faults shelf.old) (S.faults shelf.new) }
 {
     shelf.rewind(name)?;
-    let front = read_front(alloc, shelf, name)?;
+    let front = read_fitted(alloc, shelf, name)?;
     let crew = Crew { rt, gate, workers };
     let reading = read_text(
         &crew,

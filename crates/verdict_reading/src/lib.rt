@@ -3,6 +3,7 @@
 
 mod collector;
 mod files;
+mod fitting;
 mod lines;
 mod parts;
 mod reading;

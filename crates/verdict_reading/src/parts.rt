@@ -4,6 +4,7 @@ ghost use Rattle.std.specs.Prelude.{◌≡◌, ◌≤◌, [], OnOk};
 ghost use Rattle.verdicts.specs.declared.verdicts.Verdict.TheVariants.{Possible, Impossible};
 ghost use Rattle.verdict_reading.specs.Parts.{with_lemma, with_row, with_open, with_line, with_sharp_line};
 
+use crate::fitting::fitted;
 use crate::sharp_verdict::SharpVerdict;
 use lists::{Items, NoMemory};
 use meaning::{Lemma, Literals, Reason, Steps, StoryStep, Witness, Witnesses};
@@ -40,12 +41,13 @@ impl Parts {
         }
     }
 
-    /// Puts the present lemma to the earlier ones.
+    /// Puts the present lemma to the earlier ones. Its steps then take no more memory than they need.
     fn end_lemma(&mut self, alloc: Global, last: Reason) -> Result<(), NoMemory>
         ensures { OnOk result (self.new ≡ with_lemma last self.old) }
     {
         let suppose = replace(&mut self.suppose, Items::new(alloc));
         let steps = replace(&mut self.steps, Items::new(alloc));
+        let steps = fitted(alloc, steps)?;
         self.earlier.push(Lemma {
             suppose,
             steps,

@@ -11,7 +11,7 @@ read_text-requires-clause-room g c κs within =
 pub returns-clause-read : goal.returns-clause-read
 returns-clause-read g c =
     let front = c.in_ok-front.front in
-    file_read c.args.study.now (g.S.Shelf.files c.args.shelf.now) c.args.name.now (g.S.Shelf.left c.rewind.new.self c.args.name.now) (g.S.Shelf.left c.read_front.new.shelf c.args.name.now) front.whole front.bytes c.in_ok-reading.reading
+    file_read c.args.study.now (g.S.Shelf.files c.args.shelf.now) c.args.name.now (g.S.Shelf.left c.rewind.new.self c.args.name.now) (g.S.Shelf.left c.read_fitted.new.shelf c.args.name.now) front.whole front.bytes c.in_ok-reading.reading
     c.in_ok-rewind.ensures.held c.in_ok-rewind.ensures.start c.in_ok-front.ensures.read
     (c.in_ok-reading.ensures ∙ ap (λ (bytes : List ℕ). reading_of (judged_front c.args.study.now front.whole bytes)) c.as_slice.ensures)
 
