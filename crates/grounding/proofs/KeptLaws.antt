@@ -1,6 +1,6 @@
 -- What was kept, with one clause more; and a list that passes a limit on the way passes it at the end.
-use Rattle.std.proofs.Common.{◌≡◌, ◌<◌, ◌≤◌, ℕ, zero, suc, Bool, true, false, List, [], ◌∷◌, ◌++◌, length, map, fold, take, drop, refl, sym, ap, ◌∙◌, subst, if◌then◌else◌, arith, get_or, inl, inr, append_assoc, lt-ltb, ltb-true}
-use Rattle.std.specs.Prelude.{nat_lt, sum_by, ◌⊎◌, slice_index, slice_index_or}
+use Rattle.std.proofs.Common.{◌≡◌, ◌<◌, ◌≤◌, ℕ, Bool, true, false, List, [], ◌∷◌, ◌++◌, length, fold, take, drop, refl, sym, ap, ◌∙◌, subst, if◌then◌else◌, arith, inl, inr, append_assoc, lt-ltb, ltb-true}
+use Rattle.std.specs.Prelude.{nat_lt, sum_by, ◌⊎◌}
 use Rattle.std.proofs.lemmas.Bool.{or_cases, or_left, or_right}
 use Rattle.std.proofs.lemmas.List.{length-append, map-append, take-append-drop}
 use Rattle.std.proofs.lemmas.List.Sums.{fold-append, sum_by-append}

@@ -13,3 +13,4 @@ pub mod WideLemmas
 pub mod ChosenLemmas
 pub mod FrameLemmas
 pub mod ToldLaws
+pub mod FactLaws

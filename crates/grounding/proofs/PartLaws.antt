@@ -1,5 +1,5 @@
 -- Of a part the same is kept as of the clauses that it was made from.
-use Rattle.std.proofs.Common.{◌≡◌, ◌==◌, ◌<◌, ◌≤◌, ◌+◌, ◌-◌, ◌&&◌, ◌||◌, ℕ, zero, suc, Bool, true, false, List, [], ◌∷◌, ◌++◌, length, take, drop, map, filter, not, append_assoc, fold, refl, sym, ap, ap₂, ◌∙◌, subst, if◌then◌else◌, arith, true≢false, get_or, inl, inr, Some}
+use Rattle.std.proofs.Common.{◌≡◌, ◌==◌, ◌<◌, ◌≤◌, ◌+◌, ◌-◌, ◌&&◌, ℕ, zero, suc, Bool, true, false, List, [], ◌∷◌, ◌++◌, length, take, drop, map, filter, not, append_assoc, fold, refl, sym, ap, ap₂, ◌∙◌, subst, if◌then◌else◌, arith, true≢false, get_or, inl, inr, Some}
 use Rattle.std.specs.Prelude.{All, slice_get}
 use Rattle.std.proofs.lemmas.Bool.{and_from, and_parts, or_cases, or_left, or_right}
 use Rattle.std.proofs.lemmas.List.{get_or-drop, length-drop, map-append, take_more}
@@ -54,6 +54,12 @@ same-row out old new origin rows start k row after within here more before =
     subst (λ rs. KeepSame new (out ++ from_rows origin rs)) (sym one)
     (subst (λ ss. KeepSame new ss) (append_assoc out (from_rows origin so_far) (from_rows origin (row ∷ [])) ∙ ap (λ ss. out ++ ss) (sym (from_rows-append origin so_far (row ∷ []))))
     (same-after new old (from_rows origin (row ∷ [])) (out ++ from_rows origin so_far) more before))
+
+pub two-rows : (out old new : List Sourced) (origin : ℕ) (first second : Clause) → KeepSame old (out ++ from_rows origin (first ∷ [])) → KeepSame new (old ++ from_rows origin (second ∷ []))
+    → KeepSame new (out ++ from_rows origin (first ∷ second ∷ []))
+two-rows out old new origin first second before more =
+    subst (λ ss. KeepSame new ss) (append_assoc out (from_rows origin (first ∷ [])) (from_rows origin (second ∷ [])) ∙ ap (λ ss. out ++ ss) (sym (from_rows-append origin (first ∷ []) (second ∷ []))))
+    (same-after new old (from_rows origin (second ∷ [])) (out ++ from_rows origin (first ∷ [])) more before)
 
 -- ---- a clause that was kept
 

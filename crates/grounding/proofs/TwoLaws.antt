@@ -1,5 +1,5 @@
 -- A row of two literals, sorted.
-use Rattle.std.proofs.Common.{◌≡◌, ◌==◌, ◌<◌, ◌&&◌, ◌||◌, ℕ, Bool, true, false, not, nat_lt, List, [], ◌∷◌, refl, sym, ap, ap₂, ◌∙◌, if◌then◌else◌, arith, true≢false}
+use Rattle.std.proofs.Common.{◌≡◌, ◌==◌, ◌<◌, ◌||◌, ℕ, Bool, true, false, not, nat_lt, [], ◌∷◌, refl, sym, ap, ap₂, ◌∙◌, if◌then◌else◌, arith}
 use Rattle.std.specs.Bool.{beq}
 use Rattle.std.proofs.lemmas.Bool.{and_from, and_left, and_right, or_from, or_left, or_right}
 use Rattle.cnf.specs.Signed.{Signed}

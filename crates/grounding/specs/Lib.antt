@@ -3,3 +3,4 @@ pub mod Rising
 pub mod Parts
 pub mod Pieces
 pub mod Kept
+pub mod Facts

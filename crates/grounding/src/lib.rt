@@ -2,6 +2,7 @@
 #![tactic(auto)]
 
 mod distinct;
+mod literals;
 mod making;
 mod measuring;
 mod merging;

@@ -1,7 +1,9 @@
 //! The measures and the clauses of some instances of an axiom, one after another.
 
-ghost use Rattle.std.specs.Prelude.{◌≡◌, ◌<◌, ◌≤◌, ◌^◌, ◌++◌, IfOk, OnOk, IsFalse, IsTrue};
+ghost use Rattle.std.specs.Prelude.{◌≡◌, ℕ, ◌<◌, ◌≤◌, ◌-◌, ◌^◌, ◌++◌, List, IfOk, OnOk, IsFalse, IsTrue};
+ghost use Rattle.std.specs.Int.{bit_at};
 ghost use Rattle.vocab.specs.Limits.{instance_count};
+ghost use Rattle.vocab.specs.Size.{Extent};
 ghost use Rattle.vocab.specs.Study.{is_sentence};
 ghost use Rattle.vocab.specs.Tree.{tree_of};
 ghost use Rattle.meaning.specs.Clauses.{plus};
@@ -9,15 +11,16 @@ ghost use Rattle.meaning.specs.Measure.{measure_of};
 ghost use Rattle.meaning.specs.Written.{write_out};
 ghost use Rattle.worlds.specs.Conditions.{IsFormulaAt};
 ghost use Rattle.clause_form.specs.Wide.{is_wide, numbered};
-ghost use Rattle.lanes.specs.Lanes.{IsPlan, IsToldFrom};
-ghost use Rattle.grounding.specs.Parts.{KeepSame};
+ghost use Rattle.lanes.specs.Lanes.{HasKnownPremise, IsPlan, IsPremiseToldFrom, IsToldFrom};
+ghost use Rattle.grounding.specs.Parts.{KeepSame, from_rows};
 ghost use Rattle.grounding.specs.Pieces.{AreNarrow, IsFirstWide, IsPart, measure_at, sources_at};
 
+use crate::literals::pair_of;
 use crate::part::Part;
-use crate::sorting::{Sorter, push_sorted};
+use crate::sorting::{Sorter, push_pair, push_sorted};
 use clause_form::{ClauseList, is_wide, measure, narrow_clauses, open_clauses, sum};
 use cnf::Store;
-use lanes::{Plan, is_told, told, values_at};
+use lanes::{Plan, TwoWords, is_told, told, told_sides, values_at};
 use lists::NoMemory;
 use meaning::Counts;
 use outcomes::OutcomeKind;
@@ -41,6 +44,14 @@ pub(crate) struct Measured {
     pub(crate) wide: Option<WideInstance>,
 }
 
+/// Whether the bit of an instance is set in a word of the 64 from a number on.
+fn is_told_at(word: u64, from: u64, number: u64) -> bool
+    requires { from ≤ number }
+    ensures { IsTrue result → bit_at word (number - from) ≡ 1 }
+{
+    number - from < 64 && is_told(word, number - from)
+}
+
 /// The measure of an instance, where it may be told to be true whatever the rule: it then has none.
 fn measure_at<K: OutcomeKind>(
     kind: &K,
@@ -58,7 +69,7 @@ fn measure_at<K: OutcomeKind>(
     requires rising { from ≤ number }
     ensures { result ≡ measure_at (K.size kind.now) named.now.sentence number }
 {
-    if number - from < 64 && is_told(known, number - from) {
+    if is_told_at(known, from, number) {
         return Counts {
             clauses: 0,
             literals: 0,
@@ -128,6 +139,49 @@ fn untold_clauses<K: OutcomeKind>(
     Ok(())
 }
 
+/// Appends the clauses of a formula that is not too wide with their origin. Its rows stand behind those of others.
+fn push_formula<K: OutcomeKind>(
+    alloc: Global,
+    kind: &K,
+    formula: &Formula,
+    env: &Env,
+    whole: bool,
+    origin: u64,
+    rows: &mut ClauseList,
+    sorter: &mut Sorter,
+    part: &mut Part,
+) -> Result<(), NoMemory>
+    requires fits { IsFormulaAt (K.size kind.now) (tree_of formula.now) env.now }
+    requires narrow { IsFalse
+        (is_wide (measure_of (write_out (K.size kind.now) (tree_of formula.now) env.now))) }
+    ensures { OnOk result (KeepSame part.new (part.old ++ from_rows origin (numbered (K.size kind.now)
+        (plus (write_out (K.size kind.now) (tree_of formula.now) env.now))))) }
+{
+    if let Some(pair) = pair_of(kind, formula, env) {
+        push_pair(pair.0, pair.1, origin, part)?;
+        return Ok(());
+    }
+    let start = rows.len();
+    untold_clauses(alloc, kind, formula, env, whole, rows)?;
+    push_sorted(rows, start, origin, sorter, part)?;
+    Ok(())
+}
+
+/// The right side of a formula whose left side is known to be true, since it then has the same clauses, and else
+/// the formula.
+fn rest_of(formula: &Formula, premise: bool) -> &Formula
+    ensures rows { (size : Extent) (env : List ℕ) →
+        (IsTrue premise → HasKnownPremise size (tree_of formula.now) env) →
+        plus (write_out size (tree_of result.now) env) ≡ plus (write_out size (tree_of formula.now) env) }
+    ensures fits { (size : Extent) (env : List ℕ) → IsFormulaAt size (tree_of formula.now) env →
+        IsFormulaAt size (tree_of result.now) env }
+{
+    match formula {
+        Formula::Implies(_, right) if premise => &**right,
+        _ => formula,
+    }
+}
+
 /// Appends the clauses of an instance that is not too wide, where it may be told to be true whatever the
 /// rule: it then has none. Its rows stand behind those of others.
 fn push_instance<K: OutcomeKind>(
@@ -136,7 +190,7 @@ fn push_instance<K: OutcomeKind>(
     named: &Axiom,
     plan: &Plan,
     base: u64,
-    known: u64,
+    known: TwoWords,
     from: u64,
     number: u64,
     rows: &mut ClauseList,
@@ -149,25 +203,29 @@ fn push_instance<K: OutcomeKind>(
     requires plan { IsPlan (K.size kind.now) named.now.sentence plan.now }
     requires base { base ≤ 2 ^ 60 }
     requires narrow { IsFalse (is_wide (measure_at (K.size kind.now) named.now.sentence number)) }
-    requires told { IsToldFrom (K.size kind.now) named.now.sentence from known }
+    requires told { IsToldFrom (K.size kind.now) named.now.sentence from known.all }
+    requires premise { IsPremiseToldFrom (K.size kind.now) named.now.sentence from known.premise }
     requires rising { from ≤ number }
     ensures { OnOk result
         (KeepSame part.new (part.old ++ sources_at (K.size kind.now) named.now.sentence base number)) }
 {
-    if number - from < 64 && is_told(known, number - from) {
+    if is_told_at(known.all, from, number) {
         return Ok(());
     }
     let values = values_at(kind, named, plan, number);
-    let start = rows.len();
-    untold_clauses(
+    let premise = is_told_at(known.premise, from, number);
+    let formula = rest_of(named.sentence().body(), premise);
+    push_formula(
         alloc,
         kind,
-        named.sentence().body(),
+        formula,
         &values,
         plan.is_whole(),
+        base + number,
         rows,
+        sorter,
+        part,
     )?;
-    push_sorted(rows, start, base + number, sorter, part)?;
     Ok(())
 }
 
@@ -191,7 +249,7 @@ pub(crate) fn clauses_of_all<K: OutcomeKind>(
     requires narrow { AreNarrow (K.size kind.now) named.now.sentence from to }
     ensures { IfOk result (IsPart (K.size kind.now) named.now.sentence base from to) }
 {
-    let known = told(kind, named, plan, from);
+    let known = told_sides(kind, named, plan, from);
     let mut part = Part::new(alloc);
     let mut sorter = Sorter::new(alloc);
     let mut rows: ClauseList = Store::new(alloc);

@@ -2,7 +2,7 @@
 
 ghost use Rattle.std.specs.Prelude.{◌≡◌, ◌<◌, ◌≤◌, [], ◌∷◌, ◌++◌, ℕ, All, OnOk, IfOk, IsTrue, not, map, drop, length};
 ghost use Rattle.std.specs.List.Sorted.{IsNonDecreasing};
-ghost use Rattle.cnf.specs.Sat.{is_tautology};
+ghost use Rattle.cnf.specs.Sat.{is_tautology, opposite_lit};
 ghost use Rattle.meaning.specs.StudyClauses.{sorted};
 ghost use Rattle.grounding.specs.Rising.{IsAbove, ArePositive, has, literal_of_code, pair_after};
 ghost use Rattle.grounding.specs.Distinct.{code_of};
@@ -147,6 +147,22 @@ fn push_two(first: Lit, second: Lit, origin: u64, out: &mut Part) -> Result<(), 
     if first.positive() == second.positive() {
         return out.push(&[second], origin);
     }
+    Ok(())
+}
+
+/// Appends the two clauses of an equivalence of two literals with their origin, sorted, unless they are
+/// tautologies.
+pub(crate) fn push_pair(
+    first: Lit,
+    second: Lit,
+    origin: u64,
+    out: &mut Part,
+) -> Result<(), NoMemory>
+    ensures { OnOk result (KeepSame out.new (out.old ++ from_rows origin
+        ((opposite_lit first ∷ second ∷ []) ∷ (first ∷ opposite_lit second ∷ []) ∷ []))) }
+{
+    push_two(first.opposite(), second, origin, out)?;
+    push_two(first, second.opposite(), origin, out)?;
     Ok(())
 }
 

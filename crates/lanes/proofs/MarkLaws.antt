@@ -1,8 +1,8 @@
 -- Marks of formulas that are joined.
-use Rattle.std.proofs.Common.{◌≡◌, ◌∙◌, refl, subst, ap, ap₂, ℕ, ◌<◌, ◌≤◌, ◌*◌, ◌%◌, ◌^◌, arith, inl, inr, ◌⊎◌, bit_and, bit_or}
+use Rattle.std.proofs.Common.{◌≡◌, ◌∙◌, refl, subst, ap, ap₂, ℕ, ◌+◌, ◌<◌, ◌≤◌, ◌*◌, ◌/◌, ◌%◌, ◌^◌, arith, inl, inr, ◌⊎◌, bit_and, bit_or}
 use Rattle.std.specs.Int.{bit_at}
 use Rattle.std.proofs.lemmas.Bool.{cases_lt}
-use Rattle.std.proofs.lemmas.Nat.{shl_whole}
+use Rattle.std.proofs.lemmas.Nat.{pow_below, shl_whole, shr_below}
 use Rattle.std.proofs.lemmas.Nat.Bits.{bit_at_and, bit_at_or, bit_at-pow_other, bit_at-zero}
 use Rattle.meaning.specs.Clauses.{known_truth}
 use Rattle.meaning.specs.declared.three.Three.{Three}
@@ -10,6 +10,7 @@ use Rattle.meaning.specs.declared.three.Three.TheVariants.{True, False, Unknown}
 use Rattle.meaning.specs.Kleene.{three_and, three_not, three_or, three_same}
 use Rattle.meaning.specs.Written.{And, Iff, Neg, Or, Written}
 use Rattle.lanes.specs.declared.marks.Marks.{Marks}
+use Rattle.lanes.specs.Lanes.{AreMoved}
 use Rattle.lanes.specs.Marks.{IsTold}
 
 -- a bit of a number is 0 or 1
@@ -88,3 +89,25 @@ with_one word k h j e = elim (or_either word (1 * 2 ^ k % 18446744073709551616) 
 
 pub none_told : (k : ℕ) (x : Written) → IsTold (record { yes = 0; no = 0 }) k x
 none_told k x = record { yes = λ e. absurd (let z = bit_at-zero k in omega (arith, z, e)); no = λ e. absurd (let z = bit_at-zero k in omega (arith, z, e)) }
+
+-- a number of 64 bits has no bit beyond them
+no_more : (n j : ℕ) → n < 18446744073709551616 → 64 ≤ j → bit_at n j ≡ 0
+no_more n j small high =
+    let below : n < 2 ^ j = elim (cases_lt 64 j) [
+      | inl more ↦ (let p : 2 ^ 64 < 2 ^ j = pow_below 64 j more in omega (arith, small, p))
+      | inr less ↦ subst (λ k. n < 2 ^ k) (let e : 64 ≡ j = omega (arith, high, less) in e) small
+    ] in
+    let none : n / 2 ^ j < 1 = shr_below n 0 j (subst (λ k. n < 2 ^ k) (let e : j ≡ 0 + j = omega arith in e) below) in
+    omega (arith, none)
+
+pub whole_moved : (word done other shift lanes : ℕ) → lanes ≡ 64 → done + lanes ≤ 64 → shift + lanes ≤ 64 → other < 18446744073709551616 → AreMoved word done lanes other shift (bit_or word other)
+whole_moved word done other shift lanes e d s small j h = elim (or_either word other j h) [
+  | inl old ↦ inl old
+  | inr new ↦ inr (j, low new, (omega (arith, e, d)), subst (λ n. bit_at other n ≡ 1) (let same : j ≡ shift + j = omega (arith, e, s) in same) new)
+]
+  where
+    low : bit_at other j ≡ 1 → j < lanes
+    low new = elim (cases_lt j 64) [
+      | inl below ↦ omega (arith, e, below)
+      | inr high ↦ absurd (let z = no_more other j small high in omega (arith, z, new))
+    ]

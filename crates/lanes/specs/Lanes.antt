@@ -131,3 +131,13 @@ module _ (size : Extent) where
   abbrev pub IsToldFrom : Tree → ℕ → ℕ → Type 0
   IsToldFrom sentence number word = (k : ℕ) → bit_at word k ≡ 1 →
       (number + k < instance_count size sentence) × (known_truth (instance_of size sentence (number + k)) ≡ True)
+
+  -- a formula is an implication, and its left side is known to be true
+  abbrev pub HasKnownPremise : Tree → List ℕ → Type 0
+  HasKnownPremise (Implies f g) env = known_truth (write_out size f env) ≡ True
+  HasKnownPremise _ env = ⊥
+
+  -- a bit of a word that is set tells that an instance is there, and that it is an implication whose left side is known to be true
+  abbrev pub IsPremiseToldFrom : Tree → ℕ → ℕ → Type 0
+  IsPremiseToldFrom sentence number word = (k : ℕ) → bit_at word k ≡ 1 →
+      (number + k < instance_count size sentence) × HasKnownPremise (body_of sentence) (instance_values size sentence (number + k))

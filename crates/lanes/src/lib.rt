@@ -13,4 +13,4 @@ mod telling;
 
 pub use instances::{values_at, values_of};
 pub use marks::is_told;
-pub use telling::{Plan, plan_of, told};
+pub use telling::{Plan, TwoWords, plan_of, told, told_sides};

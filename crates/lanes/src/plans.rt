@@ -1,11 +1,12 @@
 //! Which tables there are for the atoms of a formula, and what they tell of it.
 
 ghost use Rattle.std.specs.Prelude.{◌≡◌, ℕ, ◌<◌, ◌≤◌, ◌+◌, length, IfOk, IsTrue};
+ghost use Rattle.std.specs.Int.{bit_at};
 ghost use Rattle.vocab.specs.Limits.{product};
 ghost use Rattle.vocab.specs.Size.{Extent, IsSize, sort_count};
 ghost use Rattle.vocab.specs.Tree.{Tree, tree_of};
 ghost use Rattle.meaning.specs.Written.{write_out};
-ghost use Rattle.lanes.specs.Lanes.{IsInside, IsOnePart, IsPart, IsTwoPart, IsSetting, lane_values};
+ghost use Rattle.lanes.specs.Lanes.{HasKnownPremise, IsInside, IsOnePart, IsPart, IsTwoPart, IsSetting, lane_values};
 ghost use Rattle.lanes.specs.Marks.{IsTold};
 
 use crate::building::{Setting, table_of};
@@ -324,5 +325,68 @@ fn two_marks(
             equivalence(a, marks_of(space, q, g, env, first, live & (a.yes | a.no)))
         }
         _ => nothing(),
+    }
+}
+
+/// What is known of a formula, and, where it is an implication, at which lanes its left side is known to be true.
+#[derive(Clone, Copy)]
+pub(crate) struct Sides {
+    pub(crate) all: Marks,
+    pub(crate) premise: u64,
+}
+
+/// What is known of a formula at the lanes of a chunk, of whose left side nothing is told.
+fn plain_sides(
+    space: &Space,
+    part: &Part,
+    formula: &Formula,
+    env: &Env,
+    first: u64,
+    live: u64,
+) -> Sides
+    ensures all { (shape : Shape) → IsPart space.now shape part.now (tree_of formula.now) →
+        shape.outer + length shape.bases ≤ length env.now →
+        (k : ℕ) → first + k < product shape.bases →
+        IsTold result.all k (write_out space.now (tree_of formula.now) (lane_values shape first k env.now)) }
+    ensures premise { (k : ℕ) → bit_at result.premise k ≡ 1 → ⊥ }
+{
+    Sides {
+        all: marks_of(space, part, formula, env, first, live),
+        premise: 0,
+    }
+}
+
+/// What is known of a formula at the lanes of a chunk, and of its left side where it is an implication.
+pub(crate) fn sides_of(
+    space: &Space,
+    part: &Part,
+    formula: &Formula,
+    env: &Env,
+    first: u64,
+    live: u64,
+) -> Sides
+    ensures all { (shape : Shape) → IsPart space.now shape part.now (tree_of formula.now) →
+        shape.outer + length shape.bases ≤ length env.now →
+        (k : ℕ) → first + k < product shape.bases →
+        IsTold result.all k (write_out space.now (tree_of formula.now) (lane_values shape first k env.now)) }
+    ensures premise { (shape : Shape) → IsPart space.now shape part.now (tree_of formula.now) →
+        shape.outer + length shape.bases ≤ length env.now →
+        (k : ℕ) → first + k < product shape.bases → bit_at result.premise k ≡ 1 →
+        HasKnownPremise space.now (tree_of formula.now) (lane_values shape first k env.now) }
+{
+    let Part::Two(p, q) = part else {
+        return plain_sides(space, part, formula, env, first, live);
+    };
+    match formula {
+        Formula::Implies(f, g) => {
+            let premise = marks_of(space, p, f, env, first, live);
+            let a = negation(premise);
+            let b = marks_of(space, q, g, env, first, live & !a.yes);
+            Sides {
+                all: disjunction(a, b),
+                premise: premise.yes,
+            }
+        }
+        _ => plain_sides(space, part, formula, env, first, live),
     }
 }

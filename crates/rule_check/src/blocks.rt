@@ -8,7 +8,7 @@ ghost use Rattle.meaning.specs.Instances.{is_instance_true};
 ghost use Rattle.lanes.specs.Lanes.{IsPlan, IsToldFrom};
 ghost use Rattle.rule_check.specs.Pieces.{CanBeTried, IsLeastFalse};
 
-use lanes::{Plan, is_told, plan_of, told, values_of};
+use lanes::{Plan, is_told, plan_of, told, values_at};
 use lists::NoMemory;
 use outcomes::OutcomeKind;
 use std::alloc::Global;
@@ -54,7 +54,8 @@ pub(crate) fn plan_for<K: OutcomeKind>(
 }
 
 /// Whether an instance of a block is true of the rule, as it is where it is told to be true whatever the rule.
-fn is_true_at<K: OutcomeKind>(round: &Round<K>, from: u64, word: u64, k: u64) -> bool
+fn is_true_at<K: OutcomeKind>(round: &Round<K>, plan: &Plan, from: u64, word: u64, k: u64) -> bool
+    requires plan { IsPlan (K.size round.now.kind.now) round.now.named.now.sentence plan.now }
     requires can { CanBeTried (K.size round.now.kind.now) round.now.table.now round.now.named.now
         round.now.plan.now (from + k + 1) }
     requires lane { k < 64 }
@@ -65,7 +66,7 @@ fn is_true_at<K: OutcomeKind>(round: &Round<K>, from: u64, word: u64, k: u64) ->
     if is_told(word, k) {
         return true;
     }
-    let values = values_of(round.kind, round.named, from + k);
+    let values = values_at(round.kind, round.named, plan, from + k);
     truth(
         round.kind,
         round.table,
@@ -75,7 +76,14 @@ fn is_true_at<K: OutcomeKind>(round: &Round<K>, from: u64, word: u64, k: u64) ->
 }
 
 /// The least instance of a block that is false of the rule.
-fn block_failure<K: OutcomeKind>(round: &Round<K>, from: u64, lanes: u64, word: u64) -> Option<u64>
+fn block_failure<K: OutcomeKind>(
+    round: &Round<K>,
+    plan: &Plan,
+    from: u64,
+    lanes: u64,
+    word: u64,
+) -> Option<u64>
+    requires plan { IsPlan (K.size round.now.kind.now) round.now.named.now.sentence plan.now }
     requires can { CanBeTried (K.size round.now.kind.now) round.now.table.now round.now.named.now
         round.now.plan.now (from + lanes) }
     requires lanes { lanes ≤ 64 }
@@ -84,7 +92,7 @@ fn block_failure<K: OutcomeKind>(round: &Round<K>, from: u64, lanes: u64, word: 
         (from + lanes) result }
 {
     for k in 0..lanes {
-        if !is_true_at(round, from, word, k) {
+        if !is_true_at(round, plan, from, word, k) {
             return Some(from + k);
         }
     }
@@ -103,7 +111,7 @@ fn told_failure<K: OutcomeKind>(round: &Round<K>, plan: &Plan, from: u64, to: u6
     while number < to {
         let lanes = (to - number).min(64);
         let word = told(round.kind, round.named, plan, number);
-        if let Some(instance) = block_failure(round, number, lanes, word) {
+        if let Some(instance) = block_failure(round, plan, number, lanes, word) {
             return Some(instance);
         }
         number += lanes;

@@ -1,7 +1,7 @@
 use Rattle.std.proofs.Common.{◌≡◌, ◌≤◌, ◌+◌, ap, arith, fold, min, subst, sym}
 use Rattle.crew.proofs.Rights.{AreRight-at}
 use Rattle.grounding.specs.Distinct.{kept_with}
-use Rattle.grounding.specs.Pieces.{IsPartOfPiece, end_of, sources_of, start_of}
+use Rattle.grounding.specs.Pieces.{IsPartOfPiece, sources_of, start_of}
 use Rattle.grounding.proofs.KeptLaws.{kept-as, over-as}
 use Rattle.grounding.proofs.SourceLemmas.{next-part, over-rest, sources-none}
 use Rattle.grounding.proofs.WideLemmas.{zero_more}

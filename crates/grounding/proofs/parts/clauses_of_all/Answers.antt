@@ -1,4 +1,4 @@
-use Rattle.std.proofs.Common.{arith, refl, subst, ◌++◌, List}
+use Rattle.std.proofs.Common.{arith, refl, subst, List}
 use Rattle.meaning.specs.StudyClauses.{Sourced}
 use Rattle.grounding.specs.Parts.{KeepSame}
 use Rattle.grounding.specs.Pieces.{sources_at, sources_of}

@@ -3,7 +3,7 @@ use Rattle.meaning.specs.declared.clauses.Counts.{Counts}
 use Rattle.grounding.proofs.ToldLaws.{told_measure}
 use Rattle.grounding.proofs.parts.measure_at.Goals as goal
 
-pub returns-then-is_told : goal.returns-then-is_told
-returns-then-is_told g c =
+pub returns-then-is_told_at : goal.returns-then-is_told_at
+returns-then-is_told_at g c =
     let none : Counts = record { clauses = 0; literals = 0 } in
-    told_measure (g.K.OutcomeKind.size c.args.kind.now) c.args.named.now.sentence c.args.from c.args.number c.args.known c.requires.told c.requires.rising (c.is_told.ensures c.if-is_told.true) none refl
+    told_measure (g.K.OutcomeKind.size c.args.kind.now) c.args.named.now.sentence c.args.from c.args.number c.args.known c.requires.told c.requires.rising (c.is_told_at.ensures c.if-is_told_at.true) none refl

@@ -1,43 +1,59 @@
-use Rattle.std.proofs.Common.{◌≡◌, ◌+◌, ◌++◌, ◌∙◌, ℕ, List, [], ap, ap₂, sym, map, append-nil, subst, arith, drop, length, length-append}
-use Rattle.std.proofs.Math.Seq.{drop-append_seam}
+use Rattle.std.proofs.Common.{◌≡◌, ◌+◌, ◌++◌, ◌∙◌, ℕ, List, IsTrue, IsFalse, ap, ap₂, sym, map, append-nil, subst}
 use Rattle.vocab.specs.Formula.{body_of}
 use Rattle.vocab.specs.Tree.{Tree, tree_of}
 use Rattle.cnf.specs.Sat.{Clause}
 use Rattle.meaning.specs.Clauses.{plus}
-use Rattle.meaning.specs.StudyClauses.{Sourced, instance_of}
+use Rattle.meaning.specs.Instances.{instance_values}
+use Rattle.meaning.specs.StudyClauses.{Sourced, clauses_of, instance_of}
 use Rattle.meaning.specs.Written.{write_out}
-use Rattle.clause_form.specs.Wide.{numbered}
-use Rattle.grounding.specs.Distinct.{plain_rows}
-use Rattle.grounding.specs.Parts.{KeepSame, with_origin}
-use Rattle.grounding.specs.Pieces.{rows_at, sources_at}
+use Rattle.worlds.specs.Conditions.{IsFormulaAt}
+use Rattle.clause_form.specs.Wide.{capped_counts, is_wide, numbered}
+use Rattle.lanes.specs.Lanes.{HasKnownPremise}
+use Rattle.grounding.specs.Parts.{KeepSame, from_rows, with_origin}
+use Rattle.grounding.specs.Pieces.{sources_at}
 use Rattle.grounding.proofs.PartLaws.{same-of}
 use Rattle.grounding.proofs.PieceLaws.{plain_numbered}
-use Rattle.grounding.proofs.ToldLaws.{told_sources}
+use Rattle.grounding.proofs.ToldLaws.{told_premise, told_sources}
 use Rattle.grounding.proofs.parts.push_instance.Goals as goal
 
-pub returns-then-is_told : goal.returns-then-is_told
-returns-then-is_told g c =
-    let none = told_sources (g.K.OutcomeKind.size c.args.kind.now) c.args.named.now.sentence c.args.from c.args.number c.args.known c.requires.told c.requires.rising (c.is_told.ensures c.if-is_told.true) c.args.base in
+pub returns-then-is_told_at : goal.returns-then-is_told_at
+returns-then-is_told_at g c =
+    let none = told_sources (g.K.OutcomeKind.size c.args.kind.now) c.args.named.now.sentence c.args.from c.args.number c.args.known.all c.requires.told c.requires.rising (c.is_told_at.ensures c.if-is_told_at.true) c.args.base in
     same-of (sym (append-nil c.args.part.now) ∙ ap (λ (r : List Sourced). c.args.part.now ++ r) (sym none))
 
-pub push_sorted-requires : goal.push_sorted-requires
-push_sorted-requires g c =
+pub push_formula-requires-clause-fits : goal.push_formula-requires-clause-fits
+push_formula-requires-clause-fits g c = λ κs out.
     let size = g.K.OutcomeKind.size c.args.kind.now in
-    let more = numbered size (plus (write_out size (tree_of c.body.result.now) c.values_at-values.result)) in
-    let long = ap length c.in_ok-untold_clauses.ensures ∙ length-append c.args.rows.now more in
-    let start = c.len-start.ensures in
-    omega (arith, long, start)
+    let values = c.values_at-values.result in
+    let body : tree_of c.body.result.now ≡ body_of c.args.named.now.sentence = c.body.ensures ∙ ap body_of c.sentence.ensures in
+    c.rest_of-formula.ensures.fits size values (subst (λ (f : Tree). IsFormulaAt size f values) (sym body) c.values_at-values.ensures.fits)
+
+pub push_formula-requires-clause-narrow : goal.push_formula-requires-clause-narrow
+push_formula-requires-clause-narrow g c = λ κs out.
+    let size = g.K.OutcomeKind.size c.args.kind.now in
+    let sentence = c.args.named.now.sentence in
+    let number = c.args.number in
+    let values = c.values_at-values.result in
+    let body : tree_of c.body.result.now ≡ body_of sentence = c.body.ensures ∙ ap body_of c.sentence.ensures in
+    let known : IsTrue c.is_told_at-premise.result → HasKnownPremise size (tree_of c.body.result.now) values =
+    λ t. subst (λ (v : List ℕ). HasKnownPremise size (tree_of c.body.result.now) v) (sym c.values_at-values.ensures.values)
+    (subst (λ (f : Tree). HasKnownPremise size f (instance_values size sentence number)) (sym body) (told_premise size sentence c.args.from number c.args.known.premise c.requires.premise c.requires.rising (c.is_told_at-premise.ensures t))) in
+    let same : plus (write_out size (tree_of c.rest_of-formula.result.now) values) ≡ plus (instance_of size sentence number) =
+    c.rest_of-formula.ensures.rows size values known ∙ ap₂ (λ (f : Tree) (v : List ℕ). plus (write_out size f v)) body c.values_at-values.ensures.values in
+    subst (λ rows. IsFalse (is_wide (capped_counts rows))) (sym same) c.requires.narrow
 
 pub returns : goal.returns
 returns g c =
     let size = g.K.OutcomeKind.size c.args.kind.now in
     let sentence = c.args.named.now.sentence in
     let number = c.args.number in
-    let more = numbered size (plus (instance_of size sentence number)) in
-    let rows : c.untold_clauses.new.out ≡ c.args.rows.now ++ more =
-    c.in_ok-untold_clauses.ensures
-    ∙ ap₂ (λ (f : Tree) (v : List ℕ). c.args.rows.now ++ numbered size (plus (write_out size f v))) (c.body.ensures ∙ ap body_of c.sentence.ensures) c.values_at-values.ensures.values in
-    let fresh : drop c.len-start.result c.untold_clauses.new.out ≡ more =
-    ap₂ (λ (n : ℕ) (r : List Clause). drop n r) c.len-start.ensures rows ∙ drop-append_seam c.args.rows.now more in
-    let plain : plain_rows (drop c.len-start.result c.untold_clauses.new.out) ≡ rows_at size sentence number = ap plain_rows fresh ∙ plain_numbered size (plus (instance_of size sentence number)) in
-    subst (λ (r : List Clause). KeepSame c.push_sorted.new.out (c.args.part.now ++ map (λ (d : Clause). with_origin d (c.args.base + number)) r)) plain c.in_ok-push_sorted.ensures
+    let values = c.values_at-values.result in
+    let body : tree_of c.body.result.now ≡ body_of sentence = c.body.ensures ∙ ap body_of c.sentence.ensures in
+    let known : IsTrue c.is_told_at-premise.result → HasKnownPremise size (tree_of c.body.result.now) values =
+    λ t. subst (λ (v : List ℕ). HasKnownPremise size (tree_of c.body.result.now) v) (sym c.values_at-values.ensures.values)
+    (subst (λ (f : Tree). HasKnownPremise size f (instance_values size sentence number)) (sym body) (told_premise size sentence c.args.from number c.args.known.premise c.requires.premise c.requires.rising (c.is_told_at-premise.ensures t))) in
+    let same : plus (write_out size (tree_of c.rest_of-formula.result.now) values) ≡ plus (instance_of size sentence number) =
+    c.rest_of-formula.ensures.rows size values known ∙ ap₂ (λ (f : Tree) (v : List ℕ). plus (write_out size f v)) body c.values_at-values.ensures.values in
+    let rows : from_rows (c.args.base + number) (numbered size (plus (write_out size (tree_of c.rest_of-formula.result.now) values))) ≡ sources_at size sentence c.args.base number =
+    ap (λ (cs : List Clause). map (λ (d : Clause). with_origin d (c.args.base + number)) cs) (plain_numbered size (plus (write_out size (tree_of c.rest_of-formula.result.now) values)) ∙ ap (clauses_of size) same) in
+    subst (λ (r : List Sourced). KeepSame c.push_formula.new.part (c.args.part.now ++ r)) rows c.in_ok-push_formula.ensures

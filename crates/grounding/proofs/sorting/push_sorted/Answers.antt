@@ -1,5 +1,4 @@
-use Rattle.std.proofs.Common.{◌∙◌, ◌++◌, ◌-◌, ◌≤◌, [], arith, drop, length}
-use Rattle.std.proofs.lemmas.List.{length-drop}
+use Rattle.std.proofs.Common.{arith}
 use Rattle.grounding.proofs.PartLaws.{same-row}
 use Rattle.grounding.proofs.sorting.push_sorted.Goals as goal
 

@@ -1,4 +1,4 @@
-use Rattle.std.proofs.Common.{◌≡◌, ◌≤◌, arith, min}
+use Rattle.std.proofs.Common.{◌≡◌, arith, min}
 use Rattle.vocab.specs.Limits.{instance_count}
 use Rattle.vocab.specs.Tree.{tree_of}
 use Rattle.lanes.proofs.StrideLaws.{few-inside}

@@ -1,7 +1,6 @@
-use Rattle.std.proofs.Common.{◌≡◌, ◌∷◌, [], List, ap, sym, subst, ◌==◌, length, false}
+use Rattle.std.proofs.Common.{◌≡◌, ◌∷◌, [], sym, subst}
 use Rattle.std.proofs.lemmas.Result.{IfOk-weaker}
-use Rattle.cnf.specs.Sat.{Clause}
-use Rattle.grounding.specs.Distinct.{Codes, HasSeen, items_of, seen_with}
+use Rattle.grounding.specs.Distinct.{Codes, HasSeen, items_of}
 use Rattle.grounding.proofs.SeenLaws.{not_two, two_literals, with-other, with-pair}
 use Rattle.grounding.proofs.distinct.Seen.is_new.Goals as goal
 

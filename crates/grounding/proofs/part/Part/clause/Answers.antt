@@ -1,4 +1,4 @@
-use Rattle.std.proofs.Common.{◌≡◌, ◌<◌, ◌∙◌, [], ap, arith, length, sym}
+use Rattle.std.proofs.Common.{◌<◌, ◌∙◌, [], ap, arith, length, sym}
 use Rattle.std.proofs.lemmas.Option.{slice_get-get_or}
 use Rattle.std.specs.Prelude.{Some, slice_get}
 use Rattle.clause_form.specs.Sources.{clauses_in}
