@@ -97,6 +97,9 @@ for path in glob.glob(os.path.join(ROOT, "*", "specs", "*.antt")):
 def followed(names):
     """The definitions that the names are stated in, each as a file and a name."""
     seen, left = set(), [tuple(name.split(".")) for name in names]
+    for place, name in left:
+        if place not in FILES or not (name in FILES[place].lines or FILES[place].form_of(name)):
+            sys.exit(f"believed: there is no {place}.{name}")
     while left:
         place, name = left.pop()
         file = FILES.get(place)
