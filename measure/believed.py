@@ -98,7 +98,7 @@ def followed(names):
     """The definitions that the names are stated in, each as a file and a name."""
     seen, left = set(), [tuple(name.split(".")) for name in names]
     for place, name in left:
-        if place not in FILES or not (name in FILES[place].lines or FILES[place].form_of(name)):
+        if place not in FILES or not (name in FILES[place].lines or name in FILES[place].uses or FILES[place].form_of(name)):
             sys.exit(f"believed: there is no {place}.{name}")
     while left:
         place, name = left.pop()
