@@ -11,7 +11,7 @@
 #     adopt   a proof over the clauses of one of the small studies: `check` confirms the report that `adopt` writes of it
 #     words   the words of both programs, over files that are there: status 2 exactly with the line of usage
 # And of every call: the status is one from 0 to 5, with 5 nothing is written and else lines, nothing goes to standard error, and the answer
-# is the same where each read of a file gives a few bytes alone, 1 to 7. No call takes 20 seconds, or 2 GB.
+# is the same where each read of a file gives a few bytes alone, 1 to 7. No text takes 20 seconds by the clock, or 2 GB.
 #
 # What runs are both programs whole, from `main` on, as they are proved: the toolchain gives its clang the module of a proved program, and
 # here that clang is asked for more, for counters of edges and comparisons, and for the checks of AddressSanitizer (which sees a read or a
@@ -124,7 +124,7 @@ run_target() { # TARGET
     : >"$work/spent"
     while left=$((start + seconds - SECONDS)) && [ $left -gt 0 ] && [ $failed -lt 20 ]; do
         { time FUZZ_TARGET=$target FUZZ_HELD=$built/held ASAN_OPTIONS=detect_leaks=1:allocator_may_return_null=1 "$built/fuzz" \
-            -max_total_time=$left -max_len=$longest -timeout=20 -rss_limit_mb=2048 -malloc_limit_mb=2048 -use_value_profile=1 \
+            -max_total_time=$left -max_len=$longest -timeout=20 -report_slow_units=20 -rss_limit_mb=2048 -malloc_limit_mb=2048 -use_value_profile=1 \
             -dict="$built/$target.dict" -artifact_prefix="fuzz_$target/" -print_final_stats=1 "$corpus" "$built/first_$target" >>"$log" 2>&1; } \
             2>>"$work/spent" && break
         failed=$((failed + 1))
