@@ -1,6 +1,6 @@
 //! Sentences of one shape told as one: those with the same reason and the same level that rest on the same
-//! claims, be it at other profiles. Nothing is proved here of what comes out, but that it has the steps of the
-//! lemma: it is checked before it is taken.
+//! claims, be it at other profiles, or on many facts each where the reason is not `outcome`. Nothing is proved
+//! here of what comes out, but that it has the steps of the lemma: it is checked before it is taken.
 
 ghost use Rattle.std.specs.Prelude.{◌≡◌, [], ◌∷◌, ◌++◌, IsTrue, IfOk, OnOk};
 ghost use Rattle.meaning.specs.Literals.{is_literal};
@@ -20,7 +20,7 @@ use tellings::{By, Passage, Placed, Sentence};
 use vocab::{Literal, Size};
 use worlds::Board;
 
-/// Of more facts than so many it makes no difference which claims they are.
+/// Of more facts than so many it makes no difference which claims they are, but where they leave one outcome.
 const MOST_TOLD_APART: usize = 3;
 
 /// The sentences of a passage by their shapes: of each shape the number of its first sentence, the level and,
@@ -47,11 +47,14 @@ fn count_of(literals: &[Literal], claim: &Literal) -> usize {
     literals.iter().filter(|l| is_same_claim(l, claim)).count()
 }
 
+/// Whether there are so many facts on both sides that they are not told apart. What leaves one outcome is said of
+/// the profiles of what follows, so that it is the same claims at each of them.
+fn are_many(by: By, left: &[Literal], right: &[Literal]) -> bool {
+    !is_by(by, By::Outcome) && left.len() > MOST_TOLD_APART && right.len() > MOST_TOLD_APART
+}
+
 /// Whether facts make the same claims, each as often.
 fn are_alike(left: &[Literal], right: &[Literal]) -> bool {
-    if left.len() > MOST_TOLD_APART && right.len() > MOST_TOLD_APART {
-        return true;
-    }
     left.len() == right.len()
         && left
             .iter()
@@ -72,9 +75,11 @@ fn level_of(index: &StepIndex, steps: &[Placed], levels: &[u32], rests: &[Litera
 
 /// Whether a sentence has the shape of the one of a number, which is of its level.
 fn has_shape(sentences: &[Sentence], first: usize, by: By, rests: &[Literal]) -> bool {
-    first < sentences.len()
-        && is_by(sentences[first].by, by)
-        && are_alike(sentences[first].rests.as_slice(), rests)
+    if first >= sentences.len() || !is_by(sentences[first].by, by) {
+        return false;
+    }
+    let known = sentences[first].rests.as_slice();
+    are_many(by, known, rests) || are_alike(known, rests)
 }
 
 impl Shapes {
