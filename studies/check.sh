@@ -69,6 +69,20 @@ for text in "$root"/studies/*.sharp; do
     grep -q '^</body></html>$' "$work/written" || fault "the page of the sharp text of $name has no end"
 done
 
+# What leaves one outcome at a profile is said of the facts of that profile: two such steps that rest on other claims are two sentences.
+printf '%s\n' 'kind = "choice"' 'voters = 1' 'alternatives = 5' 'axioms = ["pareto", "same"]' '[sentences]' \
+    'same = "all p: profile. all q: profile. all x: alt. all y: alt. ((wins(x, p) & wins(y, q)) -> x = y)"' >"$work/left.toml"
+{
+    printf '%s\n' 'bench report 1' 'kind choice' 'voters 1' 'alternatives 5' 'axioms pareto same' 'verdict impossible' 'core pareto same' \
+        'lemmas 1' 'lemma 1'
+    for loser in b c d e; do echo "so !$loser@abcde by axiom pareto abcde a $loser"; done
+    for loser in a c d e; do echo "so !$loser@bacde by axiom pareto bacde b $loser"; done
+    printf '%s\n' 'so a@abcde by outcome abcde' 'so b@bacde by outcome bacde' 'clash by axiom same abcde bacde a b' \
+        'without pareto open 100000' 'without same open 100000' end
+} >"$work/left.report"
+"$explain" story "$work/left.toml" "$work/left.report" >"$work/written" || fault "explain gives the story of two winners no page"
+[ "$(grep -c 'by what is left' "$work/written")" -eq 2 ] || fault "explain says of two profiles at once what other facts leave at each"
+
 lists() { # ENDING AXIOMS: which ending the list of the rules of two voters over three alternatives has
     printf '%s\n' 'kind = "ranking"' 'voters = 2' 'alternatives = 3' "axioms = [$2]" >"$work/listed.toml"
     "$explain" rules "$work/listed.toml" --workers 2 >"$work/written"
