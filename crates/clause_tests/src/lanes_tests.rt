@@ -109,10 +109,14 @@ fn tally_of<K: OutcomeKind>(alloc: Global, kind: &K, named: &Axiom) -> Result<Ta
         wrong: 0,
         premises: 0,
     };
+    let mut word: u64 = 0;
+    let mut sides = told_sides(kind, named, &plan, 0);
     for number in 0..instance_count(kind.space(), named.sentence()) {
         let lane = number % 40;
-        let word = told(kind, named, &plan, number - lane);
-        let sides = told_sides(kind, named, &plan, number - lane);
+        if lane == 0 {
+            word = told(kind, named, &plan, number);
+            sides = told_sides(kind, named, &plan, number);
+        }
         tally = counted(
             tally,
             is_told(word, lane) && is_told(sides.all, lane),

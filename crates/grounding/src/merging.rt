@@ -1,6 +1,6 @@
 //! The clauses of an axiom, made in rounds of pieces, of equal ones the first kept.
 
-ghost use Rattle.std.specs.Prelude.{◌≡◌, ◌<◌, ◌≤◌, ◌+◌, ◌^◌, ◌++◌, Err, Ok, Some, IfOk, OnOk, IsTrue, length};
+ghost use Rattle.std.specs.Prelude.{◌≡◌, ◌<◌, ◌≤◌, ◌+◌, ◌^◌, [], ◌∷◌, ◌++◌, Err, Ok, Some, IfOk, OnOk, IsTrue, length};
 ghost use Rattle.vocab.specs.Limits.{instance_count};
 ghost use Rattle.vocab.specs.Study.{is_sentence};
 ghost use Rattle.crew.specs.Right.{AreRight};
@@ -9,14 +9,15 @@ ghost use Rattle.clause_form.specs.Refusals.{is_over_limits};
 ghost use Rattle.clause_form.specs.Sources.{clauses_in, sourced};
 ghost use Rattle.lanes.specs.Lanes.{IsPlan};
 ghost use Rattle.grounding.specs.Kept.{Keeps, Overfills};
-ghost use Rattle.grounding.specs.Pieces.{AreNarrow, AreNarrowInstances, IsPart, IsPartOfPiece, end_of, sources_of, start_of};
+ghost use Rattle.grounding.specs.Parts.{KeepSameAfter, with_origin};
+ghost use Rattle.grounding.specs.Pieces.{AreNarrow, AreNarrowInstances, IsLaterPart, IsPartOfPiece, end_of, sources_of, start_of};
 
 use crate::distinct::{Seen, keep};
 use crate::part::Part;
 use crate::parts::clauses_of_all;
 use crate::pieces::{MOST_CLAUSES, MOST_LITERALS, PIECE, ROUND, Round};
 use clause_form::sum;
-use cnf::{Clauses, PushFault};
+use cnf::{Clauses, Lit, PushFault};
 use crew::{Crew, Job, Parts, map_pieces};
 use edge::Gate;
 use lanes::plan_of;
@@ -52,6 +53,53 @@ impl<F: Fn(u64, u64) -> Result<Part, NoMemory> + Sync> Job for Making<'_, F> {
     }
 }
 
+/// Appends a clause with its origin, unless it was seen.
+fn push_unseen(seen: &Seen, clause: &[Lit], origin: u64, rest: &mut Part) -> Result<(), NoMemory>
+    ensures { OnOk result (KeepSameAfter seen.now rest.new (rest.old ++ with_origin clause.now origin ∷ [])) }
+{
+    if seen.has_two(clause) {
+        return Ok(());
+    }
+    rest.push(clause, origin)?;
+    Ok(())
+}
+
+/// The clauses of a part but for those that were seen.
+fn unseen(alloc: Global, seen: &Seen, part: &Part) -> Result<Part, NoMemory>
+    ensures { IfOk result (λ rest. KeepSameAfter seen.now rest part.now) }
+{
+    let mut rest = Part::new(alloc);
+    for k in 0..part.len() {
+        push_unseen(seen, part.clause(k), part.origin(k), &mut rest)?;
+    }
+    Ok(rest)
+}
+
+/// The clauses of the instances from `from` up to `to`; of these those that were seen in earlier rounds are left
+/// out where there are several workers, since the clauses of a round are joined by one.
+fn later_part<K: OutcomeKind>(
+    alloc: Global,
+    round: &Round<K>,
+    base: u64,
+    seen: &Seen,
+    several: bool,
+    from: u64,
+    to: u64,
+) -> Result<Part, NoMemory>
+    requires instances { AreNarrowInstances (K.size round.now.kind.now) round.now.named.now from to }
+    requires base { base ≤ 2 ^ 60 }
+    requires plan { IsPlan (K.size round.now.kind.now) round.now.named.now.sentence round.now.plan.now }
+    ensures { IfOk result
+        (IsLaterPart (K.size round.now.kind.now) round.now.named.now.sentence seen.now base from to) }
+{
+    let part = clauses_of_all(alloc, round.kind, round.named, round.plan, base, from, to)?;
+    if several {
+        let rest = unseen(alloc, seen, &part)?;
+        return Ok(rest);
+    }
+    Ok(part)
+}
+
 /// Appends the clauses of a part, each unless an equal one was kept.
 fn keep_all(alloc: Global, seen: &mut Seen, part: &Part, out: &mut Clauses) -> Result<(), PushFault>
     ensures kept { OnOk result (Keeps seen.old out.old seen.new out.new part.now) }
@@ -76,7 +124,7 @@ fn keep_parts<K: OutcomeKind>(
     out: &mut Clauses,
 ) -> Result<(), PushFault>
     requires right { AreRight
-        (IsPartOfPiece (K.size round.now.kind.now) round.now.named.now.sentence base round.now.from
+        (IsPartOfPiece (K.size round.now.kind.now) round.now.named.now.sentence seen.old base round.now.from
         round.now.to) 0 parts.now }
     requires rising { round.now.from ≤ round.now.to }
     requires whole { round.now.to ≤ start_of round.now.from (length parts.now) }
@@ -96,6 +144,43 @@ fn keep_parts<K: OutcomeKind>(
         }
     }
     Ok(())
+}
+
+/// The parts of the pieces of a round.
+fn make_round<R: Threads + Sync, K: OutcomeKind, G: Gate>(
+    alloc: Global,
+    crew: &Crew<R, G>,
+    round: &Round<K>,
+    base: u64,
+    seen: &Seen,
+) -> Result<Parts<Part>, NoMemory>
+    requires instances { AreNarrowInstances
+        (K.size round.now.kind.now) round.now.named.now round.now.from round.now.to }
+    requires base { base ≤ 2 ^ 60 }
+    requires short { round.now.to ≤ round.now.from + 16384 }
+    requires plan { IsPlan (K.size round.now.kind.now) round.now.named.now.sentence round.now.plan.now }
+    ensures right { IfOk result (λ parts. AreRight
+        (IsPartOfPiece (K.size round.now.kind.now) round.now.named.now.sentence seen.now base round.now.from
+        round.now.to) 0 parts) }
+    ensures whole { IfOk result (λ parts. round.now.to ≤ start_of round.now.from (length parts)) }
+{
+    let (from, to) = (round.from, round.to);
+    let several = crew.workers > 1;
+    let make = |start: u64, end: u64| -> Result<Part, NoMemory>
+        requires { AreNarrowInstances (K.size round.now.kind.now) round.now.named.now start end ×
+            (base ≤ 2 ^ 60) ×
+            IsPlan (K.size round.now.kind.now) round.now.named.now.sentence round.now.plan.now }
+        ensures { IfOk result (IsLaterPart (K.size round.entry.now.kind.now)
+            round.entry.now.named.now.sentence seen.entry.now base start end) }
+    { later_part(alloc, round, base, seen, several, start, end) };
+    let job = Making {
+        make: &make,
+        from,
+        to,
+    };
+    let count = (to - from).div_ceil(PIECE) as u32;
+    let parts = map_pieces(crew.rt, alloc, &job, count, crew.workers, crew.gate)?;
+    Ok(parts)
 }
 
 /// Appends the clauses of a round, each unless an equal one of the axiom was kept. The number of an instance
@@ -120,21 +205,7 @@ fn add_round<R: Threads + Sync, K: OutcomeKind, G: Gate>(
         (sources_of (K.size round.now.kind.now) round.now.named.now.sentence base
         round.now.from round.now.to) }
 {
-    let (from, to) = (round.from, round.to);
-    let make = |start: u64, end: u64| -> Result<Part, NoMemory>
-        requires { AreNarrowInstances (K.size round.now.kind.now) round.now.named.now start end ×
-            (base ≤ 2 ^ 60) ×
-            IsPlan (K.size round.now.kind.now) round.now.named.now.sentence round.now.plan.now }
-        ensures { IfOk result
-            (IsPart (K.size round.entry.now.kind.now) round.entry.now.named.now.sentence base start end) }
-    { clauses_of_all(alloc, round.kind, round.named, round.plan, base, start, end) };
-    let job = Making {
-        make: &make,
-        from,
-        to,
-    };
-    let count = (to - from).div_ceil(PIECE) as u32;
-    match map_pieces(crew.rt, alloc, &job, count, crew.workers, crew.gate) {
+    match make_round(alloc, crew, round, base, seen) {
         Ok(parts) => keep_parts(alloc, round, base, &parts, seen, out),
         Err(_) => Err(PushFault::NoMemory),
     }
