@@ -6,7 +6,7 @@
 # `non_dictatorship`. On a list over 120 variables the plain one is compared with the search that scans all clauses at each step
 # (measure/search.rs). The search and the plain one are timed without the reading of the list, a stock solver with it; each runs 5
 # times in turn, and the shortest run counts. The answers and the numbers of lines are compared too, so that the search and the plain
-# one do the same work.
+# one do the same work: a step that changes in one, as where a learned clause is watched, changes in the other.
 # The search is called by a program that is proved and built in a copy of the repository.
 # The last lines are `ratio scanning R`, the plain one by the scanning one; `ratio studies R`, the search by
 # `minisat` on the study where that is more; and `ratio watched R`, the search by the plain one over all lists.

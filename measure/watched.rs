@@ -1,8 +1,9 @@
 // The search of crate `cdcl` in plain Rust, the same algorithm step by step: each clause of two different literals or more is
 // watched at two of them, the watchers of a literal are a linked list, the variable of greatest activity is decided with the sign
-// that it last had, the clause of the first unique implication point is learned, and the search begins anew after 64 times the next
-// number of Luby's series. For the clauses of a file, or for random lists by pairs of a number of variables and one of clauses, it prints
-// the answer and the nanoseconds of the search. measure/refutation.rs takes the lines of a refutation from it.
+// that it last had, the clause of the first unique implication point is learned and watched at the literal that it forces and at the
+// one that is false by the last entry, and the search begins anew after 64 times the next number of Luby's series. For the clauses of
+// a file, or for random lists by pairs of a number of variables and one of clauses, it prints the answer and the nanoseconds of the
+// search. measure/refutation.rs takes the lines of a refutation from it.
 use std::time::Instant;
 
 #[derive(Clone, Copy, PartialEq, Eq)]
@@ -92,7 +93,8 @@ impl Trail {
         let entries = Vec::with_capacity(variables as usize);
         let mut trail = Trail { clauses: Store::new(), marks: vec![None; variables as usize], entries, level: 0, links, visited: 0, scanned: 0 };
         for k in 0..clauses.len() {
-            trail.add(clauses.get(k));
+            let lists = trail.pick(clauses.get(k));
+            trail.add(clauses.get(k), lists);
         }
         trail
     }
@@ -120,17 +122,34 @@ impl Trail {
         };
         ready.find(|lit| *lit != first).map_or((0, 0), |other| (first.code, other.code))
     }
-    fn add(&mut self, clause: &[Lit]) {
-        let (a, b) = self.pick(clause);
+    fn add(&mut self, clause: &[Lit], (a, b): (u32, u32)) {
         self.clauses.push(clause);
         self.links.add(a);
         self.links.add(b);
     }
-    fn learn(&mut self, clause: &[Lit]) {
-        self.add(clause);
-        while self.visited > 0 && self.entries[self.visited - 1].level == self.level {
-            self.visited -= 1;
+    // How many of the entries visited have a lower level than the current one.
+    fn start(&self) -> usize {
+        let top = self.entries[..self.visited].iter().rev().take_while(|e| e.level == self.level);
+        self.visited - top.count()
+    }
+    // The literal of the clause that is false by the last entry of the current level, and the place of that entry.
+    fn last_false(&self, clause: &[Lit]) -> Option<(Lit, usize)> {
+        let places = (self.start()..self.visited).rev();
+        places.map(|place| (self.entries[place].literal.opposite(), place)).find(|(lit, _)| clause.contains(lit))
+    }
+    fn choose(&self, clause: &[Lit]) -> ((u32, u32), usize) {
+        if let Some((failing, place)) = self.last_false(clause) {
+            if let Some(left) = self.replacement(clause, failing) {
+                return ((left.code, failing.code), place);
+            }
         }
+        let lists = self.pick(clause);
+        (lists, if lists == (0, 0) { self.visited } else { self.start() })
+    }
+    fn learn(&mut self, clause: &[Lit]) {
+        let (lists, place) = self.choose(clause);
+        self.add(clause, lists);
+        self.visited = place;
     }
     fn force_unwatched(&mut self) -> Option<u32> {
         for k in self.scanned..self.clauses.len() {
@@ -149,9 +168,9 @@ impl Trail {
         self.scanned = self.clauses.len();
         None
     }
-    fn replacement(&self, k: usize, other: Lit) -> Option<Lit> {
+    fn replacement(&self, clause: &[Lit], other: Lit) -> Option<Lit> {
         let left = |lit: &&Lit| **lit != other && self.value(lit.variable()).is_none_or(|value| value == lit.positive());
-        self.clauses.get(k).iter().find(left).copied()
+        clause.iter().find(left).copied()
     }
     fn visit(&mut self, list: u32) -> Option<u32> {
         let mut node = self.links.heads[list as usize];
@@ -162,7 +181,7 @@ impl Trail {
             let value = self.value(other.variable());
             if value == Some(other.positive()) {
                 self.links.put(node, list);
-            } else if let Some(lit) = self.replacement(node / 2, other) {
+            } else if let Some(lit) = self.replacement(self.clauses.get(node / 2), other) {
                 self.links.put(node, lit.code);
             } else if value.is_none() {
                 self.put(Entry { literal: other, level: self.level, reason: Some((node / 2) as u32) });

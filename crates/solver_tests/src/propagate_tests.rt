@@ -85,3 +85,16 @@ fn a_learned_clause_has_the_next_number(rt: HostRuntime) -> Result<(), Fail> {
     assert!(rt; first == 2 && second == 3 && kept && closed && three);
     Ok(())
 }
+
+// 1 and 2 are false at level 0, 2 by the later entry: so the learned clause is watched at 3, which it forces,
+// and at 2.
+#[test]
+fn a_learned_clause_is_watched_at_the_last_false_literal(rt: HostRuntime) -> Result<(), Fail> {
+    let mut trail = trail_over(rt.alloc(), &[-1, 0, 1, -2, 0, -2, 3, 0], 3, 3)?;
+    let closed = trail.propagate() == Outcome::Closed && trail.len() == 2;
+    trail.learn([literal(2, 3), literal(1, 3), literal(3, 3)].as_slice())?;
+    let watched = is_watched(&trail, 3, 3, 2);
+    let forced = trail.propagate() == Outcome::Closed && trail.reason(3) == Some(3);
+    assert!(rt; closed && watched && forced);
+    Ok(())
+}
