@@ -119,10 +119,10 @@ pub fn clause_at(clauses: &Clauses, k: u32) -> &[Lit] {
     &[]
 }
 
-/// The literal at a place from the end of a list.
-pub fn from_end(literals: &[Lit], place: usize) -> Option<Lit> {
-    if place < literals.len() {
-        Some(literals[literals.len() - 1 - place])
+/// The item at a place from the end of a list.
+pub fn from_end<T: Copy>(items: &[T], place: usize) -> Option<T> {
+    if place < items.len() {
+        Some(items[items.len() - 1 - place])
     } else {
         None
     }

@@ -81,8 +81,14 @@ fn rebuilt(
     Ok(made)
 }
 
+/// Whether all clauses and variables may be looked at once for each line.
+fn can_look_at_all(clauses: &Clauses, variables: u32, lines: usize) -> bool {
+    let once = u64::from(clauses.len()) + u64::from(variables);
+    once.saturating_mul(lines as u64) < u64::from(LOOKS)
+}
+
 /// A refutation made of a given one, with fewer hints in its lines, which may cite any clause. None where it
-/// is not accepted.
+/// is not accepted, and where there are too many clauses and lines to look at all clauses for each line.
 fn thinned_by_all(
     alloc: Global,
     clauses: &Clauses,
@@ -93,6 +99,9 @@ fn thinned_by_all(
     ensures over { IfOk result (λ made. IfSome made (AreOver variables)) }
     ensures single { IfOk result (λ made. IfSome made (EachPasses is_single)) }
 {
+    if !can_look_at_all(clauses, variables, given.len()) {
+        return Ok(None);
+    }
     let all = vec![in alloc; true; clauses.len() as usize]?;
     let whole = marked_clauses(alloc, clauses, all.as_slice())?;
     let made = thinned(alloc, clauses, &whole, variables, given, LOOKS)?;

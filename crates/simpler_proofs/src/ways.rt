@@ -1,6 +1,6 @@
 //! Ways to a conflict within a set of literals.
 
-use crate::literal_sets::{LiteralSet, Standing, clause_at, origin_at, stands};
+use crate::literal_sets::{LiteralSet, Standing, clause_at, from_end, origin_at, stands};
 use cnf::{Clauses, Ids, Lit, Lits};
 use lists::{Items, NoMemory};
 use std::alloc::Global;
@@ -60,15 +60,6 @@ fn conflict(
         }
     }
     Ok(None)
-}
-
-/// The entry at a place from the end.
-fn from_end(forced: &[Forced], place: usize) -> Option<Forced> {
-    if place < forced.len() {
-        Some(forced[forced.len() - 1 - place])
-    } else {
-        None
-    }
 }
 
 /// Takes an entry into a trace, where it is needed.
