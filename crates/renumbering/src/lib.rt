@@ -9,3 +9,4 @@ mod places;
 
 pub use citing::flags_of;
 pub use lines::renumber;
+pub use places::are_same;

@@ -15,7 +15,7 @@ fn is_same(left: Lit, right: Lit) -> bool
 }
 
 /// Whether two clauses have the same literals in the same order.
-fn are_same(left: &[Lit], right: &[Lit]) -> bool
+pub fn are_same(left: &[Lit], right: &[Lit]) -> bool
     ensures same { IsTrue result → left.now ≡ right.now }
     ensures differ { IsFalse result → left.now ≢ right.now }
 {

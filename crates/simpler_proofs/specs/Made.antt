@@ -1,11 +1,13 @@
 -- Derivations that are made in place of a given one.
-use Rattle.std.specs.Prelude.{◌≡◌, ◌+◌, ◌-◌, ◌<◌, ◌≤◌, ◌^◌, nat_le, ◌&&◌, ◌||◌, Bool, List, length, IsTrue, ◌⊎◌}
+use Rattle.std.specs.Prelude.{◌≡◌, ℕ, ◌+◌, ◌-◌, ◌<◌, ◌≤◌, ◌^◌, nat_le, ◌&&◌, ◌||◌, Bool, List, length, get_or, IsPermutation, IsTrue, ◌⊎◌}
 use Rattle.std.specs.List.{list_all, list_any}
 use Rattle.cnf.specs.Sat.{Clause, contains}
 use Rattle.cnf.specs.Derived.{IsAccepted}
 use Rattle.cnf.specs.Fresh.{added_by, AreOver}
 use Rattle.cnf.specs.Trimmed.{is_empty_clause, is_trimmed}
 use Rattle.cnf.specs.declared.derivations.Line.{Line}
+use Rattle.cnf.specs.declared.derivations.Step.{Step}
+use Rattle.cnf.specs.declared.derivations.Step.TheVariants.{Add, Drop}
 use Rattle.lrat_check.specs.Ranges.{has_next}
 use Rattle.propagate.specs.TrailState.{TrailState, IsTrail}
 
@@ -28,6 +30,17 @@ is_part_of given clause = is_empty_clause clause || list_any (λ g. is_part (add
 -- each clause has at most one literal, or each is empty or part of one that the given lines add
 abbrev pub AreSimpler : List Line → List Line → Type 0
 AreSimpler given lines = EachPasses is_single lines ⊎ EachPasses (is_part_of given) lines
+
+-- a step adds the clause of a given one under its id, by the given one's hints in some order; or it takes away the same
+abbrev pub HasHintsOf : Step → Step → Type 0
+HasHintsOf (Add id clause hints) (Add k same order) = (k ≡ id) × (same ≡ clause) × IsPermutation hints order
+HasHintsOf (Add id clause hints) (Drop ids) = ⊥
+HasHintsOf (Drop ids) step = step ≡ Drop ids
+
+-- each line does what a given one does, by the given one's hints in some order
+pub record AreReordered (given lines : List Line) : Type 0 where
+  pub count : length lines ≡ length given
+  pub each : (k : ℕ) (d : Line) → k < length given → HasHintsOf (get_or given k d).step (get_or lines k d).step
 
 -- a derivation that is being made: the trail is over the clauses and those of the lines
 pub record IsMade (input : List Clause) (t : TrailState) (lines : List Line) : Type 0 where

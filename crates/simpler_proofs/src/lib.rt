@@ -6,13 +6,16 @@ mod failed_literals;
 mod leaving_out;
 mod literal_sets;
 mod made;
+mod ordering;
 mod reasons;
 mod rebuilding;
 mod simplifying;
 mod thinning;
+mod turns;
 mod vivification;
 mod ways;
 
 pub use failed_literals::by_failed_literals;
+pub use ordering::ordered;
 pub use simplifying::simplify;
 pub use vivification::vivify;

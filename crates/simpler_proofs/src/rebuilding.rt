@@ -16,7 +16,7 @@ use lists::{Items, NoMemory};
 use std::alloc::Global;
 
 /// The clause that a line adds.
-fn clause_of_line(line: &Line) -> &[Lit] {
+pub fn clause_of_line(line: &Line) -> &[Lit] {
     match &line.step {
         Step::Add { clause, .. } => clause.as_slice(),
         Step::Drop { .. } => &[],
@@ -24,7 +24,7 @@ fn clause_of_line(line: &Line) -> &[Lit] {
 }
 
 /// The hints of a line.
-fn hints_of_line(line: &Line) -> &[u64] {
+pub fn hints_of_line(line: &Line) -> &[u64] {
     match &line.step {
         Step::Add { hints, .. } => hints.as_slice(),
         Step::Drop { .. } => &[],
@@ -32,7 +32,7 @@ fn hints_of_line(line: &Line) -> &[u64] {
 }
 
 /// The clause under an id: one of the clauses, or the one that an earlier line adds; else the empty one.
-fn clause_of<'a>(clauses: &'a Clauses, earlier: &'a [Line], id: u64) -> &'a [Lit] {
+pub fn clause_of<'a>(clauses: &'a Clauses, earlier: &'a [Line], id: u64) -> &'a [Lit] {
     if id == 0 {
         return &[];
     }
@@ -197,7 +197,7 @@ pub fn supposed_of(line: &Line) -> Option<Lit> {
 }
 
 /// Adds a line.
-fn add_line(
+pub fn add_line(
     clauses: &Clauses,
     clause: Lits,
     hints: Ids,

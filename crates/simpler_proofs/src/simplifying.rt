@@ -6,6 +6,7 @@ ghost use Rattle.simpler_proofs.specs.Made.{EachPasses, IsProof, AreSimpler, is_
 
 use crate::failed_literals::by_failed_literals;
 use crate::leaving_out::{mark_cited, marked_clauses, shorter, with_fewer_lines};
+use crate::ordering::ordered;
 use crate::rebuilding::thinned;
 use crate::vivification::vivify;
 use cnf::{Clauses, Derivation};
@@ -133,10 +134,8 @@ fn by_single(
     }
 }
 
-/// A simpler refutation of the same clauses, by failed literals or else by vivification, each within a budget;
-/// none where neither comes to an end. Each of its clauses has at most one literal, or each is empty or part
-/// of one of the given lines', with no more literals.
-pub fn simplify(
+/// A refutation by failed literals or else by vivification.
+fn chosen(
     alloc: Global,
     clauses: &Clauses,
     variables: u32,
@@ -154,6 +153,34 @@ pub fn simplify(
         None => {
             let made = vivify(alloc, clauses, variables, given, BUDGET)?;
             Ok(made)
+        }
+    }
+}
+
+/// A simpler refutation of the same clauses, by failed literals or else by vivification, each within a budget;
+/// none where neither comes to an end. Each of its clauses has at most one literal, or each is empty or part
+/// of one of the given lines', with no more literals. The hints of a line that don't rest on the literals of
+/// its clause come first; and those of one axiom, which the upper half of a clause's origin tells, stand
+/// together where what follows from what allows it.
+#[tactic(auto, using(crate::proofs::Reordering::over_reordered, crate::proofs::Reordering::simpler_reordered))]
+pub fn simplify(
+    alloc: Global,
+    clauses: &Clauses,
+    variables: u32,
+    given: &Derivation,
+) -> Result<Option<Derivation>, NoMemory>
+    requires few { variables < 2 ^ 31 }
+    requires range { All (λ clause. All (λ l. l.variable ≤ variables) clause) clauses.now.clauses }
+    requires over { AreOver variables given.now }
+    ensures proof { IfOk result (λ made. IfSome made (IsProof clauses.now.clauses)) }
+    ensures over { IfOk result (λ made. IfSome made (AreOver variables)) }
+    ensures simpler { IfOk result (λ made. IfSome made (AreSimpler given.now)) }
+{
+    match chosen(alloc, clauses, variables, given)? {
+        None => Ok(None),
+        Some(made) => {
+            let last = ordered(alloc, clauses, variables, made)?;
+            Ok(Some(last))
         }
     }
 }

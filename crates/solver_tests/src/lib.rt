@@ -1,5 +1,5 @@
 //! Tests of proofs, of propagation and of the search over lists of clauses, each module of the crate that it is
-//! named for. The library itself is empty.
+//! named for, and `ordering_tests` of `simpler_proofs` too. The library itself is empty.
 #![tactic(auto)]
 
 #[cfg(test)]
@@ -8,6 +8,8 @@ mod cdcl_tests;
 mod lists_by_numbers;
 #[cfg(test)]
 mod lrat_check_tests;
+#[cfg(test)]
+mod ordering_tests;
 #[cfg(test)]
 mod propagate_tests;
 #[cfg(test)]
