@@ -17,8 +17,8 @@ use Rattle.tellings.specs.declared.tellings.Placed.{Placed}
 use Rattle.tellings.specs.declared.tellings.Sentence.{Sentence}
 use Rattle.premises.specs.declared.forced.Forced.{Forced}
 use Rattle.premises.specs.Forcing.{AreForcedSoFar}
-use Rattle.premises.specs.Grounds.{IsJoined, IsSentence}
-use Rattle.premises.proofs.TestLemmas.{all_each, read_at}
+use Rattle.joined_sentences.specs.Joined.{IsJoined, IsSentence}
+use Rattle.needed_facts.proofs.TestLemmas.{all_each, read_at}
 use Rattle.premises.proofs.ToldLemmas.{numbered_more, said_more}
 
 -- the sentence rests on nothing

@@ -10,7 +10,7 @@ use Rattle.meaning.specs.declared.stories.Reason.TheVariants.{Axiom as ByAxiom, 
 use Rattle.tellings.specs.Tellings.{home_in, home_of, is_at, is_reached, reaches, takes_in, AreHomes}
 use Rattle.tellings.specs.declared.tellings.Placed.{Placed}
 use Rattle.tellings.specs.declared.tellings.Telling.{Telling}
-use Rattle.premises.proofs.TestLemmas.{all_pass, past, read_at}
+use Rattle.needed_facts.proofs.TestLemmas.{all_pass, past, read_at}
 
 home_none : (n j : ℕ) → home_of (replicate n None) j ≡ None
 home_none zero j = refl

@@ -1,4 +1,3 @@
-pub mod TestLemmas
 pub mod ToldLemmas
 pub mod StepLemmas
 pub mod ForcedLemmas

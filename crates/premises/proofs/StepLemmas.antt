@@ -14,9 +14,10 @@ use Rattle.meaning.specs.declared.stories.Reason.{Reason}
 use Rattle.meaning.specs.declared.stories.StoryStep.{StoryStep}
 use Rattle.meaning.specs.Literals.{is_literal}
 use Rattle.meaning.specs.Stories.{are_forced, are_new, has_literals, is_decided, is_lemma, is_story_from}
-use Rattle.premises.specs.declared.basis.Basis.{Basis}
+use Rattle.needed_facts.specs.declared.basis.Basis.{Basis}
 use Rattle.meaning.proofs.TestLaws.{all_read}
-use Rattle.premises.specs.Grounds.{follow, is_lemma_by, refutes_by, unforced}
+use Rattle.needed_facts.specs.Rests.{refutes_by}
+use Rattle.premises.specs.SoFar.{follow, is_lemma_by, unforced}
 
 not_from : (b : Bool) → not b ≡ true → b ≡ false
 not_from true h = absurd (true≢false (sym h))

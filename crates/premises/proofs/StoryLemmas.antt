@@ -9,7 +9,7 @@ use Rattle.meaning.specs.declared.stories.Lemma.{Lemma}
 use Rattle.tellings.specs.declared.tellings.Telling.{Telling}
 use Rattle.tellings.specs.Tellings.{IsTold}
 use Rattle.premises.specs.Told.{AreTold}
-use Rattle.premises.proofs.TestLemmas.{front, at_end}
+use Rattle.needed_facts.proofs.TestLemmas.{front, at_end}
 
 module _ (size : Extent) (axioms : List Titled) (core : List ℕ) (story : List Lemma) (forced : List Literal) where
   pub lemma_more : (tellings new : List Telling) (place : ℕ) (lemma : Lemma) (telling : Telling) → AreTold size axioms core story forced tellings → length tellings ≡ place → new ≡ tellings ++ telling ∷ [] →

@@ -19,30 +19,18 @@ use Rattle.tellings.specs.declared.tellings.Passage.{Passage}
 use Rattle.tellings.specs.declared.tellings.Placed.{Placed}
 use Rattle.tellings.specs.declared.tellings.Sentence.{Sentence}
 use Rattle.worlds.proofs.BoardLemmas.{all_has}
-use Rattle.premises.specs.declared.basis.Basis.{Basis}
-use Rattle.premises.specs.Grounds.{are_numbered, refutes_by, steps_of, IsJoined, IsSentence, IsToldSoFar, RestsOn}
-use Rattle.premises.proofs.TestLemmas.{all_from, all_both, all_more, any_from, past}
+use Rattle.needed_facts.specs.declared.basis.Basis.{Basis}
+use Rattle.needed_facts.specs.Rests.{refutes_by, RestsOn}
+use Rattle.joined_sentences.specs.Joined.{IsJoined, IsSentence}
+use Rattle.premises.specs.SoFar.{are_numbered, steps_of, IsToldSoFar}
+use Rattle.needed_facts.proofs.RestLemmas.{same_itself, has_itself, all_among}
+use Rattle.needed_facts.proofs.TestLemmas.{all_from, all_both, all_more, any_from, past}
 
 -- ---- what stands
 
 -- a step of a sentence before the number states the fact
 abbrev pub is_stated : ℕ → Literal → Placed → Bool
 is_stated k q placed = nat_lt placed.sentence k && same_literal q placed.step.literal
-
-same_itself : (l : Literal) → same_literal l l ≡ true
-same_itself (Wins x p) = and_from (x == x) (p == p) (eq-eqb x x refl) (eq-eqb p p refl)
-same_itself (Loses x p) = and_from (x == x) (p == p) (eq-eqb x x refl) (eq-eqb p p refl)
-same_itself (Above x y p) = and_from (x == x && y == y) (p == p) (and_from (x == x) (y == y) (eq-eqb x x refl) (eq-eqb y y refl)) (eq-eqb p p refl)
-
-pub has_itself : (ls : List Literal) → list_all (has ls) ls ≡ true
-has_itself [] = refl
-has_itself (l ∷ ls) =
-    and_from (has (l ∷ ls) l) (list_all (has (l ∷ ls)) ls) (or_left (same_literal l l) (has ls l) (same_itself l))
-    (all_from (has ls) (has (l ∷ ls)) (λ k h. or_right (same_literal k l) (has ls k) h) ls (has_itself ls))
-
--- all that is among facts that stand, stands
-pub all_among : (t : Literal → Bool) (known rests : List Literal) → list_all t known ≡ true → list_all (has known) rests ≡ true → list_all t rests ≡ true
-all_among t known rests all kept = all_from (has known) t (λ q h. all_has t known q all h) rests kept
 
 module _ (forced suppose : List Literal) where
   pub supposed_stand : (steps : List Placed) (k : ℕ) → list_all (stands_before forced suppose steps k) suppose ≡ true
@@ -119,14 +107,6 @@ module _ (size : Extent) (axioms : List Titled) (core : List ℕ) (earlier : Lis
 -- ---- one step more
 
 module _ (size : Extent) (basis : Basis) where
-  pub all_rest : {E : Type 0} (known others : List Literal) (reason : Reason) (r : Result (List Literal) E) → IfOk r (λ all. all ≡ known) → refutes_by size basis (known ++ others) reason ≡ true →
-      IfOk r (λ rests. RestsOn size basis known others reason rests)
-  all_rest known others reason (Err e) same h = tt
-  all_rest known others reason (Ok all) same h = record {
-    kept = subst (λ (ls : List Literal). list_all (has known) ls ≡ true) (sym same) (has_itself known);
-    refuted = subst (λ (ls : List Literal). refutes_by size basis (ls ++ others) reason ≡ true) (sym same) h;
-  }
-
   module _ (forced suppose known rests : List Literal) (old new : Passage) (step : StoryStep) (number : ℕ) (so_far : IsToldSoFar size basis forced suppose known old)
       (grounds : RestsOn size basis known (opposite_of step.literal ∷ []) step.reason rests) (joined : IsJoined old.sentences new.sentences (by_of step.reason) rests number) where
     -- the next step, with its number

@@ -5,7 +5,7 @@ use Rattle.vocab.specs.Size.{Extent}
 use Rattle.vocab.specs.Titled.{Titled}
 use Rattle.tellings.specs.Tellings.{are_said, facts_of}
 use Rattle.premises.specs.declared.forced.Forced.{Forced}
-use Rattle.premises.specs.Grounds.{are_numbered}
+use Rattle.premises.specs.SoFar.{are_numbered}
 
 -- each fact on the board is stated by a sentence that rests on nothing, and says it
 pub record AreForcedSoFar (size : Extent) (axioms : List Titled) (core : List ℕ) (forced : Forced)

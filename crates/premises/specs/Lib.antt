@@ -1,4 +1,4 @@
-pub mod Grounds
+pub mod SoFar
 pub mod Forcing
 pub mod Checking
 pub mod Told

@@ -5,15 +5,14 @@ ghost use Rattle.std.specs.List.{list_all, list_any};
 ghost use Rattle.vocab.specs.Literal.{same_literal};
 ghost use Rattle.meaning.specs.Literals.{is_literal};
 ghost use Rattle.tellings.specs.Tellings.{rests_of, stands_before};
-ghost use Rattle.premises.specs.Grounds.{are_said_by, says_by, Upholds};
+ghost use Rattle.premises.specs.SoFar.{are_said_by, says_by, Upholds};
 ghost use Rattle.premises.specs.Checking.{IsLoaded};
 
-use crate::grounds::{Grounds, add_others};
-use crate::joining::{by_of, is_by};
-use crate::literals::is_literal;
-use crate::step_index::StepIndex;
+use crate::teller::Teller;
+use joined_sentences::{StepIndex, by_of, is_by};
 use lists::Items;
 use meaning::StoryStep;
+use needed_facts::{add_others, is_literal};
 use outcomes::OutcomeKind;
 use tellings::{Passage, Placed, Sentence};
 use vocab::{Literal, Size};
@@ -56,35 +55,36 @@ fn is_stated(index: &StepIndex, steps: &[Placed], number: usize, literal: &Liter
     }
 }
 
-impl<K: OutcomeKind> Grounds<'_, K> {
+impl<K: OutcomeKind> Teller<'_, K> {
     /// Whether a sentence says a step. What it rests on is on the board.
     fn says(&self, tried: &mut Board, sentence: &Sentence, step: &StoryStep) -> bool
-        requires size { tried.old.size ≡ K.size self.now.kind.now }
+        requires size { tried.old.size ≡ K.size self.now.grounds.kind.now }
         requires loaded { tried.old.literals ≡ sentence.now.rests }
         ensures size { tried.new.size ≡ tried.old.size }
         ensures same { tried.new.literals ≡ tried.old.literals }
         ensures says { IsTrue result →
-            IsTrue (says_by (K.size self.now.kind.now) self.now.basis (Some sentence.now) step.now) }
+            IsTrue (says_by (K.size self.now.grounds.kind.now) self.now.grounds.basis
+            (Some sentence.now) step.now) }
     {
-        let size = self.kind.space().size();
+        let size = self.grounds.kind.space().size();
         let other = step.literal.opposite();
         if !is_literal(size, &other) || tried.has(&other) {
             return false;
         }
         tried.add(&other);
-        let refuted = self.refutes(tried, &step.reason);
+        let refuted = self.grounds.refutes(tried, &step.reason);
         tried.remove(&other);
         refuted && is_by(sentence.by, by_of(&step.reason))
     }
 
     /// Whether each step stands in a sentence that says it.
     fn are_said(&self, tried: &mut Board, passage: &Passage) -> bool
-        requires { tried.old.size ≡ K.size self.now.kind.now }
+        requires { tried.old.size ≡ K.size self.now.grounds.kind.now }
         ensures size { tried.new.size ≡ tried.old.size }
         ensures said { IsTrue result →
-            IsTrue (are_said_by (K.size self.now.kind.now) self.now.basis passage.now) }
+            IsTrue (are_said_by (K.size self.now.grounds.kind.now) self.now.grounds.basis passage.now) }
     {
-        let size = self.kind.space().size();
+        let size = self.grounds.kind.space().size();
         let sentences = &passage.sentences;
         let mut loaded = sentences.len();
         for placed in passage.steps.as_slice() {
@@ -109,11 +109,11 @@ impl<K: OutcomeKind> Grounds<'_, K> {
         number: usize,
         literal: &Literal,
     ) -> bool
-        requires { supposed.now.size ≡ K.size self.now.kind.now }
+        requires { supposed.now.size ≡ K.size self.now.grounds.kind.now }
         ensures { IsTrue result → IsTrue (stands_before self.now.forced.now.literals supposed.now.literals
             steps.now number literal.now) }
     {
-        is_literal(self.kind.space().size(), literal)
+        is_literal(self.grounds.kind.space().size(), literal)
             && (self.forced.has(literal)
                 || supposed.has(literal)
                 || is_stated(index, steps, number, literal))
@@ -128,7 +128,7 @@ impl<K: OutcomeKind> Grounds<'_, K> {
         number: usize,
         literals: &[Literal],
     ) -> bool
-        requires { supposed.now.size ≡ K.size self.now.kind.now }
+        requires { supposed.now.size ≡ K.size self.now.grounds.kind.now }
         ensures { IsTrue result → IsTrue (list_all (stands_before self.now.forced.now.literals
             supposed.now.literals steps.now number) literals.now) }
     {
@@ -142,7 +142,7 @@ impl<K: OutcomeKind> Grounds<'_, K> {
 
     /// Whether each fact that a sentence rests on stands before it.
     fn are_grounded(&self, supposed: &Board, index: &StepIndex, passage: &Passage) -> bool
-        requires { supposed.now.size ≡ K.size self.now.kind.now }
+        requires { supposed.now.size ≡ K.size self.now.grounds.kind.now }
         ensures { IsTrue result → (k : ℕ) → IsTrue (list_all (stands_before self.now.forced.now.literals
             supposed.now.literals passage.now.steps k) (rests_of (slice_get passage.now.sentences k))) }
     {
@@ -166,10 +166,10 @@ impl<K: OutcomeKind> Grounds<'_, K> {
         passage: &Passage,
         end: &[Literal],
     ) -> bool
-        requires supposed { supposed.now.size ≡ K.size self.now.kind.now }
-        requires tried { tried.old.size ≡ K.size self.now.kind.now }
+        requires supposed { supposed.now.size ≡ K.size self.now.grounds.kind.now }
+        requires tried { tried.old.size ≡ K.size self.now.grounds.kind.now }
         ensures tried { tried.new.size ≡ tried.old.size }
-        ensures upholds { IsTrue result → Upholds (K.size self.now.kind.now) self.now.basis
+        ensures upholds { IsTrue result → Upholds (K.size self.now.grounds.kind.now) self.now.grounds.basis
             self.now.forced.now.literals supposed.now.literals end.now passage.now }
     {
         let number = passage.sentences.len();

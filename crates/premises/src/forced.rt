@@ -10,11 +10,10 @@ ghost use Rattle.story.specs.Conditions.{has_places};
 ghost use Rattle.tellings.specs.Tellings.{facts_of, IsForced};
 ghost use Rattle.premises.specs.Forcing.{AreForcedSoFar};
 
-use crate::chains::Chains;
-use crate::joining::{by_of, join};
-use crate::literals::is_literal;
+use joined_sentences::{Chains, by_of, join};
 use lists::{Items, NoMemory};
 use meaning::{Lemma, Literals, Reason, StoryStep};
+use needed_facts::is_literal;
 use outcomes::OutcomeKind;
 use std::alloc::Global;
 use story::refutes;

@@ -5,19 +5,17 @@ ghost use Rattle.meaning.specs.declared.stories.Lemma.{Lemma};
 ghost use Rattle.meaning.specs.Stories.{is_story};
 ghost use Rattle.story.specs.Conditions.{has_places};
 ghost use Rattle.tellings.specs.Tellings.{IsStoryTold};
-ghost use Rattle.premises.specs.Grounds.{is_lemma_by, IsToldBy};
+ghost use Rattle.premises.specs.SoFar.{is_lemma_by, IsToldBy};
 ghost use Rattle.premises.specs.Told.{AreTold};
 
-use crate::basis::Basis;
-use crate::chains::Chains;
 use crate::forced::forced_facts;
-use crate::grounds::Grounds;
 use crate::homes::homes_of;
-use crate::shapes::reshape;
-use crate::step_index::StepIndex;
+use crate::teller::Teller;
 use crate::telling::suppose;
+use joined_sentences::{Chains, StepIndex, reshape};
 use lists::{Items, NoMemory};
 use meaning::Lemma;
+use needed_facts::{Basis, Grounds};
 use outcomes::OutcomeKind;
 use std::alloc::Global;
 use tellings::{StoryTelling, Telling};
@@ -52,7 +50,7 @@ impl Desk {
     }
 }
 
-impl<K: OutcomeKind> Grounds<'_, K> {
+impl<K: OutcomeKind> Teller<'_, K> {
     /// A telling in which sentences of one shape are told as one, where it tells the lemma right. The given one
     /// is let go before the steps are told anew, so that they stand in memory once.
     fn shorten(
@@ -62,17 +60,20 @@ impl<K: OutcomeKind> Grounds<'_, K> {
         lemma: &Lemma,
         telling: Telling,
     ) -> Result<Option<Telling>, NoMemory>
-        requires known { desk.old.known.size ≡ K.size self.now.kind.now }
-        requires tried { desk.old.tried.size ≡ K.size self.now.kind.now }
-        requires lemma { IsTrue (is_lemma_by (K.size self.now.kind.now) self.now.basis lemma.now) }
-        requires told { IsToldBy (K.size self.now.kind.now) self.now.basis self.now.forced.now.literals
+        requires known { desk.old.known.size ≡ K.size self.now.grounds.kind.now }
+        requires tried { desk.old.tried.size ≡ K.size self.now.grounds.kind.now }
+        requires lemma { IsTrue (is_lemma_by (K.size self.now.grounds.kind.now) self.now.grounds.basis
+            lemma.now) }
+        requires told { IsToldBy (K.size self.now.grounds.kind.now) self.now.grounds.basis
+            self.now.forced.now.literals
             lemma.now telling }
         ensures known { desk.new.known.size ≡ desk.old.known.size }
         ensures tried { desk.new.tried.size ≡ desk.old.tried.size }
         ensures told { IfOk result (λ found. IfSome found
-            (IsToldBy (K.size self.now.kind.now) self.now.basis self.now.forced.now.literals lemma.now)) }
+            (IsToldBy (K.size self.now.grounds.kind.now) self.now.grounds.basis
+            self.now.forced.now.literals lemma.now)) }
     {
-        let size = self.kind.space().size();
+        let size = self.grounds.kind.space().size();
         let Telling { passage, end } = telling;
         desk.index.enter_all(passage.steps.as_slice());
         let reshaped = reshape(alloc, size, &mut desk.tried, &desk.index, passage)?;
@@ -88,13 +89,15 @@ impl<K: OutcomeKind> Grounds<'_, K> {
 
     /// Tells a lemma that follows from the earlier ones, at a desk.
     fn tell_at(&self, alloc: Global, desk: &mut Desk, lemma: &Lemma) -> Result<Telling, NoMemory>
-        requires known { desk.old.known.size ≡ K.size self.now.kind.now }
-        requires tried { desk.old.tried.size ≡ K.size self.now.kind.now }
-        requires lemma { IsTrue (is_lemma_by (K.size self.now.kind.now) self.now.basis lemma.now) }
+        requires known { desk.old.known.size ≡ K.size self.now.grounds.kind.now }
+        requires tried { desk.old.tried.size ≡ K.size self.now.grounds.kind.now }
+        requires lemma { IsTrue (is_lemma_by (K.size self.now.grounds.kind.now) self.now.grounds.basis
+            lemma.now) }
         ensures known { desk.new.known.size ≡ desk.old.known.size }
         ensures tried { desk.new.tried.size ≡ desk.old.tried.size }
         ensures told { IfOk result
-            (IsToldBy (K.size self.now.kind.now) self.now.basis self.now.forced.now.literals lemma.now) }
+            (IsToldBy (K.size self.now.grounds.kind.now) self.now.grounds.basis
+            self.now.forced.now.literals lemma.now) }
     {
         let telling = self.tell(
             alloc,
@@ -114,13 +117,15 @@ impl<K: OutcomeKind> Grounds<'_, K> {
         desk: &mut Desk,
         lemma: &Lemma,
     ) -> Result<Telling, NoMemory>
-        requires known { desk.old.known.size ≡ K.size self.now.kind.now }
-        requires tried { desk.old.tried.size ≡ K.size self.now.kind.now }
-        requires lemma { IsTrue (is_lemma_by (K.size self.now.kind.now) self.now.basis lemma.now) }
+        requires known { desk.old.known.size ≡ K.size self.now.grounds.kind.now }
+        requires tried { desk.old.tried.size ≡ K.size self.now.grounds.kind.now }
+        requires lemma { IsTrue (is_lemma_by (K.size self.now.grounds.kind.now) self.now.grounds.basis
+            lemma.now) }
         ensures known { desk.new.known.size ≡ desk.old.known.size }
         ensures tried { desk.new.tried.size ≡ desk.old.tried.size }
         ensures told { IfOk result
-            (IsToldBy (K.size self.now.kind.now) self.now.basis self.now.forced.now.literals lemma.now) }
+            (IsToldBy (K.size self.now.grounds.kind.now) self.now.grounds.basis
+            self.now.forced.now.literals lemma.now) }
     {
         let telling = self.tell_at(alloc, desk, lemma)?;
         let shorter = self.shorten(alloc, desk, lemma, telling)?;
@@ -132,13 +137,13 @@ impl<K: OutcomeKind> Grounds<'_, K> {
 }
 
 /// Tells the lemmas of an accepted story, each by the lemmas before it, where some facts are forced.
-fn tell_lemmas<K: OutcomeKind>(
+fn tell_lemmas<'a, K: OutcomeKind>(
     alloc: Global,
-    kind: &K,
-    study: &Study,
-    core: &Places,
-    forced: &Board,
-    story: &Items<Lemma>,
+    kind: &'a K,
+    study: &'a Study,
+    core: &'a Places,
+    forced: &'a Board,
+    story: &'a Items<Lemma>,
 ) -> Result<Items<Telling>, NoMemory>
     requires study { study.now.size ≡ K.size kind.now }
     requires core { IsTrue (has_places study.now.axioms core.now) }
@@ -158,9 +163,9 @@ fn tell_lemmas<K: OutcomeKind>(
                 core,
                 earlier: &story.as_slice()[..place],
             },
-            forced,
         };
-        let telling = grounds.tell_shortly(alloc, &mut desk, story.get(place))?;
+        let teller = Teller { grounds, forced };
+        let telling = teller.tell_shortly(alloc, &mut desk, story.get(place))?;
         tellings.push(telling)?;
     }
     Ok(tellings)

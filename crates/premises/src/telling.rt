@@ -6,15 +6,15 @@ ghost use Rattle.vocab.specs.declared.literals.Literal.{Literal};
 ghost use Rattle.vocab.specs.Literal.{has, opposite_of};
 ghost use Rattle.meaning.specs.Literals.{is_literal};
 ghost use Rattle.meaning.specs.Stories.{are_new, has_literals};
-ghost use Rattle.premises.specs.Grounds.{steps_of, unforced, follow, is_lemma_by, refutes_by};
-ghost use Rattle.premises.specs.Grounds.{IsToldBy, IsToldSoFar};
+ghost use Rattle.needed_facts.specs.Rests.{refutes_by};
+ghost use Rattle.premises.specs.SoFar.{steps_of, unforced, follow, is_lemma_by};
+ghost use Rattle.premises.specs.SoFar.{IsToldBy, IsToldSoFar};
 
-use crate::chains::Chains;
-use crate::grounds::Grounds;
-use crate::joining::{by_of, forget, join};
-use crate::literals::is_literal;
+use crate::teller::Teller;
+use joined_sentences::{Chains, by_of, forget, join};
 use lists::{Items, NoMemory};
 use meaning::{Lemma, StoryStep};
+use needed_facts::is_literal;
 use outcomes::OutcomeKind;
 use std::alloc::Global;
 use tellings::{Passage, Placed, Telling};
@@ -34,7 +34,7 @@ pub(crate) fn suppose(known: &mut Board, literals: &[Literal])
     }
 }
 
-impl<K: OutcomeKind> Grounds<'_, K> {
+impl<K: OutcomeKind> Teller<'_, K> {
     /// Tells a step in a sentence that rests on what its reason needs of what is known.
     fn tell_step(
         &self,
@@ -45,21 +45,25 @@ impl<K: OutcomeKind> Grounds<'_, K> {
         passage: &mut Passage,
         step: &StoryStep,
     ) -> Result<(), NoMemory>
-        requires known { known.now.size ≡ K.size self.now.kind.now }
-        requires tried { tried.old.size ≡ K.size self.now.kind.now }
-        requires refuted { IsTrue (refutes_by (K.size self.now.kind.now) self.now.basis
+        requires known { known.now.size ≡ K.size self.now.grounds.kind.now }
+        requires tried { tried.old.size ≡ K.size self.now.grounds.kind.now }
+        requires refuted { IsTrue (refutes_by (K.size self.now.grounds.kind.now) self.now.grounds.basis
             (known.now.literals ++ opposite_of step.now.literal ∷ []) step.now.reason) }
         ensures tried { tried.new.size ≡ tried.old.size }
         ensures told { (suppose : List Literal) →
-            IsToldSoFar (K.size self.now.kind.now) self.now.basis self.now.forced.now.literals suppose
+            IsToldSoFar (K.size self.now.grounds.kind.now) self.now.grounds.basis
+            self.now.forced.now.literals suppose
             known.now.literals passage.old →
-            OnOk result (IsToldSoFar (K.size self.now.kind.now) self.now.basis self.now.forced.now.literals
+            OnOk result (IsToldSoFar (K.size self.now.grounds.kind.now) self.now.grounds.basis
+            self.now.forced.now.literals
             suppose (known.now.literals ++ step.now.literal ∷ []) passage.new) }
         ensures steps { OnOk result
             (steps_of passage.new.steps ≡ steps_of passage.old.steps ++ step.now ∷ []) }
     {
         let others = [step.literal.opposite()];
-        let rests = self.rests_on(alloc, known, tried, &others, &step.reason)?;
+        let rests = self
+            .grounds
+            .rests_on(alloc, known, tried, &others, &step.reason)?;
         let by = by_of(&step.reason);
         let sentence = join(&mut passage.sentences, chains, by, rests)?;
         passage.steps.push(Placed {
@@ -79,16 +83,18 @@ impl<K: OutcomeKind> Grounds<'_, K> {
         passage: &mut Passage,
         step: &StoryStep,
     ) -> Result<(), NoMemory>
-        requires known { known.now.size ≡ K.size self.now.kind.now }
-        requires tried { tried.old.size ≡ K.size self.now.kind.now }
-        requires literal { IsTrue (is_literal (K.size self.now.kind.now) step.now.literal) }
-        requires refuted { IsTrue (refutes_by (K.size self.now.kind.now) self.now.basis
+        requires known { known.now.size ≡ K.size self.now.grounds.kind.now }
+        requires tried { tried.old.size ≡ K.size self.now.grounds.kind.now }
+        requires literal { IsTrue (is_literal (K.size self.now.grounds.kind.now) step.now.literal) }
+        requires refuted { IsTrue (refutes_by (K.size self.now.grounds.kind.now) self.now.grounds.basis
             (known.now.literals ++ opposite_of step.now.literal ∷ []) step.now.reason) }
         ensures tried { tried.new.size ≡ tried.old.size }
         ensures told { (suppose : List Literal) →
-            IsToldSoFar (K.size self.now.kind.now) self.now.basis self.now.forced.now.literals suppose
+            IsToldSoFar (K.size self.now.grounds.kind.now) self.now.grounds.basis
+            self.now.forced.now.literals suppose
             known.now.literals passage.old →
-            OnOk result (IsToldSoFar (K.size self.now.kind.now) self.now.basis self.now.forced.now.literals
+            OnOk result (IsToldSoFar (K.size self.now.grounds.kind.now) self.now.grounds.basis
+            self.now.forced.now.literals
             suppose (known.now.literals ++ step.now.literal ∷ []) passage.new) }
         ensures steps { OnOk result (steps_of passage.new.steps ≡
             steps_of passage.old.steps ++ unforced self.now.forced.now.literals (step.now ∷ [])) }
@@ -101,7 +107,7 @@ impl<K: OutcomeKind> Grounds<'_, K> {
 
     /// Whether a fact of the size is forced.
     fn is_forced(&self, literal: &Literal) -> bool {
-        is_literal(self.kind.space().size(), literal) && self.forced.has(literal)
+        is_literal(self.grounds.kind.space().size(), literal) && self.forced.has(literal)
     }
 
     /// How many of some steps are told: those whose facts are not forced.
@@ -121,19 +127,21 @@ impl<K: OutcomeKind> Grounds<'_, K> {
         chains: &mut Chains,
         lemma: &Lemma,
     ) -> Result<Passage, NoMemory>
-        requires known { known.old.size ≡ K.size self.now.kind.now }
-        requires tried { tried.old.size ≡ K.size self.now.kind.now }
+        requires known { known.old.size ≡ K.size self.now.grounds.kind.now }
+        requires tried { tried.old.size ≡ K.size self.now.grounds.kind.now }
         requires supposed { known.old.literals ≡ lemma.now.suppose }
-        requires literals { IsTrue (has_literals (K.size self.now.kind.now) lemma.now) }
-        requires follows { IsTrue (follow (K.size self.now.kind.now) self.now.basis lemma.now.last
+        requires literals { IsTrue (has_literals (K.size self.now.grounds.kind.now) lemma.now) }
+        requires follows { IsTrue (follow (K.size self.now.grounds.kind.now) self.now.grounds.basis
+            lemma.now.last
             lemma.now.suppose lemma.now.steps) }
         ensures known { known.new.size ≡ known.old.size }
         ensures tried { tried.new.size ≡ tried.old.size }
-        ensures told { IfOk result (IsToldSoFar (K.size self.now.kind.now) self.now.basis
+        ensures told { IfOk result (IsToldSoFar (K.size self.now.grounds.kind.now) self.now.grounds.basis
             self.now.forced.now.literals lemma.now.suppose known.new.literals) }
         ensures steps { IfOk result (λ passage.
             steps_of passage.steps ≡ unforced self.now.forced.now.literals lemma.now.steps) }
-        ensures ended { OnOk result (IsTrue (refutes_by (K.size self.now.kind.now) self.now.basis
+        ensures ended { OnOk result (IsTrue (refutes_by (K.size self.now.grounds.kind.now)
+            self.now.grounds.basis
             known.new.literals lemma.now.last)) }
     {
         let told = self.count_told(lemma.steps.as_slice());
@@ -157,18 +165,22 @@ impl<K: OutcomeKind> Grounds<'_, K> {
         chains: &mut Chains,
         lemma: &Lemma,
     ) -> Result<Telling, NoMemory>
-        requires known { known.old.size ≡ K.size self.now.kind.now }
-        requires tried { tried.old.size ≡ K.size self.now.kind.now }
-        requires lemma { IsTrue (is_lemma_by (K.size self.now.kind.now) self.now.basis lemma.now) }
+        requires known { known.old.size ≡ K.size self.now.grounds.kind.now }
+        requires tried { tried.old.size ≡ K.size self.now.grounds.kind.now }
+        requires lemma { IsTrue (is_lemma_by (K.size self.now.grounds.kind.now) self.now.grounds.basis
+            lemma.now) }
         ensures known { known.new.size ≡ known.old.size }
         ensures tried { tried.new.size ≡ tried.old.size }
         ensures told { IfOk result
-            (IsToldBy (K.size self.now.kind.now) self.now.basis self.now.forced.now.literals lemma.now) }
+            (IsToldBy (K.size self.now.grounds.kind.now) self.now.grounds.basis
+            self.now.forced.now.literals lemma.now) }
     {
         known.clear();
         suppose(known, lemma.suppose.as_slice());
         let passage = self.tell_steps(alloc, known, tried, chains, lemma)?;
-        let end = self.rests_on(alloc, known, tried, &[], &lemma.last)?;
+        let end = self
+            .grounds
+            .rests_on(alloc, known, tried, &[], &lemma.last)?;
         forget(chains, passage.sentences.as_slice());
         Ok(Telling { passage, end })
     }

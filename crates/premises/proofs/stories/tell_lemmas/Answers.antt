@@ -12,7 +12,6 @@ invariant_of-grounds g c =
       size = c.requires.study;
       places = c.requires.core;
       literals = rw c.as_slice.ensures (all_first (has_literals size) c.args.story.now c.loop-place.place (story_literals size c.args.study.now.axioms c.args.core.now [] c.args.story.now c.requires.accepted));
-      forced_size = c.requires.forced;
     }
 
 pub tell_shortly-requires-clause-lemma : goal.tell_shortly-requires-clause-lemma

@@ -1,8 +1,0 @@
-use Rattle.std.proofs.Common.{◌≡◌}
-use Rattle.premises.specs.Grounds.{RestsOn}
-use Rattle.premises.proofs.grounds.Grounds.least.Given as goal
-
--- the reason rests on what was kept so far
-abbrev pub invariant-loop-place : goal.invariant-loop-place
-invariant-loop-place g l =
-    (l.tried.size ≡ g.K.OutcomeKind.size l.self.kind.now) × RestsOn (g.K.OutcomeKind.size l.self.kind.now) l.self.basis l.known.literals l.others l.reason l.kept
