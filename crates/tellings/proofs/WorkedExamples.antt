@@ -1,0 +1,27 @@
+-- Worked examples, as the definitions compute them: what is left at profiles, of two alternatives.
+use Rattle.std.proofs.Common.{◌≡◌, refl, ℕ, List, [], ◌∷◌, true, false, Bool, map, Some}
+use Rattle.vocab.specs.declared.literals.Literal.{Literal}
+use Rattle.vocab.specs.declared.literals.Literal.TheVariants.{Wins, Loses}
+use Rattle.meaning.specs.declared.stories.Reason.TheVariants.{Outcome as ByOutcome}
+use Rattle.meaning.specs.declared.stories.StoryStep.{StoryStep}
+use Rattle.meaning.proofs.WorkedExamples.{choice}
+use Rattle.tellings.specs.declared.tellings.By.TheVariants.{Outcome}
+use Rattle.tellings.specs.Tellings.{says}
+
+-- b wins at the profile, since it is what is left there
+abbrev wins_at : ℕ → StoryStep
+wins_at p = record { literal = Wins 1 p; reason = ByOutcome p }
+
+-- which of the steps at profiles 1 and 2 a sentence says that rests on these facts
+abbrev said_by : List Literal → List Bool
+said_by rests = map (λ (p : ℕ). says (choice 2 2) [] [] [] (Some (record { by = Outcome; rests = rests })) (wins_at p)) (1 ∷ 2 ∷ [])
+
+sentence_says_two_profiles : said_by (Loses 0 1 ∷ Loses 0 2 ∷ []) ≡ true ∷ true ∷ []
+sentence_says_two_profiles = refl
+
+facts_of_one_profile_are_left_out : said_by (Loses 0 1 ∷ []) ≡ true ∷ false ∷ []
+facts_of_one_profile_are_left_out = refl
+
+-- a step at profile 2 whose reason is profile 1 is said by no facts that leave an outcome at profile 1
+step_of_another_profile : says (choice 2 2) [] [] [] (Some (record { by = Outcome; rests = Loses 0 1 ∷ Loses 0 2 ∷ [] })) (record { literal = Wins 1 2; reason = ByOutcome 1 }) ≡ false
+step_of_another_profile = refl

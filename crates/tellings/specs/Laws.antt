@@ -1,0 +1,24 @@
+-- What holds of these definitions. The statement is the contract of a function of the same name in src/laws.rt.
+use Rattle.std.specs.Prelude.{◌≡◌, ℕ, ◌||◌, ◌==◌, IsTrue, List, [], ◌∷◌, ◌++◌, filter, Some}
+use Rattle.vocab.specs.declared.literals.Literal.{Literal}
+use Rattle.vocab.specs.Literal.{opposite_of, profile_of}
+use Rattle.vocab.specs.Size.{Extent}
+use Rattle.vocab.specs.Titled.{Titled}
+use Rattle.meaning.specs.declared.stories.Reason.TheVariants.{Outcome as ByOutcome}
+use Rattle.meaning.specs.declared.stories.StoryStep.{StoryStep}
+use Rattle.meaning.specs.declared.stories.Lemma.{Lemma}
+use Rattle.meaning.specs.Stories.{is_outcome_excluded, refutes}
+use Rattle.tellings.specs.declared.tellings.Sentence.{Sentence}
+use Rattle.tellings.specs.Tellings.{says}
+
+-- the facts of a profile
+abbrev pub facts_at : ℕ → List Literal → List Literal
+facts_at p facts = filter (λ l. profile_of l == p) facts
+
+-- a step that a sentence says by what is left at a profile states a fact of that profile, but where the sentence rests on facts
+-- that leave nothing there; and the facts of that profile are enough for it
+pub record OutcomesAreOfTheirProfiles : Type 0 where
+  pub own : (size : Extent) (axioms : List Titled) (core : List ℕ) (earlier : List Lemma) (sentence : Sentence) (step : StoryStep) (p : ℕ) → step.reason ≡ ByOutcome p →
+      IsTrue (says size axioms core earlier (Some sentence) step) → IsTrue (profile_of step.literal == p || is_outcome_excluded size sentence.rests p)
+  pub enough : (size : Extent) (axioms : List Titled) (core : List ℕ) (earlier : List Lemma) (sentence : Sentence) (step : StoryStep) (p : ℕ) → step.reason ≡ ByOutcome p →
+      IsTrue (says size axioms core earlier (Some sentence) step) → IsTrue (refutes size axioms core earlier (facts_at p sentence.rests ++ opposite_of step.literal ∷ []) step.reason)
