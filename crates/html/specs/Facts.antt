@@ -35,12 +35,16 @@ claim_html kind (Wins x p) = alternative_html x ++ wins_words kind
 claim_html kind (Loses x p) = alternative_html x ++ loses_words kind
 claim_html kind (Above x y p) = alternative_html x ++ codes " above " ++ alternative_html y
 
--- between two ballots of a profile stands a dot
+-- between two ballots of a profile stands a dot (U+00B7), as UTF-8 has it
 abbrev pub dotted : ℕ → List ℕ
-dotted b = if b == 124 then codes "&middot;" else b ∷ []
+dotted b = if b == 124 then 194 ∷ 183 ∷ [] else b ∷ []
 
 module _ (size : Extent) where
-  -- a profile: the voters' ballots, the first voter's first
+  -- a profile among many: the voters' ballots, the first voter's first
+  abbrev pub ballots_html : ℕ → List ℕ
+  ballots_html p = if nat_lt p (sort_count size Profile) then flat_map dotted (profile_text size p) else []
+
+  -- a profile by itself
   abbrev pub profile_html : ℕ → List ℕ
   profile_html p = if nat_lt p (sort_count size Profile) then codes "<code>" ++ flat_map dotted (profile_text size p) ++ codes "</code>" else []
 

@@ -3,7 +3,7 @@
 ghost use Rattle.std.specs.Prelude.{◌≡◌, ◌++◌, OnOk};
 ghost use Rattle.std.specs.List.{flat_map};
 ghost use Rattle.vocab.specs.Literal.{profile_of};
-ghost use Rattle.html.specs.Facts.{letter_of, alternative_html, wins_words, loses_words, claim_html, dotted, profile_html, ballot_html, outcome_html, fact_html, fact_comma};
+ghost use Rattle.html.specs.Facts.{letter_of, alternative_html, wins_words, loses_words, claim_html, dotted, ballots_html, profile_html, ballot_html, outcome_html, fact_html, fact_comma};
 
 use crate::escapes::Html;
 use lists::NoMemory;
@@ -80,14 +80,14 @@ fn put_dotted(out: &mut Html, byte: u8) -> Result<(), NoMemory>
     ensures { OnOk result (out.new ≡ out.old ++ dotted byte) }
 {
     if byte == b'|' {
-        out.append(b"&middot;")
+        out.append(&[0xC2, 0xB7])
     } else {
         out.push(byte)
     }
 }
 
 /// Adds the ballots of the text of a profile.
-fn put_ballots(out: &mut Html, text: &[u8]) -> Result<(), NoMemory>
+fn put_all_dotted(out: &mut Html, text: &[u8]) -> Result<(), NoMemory>
     ensures { OnOk result (out.new ≡ out.old ++ flat_map dotted text.now) }
 {
     for byte in text {
@@ -96,7 +96,19 @@ fn put_ballots(out: &mut Html, text: &[u8]) -> Result<(), NoMemory>
     Ok(())
 }
 
-/// Adds a profile, if it is one of the size.
+/// Adds a profile among many, if it is one of the size.
+pub fn put_ballots(out: &mut Html, space: &Space, p: u32) -> Result<(), NoMemory>
+    ensures { OnOk result (out.new ≡ out.old ++ ballots_html space.now p) }
+{
+    if p >= space.count() {
+        return Ok(());
+    }
+    let profile = space.profile_text(p);
+    put_all_dotted(out, profile.bytes())?;
+    Ok(())
+}
+
+/// Adds a profile by itself, if it is one of the size.
 pub fn put_profile(out: &mut Html, space: &Space, p: u32) -> Result<(), NoMemory>
     ensures { OnOk result (out.new ≡ out.old ++ profile_html space.now p) }
 {
@@ -105,7 +117,7 @@ pub fn put_profile(out: &mut Html, space: &Space, p: u32) -> Result<(), NoMemory
     }
     let profile = space.profile_text(p);
     out.append(b"<code>")?;
-    put_ballots(out, profile.bytes())?;
+    put_all_dotted(out, profile.bytes())?;
     out.append(b"</code>")?;
     Ok(())
 }

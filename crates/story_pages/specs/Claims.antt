@@ -10,7 +10,7 @@ use Rattle.vocab.specs.Literal.{profile_of}
 use Rattle.vocab.specs.Range.{below}
 use Rattle.vocab.specs.Size.{Extent}
 use Rattle.tellings.specs.declared.tellings.Placed.{Placed}
-use Rattle.html.specs.Facts.{claim_html, profile_html}
+use Rattle.html.specs.Facts.{claim_html, ballots_html, profile_html}
 
 -- two literals claim the same, each of its own profile
 abbrev pub is_alike : Literal → Literal → Bool
@@ -40,13 +40,13 @@ module _ (alternatives : ℕ) (phrase : Literal → List ℕ) where
 
 -- the profiles of more than six facts are folded
 abbrev pub unfolded_html : ℕ → List ℕ
-unfolded_html count = codes " <details><summary>" ++ decimal count ++ codes " profiles</summary>"
+unfolded_html count = codes " <details><summary>" ++ decimal count ++ codes " profiles</summary><code>"
 
 abbrev pub fold_html : ℕ → List ℕ
 fold_html count = if nat_lt 6 count then unfolded_html count else []
 
 abbrev pub end_fold_html : ℕ → List ℕ
-end_fold_html count = if nat_lt 6 count then codes "</details></div>" else codes "</div>"
+end_fold_html count = if nat_lt 6 count then codes "</code></details></div>" else codes "</div>"
 
 module _ (size : Extent) where
   -- a claim that is made so often, with the profiles
@@ -59,19 +59,26 @@ module _ (size : Extent) where
   abbrev pub phrase_html : Literal → ℕ → List ℕ → List ℕ
   phrase_html head count profiles = if count == 0 then [] else some_html head count profiles
 
-  -- the profile of a fact
-  abbrev pub at_html : Literal → List ℕ
-  at_html l = codes " " ++ profile_html size (profile_of l)
+  -- a profile, by itself or in a fold
+  abbrev pub spot_html : ℕ → ℕ → List ℕ
+  spot_html count p = if nat_lt 6 count then ballots_html size p else profile_html size p
+
+  -- the profile of a fact, of so many that make a claim
+  abbrev pub at_html : ℕ → Literal → List ℕ
+  at_html count l = codes " " ++ spot_html count (profile_of l)
 
   -- ---- facts in a list
 
   -- the profile of a fact that makes a claim
-  abbrev pub listed_html : Literal → Literal → List ℕ
-  listed_html head l = if is_alike head l then at_html l else []
+  abbrev pub listed_html : ℕ → Literal → Literal → List ℕ
+  listed_html count head l = if is_alike head l then at_html count l else []
 
-  -- the facts that make a claim
+  -- the facts that make a claim, which are so many
+  abbrev pub some_held : List Literal → Literal → ℕ → List ℕ
+  some_held facts head count = phrase_html head count (flat_map (listed_html count head) facts)
+
   abbrev pub held_html : List Literal → Literal → List ℕ
-  held_html facts head = phrase_html head (count_by (is_alike head) facts) (flat_map (listed_html head) facts)
+  held_html facts head = some_held facts head (count_by (is_alike head) facts)
 
   -- facts, claim by claim
   abbrev pub facts_html : List Literal → List ℕ
@@ -90,12 +97,15 @@ module _ (size : Extent) where
   -- ---- facts that a sentence states
 
   -- the profile of a step by which the sentence of a number states such a fact
-  abbrev pub placed_html : ℕ → Literal → Placed → List ℕ
-  placed_html number head placed = if is_stated number head placed then at_html placed.step.literal else []
+  abbrev pub placed_html : (count number : ℕ) → Literal → Placed → List ℕ
+  placed_html count number head placed = if is_stated number head placed then at_html count placed.step.literal else []
 
-  -- the facts by which the sentence makes a claim
+  -- the facts by which the sentence makes a claim, which are so many
+  abbrev pub some_stated : List Placed → ℕ → Literal → ℕ → List ℕ
+  some_stated steps number head count = phrase_html head count (flat_map (placed_html count number head) steps)
+
   abbrev pub stated_html : List Placed → ℕ → Literal → List ℕ
-  stated_html steps number head = phrase_html head (count_by (is_stated number head) steps) (flat_map (placed_html number head) steps)
+  stated_html steps number head = some_stated steps number head (count_by (is_stated number head) steps)
 
   -- all facts that the sentence states, claim by claim
   abbrev pub stated_facts_html : List Placed → ℕ → List ℕ

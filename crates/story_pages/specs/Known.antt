@@ -6,11 +6,11 @@ use Rattle.vocab.specs.declared.literals.Literal.{Literal}
 use Rattle.vocab.specs.declared.literals.Literal.TheVariants.{Wins, Loses, Above}
 use Rattle.vocab.specs.Literal.{profile_of}
 use Rattle.tellings.specs.declared.tellings.Placed.{Placed}
-use Rattle.html.specs.Facts.{alternative_html, letter_of}
+use Rattle.html.specs.Facts.{letter_of}
 
 -- a fact in a cell: x wins, x does not win, or x stands above y
 abbrev pub fact_mark : Literal → List ℕ
-fact_mark (Wins x p) = alternative_html x
+fact_mark (Wins x p) = letter_of x ∷ []
 fact_mark (Loses x p) = codes "<s>" ++ letter_of x ∷ [] ++ codes "</s>"
 fact_mark (Above x y p) = letter_of x ∷ letter_of y ∷ []
 
@@ -28,7 +28,7 @@ forced_mark p placed = supposed_mark p placed.step.literal
 
 -- a fact that is stated, with the number of its sentence
 abbrev pub numbered_mark : Placed → List ℕ
-numbered_mark placed = codes "<span>" ++ fact_mark placed.step.literal ++ codes "<sup>" ++ decimal (placed.sentence + 1) ++ codes "</sup></span> "
+numbered_mark placed = fact_mark placed.step.literal ++ codes "<sup>" ++ decimal (placed.sentence + 1) ++ codes "</sup> "
 
 -- such a fact in the cell of a profile
 abbrev pub stated_mark : ℕ → Placed → List ℕ

@@ -48,6 +48,16 @@ module _ (size : Extent) where
   abbrev pub columns_of : List Literal → List ℕ
   columns_of suppose = first_columns (slice_get suppose 0)
 
-  -- what is known where, for two voters with few ballots
+  -- a table, if there are two voters: of more than six ballots it is folded, and of more than 24 there is none
+  abbrev pub folded_html : (ℕ → List ℕ) → List ℕ
+  folded_html cell = codes "<details class=k><summary>Table: what is known at each profile</summary><div>\n" ++ grid_html size cell ++ codes "</div></details>\n"
+
+  abbrev pub wide_html : (ℕ → List ℕ) → List ℕ
+  wide_html cell = if is_gridded size 25 then folded_html cell else []
+
+  abbrev pub fitted_html : (ℕ → List ℕ) → List ℕ
+  fitted_html cell = if is_gridded size 7 then grid_html size cell else wide_html cell
+
+  -- what is known where
   abbrev pub table_html : List Placed → Lemma → Telling → List ℕ
-  table_html forced lemma telling = if is_gridded size 7 then grid_html size (known_html lemma.suppose forced telling.passage.steps) else []
+  table_html forced lemma telling = fitted_html (known_html lemma.suppose forced telling.passage.steps)

@@ -25,9 +25,9 @@ name_html axioms k = escaped (name_at axioms k)
 abbrev pub axiom_html : List Titled → ℕ → List ℕ
 axiom_html axioms k = codes "<i>" ++ name_html axioms k ++ codes "</i>"
 
--- so many facts
-abbrev pub many_html : ℕ → List ℕ
-many_html count = codes "since " ++ decimal count ++ codes " facts above, "
+-- so many facts, in a fold
+abbrev pub facts_fold : ℕ → List ℕ
+facts_fold count = codes "<details><summary>" ++ decimal count ++ codes " facts above</summary> "
 
 -- an earlier claim, by its number
 abbrev pub claim_number_html : ℕ → List ℕ
@@ -43,17 +43,20 @@ module _ (size : Extent) where
   abbrev pub there_html : List Literal → List ℕ
   there_html rests = alone_claims_html size rests ++ codes " there"
 
+  -- more than thirty facts are folded
+  abbrev pub many_html : List Literal → List ℕ
+  many_html rests = facts_fold (length rests) ++ facts_html size rests ++ codes "</details>"
+
+  abbrev pub named_html : List Literal → List ℕ
+  named_html rests = if nat_lt 30 (length rests) then many_html rests else facts_html size rests
+
   abbrev pub rests_html : By → List Literal → List ℕ
-  rests_html (Axiom k) rests = facts_html size rests
+  rests_html (Axiom k) rests = named_html rests
   rests_html Outcome rests = there_html rests
-  rests_html Earlier rests = facts_html size rests
+  rests_html Earlier rests = named_html rests
 
-  abbrev pub few_html : By → List Literal → List ℕ
-  few_html by rests = codes "<div class=s>since " ++ rests_html by rests ++ codes "</div>, "
-
-  -- of more than thirty facts their number
   abbrev pub grounds_html : By → List Literal → List ℕ
-  grounds_html by rests = if nat_lt 30 (length rests) then many_html (length rests) else few_html by rests
+  grounds_html by rests = codes "<div class=s>since " ++ rests_html by rests ++ codes "</div>, "
 
   -- the facts that are rested on, if there are any
   abbrev pub since_html : By → List Literal → List ℕ

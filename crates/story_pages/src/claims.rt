@@ -4,9 +4,9 @@ ghost use Rattle.std.specs.Prelude.{◌≡◌, ◌++◌, ℕ, List, count_by, On
 ghost use Rattle.std.specs.List.{flat_map};
 ghost use Rattle.vocab.specs.declared.literals.Literal.{Literal};
 ghost use Rattle.vocab.specs.Range.{below};
-ghost use Rattle.story_pages.specs.Claims.{is_alike, is_stated, above_html, winning_html, claims_html, unfolded_html, fold_html, end_fold_html, start_html, some_html, at_html, listed_html, held_html, facts_html, said_html, alone_html, alone_claims_html, placed_html, stated_html, stated_facts_html};
+ghost use Rattle.story_pages.specs.Claims.{is_alike, is_stated, above_html, winning_html, claims_html, unfolded_html, fold_html, end_fold_html, start_html, some_html, spot_html, at_html, listed_html, some_held, held_html, facts_html, said_html, alone_html, alone_claims_html, placed_html, some_stated, stated_html, stated_facts_html};
 
-use html::{Html, profile_of, put_claim, put_number, put_profile};
+use html::{Html, profile_of, put_ballots, put_claim, put_number, put_profile};
 use lists::NoMemory;
 use profiles::Space;
 use tellings::Placed;
@@ -102,7 +102,7 @@ fn put_unfolded(out: &mut Html, count: usize) -> Result<(), NoMemory>
 {
     out.append(b" <details><summary>")?;
     put_number(out, count as u64)?;
-    out.append(b" profiles</summary>")?;
+    out.append(b" profiles</summary><code>")?;
     Ok(())
 }
 
@@ -121,7 +121,7 @@ fn put_end_fold(out: &mut Html, count: usize) -> Result<(), NoMemory>
     ensures { OnOk result (out.new ≡ out.old ++ end_fold_html count) }
 {
     if count > 6 {
-        return out.append(b"</details></div>");
+        return out.append(b"</code></details></div>");
     }
     out.append(b"</div>")
 }
@@ -137,12 +137,22 @@ fn put_start(out: &mut Html, space: &Space, head: &Literal, count: usize) -> Res
     Ok(())
 }
 
-/// Adds the profile of a fact.
-fn put_at(out: &mut Html, space: &Space, literal: &Literal) -> Result<(), NoMemory>
-    ensures { OnOk result (out.new ≡ out.old ++ at_html space.now literal.now) }
+/// Adds a profile: one of more than six stands in a fold.
+fn put_spot(out: &mut Html, space: &Space, count: usize, p: u32) -> Result<(), NoMemory>
+    ensures { OnOk result (out.new ≡ out.old ++ spot_html space.now count p) }
+{
+    if count > 6 {
+        return put_ballots(out, space, p);
+    }
+    put_profile(out, space, p)
+}
+
+/// Adds the profile of a fact, of so many that make a claim.
+fn put_at(out: &mut Html, space: &Space, count: usize, literal: &Literal) -> Result<(), NoMemory>
+    ensures { OnOk result (out.new ≡ out.old ++ at_html space.now count literal.now) }
 {
     out.append(b" ")?;
-    put_profile(out, space, profile_of(literal))?;
+    put_spot(out, space, count, profile_of(literal))?;
     Ok(())
 }
 
@@ -160,26 +170,34 @@ fn count_alike(facts: &[Literal], head: &Literal) -> usize
 }
 
 /// Adds the profile of a fact, if it makes a claim.
-fn put_listed(out: &mut Html, space: &Space, head: &Literal, fact: &Literal) -> Result<(), NoMemory>
-    ensures { OnOk result (out.new ≡ out.old ++ listed_html space.now head.now fact.now) }
+fn put_listed(
+    out: &mut Html,
+    space: &Space,
+    count: usize,
+    head: &Literal,
+    fact: &Literal,
+) -> Result<(), NoMemory>
+    ensures { OnOk result (out.new ≡ out.old ++ listed_html space.now count head.now fact.now) }
 {
     if !is_alike(head, fact) {
         return Ok(());
     }
-    put_at(out, space, fact)
+    put_at(out, space, count, fact)
 }
 
-/// Adds the profiles of the facts that make a claim.
+/// Adds the profiles of the facts that make a claim, which are so many.
 fn put_all_listed(
     out: &mut Html,
     space: &Space,
     facts: &[Literal],
     head: &Literal,
+    count: usize,
 ) -> Result<(), NoMemory>
-    ensures { OnOk result (out.new ≡ out.old ++ flat_map (listed_html space.now head.now) facts.now) }
+    ensures { OnOk result (out.new ≡ out.old ++
+        flat_map (listed_html space.now count head.now) facts.now) }
 {
     for fact in facts {
-        put_listed(out, space, head, fact)?;
+        put_listed(out, space, count, head, fact)?;
     }
     Ok(())
 }
@@ -193,10 +211,10 @@ fn put_some_held(
     count: usize,
 ) -> Result<(), NoMemory>
     ensures { OnOk result (out.new ≡ out.old ++
-        some_html space.now head.now count (flat_map (listed_html space.now head.now) facts.now)) }
+        some_html space.now head.now count (flat_map (listed_html space.now count head.now) facts.now)) }
 {
     put_start(out, space, head, count)?;
-    put_all_listed(out, space, facts, head)?;
+    put_all_listed(out, space, facts, head, count)?;
     put_end_fold(out, count)?;
     Ok(())
 }
@@ -292,30 +310,34 @@ fn count_stated(steps: &[Placed], number: usize, head: &Literal) -> usize
 fn put_placed(
     out: &mut Html,
     space: &Space,
+    count: usize,
     number: usize,
     head: &Literal,
     placed: &Placed,
 ) -> Result<(), NoMemory>
-    ensures { OnOk result (out.new ≡ out.old ++ placed_html space.now number head.now placed.now) }
+    ensures { OnOk result (out.new ≡ out.old ++
+        placed_html space.now count number head.now placed.now) }
 {
     if !is_stated(number, head, placed) {
         return Ok(());
     }
-    put_at(out, space, &placed.step.literal)
+    put_at(out, space, count, &placed.step.literal)
 }
 
-/// Adds the profiles of the steps by which the sentence of a number makes a claim.
+/// Adds the profiles of the steps by which the sentence of a number makes a claim, which are so many.
 fn put_all_placed(
     out: &mut Html,
     space: &Space,
     steps: &[Placed],
     number: usize,
     head: &Literal,
+    count: usize,
 ) -> Result<(), NoMemory>
-    ensures { OnOk result (out.new ≡ out.old ++ flat_map (placed_html space.now number head.now) steps.now) }
+    ensures { OnOk result (out.new ≡ out.old ++
+        flat_map (placed_html space.now count number head.now) steps.now) }
 {
     for placed in steps {
-        put_placed(out, space, number, head, placed)?;
+        put_placed(out, space, count, number, head, placed)?;
     }
     Ok(())
 }
@@ -330,10 +352,11 @@ fn put_some_stated(
     count: usize,
 ) -> Result<(), NoMemory>
     ensures { OnOk result (out.new ≡ out.old ++
-        some_html space.now head.now count (flat_map (placed_html space.now number head.now) steps.now)) }
+        some_html space.now head.now count
+        (flat_map (placed_html space.now count number head.now) steps.now)) }
 {
     put_start(out, space, head, count)?;
-    put_all_placed(out, space, steps, number, head)?;
+    put_all_placed(out, space, steps, number, head, count)?;
     put_end_fold(out, count)?;
     Ok(())
 }

@@ -4,7 +4,7 @@ ghost use Rattle.std.specs.Prelude.{◌≡◌, ◌++◌, OnOk};
 ghost use Rattle.std.specs.List.{flat_map};
 ghost use Rattle.story_pages.specs.Known.{fact_mark, grey_mark, supposed_mark, forced_mark, numbered_mark, stated_mark, known_html};
 
-use html::{Cells, Html, letter_of, profile_of, put_alternative, put_number};
+use html::{Cells, Html, letter_of, profile_of, put_number};
 use lists::NoMemory;
 use tellings::Placed;
 use vocab::Literal;
@@ -14,7 +14,10 @@ fn put_fact_mark(out: &mut Html, literal: &Literal) -> Result<(), NoMemory>
     ensures { OnOk result (out.new ≡ out.old ++ fact_mark literal.now) }
 {
     match *literal {
-        Literal::Wins(x, _) => put_alternative(out, x),
+        Literal::Wins(x, _) => {
+            out.push(letter_of(x))?;
+            Ok(())
+        }
         Literal::Loses(x, _) => {
             out.append(b"<s>")?;
             out.push(letter_of(x))?;
@@ -80,11 +83,10 @@ fn put_all_forced(out: &mut Html, p: u32, forced: &[Placed]) -> Result<(), NoMem
 fn put_numbered(out: &mut Html, placed: &Placed) -> Result<(), NoMemory>
     ensures { OnOk result (out.new ≡ out.old ++ numbered_mark placed.now) }
 {
-    out.append(b"<span>")?;
     put_fact_mark(out, &placed.step.literal)?;
     out.append(b"<sup>")?;
     put_number(out, placed.sentence as u64 + 1)?;
-    out.append(b"</sup></span> ")?;
+    out.append(b"</sup> ")?;
     Ok(())
 }
 

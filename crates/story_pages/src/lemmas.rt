@@ -2,10 +2,12 @@
 
 ghost use Rattle.std.specs.Prelude.{◌≡◌, ◌++◌, length, OnOk};
 ghost use Rattle.std.specs.List.{flat_map};
-ghost use Rattle.story_pages.specs.Lemmas.{claims_words, fact_item, opposite_html, claimed_html, title_html, supposed_html, suppose_html, columns_of, table_html};
+ghost use Rattle.story_pages.specs.Lemmas.{claims_words, fact_item, opposite_html, claimed_html, title_html, supposed_html, suppose_html, columns_of, folded_html, wide_html, fitted_html, table_html};
 
 use crate::known::KnownCells;
-use html::{Html, is_gridded, profile_of, put_fact, put_grid, put_number, put_profile_columns};
+use html::{
+    Cells, Html, is_gridded, profile_of, put_fact, put_grid, put_number, put_profile_columns,
+};
 use lists::NoMemory;
 use meaning::Lemma;
 use profiles::Space;
@@ -134,7 +136,37 @@ pub(crate) fn put_columns_of(out: &mut Html, space: &Space, lemma: &Lemma) -> Re
     }
 }
 
-/// Adds what is known where, for two voters with few ballots.
+/// Adds a table in a fold.
+fn put_folded<C: Cells>(out: &mut Html, space: &Space, cells: &C) -> Result<(), NoMemory>
+    ensures { OnOk result (out.new ≡ out.old ++ folded_html space.now (C.cell cells.now)) }
+{
+    out.append(b"<details class=k><summary>Table: what is known at each profile</summary><div>\n")?;
+    put_grid(out, space, cells)?;
+    out.append(b"</div></details>\n")?;
+    Ok(())
+}
+
+/// Adds a table for two voters with more than six ballots, unless these are too many.
+fn put_wide<C: Cells>(out: &mut Html, space: &Space, cells: &C) -> Result<(), NoMemory>
+    ensures { OnOk result (out.new ≡ out.old ++ wide_html space.now (C.cell cells.now)) }
+{
+    if !is_gridded(space, 25) {
+        return Ok(());
+    }
+    put_folded(out, space, cells)
+}
+
+/// Adds a table for two voters, unless their ballots are too many.
+fn put_fitted<C: Cells>(out: &mut Html, space: &Space, cells: &C) -> Result<(), NoMemory>
+    ensures { OnOk result (out.new ≡ out.old ++ fitted_html space.now (C.cell cells.now)) }
+{
+    if is_gridded(space, 7) {
+        return put_grid(out, space, cells);
+    }
+    put_wide(out, space, cells)
+}
+
+/// Adds what is known where, for two voters with at most 24 ballots.
 pub(crate) fn put_table(
     out: &mut Html,
     space: &Space,
@@ -145,13 +177,10 @@ pub(crate) fn put_table(
     ensures { OnOk result (out.new ≡ out.old ++
         table_html space.now forced.now.steps lemma.now telling.now) }
 {
-    if !is_gridded(space, 7) {
-        return Ok(());
-    }
     let cells = KnownCells {
         suppose: lemma.suppose.as_slice(),
         forced: forced.steps.as_slice(),
         steps: telling.passage.steps.as_slice(),
     };
-    put_grid(out, space, &cells)
+    put_fitted(out, space, &cells)
 }

@@ -2,7 +2,7 @@
 
 ghost use Rattle.std.specs.Prelude.{◌≡◌, ◌++◌, Some, OnOk};
 ghost use Rattle.std.specs.List.{flat_map};
-ghost use Rattle.story_pages.specs.Sentences.{name_html, axiom_html, many_html, claim_number_html, cited_html, there_html, rests_html, few_html, grounds_html, since_html, given_html, given_by, by_axiom_html, by_outcome_html, by_html, sentence_html, sentence_at, item_at, items_html};
+ghost use Rattle.story_pages.specs.Sentences.{name_html, axiom_html, facts_fold, claim_number_html, cited_html, there_html, many_html, named_html, rests_html, grounds_html, since_html, given_html, given_by, by_axiom_html, by_outcome_html, by_html, sentence_html, sentence_at, item_at, items_html};
 
 use crate::claims::{put_alone_claims, put_facts, put_stated_facts};
 use html::{Html, put_fact, put_number, put_text};
@@ -32,14 +32,34 @@ pub fn put_axiom(out: &mut Html, axioms: &[Axiom], place: u32) -> Result<(), NoM
     Ok(())
 }
 
-/// Adds how many facts are rested on.
-fn put_many(out: &mut Html, count: usize) -> Result<(), NoMemory>
-    ensures { OnOk result (out.new ≡ out.old ++ many_html count) }
+/// Adds the head of so many folded facts.
+fn put_facts_fold(out: &mut Html, count: usize) -> Result<(), NoMemory>
+    ensures { OnOk result (out.new ≡ out.old ++ facts_fold count) }
 {
-    out.append(b"since ")?;
+    out.append(b"<details><summary>")?;
     put_number(out, count as u64)?;
-    out.append(b" facts above, ")?;
+    out.append(b" facts above</summary> ")?;
     Ok(())
+}
+
+/// Adds the facts that are rested on, many as they are.
+fn put_many(out: &mut Html, space: &Space, rests: &[Literal]) -> Result<(), NoMemory>
+    ensures { OnOk result (out.new ≡ out.old ++ many_html space.now rests.now) }
+{
+    put_facts_fold(out, rests.len())?;
+    put_facts(out, space, rests)?;
+    out.append(b"</details>")?;
+    Ok(())
+}
+
+/// Adds the facts that are rested on, each with its profile: more than thirty are folded.
+fn put_named(out: &mut Html, space: &Space, rests: &[Literal]) -> Result<(), NoMemory>
+    ensures { OnOk result (out.new ≡ out.old ++ named_html space.now rests.now) }
+{
+    if rests.len() > 30 {
+        return put_many(out, space, rests);
+    }
+    put_facts(out, space, rests)
 }
 
 /// Adds the claims that are rested on, at the profiles of what is stated.
@@ -56,31 +76,20 @@ fn put_rests(out: &mut Html, space: &Space, by: By, rests: &[Literal]) -> Result
     ensures { OnOk result (out.new ≡ out.old ++ rests_html space.now by rests.now) }
 {
     match by {
-        By::Axiom(_) => put_facts(out, space, rests),
+        By::Axiom(_) => put_named(out, space, rests),
         By::Outcome => put_there(out, space, rests),
-        By::Lemma => put_facts(out, space, rests),
+        By::Lemma => put_named(out, space, rests),
     }
 }
 
-/// Adds the facts that are rested on, few as they are.
-fn put_few(out: &mut Html, space: &Space, by: By, rests: &[Literal]) -> Result<(), NoMemory>
-    ensures { OnOk result (out.new ≡ out.old ++ few_html space.now by rests.now) }
+/// Adds the facts that are rested on, of which there are some.
+fn put_grounds(out: &mut Html, space: &Space, by: By, rests: &[Literal]) -> Result<(), NoMemory>
+    ensures { OnOk result (out.new ≡ out.old ++ grounds_html space.now by rests.now) }
 {
     out.append(b"<div class=s>since ")?;
     put_rests(out, space, by, rests)?;
     out.append(b"</div>, ")?;
     Ok(())
-}
-
-/// Adds the facts that are rested on, of which there are some; of more than thirty their number.
-fn put_grounds(out: &mut Html, space: &Space, by: By, rests: &[Literal]) -> Result<(), NoMemory>
-    ensures { OnOk result (out.new ≡ out.old ++ grounds_html space.now by rests.now) }
-{
-    let count = rests.len();
-    if count > 30 {
-        return put_many(out, count);
-    }
-    put_few(out, space, by, rests)
 }
 
 /// Adds the facts that are rested on, if there are any.

@@ -2,4 +2,4 @@ use Rattle.html.proofs.JoinLemmas.{joined_3}
 use Rattle.story_pages.proofs.sentences.put_many.Goals as goal
 
 pub returns : goal.returns
-returns c = joined_3 _ _ _ _ _ _ _ c.in_ok-append.ensures.ok c.in_ok-put_number.ensures c.in_ok-append-2.ensures.ok
+returns c = joined_3 _ _ _ _ _ _ _ c.in_ok-put_facts_fold.ensures c.in_ok-put_facts.ensures c.in_ok-append.ensures.ok

@@ -1,7 +1,7 @@
 use Rattle.std.proofs.Common.{◌≡◌, ◌++◌, take}
 use Rattle.std.specs.List.{flat_map}
 use Rattle.html.specs.Facts.{dotted}
-use Rattle.html.proofs.facts.put_ballots.Given as goal
+use Rattle.html.proofs.facts.put_all_dotted.Given as goal
 
 -- the bytes so far were added
 abbrev pub invariant-loop-byte : goal.invariant-loop-byte

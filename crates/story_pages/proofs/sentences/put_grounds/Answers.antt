@@ -1,5 +1,5 @@
 use Rattle.html.proofs.JoinLemmas.{joined_3}
-use Rattle.story_pages.proofs.sentences.put_few.Goals as goal
+use Rattle.story_pages.proofs.sentences.put_grounds.Goals as goal
 
 pub returns : goal.returns
 returns c = joined_3 _ _ _ _ _ _ _ c.in_ok-append.ensures.ok c.in_ok-put_rests.ensures c.in_ok-append-2.ensures.ok
