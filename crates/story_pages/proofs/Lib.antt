@@ -1,0 +1,4 @@
+pub mod StandLemmas
+pub mod SaidLemmas
+pub mod SentenceLemmas
+pub mod PlaceLemmas

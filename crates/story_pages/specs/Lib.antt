@@ -5,3 +5,4 @@ pub mod Known
 pub mod Forced
 pub mod Lemmas
 pub mod Homes
+pub mod Laws

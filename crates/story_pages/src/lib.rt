@@ -6,6 +6,7 @@ mod ends;
 mod forced;
 mod homes;
 mod known;
+pub mod laws;
 mod lemmas;
 mod sentences;
 

@@ -1,0 +1,107 @@
+-- What holds of a story on a page. Each is the contract of a function of the same name in src/laws.rt.
+use Rattle.std.specs.Prelude.{◌≡◌, ℕ, ◌<◌, List, ◌++◌, IsTrue, length, slice_get, Some}
+use Rattle.vocab.specs.declared.literals.Literal.{Literal}
+use Rattle.vocab.specs.Literal.{profile_of}
+use Rattle.vocab.specs.Size.{Extent}
+use Rattle.vocab.specs.Titled.{Titled}
+use Rattle.meaning.specs.Literals.{is_literal}
+use Rattle.meaning.specs.declared.stories.Lemma.{Lemma}
+use Rattle.meaning.specs.declared.stories.Reason.{Reason}
+use Rattle.tellings.specs.Tellings.{by_of, IsStoryTold}
+use Rattle.tellings.specs.declared.tellings.By.{By}
+use Rattle.tellings.specs.declared.tellings.By.TheVariants.{Axiom, Outcome, Lemma as Earlier}
+use Rattle.tellings.specs.declared.tellings.Sentence.{Sentence}
+use Rattle.tellings.specs.declared.tellings.Placed.{Placed}
+use Rattle.tellings.specs.declared.tellings.Passage.{Passage}
+use Rattle.tellings.specs.declared.tellings.Telling.{Telling}
+use Rattle.tellings.specs.declared.tellings.StoryTelling.{StoryTelling}
+use Rattle.story_pages.specs.Claims.{some_html, at_html, said_html}
+use Rattle.story_pages.specs.Ends.{end_html}
+use Rattle.story_pages.specs.Homes.{story_html}
+use Rattle.story_pages.specs.Known.{grey_mark, numbered_mark, known_html}
+use Rattle.story_pages.specs.Lemmas.{table_html}
+use Rattle.story_pages.specs.Sentences.{given_html, sentence_at}
+
+-- a text stands in another
+pub record StandsIn (part whole : List ℕ) : Type 0 where
+  pub before : List ℕ
+  pub after : List ℕ
+  pub is : whole ≡ before ++ (part ++ after)
+
+-- the claim of a fact is said in a text, and the fact's profile stands among those where it is made
+pub record IsSaid (size : Extent) (fact : Literal) (text : List ℕ) : Type 0 where
+  pub count : ℕ
+  pub profiles : List ℕ
+  pub claim : StandsIn (some_html size fact count profiles) text
+  pub profile : StandsIn (at_html size count fact) profiles
+
+module _ (size : Extent) where
+  -- a fact that is rested on is said; by what is left its claim alone, at the profiles of what is stated
+  abbrev pub IsNamed : By → Literal → List ℕ → Type 0
+  IsNamed (Axiom k) fact text = IsSaid size fact text
+  IsNamed Outcome fact text = StandsIn (said_html size fact) text
+  IsNamed Earlier fact text = IsSaid size fact text
+
+  -- the fact of a step is said; by an earlier claim with the claim's number
+  abbrev pub IsStated : By → Placed → List ℕ → Type 0
+  IsStated (Axiom k) placed text = IsSaid size placed.step.literal text
+  IsStated Outcome placed text = IsSaid size placed.step.literal text
+  IsStated Earlier placed text = StandsIn (given_html size placed) text
+
+-- each sentence names each fact that it rests on, however many these are
+abbrev pub SentencesNameFacts : Type 0
+SentencesNameFacts =
+    (size : Extent) (axioms : List Titled) (passage : Passage) (number k : ℕ) (sentence : Sentence)
+    (fact : Literal) → slice_get passage.sentences number ≡ Some sentence →
+    slice_get sentence.rests k ≡ Some fact → IsTrue (is_literal size fact) →
+    IsNamed size sentence.by fact (sentence_at size axioms passage number)
+
+-- the end of a lemma names each fact that its last reason rests on
+abbrev pub EndsNameFacts : Type 0
+EndsNameFacts =
+    (size : Extent) (axioms : List Titled) (last : Reason) (rests : List Literal) (k : ℕ) (fact : Literal) →
+    slice_get rests k ≡ Some fact → IsTrue (is_literal size fact) →
+    IsNamed size (by_of last) fact (end_html size axioms last rests)
+
+-- each step is stated by its sentence
+abbrev pub SentencesStateFacts : Type 0
+SentencesStateFacts =
+    (size : Extent) (axioms : List Titled) (passage : Passage) (k : ℕ) (placed : Placed)
+    (sentence : Sentence) → slice_get passage.steps k ≡ Some placed →
+    slice_get passage.sentences placed.sentence ≡ Some sentence → IsTrue (is_literal size placed.step.literal) →
+    IsStated size sentence.by placed (sentence_at size axioms passage placed.sentence)
+
+-- the cell of a profile has what is supposed, forced and stated there
+pub record HasKnown (suppose : List Literal) (forced steps : List Placed) : Type 0 where
+  pub supposed : (k : ℕ) (l : Literal) → slice_get suppose k ≡ Some l →
+      StandsIn (grey_mark l) (known_html suppose forced steps (profile_of l))
+  pub given : (k : ℕ) (placed : Placed) → slice_get forced k ≡ Some placed →
+      StandsIn (grey_mark placed.step.literal) (known_html suppose forced steps (profile_of placed.step.literal))
+  pub stated : (k : ℕ) (placed : Placed) → slice_get steps k ≡ Some placed →
+      StandsIn (numbered_mark placed) (known_html suppose forced steps (profile_of placed.step.literal))
+
+abbrev pub CellsHaveFacts : Type 0
+CellsHaveFacts = (suppose : List Literal) (forced steps : List Placed) → HasKnown suppose forced steps
+
+-- each sentence of facts that are forced stands on the page
+abbrev pub ForcedFactsStand : Type 0
+ForcedFactsStand =
+    (size : Extent) (axioms : List Titled) (story : List Lemma) (told : StoryTelling) (k : ℕ) →
+    k < length told.forced.sentences →
+    StandsIn (sentence_at size axioms told.forced k) (story_html size axioms story told)
+
+-- all that is told of a lemma stands in a text: its sentences, what it is against, and its table
+pub record IsWritten (size : Extent) (axioms : List Titled) (forced : List Placed) (lemma : Lemma)
+    (telling : Telling) (text : List ℕ) : Type 0 where
+  pub sentences : (k : ℕ) → k < length telling.passage.sentences →
+      StandsIn (sentence_at size axioms telling.passage k) text
+  pub ending : StandsIn (end_html size axioms lemma.last telling.end) text
+  pub table : StandsIn (table_html size forced lemma telling) text
+
+-- each lemma of a story that is told right stands on the page, by itself or within another
+abbrev pub LemmasStand : Type 0
+LemmasStand =
+    (size : Extent) (axioms : List Titled) (core : List ℕ) (story : List Lemma) (told : StoryTelling) →
+    IsStoryTold size axioms core story told → (j : ℕ) (lemma : Lemma) (telling : Telling) →
+    slice_get story j ≡ Some lemma → slice_get told.lemmas j ≡ Some telling →
+    IsWritten size axioms told.forced.steps lemma telling (story_html size axioms story told)

@@ -1,0 +1,33 @@
+//! What holds of a story on a page. Each law is the contract of a function that does nothing.
+
+ghost use Rattle.story_pages.specs.Laws.{SentencesNameFacts, EndsNameFacts, SentencesStateFacts, CellsHaveFacts, ForcedFactsStand, LemmasStand};
+
+/// Each sentence names each fact that it rests on, with its profile, however many these are.
+pub fn sentences_name_facts()
+    ensures { SentencesNameFacts }
+{}
+
+/// The end of a lemma names each fact that its last reason rests on, with its profile.
+pub fn ends_name_facts()
+    ensures { EndsNameFacts }
+{}
+
+/// Each step of a story is stated by its sentence, with its profile.
+pub fn sentences_state_facts()
+    ensures { SentencesStateFacts }
+{}
+
+/// The cell of a profile in a lemma's table has each fact that is known there.
+pub fn cells_have_facts()
+    ensures { CellsHaveFacts }
+{}
+
+/// Each sentence of facts that axioms force stands on the page.
+pub fn forced_facts_stand()
+    ensures { ForcedFactsStand }
+{}
+
+/// Each lemma of a story that is told right stands on the page, with its sentences, its end and its table.
+pub fn lemmas_stand()
+    ensures { LemmasStand }
+{}
