@@ -1,2 +1,4 @@
 pub mod RightLemmas
 pub mod EscapeLemmas
+pub mod NameLemmas
+pub mod NameReading

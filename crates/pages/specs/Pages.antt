@@ -14,6 +14,7 @@ use Rattle.html.specs.Escapes.{escaped}
 use Rattle.rule_pages.specs.Named.{name_html}
 use Rattle.rule_pages.specs.Rules.{rule_html}
 use Rattle.story_pages.specs.Homes.{story_html}
+use Rattle.pages.specs.FileNames.{shell_word}
 use Rattle.pages.specs.Words.{opening, styles}
 use Rattle.pages.specs.Headings.{claim_html}
 use Rattle.pages.specs.Theorem.{size_html, axioms_html, reading_html}
@@ -55,11 +56,11 @@ module _ (size : Extent) (axioms : List Titled) where
       opening ++ claim_html false axioms size verdict ++ styles ++ claim_html true axioms size verdict
       ++ codes "</h1>\n" ++ size_html size
 
--- how to check: the files of the study and of the report, and the version
+-- how to check: the files of the study and of the report, as words of a command line, and the version
 abbrev pub check_html : (study_file report_file version : List ℕ) → List ℕ
 check_html study_file report_file version =
-    codes "<h2>How to check</h2>\n<p>The command <code>bench check " ++ escaped study_file ++ codes " "
-    ++ escaped report_file
+    codes "<h2>How to check</h2>\n<p>The command <code>bench check " ++ escaped (shell_word study_file) ++ codes " "
+    ++ escaped (shell_word report_file)
     ++ codes "</code> goes through the report line by line, by the sentences of the axioms alone. This page tells what the report says. Version: "
     ++ escaped version ++ codes ".</p>\n"
 

@@ -2,6 +2,7 @@
 #![tactic(auto)]
 
 mod axioms;
+mod file_names;
 mod headings;
 pub mod laws;
 mod page;

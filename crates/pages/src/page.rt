@@ -1,10 +1,13 @@
 //! The page of a verdict on a study.
 
 ghost use Rattle.std.specs.Prelude.{◌≡◌, ◌++◌, length, IfOk, OnOk};
+ghost use Rattle.html.specs.Escapes.{escaped};
+ghost use Rattle.pages.specs.FileNames.{shell_word};
 ghost use Rattle.pages.specs.Words.{opening, styles};
 ghost use Rattle.pages.specs.Pages.{proved_html, impossible_html, satisfied_html, possible_html, verdict_html, front_html, check_html, whole_html, page_of};
 
 use crate::axioms::{put_axioms, put_core};
+use crate::file_names::shell_word;
 use crate::headings::put_claim;
 use crate::theorem::{put_reading, put_size};
 use crate::witnesses::put_witnesses;
@@ -162,15 +165,23 @@ fn put_verdict<K: OutcomeKind>(
     }
 }
 
+/// Adds a file's name, as a word of a command line.
+fn put_file_name(alloc: Global, out: &mut Html, name: &[u8]) -> Result<(), NoMemory>
+    ensures { OnOk result (out.new ≡ out.old ++ escaped (shell_word name.now)) }
+{
+    let word = shell_word(alloc, name)?;
+    put_text(out, word.as_slice())
+}
+
 /// Adds how to check.
-pub fn put_check(out: &mut Html, source: &Source) -> Result<(), NoMemory>
+pub fn put_check(alloc: Global, out: &mut Html, source: &Source) -> Result<(), NoMemory>
     ensures { OnOk result (out.new ≡ out.old ++
         check_html source.now.study.now source.now.report.now source.now.version.now) }
 {
     out.append(b"<h2>How to check</h2>\n<p>The command <code>bench check ")?;
-    put_text(out, source.study)?;
+    put_file_name(alloc, out, source.study)?;
     out.append(b" ")?;
-    put_text(out, source.report)?;
+    put_file_name(alloc, out, source.report)?;
     out.append(
         b"</code> goes through the report line by line, by the sentences of the axioms alone. This page tells what the report says. Version: ",
     )?;
@@ -228,7 +239,7 @@ fn put_whole<K: OutcomeKind>(
 {
     put_front(out, kind.space(), about, verdict)?;
     put_verdict(alloc, out, kind, about, verdict, told)?;
-    put_check(out, source)?;
+    put_check(alloc, out, source)?;
     out.append(b"</body></html>\n")?;
     Ok(())
 }

@@ -77,7 +77,7 @@ fn put_whole<K: OutcomeKind>(
         sharp.instances.as_slice(),
         sharp.marks.as_slice(),
     )?;
-    put_check(out, source)?;
+    put_check(alloc, out, source)?;
     out.append(b"</body></html>\n")?;
     Ok(())
 }
