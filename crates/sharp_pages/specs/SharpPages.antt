@@ -25,7 +25,7 @@ open_words (Open limit) = codes " (open)"
 module _ (axioms : List Titled) where
   -- an instance, by the name of its axiom and its number
   abbrev pub instance_html : Cited → Witness → List ℕ
-  instance_html c mark = codes "<span>" ++ axiom_html axioms c.«axiom» ++ codes " " ++ decimal c.number ++ open_words mark ++ codes "</span>\n"
+  instance_html c mark = codes "<span>" ++ axiom_html axioms c.«axiom» ++ codes " " ++ decimal c.number ++ open_words mark ++ codes "</span>"
 
   abbrev pub instance_of : Option Cited → Option Witness → List ℕ
   instance_of (Some c) (Some mark) = instance_html c mark
@@ -41,7 +41,7 @@ module _ (axioms : List Titled) where
   abbrev pub instances_html : List Cited → List Witness → List ℕ
   instances_html instances marks =
       codes "<h2>Without one of the instances: a rule at which all others hold</h2>\n<p>The proof cites these instances of the axioms, by their numbers, and the sharp text has such a rule for each that is not marked as open: "
-      ++ all_instances instances marks ++ codes "</p>\n"
+      ++ all_instances instances marks ++ codes ".</p>\n"
 
 -- the page that claims so, of what a sharp text says: the names of the files, the version, and how the story is told
 abbrev pub sharp_html :

@@ -36,7 +36,7 @@ fn put_instance(
     out.append(b" ")?;
     put_number(out, cited.number)?;
     out.append(open_words(mark))?;
-    out.append(b"</span>\n")?;
+    out.append(b"</span>")?;
     Ok(())
 }
 
@@ -85,6 +85,6 @@ pub(crate) fn put_instances(
         b"<h2>Without one of the instances: a rule at which all others hold</h2>\n<p>The proof cites these instances of the axioms, by their numbers, and the sharp text has such a rule for each that is not marked as open: ",
     )?;
     put_all(out, axioms, instances, marks)?;
-    out.append(b"</p>\n")?;
+    out.append(b".</p>\n")?;
     Ok(())
 }
