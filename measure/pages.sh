@@ -36,8 +36,8 @@ heap_of() {
 costs() {
     local name=$1 report=$2 bytes seconds heap
     bytes=$(wc -c <"$report")
-    seconds=$("$work/peak" 5 "$program" story "${report%.report}.toml" "$report" | awk 'NR == 1 { print $1 }')
-    heap=$(heap_of "$program" story "${report%.report}.toml" "$report")
+    seconds=$("$work/peak" 5 "$program" story "${report%.*}.toml" "$report" | awk 'NR == 1 { print $1 }')
+    heap=$(heap_of "$program" story "${report%.*}.toml" "$report")
     awk -v name="$name" -v s="$seconds" -v heap="$heap" -v bytes="$bytes" 'BEGIN {
         printf "%s: %s s, heap %d bytes, %.2f times the report\n", name, s, heap, heap / bytes
         exit bytes >= 100000 && (heap >= 4 * bytes || s >= 1)
@@ -61,6 +61,7 @@ for page in "$@"; do
     page=$(readlink -f -- "$page")
     line=$(basename "$page")
     report=$root/studies/${line%.html}.report
+    [ "$line" = "${line%.sharp.html}" ] || report=$root/studies/${line%.html}
     lines=$(grep -c '^suppose \|^so \|^clash ' "$report" 2>/dev/null)
     line="$line: lines of the story ${lines:-?}, sentences $(sentences "$page")"
     if [ -n "$browser" ]; then

@@ -10,8 +10,8 @@
 # none of 84,934,656; a sample is the same line at each run, no words end with status 2, as does a word that is not UTF-8, an absent study
 # with status 5, and a full device with 6. Each front of a report is refused at the line that it lacks, and a study of one byte too many and
 # a list of one clause too many are refused.
-# The pages in pages/ are those that `explain story` writes of the reports of their names, and each sharp text has a page; their words for
-# the axioms of the library are those of docs/START.md.
+# The pages in pages/ are those that `explain story` writes of the reports of their names, and of sharp texts where the names end in .sharp;
+# each sharp text has a page; their words for the axioms of the library are those of docs/START.md.
 # Arrow's axioms without the last leave the two dictators, and independence alone 94 rules (Tang and Lin), as `explain rules` lists them; of
 # all three `explain cores` writes the map of docs/START.md.
 # The launcher, over this program or over one that only ends, and that of explain, has the program's status and standard output, and says in one line on
@@ -52,7 +52,9 @@ is_line() {
 
 for page in "$root"/pages/*.html; do
     name=$(basename "$page" .html)
-    (cd "$root" && "$explain" story "studies/$name.toml" "studies/$name.report") >"$work/written" || fault "explain gives $name no page"
+    text=$name.report
+    [ "$name" = "${name%.sharp}" ] || text=$name
+    (cd "$root" && "$explain" story "studies/${name%.sharp}.toml" "studies/$text") >"$work/written" || fault "explain gives $name no page"
     cmp -s "$page" "$work/written" || fault "explain does not write pages/$name.html"
 done
 
