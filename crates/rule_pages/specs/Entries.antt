@@ -28,8 +28,12 @@ module _ (size : Extent) where
   abbrev pub entry_of : List ℕ → (c p : ℕ) → List ℕ
   entry_of table c p = if slice_index (casts_of size p) 0 == c then entry_html table p else []
 
+  -- of more than a hundred profiles they stand closed
+  abbrev pub fold_start : List ℕ
+  fold_start = if nat_lt 100 (sort_count size Profile) then codes "<details>" else codes "<details open>"
+
   abbrev pub fold_html : List ℕ → ℕ → List ℕ
-  fold_html table c = codes "<details><summary>voter 1: " ++ cast_html c ++ codes "</summary><ul class=l>\n" ++ flat_map (entry_of table c) (below (sort_count size Profile)) ++ codes "</ul></details>\n"
+  fold_html table c = fold_start ++ codes "<summary>voter 1: " ++ cast_html c ++ codes "</summary><ul class=l>\n" ++ flat_map (entry_of table c) (below (sort_count size Profile)) ++ codes "</ul></details>\n"
 
   -- a rule as a list
   abbrev pub list_html : List ℕ → List ℕ

@@ -6,7 +6,7 @@ ghost use Rattle.vocab.specs.declared.kinds.Sort.TheVariants.{Profile};
 ghost use Rattle.vocab.specs.Range.{below};
 ghost use Rattle.vocab.specs.Size.{sort_count, cast_count};
 ghost use Rattle.meaning.specs.Space.{casts_of};
-ghost use Rattle.rule_pages.specs.Entries.{ruled_html, entry_html, cast_html, entry_of, fold_html, list_html};
+ghost use Rattle.rule_pages.specs.Entries.{ruled_html, entry_html, cast_html, entry_of, fold_html, fold_start, list_html};
 
 use html::{Html, put_ballot, put_outcome, put_profile};
 use lists::NoMemory;
@@ -100,6 +100,16 @@ fn put_entries<K: OutcomeKind>(
     Ok(())
 }
 
+/// Begins a fold, which stands closed where there are more than a hundred profiles.
+fn put_fold_start<K: OutcomeKind>(out: &mut Html, kind: &K) -> Result<(), NoMemory>
+    ensures { OnOk result (out.new ≡ out.old ++ fold_start (K.size kind.now)) }
+{
+    if kind.space().count() > 100 {
+        return out.append(b"<details>");
+    }
+    out.append(b"<details open>")
+}
+
 /// Adds what the first voter casts, and behind it the profiles with the outcomes of a rule.
 fn put_fold<K: OutcomeKind>(
     out: &mut Html,
@@ -109,7 +119,8 @@ fn put_fold<K: OutcomeKind>(
 ) -> Result<(), NoMemory>
     ensures { OnOk result (out.new ≡ out.old ++ fold_html (K.size kind.now) table.now cast) }
 {
-    out.append(b"<details><summary>voter 1: ")?;
+    put_fold_start(out, kind)?;
+    out.append(b"<summary>voter 1: ")?;
     put_cast(out, kind.space(), cast)?;
     out.append(b"</summary><ul class=l>\n")?;
     put_entries(out, kind, table, cast)?;
