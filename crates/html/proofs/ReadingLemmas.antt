@@ -1,6 +1,5 @@
 -- What is read of texts that are escaped.
-use Rattle.std.proofs.Common.{◌≡◌, refl, sym, ap, ◌∙◌, ℕ, ◌==◌, Bool, true, false, if◌then◌else◌, codes, List, [], ◌∷◌, ◌++◌, Option, None, Some}
-use Rattle.std.specs.List.{flat_map}
+use Rattle.std.proofs.Common.{◌≡◌, refl, sym, ap, ◌∙◌, ℕ, ◌==◌, Bool, true, false, if◌then◌else◌, codes, List, [], ◌∷◌, ◌++◌, None}
 use Rattle.std.proofs.lemmas.Bool.{eqb-true}
 use Rattle.html.specs.Escapes.{escape, escaped, read_after, unescaped}
 

@@ -1,26 +1,23 @@
 -- One step more is told.
-use Rattle.std.proofs.Common.{◌≡◌, refl, sym, ap, ◌∙◌, subst, ℕ, ◌<◌, ◌≤◌, inl, inr, Bool, true, ◌&&◌, ◌||◌, List, [], ◌∷◌, ◌++◌, length, arith, Option, Some, None, IsSomeAnd, Result, Ok, Err, IfOk, ltb-true, lt-ltb, eq-eqb}
-use Rattle.std.specs.Prelude.{◌==◌, nat_lt, slice_get}
+use Rattle.std.proofs.Common.{◌≡◌, refl, sym, ap, ◌∙◌, subst, ℕ, ◌<◌, ◌≤◌, inl, inr, Bool, true, ◌&&◌, ◌||◌, List, [], ◌∷◌, ◌++◌, length, arith, Option, Some, None, IsSomeAnd, ltb-true, lt-ltb}
+use Rattle.std.specs.Prelude.{nat_lt, slice_get}
 use Rattle.std.specs.List.{list_all, list_any}
 use Rattle.std.proofs.lemmas.Bool.{and_parts, and_from, or_cases, or_left, or_right, cases_lt}
 use Rattle.std.proofs.lemmas.List.{map-append}
 use Rattle.std.proofs.lemmas.List.Folds.{list_any-append}
 use Rattle.vocab.specs.declared.literals.Literal.{Literal}
-use Rattle.vocab.specs.declared.literals.Literal.TheVariants.{Wins, Loses, Above}
 use Rattle.vocab.specs.Literal.{has, opposite_of, same_literal}
 use Rattle.vocab.specs.Size.{Extent}
 use Rattle.vocab.specs.Titled.{Titled}
 use Rattle.meaning.specs.declared.stories.Lemma.{Lemma}
-use Rattle.meaning.specs.declared.stories.Reason.{Reason}
 use Rattle.meaning.specs.declared.stories.StoryStep.{StoryStep}
 use Rattle.meaning.specs.Stories.{refutes}
 use Rattle.tellings.specs.Tellings.{by_of, rests_of, says, stands_before}
 use Rattle.tellings.specs.declared.tellings.Passage.{Passage}
 use Rattle.tellings.specs.declared.tellings.Placed.{Placed}
 use Rattle.tellings.specs.declared.tellings.Sentence.{Sentence}
-use Rattle.worlds.proofs.BoardLemmas.{all_has}
 use Rattle.needed_facts.specs.declared.basis.Basis.{Basis}
-use Rattle.needed_facts.specs.Rests.{refutes_by, RestsOn}
+use Rattle.needed_facts.specs.Rests.{RestsOn}
 use Rattle.joined_sentences.specs.Joined.{IsJoined, IsSentence}
 use Rattle.premises.specs.SoFar.{are_numbered, steps_of, IsToldSoFar}
 use Rattle.needed_facts.proofs.RestLemmas.{same_itself, has_itself, all_among}

@@ -1,6 +1,5 @@
 -- Lines with the hints of given ones in some order.
 use Rattle.std.proofs.Common.{subst, ◌≡◌, ℕ, ◌<◌, inl, inr, Bool, true, List, length, get_or, sym, ap, refl}
-use Rattle.std.specs.List.{list_all}
 use Rattle.std.proofs.lemmas.List.Sorted.{IsPermutation-refl}
 use Rattle.std.proofs.lemmas.List.Sums.{AllPass-from_list_all, list_all-from_AllPass}
 use Rattle.cnf.specs.Sat.{Clause}

@@ -1,5 +1,5 @@
 -- Facts, claim by claim: each claim, as `a wins`, is said once, with the profiles where it is made.
-use Rattle.std.specs.Prelude.{ℕ, nat_lt, ◌==◌, Bool, true, false, ◌&&◌, List, [], ◌∷◌, ◌++◌, codes, count_by, if◌then◌else◌}
+use Rattle.std.specs.Prelude.{ℕ, nat_lt, ◌==◌, Bool, false, ◌&&◌, List, [], ◌++◌, codes, count_by, if◌then◌else◌}
 use Rattle.std.specs.Fmt.{decimal}
 use Rattle.std.specs.List.{flat_map}
 use Rattle.vocab.specs.declared.kinds.Kind.{Kind}
