@@ -93,7 +93,7 @@ fn place_of(sentences: &[Sentence], chains: &Chains, by: By, rests: &[Literal]) 
 }
 
 /// The number of the sentence that names this reason and rests on these facts, which is added where there is
-/// none. The chains, with keys up to the number of profiles, have the sentences that came by this call: a sentence that
+/// none. The chains, with keys up to the number of profiles, have the sentences that came by this call: one that
 /// they do not have is added once more. An error is want of memory, or that there are more than 4,294,967,295
 /// sentences.
 pub fn join(

@@ -26,8 +26,8 @@ use worlds::laws::bodies_have_values;
 /// How many facts are tried one by one whether they can be left out.
 const MOST_TRIED: usize = 30;
 
-/// What reasons may cite, with the kind of the study's rules: the study is one of the kind's size, the core has
-/// places of its axioms alone, and the earlier lemmas have literals of the size alone.
+/// What reasons may cite, with the kind of the study's rules: the study is one of the kind's size, the core
+/// has places of its axioms alone, and the earlier lemmas have literals of the size alone.
 #[derive(Drop)]
 pub struct Grounds<'a, K: OutcomeKind> {
     pub kind: &'a K,
@@ -228,10 +228,10 @@ impl<K: OutcomeKind> Grounds<'_, K> {
         all_of(alloc, known.as_slice())
     }
 
-    /// What a reason rests on that refutes all that is known together with the others: of at most thirty facts
-    /// that its instance, its profile or its lemma speaks of none that it does not need; of more, all; and where
-    /// these do not do, all that is known. What is on the board where facts are tried does not count. The only
-    /// error is want of memory.
+    /// What a reason rests on that refutes all that is known together with the others: of at most thirty known
+    /// facts of which its instance, its profile or its lemma speaks those that it needs, as far as leaving out one
+    /// after another tells; of more, all; and where these do not do, all that is known. What is on the board where
+    /// facts are tried does not count. The only error is want of memory.
     pub fn rests_on(
         &self,
         alloc: Global,
