@@ -69,7 +69,8 @@ impl<F: Fn(u64, u64) -> Counts + Sync> Job for Summing<'_, F> {
     ghost has = { λ job piece. (piece_start piece ≤ job.count) ×
         F.pre job.sum.now (piece_start piece) (piece_end job.count piece) };
 
-    ghost is_right = { λ job piece part. F.post job.sum.now (piece_start piece) (piece_end job.count piece) part };
+    ghost is_right = { λ job piece part.
+        F.post job.sum.now (piece_start piece) (piece_end job.count piece) part };
 
     fn part(&self, piece: u32) -> Result<Counts, NoMemory> {
         let start = PIECE * u64::from(piece);
