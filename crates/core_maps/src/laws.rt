@@ -8,7 +8,8 @@ pub fn impossible_are_minimal()
     ensures { ImpossibleAreMinimal }
 {}
 
-/// No rule satisfies a possible set of a map that is whole and one axiom more, or an open set lies within that.
+/// No rule satisfies a possible set of a map that is whole and one axiom more, or an open set lies within
+/// that.
 pub fn possible_are_largest()
     ensures { PossibleAreLargest }
 {}

@@ -15,8 +15,8 @@ pub fn pages_are_written()
     ensures { PagesAreWritten }
 {}
 
-/// Of a study that a file gives an instance is told as it is defined, with status 0, or it is said why there is
-/// none, with status 3.
+/// Of a study that a file gives an instance is told as it is defined, with status 0, or it is said why there
+/// is none, with status 3.
 pub fn instances_are_exact()
     ensures { InstancesAreExact }
 {}
@@ -46,8 +46,8 @@ pub fn cores_are_written()
     ensures { CoresAreWritten }
 {}
 
-/// Of a study that a file gives it is told what it asks, or its clauses are refused; of a file that gives none the
-/// line of the refusal is written, and what helps.
+/// Of a study that a file gives it is told what it asks, or its clauses are refused; of a file that gives none
+/// the line of the refusal is written, and what helps.
 pub fn looks_are_exact()
     ensures { LooksAreExact }
 {}
@@ -57,8 +57,8 @@ pub fn looks_are_written()
     ensures { LooksAreWritten }
 {}
 
-/// Where no device fails, the text of the row is written, or memory is wanting: which statuses that leaves, command
-/// by command.
+/// Where no device fails, the text of the row is written, or memory is wanting: which statuses that leaves,
+/// command by command.
 pub fn calls_are_complete()
     ensures { CallsAreComplete }
 {}
@@ -68,8 +68,8 @@ pub fn usage_is_exact()
     ensures { UsageIsExact }
 {}
 
-/// At status 3 none but the first file of a command was touched, and `story` leaves the report alone where no study
-/// is given.
+/// At status 3 none but the first file of a command was touched, and `story` leaves the report alone where no
+/// study is given.
 pub fn refused_leaves_unopened()
     ensures { RefusedLeavesUnopened }
 {}

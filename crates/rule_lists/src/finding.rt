@@ -78,7 +78,8 @@ impl Found {
     ) -> Result<Search, NoMemory>
         requires size { study.now.size ≡ K.size kind.now }
         requires found { IsFound study.now self.now.tables.items self.now.clauses.clauses }
-        ensures { IfOk result (Answers self.now.clauses.clauses (variable_count study.now.size) study.now.conflicts) }
+        ensures { IfOk result
+            (Answers self.now.clauses.clauses (variable_count study.now.size) study.now.conflicts) }
     {
         let _axioms = study.axioms();
         laws::kinds_have_sizes(kind);

@@ -87,7 +87,8 @@ fn put_owner(out: &mut Bytes, share: &Share) -> Result<(), NoMemory>
 
 /// Adds the line of the nearest limit, if there is one.
 pub(crate) fn put_nearest(out: &mut Bytes, nearest: Option<&Share>) -> Result<(), NoMemory>
-    ensures { OnOk result (out.new ≡ out.old ++ nearest_line (option_map (λ share. share.now) nearest.entry)) }
+    ensures { OnOk result
+        (out.new ≡ out.old ++ nearest_line (option_map (λ share. share.now) nearest.entry)) }
 {
     let Some(share) = nearest else {
         return Ok(());
