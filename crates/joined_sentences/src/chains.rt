@@ -20,8 +20,8 @@ impl Chains {
         })
     }
 
-    /// The newest number of a key.
-    pub(crate) fn newest(&self, key: usize) -> Option<u32> {
+    /// The newest number of a key, if it has one and is below the bound.
+    pub fn newest(&self, key: usize) -> Option<u32> {
         if key < self.newest.len() {
             self.newest[key]
         } else {
@@ -39,8 +39,9 @@ impl Chains {
         }
     }
 
-    /// Gives the next number to a key.
-    pub(crate) fn push(&mut self, key: usize) -> Result<(), NoMemory> {
+    /// Gives the next number to a key; to none, where the key is not below the bound or the number is above
+    /// 4,294,967,295. The only error is want of memory.
+    pub fn push(&mut self, key: usize) -> Result<(), NoMemory> {
         let number = self.older.len();
         let older = self.newest(key);
         self.older.push(older)?;

@@ -1,12 +1,19 @@
 -- What a reason rests on.
-use Rattle.std.specs.Prelude.{Bool, IsTrue, List, ◌++◌}
+use Rattle.std.specs.Prelude.{Bool, true, ◌==◌, IsTrue, List, ◌++◌}
 use Rattle.std.specs.List.{list_all}
 use Rattle.vocab.specs.declared.literals.Literal.{Literal}
-use Rattle.vocab.specs.Literal.{has}
+use Rattle.vocab.specs.Literal.{has, profile_of}
 use Rattle.vocab.specs.Size.{Extent}
 use Rattle.meaning.specs.declared.stories.Reason.{Reason}
+use Rattle.meaning.specs.declared.stories.Reason.TheVariants.{Axiom as ByAxiom, Outcome as ByOutcome, Lemma as ByLemma}
 use Rattle.meaning.specs.Stories.{refutes}
 use Rattle.needed_facts.specs.declared.basis.Basis.{Basis}
+
+-- where a reason is what is left at a profile, all these facts are of that profile
+abbrev pub are_there : Reason → List Literal → Bool
+are_there (ByAxiom k values) rests = true
+are_there (ByOutcome p) rests = list_all (λ l. profile_of l == p) rests
+are_there (ByLemma j) rests = true
 
 module _ (size : Extent) (basis : Basis) where
   -- a reason refutes the known literals

@@ -1,14 +1,15 @@
 //! What a reason rests on.
 
-ghost use Rattle.std.specs.Prelude.{◌≡◌, ◌++◌, ℕ, List, nat_lt, slice_get, Some, IsTrue, IfOk, IfSome};
+ghost use Rattle.std.specs.Prelude.{◌≡◌, ◌==◌, ◌++◌, ℕ, List, nat_lt, slice_get, Some, IsTrue, IfOk, IfSome};
 ghost use Rattle.std.specs.Cmp.Lexicographic.{pointwise};
 ghost use Rattle.std.specs.List.{list_all};
 ghost use Rattle.vocab.specs.Limits.{bases_of};
-ghost use Rattle.vocab.specs.Literal.{has};
+ghost use Rattle.vocab.specs.Literal.{has, profile_of};
 ghost use Rattle.vocab.specs.Titled.{Titled};
 ghost use Rattle.meaning.specs.Stories.{has_literals};
 ghost use Rattle.story.specs.Conditions.{has_places};
-ghost use Rattle.needed_facts.specs.Rests.{RestsOn, refutes_by};
+ghost use Rattle.needed_facts.specs.Rests.{RestsOn, are_there, refutes_by};
+ghost use Rattle.tellings.specs.Laws.{facts_at};
 
 use crate::basis::Basis;
 use crate::literals::{is_literal, profile_of};
@@ -211,7 +212,8 @@ impl<K: OutcomeKind> Grounds<'_, K> {
         }
     }
 
-    /// All that is known, where a reason refutes it together with the others.
+    /// All that is known, or all of the profile where the reason is what is left at one. The reason has to refute
+    /// all that is known together with the others.
     fn all_known(
         &self,
         alloc: Global,
@@ -221,18 +223,20 @@ impl<K: OutcomeKind> Grounds<'_, K> {
     ) -> Result<Literals, NoMemory>
         requires { IsTrue (refutes_by (K.size self.now.kind.now) self.now.basis
             (known.now.literals ++ others.now) reason.now) }
-        ensures { IfOk result (λ rests.
+        ensures rests { IfOk result (λ rests.
             RestsOn (K.size self.now.kind.now) self.now.basis
             known.now.literals others.now reason.now rests) }
+        ensures there { IfOk result (λ rests. IsTrue (are_there reason.now rests)) }
     {
-        all_of(alloc, known.as_slice())
+        match *reason {
+            Reason::Axiom(_, _) => all_of(alloc, known.as_slice()),
+            Reason::Outcome(p) => at_profile(alloc, known.as_slice(), p),
+            Reason::Lemma(_) => all_of(alloc, known.as_slice()),
+        }
     }
 
-    /// What a reason rests on that refutes all that is known together with the others: of at most thirty known
-    /// facts of which its instance, its profile or its lemma speaks those that it needs, as far as leaving out one
-    /// after another tells; of more, all; and where these do not do, all that is known. What is on the board where
-    /// facts are tried does not count. The only error is want of memory.
-    pub fn rests_on(
+    /// Few facts on which a reason rests that refutes all that is known together with the others.
+    fn few_facts(
         &self,
         alloc: Global,
         known: &Board,
@@ -265,10 +269,65 @@ impl<K: OutcomeKind> Grounds<'_, K> {
             None => self.all_known(alloc, known, others, reason),
         }
     }
+
+    /// What a reason rests on that refutes all that is known together with the others: of at most thirty known
+    /// facts of which its instance, its profile or its lemma speaks those that it needs, as far as leaving out one
+    /// after another tells; of more, all; and where these do not do, all that is known, of the profile where the
+    /// reason is what is left at one. What is on the board where facts are tried does not count. The only error is
+    /// want of memory.
+    pub fn rests_on(
+        &self,
+        alloc: Global,
+        known: &Board,
+        tried: &mut Board,
+        others: &[Literal],
+        reason: &Reason,
+    ) -> Result<Literals, NoMemory>
+        requires known { known.now.size ≡ K.size self.now.kind.now }
+        requires tried { tried.old.size ≡ K.size self.now.kind.now }
+        requires refuted { IsTrue (refutes_by (K.size self.now.kind.now) self.now.basis
+            (known.now.literals ++ others.now) reason.now) }
+        ensures tried { tried.new.size ≡ tried.old.size }
+        ensures rests { IfOk result (λ rests.
+            RestsOn (K.size self.now.kind.now) self.now.basis
+            known.now.literals others.now reason.now rests) }
+        ensures there { IfOk result (λ rests. IsTrue (are_there reason.now rests)) }
+    {
+        let rests = self.few_facts(alloc, known, tried, others, reason)?;
+        if are_there(reason, rests.as_slice()) {
+            return Ok(rests);
+        }
+        self.all_known(alloc, known, others, reason)
+    }
+}
+
+/// Whether some facts are of a profile.
+fn are_at(facts: &[Literal], p: u32) -> bool
+    ensures { IsTrue result → IsTrue (list_all (λ l. profile_of l == p) facts.now) }
+{
+    for literal in facts {
+        if profile_of(literal) != p {
+            return false;
+        }
+    }
+    true
+}
+
+/// Whether some facts are of the profile, if a reason is what is left at one.
+fn are_there(reason: &Reason, facts: &[Literal]) -> bool
+    ensures { IsTrue result → IsTrue (are_there reason.now facts.now) }
+{
+    match *reason {
+        Reason::Axiom(_, _) => true,
+        Reason::Outcome(p) => are_at(facts, p),
+        Reason::Lemma(_) => true,
+    }
 }
 
 /// Those of some literals that speak of a profile.
-fn at_profile(alloc: Global, literals: &[Literal], p: u32) -> Result<Literals, NoMemory> {
+fn at_profile(alloc: Global, literals: &[Literal], p: u32) -> Result<Literals, NoMemory>
+    ensures { IfOk result (λ found. found ≡ facts_at p literals.now) }
+{
     let mut found = Literals::new(alloc);
     for literal in literals {
         if profile_of(literal) == p {

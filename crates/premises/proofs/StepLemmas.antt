@@ -101,11 +101,13 @@ parts_of size basis lemma h =
     let r = and_parts (list_all (is_literal size) lemma.suppose) (list_all (λ (step : StoryStep). is_literal size step.literal) lemma.steps) q.0 in
     record { literals = q.0; supposed = r.0; fresh = q.1; follows = p.1 }
 
+-- the steps of a lemma state literals of the size
+pub steps_literals : (size : Extent) (lemma : Lemma) → has_literals size lemma ≡ true → list_all (λ step. is_literal size step.literal) lemma.steps ≡ true
+steps_literals size lemma h = (and_parts (list_all (is_literal size) lemma.suppose) (list_all (λ (step : StoryStep). is_literal size step.literal) lemma.steps) h).1
+
 -- a step of a lemma states a literal of the size
 pub its_literal : (size : Extent) (lemma : Lemma) (i : ℕ) (d : StoryStep) → has_literals size lemma ≡ true → i < length lemma.steps → is_literal size (get_or lemma.steps i d).literal ≡ true
-its_literal size lemma i d h lt =
-    let p = and_parts (list_all (is_literal size) lemma.suppose) (list_all (λ (step : StoryStep). is_literal size step.literal) lemma.steps) h in
-    all_read (λ (step : StoryStep). is_literal size step.literal) lemma.steps i d lt p.1
+its_literal size lemma i d h lt = all_read (λ (step : StoryStep). is_literal size step.literal) lemma.steps i d lt (steps_literals size lemma h)
 
 -- the steps that are not forced, one more
 pub unforced_more : (forced : List Literal) (steps : List StoryStep) (i : ℕ) (d : StoryStep) → i < length steps → unforced forced (take (i + 1) steps) ≡ unforced forced (take i steps) ++ unforced forced (get_or steps i d ∷ [])

@@ -1,27 +1,42 @@
 -- One step more is told.
-use Rattle.std.proofs.Common.{◌≡◌, refl, sym, ap, ◌∙◌, subst, ℕ, ◌<◌, ◌≤◌, inl, inr, Bool, true, ◌&&◌, ◌||◌, List, [], ◌∷◌, ◌++◌, length, arith, Option, Some, None, IsSomeAnd, ltb-true, lt-ltb}
-use Rattle.std.specs.Prelude.{nat_lt, slice_get}
+use Rattle.std.proofs.Common.{◌≡◌, refl, sym, ap, ◌∙◌, subst, ℕ, ◌+◌, ◌<◌, ◌≤◌, inl, inr, Bool, true, ◌&&◌, ◌||◌, List, [], ◌∷◌, ◌++◌, length, arith, Option, Some, None, IsSomeAnd, ltb-true, lt-ltb, eq-eqb, eqb-true}
+use Rattle.std.specs.Prelude.{◌==◌, nat_lt, slice_get}
 use Rattle.std.specs.List.{list_all, list_any}
 use Rattle.std.proofs.lemmas.Bool.{and_parts, and_from, or_cases, or_left, or_right, cases_lt}
 use Rattle.std.proofs.lemmas.List.{map-append}
 use Rattle.std.proofs.lemmas.List.Folds.{list_any-append}
 use Rattle.vocab.specs.declared.literals.Literal.{Literal}
-use Rattle.vocab.specs.Literal.{has, opposite_of, same_literal}
+use Rattle.vocab.specs.declared.literals.Literal.TheVariants.{Wins, Loses, Above}
+use Rattle.vocab.specs.Literal.{has, opposite_of, profile_of, same_literal}
 use Rattle.vocab.specs.Size.{Extent}
 use Rattle.vocab.specs.Titled.{Titled}
 use Rattle.meaning.specs.declared.stories.Lemma.{Lemma}
+use Rattle.meaning.specs.declared.stories.Reason.{Reason}
+use Rattle.meaning.specs.declared.stories.Reason.TheVariants.{Axiom as ByAxiom, Outcome as ByOutcome, Lemma as ByLemma}
 use Rattle.meaning.specs.declared.stories.StoryStep.{StoryStep}
 use Rattle.meaning.specs.Stories.{refutes}
-use Rattle.tellings.specs.Tellings.{by_of, rests_of, says, stands_before}
+use Rattle.tellings.specs.Tellings.{by_of, moved_to, rests_of, says, stand_there, stands_before}
 use Rattle.tellings.specs.declared.tellings.Passage.{Passage}
 use Rattle.tellings.specs.declared.tellings.Placed.{Placed}
 use Rattle.tellings.specs.declared.tellings.Sentence.{Sentence}
+use Rattle.meaning.proofs.LiteralLaws.{same_literal-refl}
 use Rattle.needed_facts.specs.declared.basis.Basis.{Basis}
-use Rattle.needed_facts.specs.Rests.{RestsOn}
+use Rattle.needed_facts.specs.Rests.{are_there, RestsOn}
 use Rattle.joined_sentences.specs.Joined.{IsJoined, IsSentence}
 use Rattle.premises.specs.SoFar.{are_numbered, steps_of, IsToldSoFar}
-use Rattle.needed_facts.proofs.RestLemmas.{same_itself, has_itself, all_among}
+use Rattle.needed_facts.proofs.RestLemmas.{has_itself, all_among}
 use Rattle.needed_facts.proofs.TestLemmas.{all_from, all_both, all_more, any_from, past}
+
+-- a step stands in the sentence of the number
+abbrev pub is_in : ℕ → Placed → Bool
+is_in k placed = placed.sentence == k
+
+-- the sentences so far each say a step, and so does the next
+pub say_next : (steps : List Placed) (n : ℕ) → ((k : ℕ) → k < n → list_any (is_in k) steps ≡ true) → list_any (is_in n) steps ≡ true → (k : ℕ) → k < n + 1 → list_any (is_in k) steps ≡ true
+say_next steps n say one k lt = elim (cases_lt k n) [
+  | inl low ↦ say k low
+  | inr high ↦ let same : n ≡ k = omega (arith, high, lt) in subst (λ (i : ℕ). list_any (is_in i) steps ≡ true) same one
+]
 
 -- ---- what stands
 
@@ -62,16 +77,29 @@ module _ (forced suppose : List Literal) where
       let q = p.step.literal in
       or_right (has forced q || has suppose q) (list_any (is_stated m q) (steps ++ p ∷ []))
       (list_any-append (is_stated m q) steps (p ∷ []) ∙ or_right (list_any (is_stated m q) steps) (list_any (is_stated m q) (p ∷ []))
-      (or_left (is_stated m q p) (list_any (is_stated m q) []) (and_from (nat_lt p.sentence m) (same_literal q q) (lt-ltb p.sentence m lt) (same_itself q))))
+      (or_left (is_stated m q p) (list_any (is_stated m q) []) (and_from (nat_lt p.sentence m) (same_literal q q) (lt-ltb p.sentence m lt) (same_literal-refl q))))
+
+-- ---- what stands of the profile of a reason
+
+stays : (p : ℕ) (l : Literal) → (profile_of l == p) ≡ true → moved_to p l ≡ l
+stays p (Wins x q) h = ap (λ (i : ℕ). Wins x i) (sym (eqb-true q p h))
+stays p (Loses x q) h = ap (λ (i : ℕ). Loses x i) (sym (eqb-true q p h))
+stays p (Above x y q) h = ap (λ (i : ℕ). Above x y i) (sym (eqb-true q p h))
+
+stand_of : (reason : Reason) (rests : List Literal) → are_there reason rests ≡ true → stand_there rests reason ≡ true
+stand_of (ByAxiom k values) rests h = refl
+stand_of (ByOutcome p) rests h =
+    all_both (λ (l : Literal). profile_of l == p) (has rests) (λ (l : Literal). has rests (moved_to p l)) (λ l here known. subst (λ (q : Literal). has rests q ≡ true) (sym (stays p l here)) known) rests h (has_itself rests)
+stand_of (ByLemma j) rests h = refl
 
 -- ---- sentences that are joined
 
 module _ (size : Extent) (axioms : List Titled) (core : List ℕ) (earlier : List Lemma) where
-  pub says_it : (o : Option Sentence) (step : StoryStep) (rests : List Literal) → IsSomeAnd o (IsSentence (by_of step.reason) rests) →
+  pub says_it : (o : Option Sentence) (step : StoryStep) (rests : List Literal) → IsSomeAnd o (IsSentence (by_of step.reason) rests) → are_there step.reason rests ≡ true →
       refutes size axioms core earlier (rests ++ opposite_of step.literal ∷ []) step.reason ≡ true → says size axioms core earlier o step ≡ true
-  says_it None step rests h r = absurd h
-  says_it (Some s) step rests h r =
-      and_from _ _ h.named (subst (λ (ls : List Literal). refutes size axioms core earlier (ls ++ opposite_of step.literal ∷ []) step.reason ≡ true) (sym h.same) r)
+  says_it None step rests h t r = absurd h
+  says_it (Some s) step rests h t r =
+      and_from _ _ (and_from _ _ h.named (subst (λ (ls : List Literal). stand_there ls step.reason ≡ true) (sym h.same) (stand_of step.reason rests t))) (subst (λ (ls : List Literal). refutes size axioms core earlier (ls ++ opposite_of step.literal ∷ []) step.reason ≡ true) (sym h.same) r)
 
   its_rests : (o : Option Sentence) (step : StoryStep) (rests : List Literal) → IsSomeAnd o (IsSentence (by_of step.reason) rests) → rests_of o ≡ rests
   its_rests None step rests h = absurd h
@@ -91,12 +119,21 @@ module _ (size : Extent) (axioms : List Titled) (core : List ℕ) (earlier : Lis
         all_more (λ p. nat_lt p.sentence (length new)) steps placed (all_from (λ p. nat_lt p.sentence (length old)) (λ p. nat_lt p.sentence (length new)) later steps h) (lt-ltb number (length new) joined.within)
 
     pub said_more : are_numbered (length old) steps ≡ true → list_all (λ p. says size axioms core earlier (slice_get old p.sentence) p.step) steps ≡ true →
-        refutes size axioms core earlier (rests ++ opposite_of step.literal ∷ []) step.reason ≡ true → list_all (λ p. says size axioms core earlier (slice_get new p.sentence) p.step) (steps ++ placed ∷ []) ≡ true
-    said_more numbered said refuted =
+        are_there step.reason rests ≡ true → refutes size axioms core earlier (rests ++ opposite_of step.literal ∷ []) step.reason ≡ true → list_all (λ p. says size axioms core earlier (slice_get new p.sentence) p.step) (steps ++ placed ∷ []) ≡ true
+    said_more numbered said there refuted =
         all_more (λ p. says size axioms core earlier (slice_get new p.sentence) p.step) steps placed
         (all_both (λ p. nat_lt p.sentence (length old)) (λ p. says size axioms core earlier (slice_get old p.sentence) p.step) (λ p. says size axioms core earlier (slice_get new p.sentence) p.step)
         (λ p h s. subst (λ (o : Option Sentence). says size axioms core earlier o p.step ≡ true) (sym (joined.kept p.sentence (ltb-true p.sentence (length old) h))) s) steps numbered said)
-        (says_it (slice_get new number) step rests joined.is refuted)
+        (says_it (slice_get new number) step rests joined.is there refuted)
+
+    -- each sentence so far says a step, and so does one more
+    pub all_say_more : ((k : ℕ) → k < length old → list_any (is_in k) steps ≡ true) → (k : ℕ) → k < length new → list_any (is_in k) (steps ++ placed ∷ []) ≡ true
+    all_say_more say k within = elim (cases_lt k (length old)) [
+      | inl low ↦ list_any-append (is_in k) steps (placed ∷ []) ∙ or_left (list_any (is_in k) steps) (list_any (is_in k) (placed ∷ [])) (say k low)
+      | inr high ↦
+          let same : number ≡ k = sym (joined.fresh k high within).0 in
+          list_any-append (is_in k) steps (placed ∷ []) ∙ or_right (list_any (is_in k) steps) (list_any (is_in k) (placed ∷ [])) (or_left (is_in k placed) (list_any (is_in k) []) (eq-eqb number k same))
+    ]
 
     pub rests_there : rests_of (slice_get new number) ≡ rests
     rests_there = its_rests (slice_get new number) step rests joined.is
@@ -105,7 +142,7 @@ module _ (size : Extent) (axioms : List Titled) (core : List ℕ) (earlier : Lis
 
 module _ (size : Extent) (basis : Basis) where
   module _ (forced suppose known rests : List Literal) (old new : Passage) (step : StoryStep) (number : ℕ) (so_far : IsToldSoFar size basis forced suppose known old)
-      (grounds : RestsOn size basis known (opposite_of step.literal ∷ []) step.reason rests) (joined : IsJoined old.sentences new.sentences (by_of step.reason) rests number) where
+      (grounds : RestsOn size basis known (opposite_of step.literal ∷ []) step.reason rests) (there : are_there step.reason rests ≡ true) (joined : IsJoined old.sentences new.sentences (by_of step.reason) rests number) where
     -- the next step, with its number
     abbrev one : Placed
     one = placed size basis.study.now.axioms basis.core.now basis.earlier.now old.sentences new.sentences old.steps step rests number joined
@@ -133,7 +170,8 @@ module _ (size : Extent) (basis : Basis) where
     told_so : IsToldSoFar size basis forced suppose (known ++ step.literal ∷ []) (record { sentences = new.sentences; steps = more })
     told_so = record {
       numbered = numbered_more size basis.study.now.axioms basis.core.now basis.earlier.now old.sentences new.sentences old.steps step rests number joined so_far.numbered;
-      said = said_more size basis.study.now.axioms basis.core.now basis.earlier.now old.sentences new.sentences old.steps step rests number joined so_far.numbered so_far.said grounds.refuted;
+      said = said_more size basis.study.now.axioms basis.core.now basis.earlier.now old.sentences new.sentences old.steps step rests number joined so_far.numbered so_far.said there grounds.refuted;
+      all_say = all_say_more size basis.study.now.axioms basis.core.now basis.earlier.now old.sentences new.sentences old.steps step rests number joined so_far.all_say;
       grounded = grounded_at;
       stands =
           all_more (stands_before forced suppose more (length new.sentences)) known step.literal
@@ -146,7 +184,7 @@ module _ (size : Extent) (basis : Basis) where
 
   -- nothing is told yet
   pub told_none : (forced suppose : List Literal) → IsToldSoFar size basis forced suppose suppose (record { sentences = []; steps = [] })
-  told_none forced suppose = record { numbered = refl; said = refl; grounded = λ k. refl; stands = supposed_stand forced suppose [] 0 }
+  told_none forced suppose = record { numbered = refl; said = refl; all_say = λ k lt. absurd (omega (arith, lt)); grounded = λ k. refl; stands = supposed_stand forced suppose [] 0 }
 
   -- a step whose fact is forced need not be told
   pub told_forced : (forced suppose known : List Literal) (passage : Passage) (l : Literal) → IsToldSoFar size basis forced suppose known passage → has forced l ≡ true →
@@ -154,6 +192,7 @@ module _ (size : Extent) (basis : Basis) where
   told_forced forced suppose known passage l so_far h = record {
     numbered = so_far.numbered;
     said = so_far.said;
+    all_say = so_far.all_say;
     grounded = so_far.grounded;
     stands =
         all_more (stands_before forced suppose passage.steps (length passage.sentences)) known l so_far.stands (forced_stands forced suppose passage.steps (length passage.sentences) l h);

@@ -12,7 +12,7 @@ use Rattle.tellings.specs.declared.tellings.Passage.{Passage}
 use Rattle.tellings.specs.declared.tellings.Placed.{Placed}
 use Rattle.tellings.specs.declared.tellings.Sentence.{Sentence}
 use Rattle.tellings.specs.declared.tellings.Telling.{Telling}
-use Rattle.tellings.specs.Tellings.{are_said, rests_of, says, stands_before, IsTold}
+use Rattle.tellings.specs.Tellings.{are_said, rests_of, says, stands_before, IsTold, AllSay}
 use Rattle.needed_facts.specs.declared.basis.Basis.{Basis}
 
 -- the steps without their places
@@ -54,6 +54,7 @@ module _ (size : Extent) (basis : Basis) where
   pub record IsToldSoFar (forced suppose known : List Literal) (passage : Passage) : Type 0 where
     pub numbered : IsTrue (are_numbered (length passage.sentences) passage.steps)
     pub said : IsTrue (are_said_by passage)
+    pub all_say : AllSay passage
     pub grounded : (k : ℕ)
         → IsTrue (list_all (stands_before forced suppose passage.steps k) (rests_of (slice_get passage.sentences k)))
     pub stands :

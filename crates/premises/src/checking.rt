@@ -1,19 +1,20 @@
 //! Whether a passage tells a lemma right.
 
-ghost use Rattle.std.specs.Prelude.{◌≡◌, ◌<◌, ◌&&◌, nat_lt, ℕ, length, slice_get, Some, IsTrue};
+ghost use Rattle.std.specs.Prelude.{◌≡◌, ◌<◌, ◌&&◌, ◌==◌, nat_lt, ℕ, length, slice_get, Some, IsTrue, IfOk};
 ghost use Rattle.std.specs.List.{list_all, list_any};
-ghost use Rattle.vocab.specs.Literal.{same_literal};
+ghost use Rattle.vocab.specs.Literal.{has, same_literal};
 ghost use Rattle.meaning.specs.Literals.{is_literal};
-ghost use Rattle.tellings.specs.Tellings.{rests_of, stands_before};
+ghost use Rattle.tellings.specs.Tellings.{moved_to, rests_of, stand_there, stands_before, AllSay};
 ghost use Rattle.premises.specs.SoFar.{are_said_by, says_by, Upholds};
 ghost use Rattle.premises.specs.Checking.{IsLoaded};
 
 use crate::teller::Teller;
-use joined_sentences::{StepIndex, by_of, is_by};
-use lists::Items;
-use meaning::StoryStep;
+use joined_sentences::{Chains, StepIndex, by_of, is_by};
+use lists::{Items, NoMemory};
+use meaning::{Reason, StoryStep};
 use needed_facts::{add_others, is_literal};
 use outcomes::OutcomeKind;
+use std::alloc::Global;
 use tellings::{Passage, Placed, Sentence};
 use vocab::{Literal, Size};
 use worlds::Board;
@@ -44,6 +45,34 @@ fn load(
     add_others(size, tried, sentences.get(number).rests.as_slice())
 }
 
+/// Whether some step stands in the sentence of a number, if the chains have the steps by their sentences.
+fn says_one(chains: &Chains, steps: &[Placed], number: usize) -> bool
+    ensures { IsTrue result → IsTrue (list_any (λ placed. placed.sentence == number) steps.now) }
+{
+    let Some(place) = chains.newest(number) else {
+        return false;
+    };
+    let place = place as usize;
+    place < steps.len() && steps[place].sentence as usize == number
+}
+
+/// Whether each sentence of a passage says a step.
+pub(crate) fn all_say(alloc: Global, passage: &Passage) -> Result<bool, NoMemory>
+    ensures { IfOk result (λ say. IsTrue say → AllSay passage.now) }
+{
+    let steps = passage.steps.as_slice();
+    let mut chains = Chains::new(alloc, passage.sentences.len())?;
+    for placed in steps {
+        chains.push(placed.sentence as usize)?;
+    }
+    for number in 0..passage.sentences.len() {
+        if !says_one(&chains, steps, number) {
+            return Ok(false);
+        }
+    }
+    Ok(true)
+}
+
 /// Whether a step of a sentence before the number states a fact.
 fn is_stated(index: &StepIndex, steps: &[Placed], number: usize, literal: &Literal) -> bool
     ensures { IsTrue result → IsTrue (list_any
@@ -52,6 +81,44 @@ fn is_stated(index: &StepIndex, steps: &[Placed], number: usize, literal: &Liter
     match index.sentence_of(steps, literal) {
         Some(sentence) => (sentence as usize) < number,
         None => false,
+    }
+}
+
+/// The claim of a fact, made of another profile.
+fn moved_to(p: u32, literal: &Literal) -> Literal
+    ensures { result ≡ moved_to p literal.now }
+{
+    match *literal {
+        Literal::Wins(x, _) => Literal::Wins(x, p),
+        Literal::Loses(x, _) => Literal::Loses(x, p),
+        Literal::Above(x, y, _) => Literal::Above(x, y, p),
+    }
+}
+
+/// Whether all claims of what is on a board stand there of a profile.
+fn all_moved(size: Size, tried: &Board, p: u32) -> bool
+    requires { tried.now.size ≡ size }
+    ensures { IsTrue result →
+        IsTrue (list_all (λ l. has tried.now.literals (moved_to p l)) tried.now.literals) }
+{
+    for literal in tried.as_slice() {
+        let moved = moved_to(p, literal);
+        if !is_literal(size, &moved) || !tried.has(&moved) {
+            return false;
+        }
+    }
+    true
+}
+
+/// Whether all claims of what is on a board stand there of the profile, if a reason is what is left at one.
+fn stand_there(size: Size, tried: &Board, reason: &Reason) -> bool
+    requires { tried.now.size ≡ size }
+    ensures { IsTrue result → IsTrue (stand_there tried.now.literals reason.now) }
+{
+    match *reason {
+        Reason::Axiom(_, _) => true,
+        Reason::Outcome(p) => all_moved(size, tried, p),
+        Reason::Lemma(_) => true,
     }
 }
 
@@ -69,6 +136,9 @@ impl<K: OutcomeKind> Teller<'_, K> {
         let size = self.grounds.kind.space().size();
         let other = step.literal.opposite();
         if !is_literal(size, &other) || tried.has(&other) {
+            return false;
+        }
+        if !stand_there(size, tried, &step.reason) {
             return false;
         }
         tried.add(&other);

@@ -1,19 +1,19 @@
 //! Facts that an axiom forces where nothing is supposed.
 
 ghost use Rattle.std.specs.Prelude.{◌≡◌, ℕ, List, [], ◌∷◌, ◌++◌, IsTrue, IsFalse, IfOk, OnOk};
+ghost use Rattle.std.specs.List.{list_all};
 ghost use Rattle.vocab.specs.Literal.{has, opposite_of};
 ghost use Rattle.vocab.specs.Size.{Extent};
 ghost use Rattle.vocab.specs.Titled.{Titled};
 ghost use Rattle.meaning.specs.Literals.{is_literal};
-ghost use Rattle.meaning.specs.Stories.{refutes};
+ghost use Rattle.meaning.specs.Stories.{has_literals, refutes};
 ghost use Rattle.story.specs.Conditions.{has_places};
-ghost use Rattle.tellings.specs.Tellings.{facts_of, IsForced};
-ghost use Rattle.premises.specs.Forcing.{AreForcedSoFar};
+ghost use Rattle.tellings.specs.Tellings.{by_of, facts_of, is_axiom, is_covered, IsForced};
+ghost use Rattle.premises.specs.Forcing.{are_covered, AreForcedSoFar, AreKept};
 
 use joined_sentences::{Chains, by_of, join};
 use lists::{Items, NoMemory};
 use meaning::{Lemma, Literals, Reason, StoryStep};
-use needed_facts::is_literal;
 use outcomes::OutcomeKind;
 use std::alloc::Global;
 use story::refutes;
@@ -49,11 +49,13 @@ impl Forced {
     fn state(&mut self, alloc: Global, step: &StoryStep) -> Result<(), NoMemory>
         requires literal { IsTrue (is_literal self.old.board.size step.now.literal) }
         requires fresh { IsFalse (has self.old.board.literals step.now.literal) }
-        ensures { (axioms : List Titled) (core : List ℕ) →
+        ensures so_far { (axioms : List Titled) (core : List ℕ) →
             AreForcedSoFar self.old.board.size axioms core self.old →
             IsTrue (refutes self.old.board.size axioms core []
             (opposite_of step.now.literal ∷ []) step.now.reason) →
             OnOk result (AreForcedSoFar self.old.board.size axioms core self.new) }
+        ensures stated { OnOk result
+            (self.new.board.literals ≡ self.old.board.literals ++ step.now.literal ∷ []) }
     {
         let by = by_of(&step.reason);
         let sentence = join(
@@ -70,8 +72,8 @@ impl Forced {
         Ok(())
     }
 
-    /// Takes the fact of a step among them, if it is one of the size that is not yet there, and the step's
-    /// reason is an axiom that forces it.
+    /// Takes the fact of a step among them, if it is not yet there, and the step's reason is an axiom that
+    /// forces it.
     fn take<K: OutcomeKind>(
         &mut self,
         alloc: Global,
@@ -84,17 +86,22 @@ impl Forced {
         requires study { study.now.size ≡ K.size kind.now }
         requires core { IsTrue (has_places study.now.axioms core.now) }
         requires tried { tried.old.size ≡ K.size kind.now }
+        requires literal { IsTrue (is_literal (K.size kind.now) step.now.literal) }
         requires so_far { AreForcedSoFar (K.size kind.now) study.now.axioms core.now self.old }
         ensures tried { tried.new.size ≡ tried.old.size }
         ensures so_far { OnOk result (AreForcedSoFar (K.size kind.now) study.now.axioms core.now self.new) }
+        ensures kept { OnOk result (AreKept self.old.board.literals self.new.board.literals) }
+        ensures covered { OnOk result (IsTrue (is_covered (K.size kind.now) study.now.axioms core.now
+            self.new.board.literals step.now)) }
     {
-        if !is_by_axiom(step) || !is_literal(kind.space().size(), &step.literal) {
+        if self.board.has(&step.literal) {
             return Ok(());
         }
-        if self.board.has(&step.literal) || !is_forced(kind, study, core, tried, step) {
+        if !is_by_axiom(step) || !is_forced(kind, study, core, tried, step) {
             return Ok(());
         }
-        self.state(alloc, step)
+        self.state(alloc, step)?;
+        Ok(())
     }
 
     /// Takes the facts of some steps among them.
@@ -110,9 +117,13 @@ impl Forced {
         requires study { study.now.size ≡ K.size kind.now }
         requires core { IsTrue (has_places study.now.axioms core.now) }
         requires tried { tried.old.size ≡ K.size kind.now }
+        requires literals { IsTrue (list_all (λ step. is_literal (K.size kind.now) step.literal) steps.now) }
         requires so_far { AreForcedSoFar (K.size kind.now) study.now.axioms core.now self.old }
         ensures tried { tried.new.size ≡ tried.old.size }
         ensures so_far { OnOk result (AreForcedSoFar (K.size kind.now) study.now.axioms core.now self.new) }
+        ensures kept { OnOk result (AreKept self.old.board.literals self.new.board.literals) }
+        ensures covered { OnOk result (IsTrue (are_covered (K.size kind.now) study.now.axioms core.now
+            self.new.board.literals steps.now)) }
     {
         for step in steps {
             self.take(alloc, kind, study, core, tried, step)?;
@@ -138,7 +149,9 @@ impl Forced {
 }
 
 /// Whether the reason of a step is an axiom.
-fn is_by_axiom(step: &StoryStep) -> bool {
+fn is_by_axiom(step: &StoryStep) -> bool
+    ensures { result ≡ is_axiom (by_of step.now.reason) }
+{
     match step.reason {
         Reason::Axiom(_, _) => true,
         Reason::Outcome(_) => false,
@@ -157,14 +170,12 @@ fn is_forced<K: OutcomeKind>(
     requires study { study.now.size ≡ K.size kind.now }
     requires core { IsTrue (has_places study.now.axioms core.now) }
     requires tried { tried.old.size ≡ K.size kind.now }
+    requires literal { IsTrue (is_literal (K.size kind.now) step.now.literal) }
     ensures tried { tried.new.size ≡ tried.old.size }
-    ensures refuted { IsTrue result → IsTrue (refutes (K.size kind.now) study.now.axioms core.now []
-        (opposite_of step.now.literal ∷ []) step.now.reason) }
+    ensures refuted { result ≡ refutes (K.size kind.now) study.now.axioms core.now []
+        (opposite_of step.now.literal ∷ []) step.now.reason }
 {
     let other = step.literal.opposite();
-    if !is_literal(kind.space().size(), &other) {
-        return false;
-    }
     tried.clear();
     tried.add(&other);
     match refutes(kind, study, core, &[], tried, &step.reason) {
@@ -186,7 +197,10 @@ fn forced_in<K: OutcomeKind>(
     requires study { study.now.size ≡ K.size kind.now }
     requires core { IsTrue (has_places study.now.axioms core.now) }
     requires tried { tried.old.size ≡ K.size kind.now }
-    ensures { IfOk result (AreForcedSoFar (K.size kind.now) study.now.axioms core.now) }
+    requires literals { IsTrue (list_all (has_literals (K.size kind.now)) story.now) }
+    ensures so_far { IfOk result (AreForcedSoFar (K.size kind.now) study.now.axioms core.now) }
+    ensures covered { IfOk result (λ forced. IsTrue (list_all (λ lemma. are_covered (K.size kind.now)
+        study.now.axioms core.now forced.board.literals lemma.steps) story.now)) }
 {
     let mut forced = Forced::new(alloc, kind)?;
     for place in 0..story.len() {
@@ -207,7 +221,10 @@ pub(crate) fn forced_facts<K: OutcomeKind>(
 ) -> Result<Forced, NoMemory>
     requires study { study.now.size ≡ K.size kind.now }
     requires core { IsTrue (has_places study.now.axioms core.now) }
-    ensures { IfOk result (AreForcedSoFar (K.size kind.now) study.now.axioms core.now) }
+    requires literals { IsTrue (list_all (has_literals (K.size kind.now)) story.now) }
+    ensures so_far { IfOk result (AreForcedSoFar (K.size kind.now) study.now.axioms core.now) }
+    ensures covered { IfOk result (λ forced. IsTrue (list_all (λ lemma. are_covered (K.size kind.now)
+        study.now.axioms core.now forced.board.literals lemma.steps) story.now)) }
 {
     let mut tried = Board::new(alloc, kind)?;
     let forced = forced_in(alloc, kind, study, core, &mut tried, story)?;

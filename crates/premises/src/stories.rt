@@ -8,6 +8,7 @@ ghost use Rattle.tellings.specs.Tellings.{IsStoryTold};
 ghost use Rattle.premises.specs.SoFar.{is_lemma_by, IsToldBy};
 ghost use Rattle.premises.specs.Told.{AreTold};
 
+use crate::checking::all_say;
 use crate::forced::forced_facts;
 use crate::homes::homes_of;
 use crate::teller::Teller;
@@ -78,6 +79,9 @@ impl<K: OutcomeKind> Teller<'_, K> {
         desk.index.enter_all(passage.steps.as_slice());
         let reshaped = reshape(alloc, size, &mut desk.tried, &desk.index, passage)?;
         let passage = self.told_in(alloc, reshaped, lemma)?;
+        if !all_say(alloc, &passage)? {
+            return Ok(None);
+        }
         desk.known.clear();
         suppose(&mut desk.known, lemma.suppose.as_slice());
         let facts = end.as_slice();

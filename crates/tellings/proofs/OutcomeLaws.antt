@@ -1,5 +1,5 @@
 -- What is left at a profile depends on the facts of that profile alone.
-use Rattle.std.proofs.Common.{◌≡◌, refl, sym, ap, ◌∙◌, subst, ℕ, Bool, true, false, cond, not, ◌||◌, List, [], ◌∷◌, ◌++◌, filter, append-nil, Some}
+use Rattle.std.proofs.Common.{◌≡◌, refl, sym, ap, ◌∙◌, subst, ℕ, Bool, true, false, cond, not, ◌&&◌, ◌||◌, List, [], ◌∷◌, ◌++◌, filter, append-nil, Some}
 use Rattle.std.specs.Prelude.{◌==◌}
 use Rattle.std.specs.List.{list_all, list_any}
 use Rattle.std.proofs.lemmas.Bool.{and_parts}
@@ -18,7 +18,7 @@ use Rattle.meaning.specs.Stories.{is_outcome_excluded, refutes}
 use Rattle.meaning.specs.Truth.{holds_of}
 use Rattle.tellings.specs.declared.tellings.Sentence.{Sentence}
 use Rattle.tellings.specs.Laws.{facts_at}
-use Rattle.tellings.specs.Tellings.{by_of, is_by, says}
+use Rattle.tellings.specs.Tellings.{by_of, is_by, says, stand_there}
 
 -- no outcome makes all these facts hold, which are of one profile
 abbrev pub leave_nothing : Extent → List Literal → Bool
@@ -53,7 +53,7 @@ module _ (size : Extent) (axioms : List Titled) (core : List ℕ) (earlier : Lis
   nothing_left : is_outcome_excluded size (sentence.rests ++ other) p ≡ true
   nothing_left =
       subst (λ (r : Reason). refutes size axioms core earlier (sentence.rests ++ other) r ≡ true) is
-      (and_parts (is_by sentence.by (by_of step.reason)) (refutes size axioms core earlier (sentence.rests ++ other) step.reason) h).1
+      (and_parts (is_by sentence.by (by_of step.reason) && stand_there sentence.rests step.reason) (refutes size axioms core earlier (sentence.rests ++ other) step.reason) h).1
 
   pub own_profile : (profile_of step.literal == p || is_outcome_excluded size sentence.rests p) ≡ true
   own_profile = cases (profile_of step.literal == p) refl

@@ -25,3 +25,10 @@ facts_of_one_profile_are_left_out = refl
 -- a step at profile 2 whose reason is profile 1 is said by no facts that leave an outcome at profile 1
 step_of_another_profile : says (choice 2 2) [] [] [] (Some (record { by = Outcome; rests = Loses 0 1 ∷ Loses 0 2 ∷ [] })) (record { literal = Wins 1 2; reason = ByOutcome 1 }) ≡ false
 step_of_another_profile = refl
+
+-- of three alternatives: a and b lose at profile 1, a and c at profile 2. What loses at the one does not at the other
+claims_differ : says (choice 2 3) [] [] [] (Some (record { by = Outcome; rests = Loses 0 1 ∷ Loses 1 1 ∷ Loses 0 2 ∷ Loses 2 2 ∷ [] })) (record { literal = Wins 2 1; reason = ByOutcome 1 }) ≡ false
+claims_differ = refl
+
+claims_are_the_same : says (choice 2 3) [] [] [] (Some (record { by = Outcome; rests = Loses 0 1 ∷ Loses 1 1 ∷ Loses 1 2 ∷ Loses 0 2 ∷ [] })) (record { literal = Wins 2 1; reason = ByOutcome 1 }) ≡ true
+claims_are_the_same = refl

@@ -2,6 +2,7 @@
 use Rattle.std.specs.Prelude.{◌≡◌, ℕ, ◌+◌, ◌<◌, nat_lt, ◌==◌, Bool, true, false, not, ◌&&◌, ◌||◌, IsTrue, List, [], ◌∷◌, ◌++◌, map, filter, length, take, slice_get, count_by, Option, Some, None, if◌then◌else◌}
 use Rattle.std.specs.List.{list_all, list_any}
 use Rattle.vocab.specs.declared.literals.Literal.{Literal}
+use Rattle.vocab.specs.declared.literals.Literal.TheVariants.{Wins, Loses, Above}
 use Rattle.vocab.specs.Literal.{opposite_of, has, same_literal}
 use Rattle.vocab.specs.Size.{Extent}
 use Rattle.vocab.specs.Titled.{Titled}
@@ -9,6 +10,7 @@ use Rattle.meaning.specs.declared.stories.Reason.{Reason}
 use Rattle.meaning.specs.declared.stories.Reason.TheVariants.{Axiom as ByAxiom, Outcome as ByOutcome, Lemma as ByLemma}
 use Rattle.meaning.specs.declared.stories.StoryStep.{StoryStep}
 use Rattle.meaning.specs.declared.stories.Lemma.{Lemma}
+use Rattle.meaning.specs.Literals.{is_literal}
 use Rattle.meaning.specs.Stories.{refutes}
 use Rattle.worlds.specs.Boards.{are_distinct}
 use Rattle.tellings.specs.declared.tellings.By.{By}
@@ -32,10 +34,28 @@ is_by Outcome Outcome = true
 is_by Earlier Earlier = true
 is_by _ _ = false
 
+-- a sentence names an axiom
+abbrev pub is_axiom : By → Bool
+is_axiom (Axiom k) = true
+is_axiom Outcome = false
+is_axiom Earlier = false
+
 -- what the sentence of a number rests on; where there is none, nothing
 abbrev pub rests_of : Option Sentence → List Literal
 rests_of None = []
 rests_of (Some sentence) = sentence.rests
+
+-- the claim of a fact, made of another profile
+abbrev pub moved_to : ℕ → Literal → Literal
+moved_to p (Wins x q) = Wins x p
+moved_to p (Loses x q) = Loses x p
+moved_to p (Above x y q) = Above x y p
+
+-- where a reason is what is left at a profile, all the claims of these facts stand among them of that profile
+abbrev pub stand_there : List Literal → Reason → Bool
+stand_there rests (ByAxiom k values) = true
+stand_there rests (ByOutcome p) = list_all (λ l. has rests (moved_to p l)) rests
+stand_there rests (ByLemma j) = true
 
 -- the facts that steps state
 abbrev pub facts_of : List Placed → List Literal
@@ -46,24 +66,30 @@ abbrev pub stands_before : (forced suppose : List Literal) → List Placed → �
 stands_before forced suppose steps number l =
     has forced l || has suppose l || list_any (λ placed. nat_lt placed.sentence number && same_literal l placed.step.literal) steps
 
+-- each sentence says a step
+abbrev pub AllSay : Passage → Type 0
+AllSay passage = (k : ℕ) → k < length passage.sentences → IsTrue (list_any (λ placed. placed.sentence == k) passage.steps)
+
 -- ---- sentences
 
 module _ (size : Extent) (axioms : List Titled) (core : List ℕ) (earlier : List Lemma) where
-  -- a sentence says a step: it names what the step's reason does, which refutes the facts that it rests on together with the opposite of the fact that the step states
+  -- a sentence says a step: it names what the step's reason does, which refutes the facts that it rests on together with the opposite of the fact that the step states;
+  -- where that is what is left at a profile, it claims of that profile all that it rests on
   abbrev pub says : Option Sentence → StoryStep → Bool
   says None step = false
-  says (Some sentence) step = is_by sentence.by (by_of step.reason) && refutes size axioms core earlier (sentence.rests ++ opposite_of step.literal ∷ []) step.reason
+  says (Some sentence) step = is_by sentence.by (by_of step.reason) && stand_there sentence.rests step.reason && refutes size axioms core earlier (sentence.rests ++ opposite_of step.literal ∷ []) step.reason
 
   -- each step stands in one sentence, which says it
   abbrev pub are_said : Passage → Bool
   are_said passage = list_all (λ placed. says (slice_get passage.sentences placed.sentence) placed.step) passage.steps
 
   -- a lemma is told right, where some facts are forced: each of its steps stands in exactly one sentence, which says it, but for
-  -- those whose facts are forced; each fact that a sentence rests on was forced or supposed, or is stated by an earlier sentence;
+  -- those whose facts are forced; each sentence says a step; each fact that a sentence rests on was forced or supposed, or is stated by an earlier sentence;
   -- and the last reason refutes facts that were forced or supposed, or are stated
   pub record IsTold (forced : List Literal) (lemma : Lemma) (telling : Telling) : Type 0 where
     pub steps : map (λ placed. placed.step) telling.passage.steps ≡ filter (λ step. not (has forced step.literal)) lemma.steps
     pub said : IsTrue (are_said telling.passage)
+    pub all_say : AllSay telling.passage
     pub grounded : (k : ℕ) → IsTrue (list_all (stands_before forced lemma.suppose telling.passage.steps k) (rests_of (slice_get telling.passage.sentences k)))
     pub ended : IsTrue (refutes size axioms core earlier telling.end lemma.last)
     pub end_stands : IsTrue (list_all (stands_before forced lemma.suppose telling.passage.steps (length telling.passage.sentences)) telling.end)
@@ -120,15 +146,26 @@ pub record AreHomes (story : List Lemma) (tellings : List Telling) (homes : List
 -- ---- stories
 
 module _ (size : Extent) (axioms : List Titled) (core : List ℕ) where
-  -- facts are forced: an axiom alone refutes the opposite of each; no fact stands twice
+  -- a step's reason is an axiom, which alone refutes the opposite of the fact that the step states
+  abbrev pub is_forced : StoryStep → Bool
+  is_forced step = is_axiom (by_of step.reason) && refutes size axioms core [] (opposite_of step.literal ∷ []) step.reason
+
+  -- a step is not forced, or its fact is one of these
+  abbrev pub is_covered : List Literal → StoryStep → Bool
+  is_covered facts step = not (is_forced step) || has facts step.literal
+
+  -- facts are forced: each is one of the size, and an axiom alone refutes its opposite; each sentence says a step; no fact stands twice
   pub record IsForced (passage : Passage) : Type 0 where
+    pub ours : IsTrue (list_all (is_literal size) (facts_of passage.steps))
     pub said : IsTrue (are_said size axioms core [] passage)
+    pub all_say : AllSay passage
     pub alone : IsTrue (list_all (λ sentence. length sentence.rests == 0) passage.sentences)
     pub once : IsTrue (are_distinct (facts_of passage.steps))
 
-  -- a story is told right: facts that are forced come first, and then each lemma is told by the lemmas before it, which stand before it
+  -- a story is told right: the facts that are forced come first, those of all its steps, and then each lemma is told by the lemmas before it, which stand before it
   pub record IsStoryTold (story : List Lemma) (told : StoryTelling) : Type 0 where
     pub forced : IsForced told.forced
+    pub whole : IsTrue (list_all (λ lemma. list_all (is_covered (facts_of told.forced.steps)) lemma.steps) story)
     pub all : length told.lemmas ≡ length story
     pub each : (j : ℕ) (lemma : Lemma) (telling : Telling) → slice_get story j ≡ Some lemma → slice_get told.lemmas j ≡ Some telling →
         IsTold size axioms core (take j story) (facts_of told.forced.steps) lemma telling

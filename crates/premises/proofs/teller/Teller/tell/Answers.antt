@@ -12,6 +12,7 @@ returns-clause-told g c =
     record {
       steps = c.in_ok-passage.ensures.steps;
       said = c.in_ok-passage.ensures.told.said;
+      all_say = c.in_ok-passage.ensures.told.all_say;
       grounded = c.in_ok-passage.ensures.told.grounded;
       ended = subst (λ (ls : List Literal). refutes_by size c.args.self.now.grounds.basis ls c.args.lemma.now.last ≡ true) (append-nil c.in_ok-end.end) c.in_ok-end.ensures.rests.refuted;
       end_stands =
