@@ -83,6 +83,7 @@ module _ (size : Extent) (axioms : List Titled) (story : List Lemma) (told : Sto
 
   written_in : (lemma : Lemma) (telling : Telling) (one two : List ℕ) → IsWritten size axioms forced lemma telling one → StandsIn one two → IsWritten size axioms forced lemma telling two
   written_in lemma telling one two w s = record {
+    supposed = within (suppose_html size lemma.suppose) one two w.supposed s;
     sentences = λ k lt. within (sentence_at size axioms telling.passage k) one two (w.sentences k lt) s;
     ending = within (end_html size axioms lemma.last telling.end) one two w.ending s;
     table = within (table_html size forced lemma telling) one two w.table s;
@@ -98,14 +99,19 @@ module _ (size : Extent) (axioms : List Titled) (story : List Lemma) (told : Sto
     abbrev sentence : ℕ → List ℕ
     sentence k = sentence_at size axioms telling.passage k
 
+    abbrev supposed : List ℕ
+    supposed = suppose_html size lemma.suppose
+
     -- ---- within another lemma
 
     abbrev body : List ℕ
     body = inner_body size axioms lemma telling
 
+    abbrev claim : List ℕ
+    claim = codes "<div class=c>" ++ columns_of size lemma.suppose ++ codes "<b>" ++ claimed_html size (j + 1) lemma.suppose ++ codes ".</b>\n"
+
     abbrev head : List ℕ
-    head =
-        codes "<div class=c>" ++ columns_of size lemma.suppose ++ codes "<b>" ++ claimed_html size (j + 1) lemma.suppose ++ codes ".</b>\n" ++ suppose_html size lemma.suppose
+    head = claim ++ supposed
 
     abbrev items : List ℕ
     items = items_html size axioms telling.passage
@@ -121,6 +127,8 @@ module _ (size : Extent) (axioms : List Titled) (story : List Lemma) (told : Sto
 
     inner_written : IsWritten size axioms forced lemma telling (inner_html size axioms forced (j + 1) lemma telling)
     inner_written = record {
+      supposed = in_front supposed (head ++ body ++ table) (codes "</div>\n")
+          (in_front supposed (head ++ body) table (between supposed claim supposed body (whole supposed)));
       sentences = λ k lt. within (sentence k) body (inner_html size axioms forced (j + 1) lemma telling) (in_body k lt) body_in;
       ending = within last body (inner_html size axioms forced (j + 1) lemma telling)
           (between last (codes "<ol>\n" ++ items ++ codes "</ol>\n<div class=e>") last (codes ". This cannot be.</div>\n") (whole last)) body_in;
@@ -132,8 +140,11 @@ module _ (size : Extent) (axioms : List Titled) (story : List Lemma) (told : Sto
     abbrev outer : List ℕ
     outer = outer_body size axioms story told j lemma telling
 
+    abbrev title : List ℕ
+    title = codes "<section>\n<h3>" ++ title_html size (j + 1) lemma.suppose ++ codes "</h3>\n" ++ columns_of size lemma.suppose
+
     abbrev front : List ℕ
-    front = codes "<section>\n<h3>" ++ title_html size (j + 1) lemma.suppose ++ codes "</h3>\n" ++ columns_of size lemma.suppose ++ suppose_html size lemma.suppose
+    front = title ++ supposed
 
     abbrev held : List ℕ
     held = held_by size axioms story told j lemma.last
@@ -160,6 +171,8 @@ module _ (size : Extent) (axioms : List Titled) (story : List Lemma) (told : Sto
 
     outer_written : IsWritten size axioms forced lemma telling (outer_html size axioms story told j lemma telling)
     outer_written = record {
+      supposed = in_front supposed (front ++ outer ++ table) (codes "</section>\n")
+          (in_front supposed (front ++ outer) table (between supposed title supposed outer (whole supposed)));
       sentences = λ k lt. within (sentence k) outer (outer_html size axioms story told j lemma telling)
           (within (sentence k) (item k) outer (between (sentence k) (codes "<li>" ++ held_first k) (sentence k) (codes "</li>\n") (whole (sentence k))) (item_in k lt))
           outer_in;

@@ -19,7 +19,7 @@ use Rattle.story_pages.specs.Claims.{some_html, at_html, said_html}
 use Rattle.story_pages.specs.Ends.{end_html}
 use Rattle.story_pages.specs.Homes.{story_html}
 use Rattle.story_pages.specs.Known.{grey_mark, numbered_mark, known_html}
-use Rattle.story_pages.specs.Lemmas.{table_html}
+use Rattle.story_pages.specs.Lemmas.{suppose_html, table_html}
 use Rattle.story_pages.specs.Sentences.{given_html, sentence_at}
 
 -- a text stands in another
@@ -90,9 +90,10 @@ ForcedFactsStand =
     k < length told.forced.sentences →
     StandsIn (sentence_at size axioms told.forced k) (story_html size axioms story told)
 
--- all that is told of a lemma stands in a text: its sentences, what it is against, and its table
+-- all that is told of a lemma stands in a text: what it supposes, its sentences, what it is against, its table
 pub record IsWritten (size : Extent) (axioms : List Titled) (forced : List Placed) (lemma : Lemma)
     (telling : Telling) (text : List ℕ) : Type 0 where
+  pub supposed : StandsIn (suppose_html size lemma.suppose) text
   pub sentences : (k : ℕ) → k < length telling.passage.sentences →
       StandsIn (sentence_at size axioms telling.passage k) text
   pub ending : StandsIn (end_html size axioms lemma.last telling.end) text

@@ -13,9 +13,13 @@ use Rattle.html.specs.Facts.{fact_html}
 use Rattle.html.specs.Grids.{grid_html, is_gridded}
 use Rattle.story_pages.specs.Known.{known_html}
 
--- one thing is claimed, or one of several
+-- one of several things is claimed, or, where nothing is supposed, that there is no rule
+abbrev pub many_claims : ℕ → List ℕ
+many_claims count = if count == 0 then codes ": no rule satisfies these axioms" else codes ", one of these: "
+
+-- how many things are claimed
 abbrev pub claims_words : ℕ → List ℕ
-claims_words count = if count == 1 then codes ": " else codes ", one of these: "
+claims_words count = if count == 1 then codes ": " else many_claims count
 
 module _ (size : Extent) where
   -- a fact among others
@@ -26,10 +30,11 @@ module _ (size : Extent) where
   abbrev pub opposite_html : Literal → List ℕ
   opposite_html l = fact_item (opposite_of l)
 
-  -- what a lemma of a number claims: one of the opposites of its suppositions; the last one claims nothing
+  -- what a lemma of a number claims: one of the opposites of its suppositions
   abbrev pub claimed_html : ℕ → List Literal → List ℕ
   claimed_html number suppose = codes "Claim " ++ decimal number ++ claims_words (length suppose) ++ flat_map opposite_html suppose
 
+  -- by itself, one that supposes nothing is the conclusion
   abbrev pub title_html : ℕ → List Literal → List ℕ
   title_html number suppose = if length suppose == 0 then codes "Conclusion" else claimed_html number suppose
 

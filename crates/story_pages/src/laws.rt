@@ -2,12 +2,14 @@
 
 ghost use Rattle.story_pages.specs.Laws.{SentencesNameFacts, EndsNameFacts, SentencesStateFacts, CellsHaveFacts, ForcedFactsStand, LemmasStand};
 
-/// Each sentence names each fact that it rests on, with its profile, however many these are.
+/// Each sentence names each fact that it rests on, however many these are: with its profile, or by its claim
+/// alone where what is stated follows by what is left.
 pub fn sentences_name_facts()
     ensures { SentencesNameFacts }
 {}
 
-/// The end of a lemma names each fact that its last reason rests on, with its profile.
+/// The end of a lemma names each fact that its last reason rests on: with its profile, or by its claim alone
+/// where nothing is left.
 pub fn ends_name_facts()
     ensures { EndsNameFacts }
 {}
@@ -27,7 +29,8 @@ pub fn forced_facts_stand()
     ensures { ForcedFactsStand }
 {}
 
-/// Each lemma of a story that is told right stands on the page, with its sentences, its end and its table.
+/// Each lemma of a story that is told right stands on the page, with what it supposes, its sentences, its end and
+/// its table.
 pub fn lemmas_stand()
     ensures { LemmasStand }
 {}

@@ -2,7 +2,7 @@
 
 ghost use Rattle.std.specs.Prelude.{◌≡◌, ◌++◌, length, OnOk};
 ghost use Rattle.std.specs.List.{flat_map};
-ghost use Rattle.story_pages.specs.Lemmas.{claims_words, fact_item, opposite_html, claimed_html, title_html, supposed_html, suppose_html, columns_of, folded_html, wide_html, fitted_html, table_html};
+ghost use Rattle.story_pages.specs.Lemmas.{many_claims, claims_words, fact_item, opposite_html, claimed_html, title_html, supposed_html, suppose_html, columns_of, folded_html, wide_html, fitted_html, table_html};
 
 use crate::known::KnownCells;
 use html::{
@@ -51,14 +51,24 @@ fn put_opposites(out: &mut Html, space: &Space, suppose: &[Literal]) -> Result<(
     Ok(())
 }
 
-/// Adds whether one thing is claimed, or one of several.
+/// Adds that one of several things is claimed, or that there is no rule.
+fn put_many_claims(out: &mut Html, suppose: &[Literal]) -> Result<(), NoMemory>
+    ensures { OnOk result (out.new ≡ out.old ++ many_claims (length suppose.now)) }
+{
+    if suppose.len() == 0 {
+        return out.append(b": no rule satisfies these axioms");
+    }
+    out.append(b", one of these: ")
+}
+
+/// Adds how many things are claimed.
 fn put_claims_words(out: &mut Html, suppose: &[Literal]) -> Result<(), NoMemory>
     ensures { OnOk result (out.new ≡ out.old ++ claims_words (length suppose.now)) }
 {
     if suppose.len() == 1 {
         return out.append(b": ");
     }
-    out.append(b", one of these: ")
+    put_many_claims(out, suppose)
 }
 
 /// Adds what a lemma of a number claims.
@@ -89,7 +99,7 @@ pub(crate) fn put_claimed_by(
     put_claimed(out, space, number, lemma.suppose.as_slice())
 }
 
-/// Adds what a lemma of a number claims; the last one claims nothing.
+/// Adds what a lemma of a number claims; one that supposes nothing is the conclusion.
 pub(crate) fn put_title(
     out: &mut Html,
     space: &Space,
