@@ -1,10 +1,12 @@
 #!/usr/bin/env bash
 # Prints each page of pages/, or each page that is named, with headless Chromium (Debian's package), and says for each how many
-# printed A4 pages it has, whether all of it is within the width of the paper, and how many errors `tidy` finds; and how many lines the
-# story of its report has, in studies/, and how many sentences its proof. A line of its own has the seconds of the shortest of five runs
-# of the built `explain` that write it, and the peak of the heap of one, as valgrind's massif counts it with what the allocator adds.
+# printed A4 pages it has, whether all of it is within the width of the paper and each table within what holds it, as it is printed, and
+# how many errors `tidy` finds; and how many lines the story of its report has, in studies/, and how many sentences its proof. A line of
+# its own has the seconds of the shortest of five runs of the built `explain` that write it, and the peak of the heap of one, as
+# valgrind's massif counts it with what the allocator adds.
 # Where Chromium, tidy, valgrind or the built program is missing, it says so, and what needs it is left out. It ends with status 1 where a
-# page is too wide or has an error, and where a report of 100,000 bytes or more takes four times as much memory, or a second.
+# page or a table of it is too wide, or a page has an error, more than 2 printed pages (arrow_four 3) or more sentences than 30 (arrow),
+# 90 (arrow_four) or 130 (gibbard_satterthwaite), and where a report of 100,000 bytes or more takes four times as much memory, or a second.
 set -u
 root=$(cd -- "$(dirname -- "$(readlink -f -- "${BASH_SOURCE[0]}")")/.." && pwd) || exit 1
 work=$(mktemp -d) || exit 1
@@ -47,11 +49,26 @@ costs() {
 # How many pages a PDF has.
 printed() { grep -a -c '/Type[[:space:]]*/Page\([^s]\|$\)' "$1"; }
 
-# By how much a page is wider than the paper within its margins, 188 mm, at 96 dots an inch.
+# How many printed pages, and how many sentences, the page of a study may have.
+most_printed() { [ "$1" = arrow_four ] && echo 3 || echo 2; }
+most_sentences() {
+    case $1 in
+    arrow) echo 30 ;;
+    arrow_four) echo 90 ;;
+    gibbard_satterthwaite) echo 130 ;;
+    *) echo 1000000 ;;
+    esac
+}
+
+# By how much a page is wider than the paper within its margins of 8 mm, which is 194 mm or 733 dots at 96 an inch, or a table wider than
+# what holds it, whichever is more, in the styles of print.
 excess() {
+    sed 's/@media print/@media all/' "$1" >"$work/printed.html"
     cat >"$work/frame.html" <<HTML
-<!doctype html><title>frame</title><body><iframe id=page style="width:711px;height:1000px;border:0" src="file://$1"></iframe>
-<script>onload=()=>{const d=document.getElementById('page').contentDocument.documentElement;document.title='excess '+(d.scrollWidth-711)}</script>
+<!doctype html><title>frame</title><body><iframe id=page style="width:733px;height:60000px;border:0" src="file://$work/printed.html"></iframe>
+<script>onload=()=>{const d=document.getElementById('page').contentDocument,w=e=>parseFloat(d.defaultView.getComputedStyle(e).width)||0;
+let most=d.documentElement.scrollWidth-733;for(const t of d.querySelectorAll('table'))most=Math.max(most,w(t)-w(t.parentElement));
+document.title='excess '+Math.ceil(most-.5)}</script>
 HTML
     headless --dump-dom "file://$work/frame.html" | sed -n 's/.*<title>excess \(-\{0,1\}[0-9]*\)<.*/\1/p'
 }
@@ -60,15 +77,20 @@ HTML
 for page in "$@"; do
     page=$(readlink -f -- "$page")
     line=$(basename "$page")
+    study=${line%%.*}
     report=$root/studies/${line%.html}.report
     [ "$line" = "${line%.sharp.html}" ] || report=$root/studies/${line%.html}
     lines=$(grep -c '^suppose \|^so \|^clash ' "$report" 2>/dev/null)
-    line="$line: lines of the story ${lines:-?}, sentences $(sentences "$page")"
+    said=$(sentences "$page")
+    line="$line: lines of the story ${lines:-?}, sentences $said"
+    [ "$said" -le "$(most_sentences "$study")" ] || faults=$((faults + 1))
     if [ -n "$browser" ]; then
         headless --print-to-pdf="$work/page.pdf" "file://$page" >/dev/null
         wide=$(excess "$page")
-        line="$line, printed pages $(printed "$work/page.pdf"), wider by ${wide:-?}"
+        sheets=$(printed "$work/page.pdf")
+        line="$line, printed pages $sheets, wider by ${wide:-?}"
         [ "${wide:-1}" -le 0 ] || faults=$((faults + 1))
+        [ "$sheets" -ge 1 ] && [ "$sheets" -le "$(most_printed "$study")" ] || faults=$((faults + 1))
     fi
     if [ -n "$checker" ]; then
         "$checker" -q -e "$page" >"$work/tidy" 2>&1
