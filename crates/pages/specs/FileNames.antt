@@ -3,7 +3,7 @@ use Rattle.std.specs.Prelude.{ℕ, ◌+◌, ◌-◌, ◌*◌, ◌==◌, ◌/◌,
 use Rattle.std.specs.Int.{is_in_range}
 use Rattle.std.specs.List.{flat_map, list_all}
 
--- a byte that stands for itself: `+` to `:` with the digits, `@` to `Z`, `_`, `a` to `z`, and those of letters from U+00C0 on in UTF-8
+-- a byte that stands for itself: `+` to `:` with the digits, `@` to `Z`, `_`, `a` to `z`, and in UTF-8 those of U+00C0 to U+EFFF but for U+2000 to U+2FFF, a blank like U+3000 among them
 abbrev pub is_ordinary : ℕ → Bool
 is_ordinary b = is_in_range 43 58 b || is_in_range 64 90 b || b == 95 || is_in_range 97 122 b || is_in_range 128 191 b || is_in_range 195 225 b || is_in_range 227 238 b
 
@@ -11,7 +11,7 @@ is_ordinary b = is_in_range 43 58 b || is_in_range 64 90 b || b == 95 || is_in_r
 abbrev pub octal : ℕ → ℕ
 octal n = 48 + n % 8
 
--- a byte between `$'` and `'`: a backslash stands before the quotation mark and the backslash, and the three octal digits of what is no sign of ASCII after one
+-- a byte between `$'` and `'`: a backslash stands before the quotation mark and the backslash, and the three octal digits of what is no printable sign of ASCII after one
 abbrev pub quoted : ℕ → List ℕ
 quoted b = if b == 39 then codes "\\'" else (if b == 92 then codes "\\\\" else (if is_in_range 32 126 b then b ∷ [] else 92 ∷ octal (b / 8 / 8) ∷ octal (b / 8) ∷ octal b ∷ []))
 

@@ -61,7 +61,7 @@ abbrev pub check_html : (study_file report_file version : List ℕ) → List ℕ
 check_html study_file report_file version =
     codes "<h2>How to check</h2>\n<p>The command <code>bench check " ++ escaped (shell_word study_file) ++ codes " "
     ++ escaped (shell_word report_file)
-    ++ codes "</code> goes through the report line by line, by the sentences of the axioms alone. This page tells what the report says. Version: "
+    ++ codes "</code> goes through the second file line by line, by the sentences of the axioms alone. This page tells what that file says. Version: "
     ++ escaped version ++ codes ".</p>\n"
 
 -- the page of a verdict over a size: the axioms, the names of the files, the version, and how the story

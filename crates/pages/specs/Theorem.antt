@@ -85,10 +85,16 @@ module _ (size : Extent) where
 
 -- ---- how to read
 
--- what is grey in a proof, and what small numbers are
-abbrev pub grey_words : Bool → List ℕ
-grey_words told =
-    if told then codes " Grey is supposed, or forced without a supposition; a small number is that of the sentence which states the fact." else []
+-- what follows by what is left, in a proof
+abbrev pub left_words : Bool → List ℕ
+left_words told =
+    if told then codes " What follows by what is left holds in every outcome that agrees with the facts named there; where nothing is left, no outcome agrees with them." else []
+
+-- a fact in a table of a proof
+abbrev pub mark_words : Kind → List ℕ
+mark_words Choice = codes "a struck letter does not win"
+mark_words Ranking = codes "<code>ab</code> says that a is above b"
+mark_words Sets = codes "a struck letter does not win"
 
 module _ (size : Extent) where
   -- how a profile is read, by one of them
@@ -100,10 +106,22 @@ module _ (size : Extent) where
   abbrev pub profile_words : List ℕ
   profile_words = if nat_lt 1 (sort_count size Profile) then example_html else []
 
-  -- how a table is read
-  abbrev pub table_words : List ℕ
-  table_words =
-      if is_gridded size 25 then codes " In a table the row is voter 1's ballot, and the column voter 2's." else []
+  -- how a table of a proof is read: a fact, what is grey, and what small numbers are
+  abbrev pub told_words : List ℕ
+  told_words =
+      codes " In the tables of the proof " ++ mark_words size.kind
+      ++ codes "; grey is supposed, or forced without a supposition; a small number is that of the sentence which states the fact."
+
+  abbrev pub grey_words : Bool → List ℕ
+  grey_words told = if told then told_words else []
+
+  -- how tables are read, with or without a proof
+  abbrev pub gridded_words : Bool → List ℕ
+  gridded_words told =
+      codes " In a table the row is voter 1's ballot, and the column voter 2's." ++ grey_words told
+
+  abbrev pub table_words : Bool → List ℕ
+  table_words told = if is_gridded size 25 then gridded_words told else []
 
   abbrev pub reading_html : Bool → List ℕ
-  reading_html told = codes "<p class=z>" ++ profile_words ++ table_words ++ grey_words told ++ codes "</p>\n"
+  reading_html told = codes "<p class=z>" ++ profile_words ++ left_words told ++ table_words told ++ codes "</p>\n"

@@ -31,7 +31,7 @@ pub struct Source<'a> {
     pub study: &'a [u8],
     /// The name of the report's file.
     pub report: &'a [u8],
-    /// The version of the bench.
+    /// The version of the program that writes the page.
     pub version: &'a [u8],
 }
 
@@ -183,7 +183,7 @@ pub fn put_check(alloc: Global, out: &mut Html, source: &Source) -> Result<(), N
     out.append(b" ")?;
     put_file_name(alloc, out, source.report)?;
     out.append(
-        b"</code> goes through the report line by line, by the sentences of the axioms alone. This page tells what the report says. Version: ",
+        b"</code> goes through the second file line by line, by the sentences of the axioms alone. This page tells what that file says. Version: ",
     )?;
     put_text(out, source.version)?;
     out.append(b".</p>\n")?;

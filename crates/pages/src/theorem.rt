@@ -6,7 +6,7 @@ ghost use Rattle.std.specs.List.{flat_map};
 ghost use Rattle.vocab.specs.declared.kinds.Sort.TheVariants.{Ballot, Profile};
 ghost use Rattle.vocab.specs.Range.{below};
 ghost use Rattle.vocab.specs.Size.{sort_count};
-ghost use Rattle.pages.specs.Theorem.{gives_words, absent_words, lettered_html, listed_html, some_ballots, ballots_html, size_html, grey_words, example_html, profile_words, table_words, reading_html};
+ghost use Rattle.pages.specs.Theorem.{gives_words, absent_words, lettered_html, listed_html, some_ballots, ballots_html, size_html, left_words, mark_words, example_html, profile_words, told_words, grey_words, gridded_words, table_words, reading_html};
 
 use html::{Html, is_gridded, put_alternative, put_ballot, put_number, put_profile};
 use lists::NoMemory;
@@ -148,14 +148,25 @@ pub(crate) fn put_size(out: &mut Html, space: &Space) -> Result<(), NoMemory>
     Ok(())
 }
 
-/// What is grey in a proof, and what small numbers are.
-fn grey_words(told: bool) -> &'static [u8]
-    ensures { result.now ≡ grey_words told }
+/// What follows by what is left, in a proof.
+fn left_words(told: bool) -> &'static [u8]
+    ensures { result.now ≡ left_words told }
 {
     if told {
-        b" Grey is supposed, or forced without a supposition; a small number is that of the sentence which states the fact."
+        b" What follows by what is left holds in every outcome that agrees with the facts named there; where nothing is left, no outcome agrees with them."
     } else {
         b""
+    }
+}
+
+/// A fact in a table of a proof.
+fn mark_words(kind: Kind) -> &'static [u8]
+    ensures { result.now ≡ mark_words kind }
+{
+    match kind {
+        Kind::Choice => b"a struck letter does not win",
+        Kind::Ranking => b"<code>ab</code> says that a is above b",
+        Kind::Sets => b"a struck letter does not win",
     }
 }
 
@@ -180,21 +191,59 @@ fn put_profile_words(out: &mut Html, space: &Space) -> Result<(), NoMemory>
     Ok(())
 }
 
-/// Adds how a table is read, if there are tables.
-fn put_table_words(out: &mut Html, space: &Space) -> Result<(), NoMemory>
-    ensures { OnOk result (out.new ≡ out.old ++ table_words space.now) }
+/// Adds what follows by what is left, if there is a proof.
+fn put_left(out: &mut Html, told: bool) -> Result<(), NoMemory>
+    ensures { OnOk result (out.new ≡ out.old ++ left_words told) }
 {
-    if is_gridded(space, 25) {
-        return out.append(b" In a table the row is voter 1's ballot, and the column voter 2's.");
+    out.append(left_words(told))
+}
+
+/// Adds what a fact in a table of a proof is.
+fn put_marks(out: &mut Html, space: &Space) -> Result<(), NoMemory>
+    ensures { OnOk result (out.new ≡ out.old ++ mark_words space.now.kind) }
+{
+    out.append(mark_words(space.size().kind()))
+}
+
+/// Adds how a table of a proof is read: a fact, what is grey, and what small numbers are.
+fn put_told(out: &mut Html, space: &Space) -> Result<(), NoMemory>
+    ensures { OnOk result (out.new ≡ out.old ++ told_words space.now) }
+{
+    out.append(b" In the tables of the proof ")?;
+    put_marks(out, space)?;
+    out.append(
+        b"; grey is supposed, or forced without a supposition; a small number is that of the sentence which states the fact.",
+    )?;
+    Ok(())
+}
+
+/// Adds how a table of a proof is read, if there is a proof.
+fn put_grey(out: &mut Html, space: &Space, told: bool) -> Result<(), NoMemory>
+    ensures { OnOk result (out.new ≡ out.old ++ grey_words space.now told) }
+{
+    if told {
+        return put_told(out, space);
     }
     Ok(())
 }
 
-/// Adds what is grey in a proof, and what small numbers are.
-fn put_grey(out: &mut Html, told: bool) -> Result<(), NoMemory>
-    ensures { OnOk result (out.new ≡ out.old ++ grey_words told) }
+/// Adds how tables are read, with or without a proof.
+fn put_gridded(out: &mut Html, space: &Space, told: bool) -> Result<(), NoMemory>
+    ensures { OnOk result (out.new ≡ out.old ++ gridded_words space.now told) }
 {
-    out.append(grey_words(told))
+    out.append(b" In a table the row is voter 1's ballot, and the column voter 2's.")?;
+    put_grey(out, space, told)?;
+    Ok(())
+}
+
+/// Adds how tables are read, if there are tables.
+fn put_table_words(out: &mut Html, space: &Space, told: bool) -> Result<(), NoMemory>
+    ensures { OnOk result (out.new ≡ out.old ++ table_words space.now told) }
+{
+    if is_gridded(space, 25) {
+        return put_gridded(out, space, told);
+    }
+    Ok(())
 }
 
 /// Adds how a page is read, with or without a story.
@@ -203,8 +252,8 @@ pub(crate) fn put_reading(out: &mut Html, space: &Space, told: bool) -> Result<(
 {
     out.append(b"<p class=z>")?;
     put_profile_words(out, space)?;
-    put_table_words(out, space)?;
-    put_grey(out, told)?;
+    put_left(out, told)?;
+    put_table_words(out, space, told)?;
     out.append(b"</p>\n")?;
     Ok(())
 }

@@ -1,0 +1,5 @@
+use Rattle.html.proofs.JoinLemmas.{joined_2}
+use Rattle.pages.proofs.theorem.put_gridded.Goals as goal
+
+pub returns : goal.returns
+returns c = joined_2 _ _ _ _ _ c.in_ok-append.ensures.ok c.in_ok-put_grey.ensures

@@ -1,0 +1,5 @@
+use Rattle.html.proofs.JoinLemmas.{joined_3}
+use Rattle.pages.proofs.theorem.put_told.Goals as goal
+
+pub returns : goal.returns
+returns c = joined_3 _ _ _ _ _ _ _ c.in_ok-append.ensures.ok c.in_ok-put_marks.ensures c.in_ok-append-2.ensures.ok
