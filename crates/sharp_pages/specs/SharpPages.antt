@@ -40,7 +40,7 @@ module _ (axioms : List Titled) where
   -- the instances that the proof cites
   abbrev pub instances_html : List Cited → List Witness → List ℕ
   instances_html instances marks =
-      codes "<h2>Without one of the instances: a rule at which all others hold</h2>\n<p>The proof cites these instances of the axioms, by their numbers, and the sharp text has such a rule for each that is not marked as open: "
+      codes "<h2>Without one of the instances: a rule at which all others hold</h2>\n<p>The proof cites these instances of the axioms, by their numbers (<code>explain instance STUDY AXIOM NUMBER</code> tells one), and the sharp text has such a rule for each that is not marked as open: "
       ++ all_instances instances marks ++ codes ".</p>\n"
 
 -- the page that claims so, of what a sharp text says: the names of the files, the version, and how the story is told

@@ -82,7 +82,7 @@ pub(crate) fn put_instances(
     ensures { OnOk result (out.new ≡ out.old ++ instances_html axioms.now instances.now marks.now) }
 {
     out.append(
-        b"<h2>Without one of the instances: a rule at which all others hold</h2>\n<p>The proof cites these instances of the axioms, by their numbers, and the sharp text has such a rule for each that is not marked as open: ",
+        b"<h2>Without one of the instances: a rule at which all others hold</h2>\n<p>The proof cites these instances of the axioms, by their numbers (<code>explain instance STUDY AXIOM NUMBER</code> tells one), and the sharp text has such a rule for each that is not marked as open: ",
     )?;
     put_all(out, axioms, instances, marks)?;
     out.append(b".</p>\n")?;
