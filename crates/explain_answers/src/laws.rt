@@ -4,14 +4,14 @@ ghost use Rattle.explain_answers.specs.Completeness.{CallsAreComplete, EnoughMap
 ghost use Rattle.explain_answers.specs.Laws.{PagesAreExact, PagesAreWritten, InstancesAreExact, InstancesAreWritten, RulesAreExact, RulesAreWritten, CoresAreExact, CoresAreWritten, LooksAreExact, LooksAreWritten};
 
 /// A page is written exactly where the file is the report of a right verdict or the text of a right sharp
-/// verdict, within the limit of reports, and it is the page of that verdict; of other files the status and the
-/// text are those of `check`.
+/// verdict, within the limit of reports, and it is the page of that verdict; of other files the status and
+/// the text are those of `check`.
 pub fn pages_are_exact()
     ensures { PagesAreExact }
 {}
 
-/// At status 0 the sink took the page of a right verdict or of a right sharp verdict, and of the report of a right
-/// verdict or the text of a right sharp verdict it takes the page, faults and want of memory aside.
+/// At status 0 the sink took the page of a right verdict or of a right sharp verdict, and of the report of a
+/// right verdict or the text of a right sharp verdict it takes the page, faults and want of memory aside.
 pub fn pages_are_written()
     ensures { PagesAreWritten }
 {}
