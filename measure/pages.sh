@@ -61,13 +61,13 @@ most_sentences() {
 }
 
 # By how much a page is wider than the paper within its margins of 8 mm, which is 194 mm or 733 dots at 96 an inch, or a table wider than
-# what holds it, whichever is more, in the styles of print.
+# what holds it, whichever is more, in the styles of print. A fold that is closed is not printed.
 excess() {
     sed 's/@media print/@media all/' "$1" >"$work/printed.html"
     cat >"$work/frame.html" <<HTML
 <!doctype html><title>frame</title><body><iframe id=page style="width:733px;height:60000px;border:0" src="file://$work/printed.html"></iframe>
 <script>onload=()=>{const d=document.getElementById('page').contentDocument,w=e=>parseFloat(d.defaultView.getComputedStyle(e).width)||0;
-let most=d.documentElement.scrollWidth-733;for(const t of d.querySelectorAll('table'))most=Math.max(most,w(t)-w(t.parentElement));
+let most=d.documentElement.scrollWidth-733;for(const t of d.querySelectorAll('table'))if(!t.closest('details:not([open])'))most=Math.max(most,w(t)-w(t.parentElement));
 document.title='excess '+Math.ceil(most-.5)}</script>
 HTML
     headless --dump-dom "file://$work/frame.html" | sed -n 's/.*<title>excess \(-\{0,1\}[0-9]*\)<.*/\1/p'
