@@ -83,7 +83,7 @@ printf '%s\n' 'kind = "choice"' 'voters = 1' 'alternatives = 5' 'axioms = ["pare
         'without pareto open 100000' 'without same open 100000' end
 } >"$work/left.report"
 "$explain" story "$work/left.toml" "$work/left.report" >"$work/written" || fault "explain gives the story of two winners no page"
-[ "$(grep -c 'by what is left' "$work/written")" -eq 2 ] || fault "explain says of two profiles at once what other facts leave at each"
+[ "$(grep -c '<li>.*by what is left' "$work/written")" -eq 2 ] || fault "explain says of two profiles at once what other facts leave at each"
 
 lists() { # ENDING AXIOMS: which ending the list of the rules of two voters over three alternatives has
     printf '%s\n' 'kind = "ranking"' 'voters = 2' 'alternatives = 3' "axioms = [$2]" >"$work/listed.toml"
