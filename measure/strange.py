@@ -558,7 +558,7 @@ class Run:
         status, line = self.house.check(*self.names)
         want(status == self.status, f"status {self.status}, where check ends with {status}")
         if status == 0:
-            looks.hold_page(self.text())
+            looks.hold_page(self.out.decode("utf-8"))
         else:
             want(line == self.out, f"check says {line!r}")
 
