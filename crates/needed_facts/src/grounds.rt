@@ -135,8 +135,8 @@ impl<K: OutcomeKind> Grounds<'_, K> {
         }
     }
 
-    /// Leaves out what a reason does not need of the facts that it rests on, the last first; of many facts
-    /// nothing.
+    /// Leaves out what a reason does not need of the facts that it rests on, the first first, so that it rests on
+    /// what came last; of many facts nothing.
     fn least(
         &self,
         alloc: Global,
@@ -160,10 +160,12 @@ impl<K: OutcomeKind> Grounds<'_, K> {
             return Ok(rests);
         }
         let mut kept = rests;
-        for place in (0..count).rev() {
-            let fewer = self.attempt(alloc, known, tried, kept.as_slice(), place, others, reason)?;
-            if let Some(fewer) = fewer {
-                kept = fewer;
+        let mut place = 0;
+        for turn in 0..count {
+            let _ = turn;
+            match self.attempt(alloc, known, tried, kept.as_slice(), place, others, reason)? {
+                Some(fewer) => kept = fewer,
+                None => place += 1,
             }
         }
         Ok(kept)
