@@ -1,6 +1,6 @@
 //! Maps of the sets of some axioms.
 
-ghost use Rattle.std.specs.Prelude.{◌≡◌, ◌<◌, [], IsTrue, IsFalse, OnOk};
+ghost use Rattle.std.specs.Prelude.{◌≡◌, ◌<◌, [], IsTrue, IsFalse, OnOk, OnErr};
 ghost use Rattle.axiom_sets.specs.Sets.{is_set, has_whole};
 ghost use Rattle.axiom_sets.specs.Maps.{decides, covers, IsTidy, HasImpossible, HasPossible, HasOpen};
 ghost use Rattle.axiom_sets.specs.Counts.{left_to_ask};
@@ -59,6 +59,7 @@ impl AxiomMap {
         requires set { IsTrue (is_set count set) }
         requires fresh { IsFalse (decides self.old set) }
         ensures added { OnOk result (HasImpossible self.old self.new set) }
+        ensures same { OnErr result (self.new ≡ self.old) }
         ensures tidy { OnOk result (IsTidy count self.new) }
         ensures fewer { OnOk result (left_to_ask count self.new < left_to_ask count self.old) }
     {
@@ -78,6 +79,7 @@ impl AxiomMap {
         requires set { IsTrue (is_set count set) }
         requires fresh { IsFalse (decides self.old set) }
         ensures added { OnOk result (HasPossible self.old self.new set) }
+        ensures same { OnErr result (self.new ≡ self.old) }
         ensures tidy { OnOk result (IsTidy count self.new) }
         ensures fewer { OnOk result (left_to_ask count self.new < left_to_ask count self.old) }
     {
@@ -97,6 +99,7 @@ impl AxiomMap {
         requires set { IsTrue (is_set count set) }
         requires fresh { IsFalse (covers self.old set) }
         ensures added { OnOk result (HasOpen self.old self.new set) }
+        ensures same { OnErr result (self.new ≡ self.old) }
         ensures tidy { OnOk result (IsTidy count self.new) }
         ensures fewer { OnOk result (left_to_ask count self.new < left_to_ask count self.old) }
     {
