@@ -47,8 +47,8 @@ pub fn cores_are_written()
     ensures { CoresAreWritten }
 {}
 
-/// Of a study that a file gives it is told what it asks, or its clauses are refused; of a file that gives none
-/// the line of the refusal is written, and what helps.
+/// Of a study that a file gives it is told what it asks, or its clauses are refused; of a file that gives
+/// none the line of the refusal is written, and what helps.
 pub fn looks_are_exact()
     ensures { LooksAreExact }
 {}

@@ -148,7 +148,8 @@ impl Text for Told<'_> {
         IsTrue (list_all (λ k. nat_lt k (length told.of.study.now.axioms)) told.core.now)
         × IsTrue (list_all (is_lemma_text told.of.study.now) told.lemmas.now) };
 
-    ghost text = { λ told. lines_text told.of.study.now (told_lines told.of.study.now told.core.now told.lemmas.now) };
+    ghost text = { λ told. lines_text told.of.study.now
+        (told_lines told.of.study.now told.core.now told.lemmas.now) };
 
     fn pour<O: Sink>(&self, page: &mut Page, out: &mut O) -> Result<(), Failed> {
         let names = CoreNames {

@@ -29,8 +29,8 @@ pub fn forced_facts_stand()
     ensures { ForcedFactsStand }
 {}
 
-/// Each lemma of a story that is told right stands on the page, with what it supposes, its sentences, its end and
-/// its table.
+/// Each lemma of a story that is told right stands on the page, with what it supposes, its sentences, its end
+/// and its table.
 pub fn lemmas_stand()
     ensures { LemmasStand }
 {}
