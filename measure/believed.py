@@ -40,7 +40,7 @@ WHOLES = [
     ("export", ["answers/RowLaws.SaysStudy"]),
     ("proof", ["answers/RowLaws.IsProofRight"]),
     ("a call", ["answers/Call.IsCall"]),
-    ("a call of explain", ["explain_answers/Call.IsCall"]),
+    ("a call of explain", ["explain_answers/Call.IsExplainCall"]),
 ]
 
 

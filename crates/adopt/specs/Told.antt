@@ -13,7 +13,7 @@ use Rattle.adopt.specs.declared.telling.Adopted.{Adopted}
 
 module _ (study : Question) where
   -- a told refutation is right: its core is, with a witness for each axiom; its story is accepted and tidy; each open mark has its log; and each log is of a search that spent its limit
-  pub record IsTold (a : Adopted) : Type 0 where
+  pub record IsToldRight (a : Adopted) : Type 0 where
     pub core : IsTrue (is_core_right study.size study.axioms study.conflicts a.core a.witnesses)
     pub accepted : IsTrue (is_story study.size study.axioms a.core a.story)
     pub tidy : IsTrue (is_tidy study.size study.axioms a.core a.story)
@@ -22,6 +22,6 @@ module _ (study : Question) where
 
   -- a proof over the clauses of all axioms is adopted: what is told is right, and each axiom of the core has a clause that a hint of the proof names
   pub record IsAdopted (proof : List Line) (a : Adopted) : Type 0 where
-    pub told : IsTold a
+    pub told : IsToldRight a
     pub cited : IsTrue (list_all
         (is_axiom_cited (study_clauses study.size study.axioms (all_places study)) proof) a.core)

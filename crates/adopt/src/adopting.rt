@@ -11,7 +11,7 @@ ghost use Rattle.lrat_check.specs.Ranges.{has_next};
 ghost use Rattle.search_logs.specs.Spent.{all_places};
 ghost use Rattle.core_reduce.specs.Answers.{IsReduced};
 ghost use Rattle.adopt.specs.Told.{IsAdopted};
-ghost use Rattle.adopt.specs.Refused.{IsRefused};
+ghost use Rattle.adopt.specs.Refused.{IsAdoptFault};
 
 use crate::telling::{Adopted, tell};
 use clause_form::Ground;
@@ -96,7 +96,7 @@ pub fn adopt<K: OutcomeKind>(
     ensures adopted { IfOk result (IsAdopted study.now proof.now) }
     ensures accepted { OnOk result (IsAccepted
         (clauses_for study.now.size study.now.axioms (all_places study.now)) proof.now) }
-    ensures refused { IfErr result (λ fault. IsRefused fault
+    ensures refused { IfErr result (λ fault. IsAdoptFault fault
         (first_fault (clauses_for study.now.size study.now.axioms (all_places study.now)) proof.now)) }
 {
     match check(alloc, clauses.clauses(), proof) {

@@ -3,7 +3,7 @@
 ghost use Rattle.std.specs.Prelude.{◌≡◌, IfOk};
 ghost use Rattle.core_reduce.specs.Answers.{IsRefutation};
 ghost use Rattle.search_logs.specs.Spent.{AreSpentLogs};
-ghost use Rattle.adopt.specs.Told.{IsTold};
+ghost use Rattle.adopt.specs.Told.{IsToldRight};
 
 use core_reduce::{Reduced, Refutation, Witnesses};
 use lists::NoMemory;
@@ -34,7 +34,7 @@ pub fn tell<K: OutcomeKind>(
     requires size { study.now.size ≡ K.size kind.now }
     requires refutation { IsRefutation study.now reduced.logs reduced.refutation }
     requires logs { AreSpentLogs study.now reduced.logs }
-    ensures told { IfOk result (IsTold study.now) }
+    ensures told { IfOk result (IsToldRight study.now) }
     ensures core { IfOk result (λ told. told.core ≡ reduced.refutation.core) }
 {
     let Reduced { refutation, logs } = reduced;

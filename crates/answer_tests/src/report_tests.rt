@@ -2,7 +2,7 @@
 //! neither.
 
 ghost use Rattle.std.specs.Prelude.{◌≤◌};
-ghost use Rattle.report.specs.Stands.{IsReady};
+ghost use Rattle.report.specs.Stands.{StandsForSome};
 
 use crate::symmetry::{symmetric, symmetric_story};
 use edge::Open;
@@ -36,9 +36,9 @@ fn faultless_lines<R: Threads + Sync, K: OutcomeKind>(
     text: &str,
 ) -> u32
     requires few { checker.old.progress.lines ≤ 101 }
-    requires ready { IsReady checker.old.subject.setting.study.now checker.old.progress }
+    requires ready { StandsForSome checker.old.subject.setting.study.now checker.old.progress }
     ensures few { checker.new.progress.lines ≤ 101 }
-    ensures ready { IsReady checker.new.subject.setting.study.now checker.new.progress }
+    ensures ready { StandsForSome checker.new.subject.setting.study.now checker.new.progress }
 {
     let mut count: u32 = 0;
     for line in text.split('\n') {
@@ -68,7 +68,7 @@ fn checks_to_the_end<R: Threads + Sync, K: OutcomeKind>(
     front: &str,
 ) -> bool
     requires few { checker.progress.lines ≤ 101 }
-    requires ready { IsReady checker.subject.setting.study.now checker.progress }
+    requires ready { StandsForSome checker.subject.setting.study.now checker.progress }
 {
     let before = faultless_lines(rt, &mut checker, front);
     let open = checker.finish();

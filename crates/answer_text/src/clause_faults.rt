@@ -1,7 +1,7 @@
 //! The line of a study whose clauses are refused.
 
 ghost use Rattle.std.specs.Prelude.{◌≡◌, ◌++◌, [], None, IfSome};
-ghost use Rattle.answers.specs.Grounding.{wide_text, refusal_text, refusal_line};
+ghost use Rattle.answers.specs.Grounding.{wide_text, clause_refusal_text, refusal_line};
 ghost use Rattle.answers.specs.StudyLines.{of_axiom};
 ghost use Rattle.texts.specs.Page.{Pours};
 ghost use Rattle.verdicts.specs.Lines.{name_at};
@@ -71,7 +71,7 @@ struct FaultWords<'a>(&'a Study, GroundFault);
 impl Text for FaultWords<'_> {
     ghost can = { λ _. Unit {0} };
 
-    ghost text = { λ words. refusal_text words.0.now words.1 };
+    ghost text = { λ words. clause_refusal_text words.0.now words.1 };
 
     fn pour<O: Sink>(&self, page: &mut Page, out: &mut O) -> Result<(), Failed> {
         match self.1 {

@@ -1,7 +1,7 @@
 //! The line of a study that is refused.
 
 ghost use Rattle.std.specs.Prelude.{◌++◌, codes};
-ghost use Rattle.answers.specs.StudyLines.{size_text, syntax_text, sort_text, of_axiom, fault_text, study_line};
+ghost use Rattle.answers.specs.StudyLines.{size_fault_text, syntax_text, sort_text, of_axiom, fault_text, study_line};
 
 use edge::{Failed, Sink};
 use sorts::SortFault;
@@ -17,7 +17,7 @@ struct SizeWords(SizeFault);
 impl Text for SizeWords {
     ghost can = { λ _. Unit {0} };
 
-    ghost text = { λ words. size_text words.0 };
+    ghost text = { λ words. size_fault_text words.0 };
 
     fn pour<O: Sink>(&self, page: &mut Page, out: &mut O) -> Result<(), Failed> {
         match self.0 {

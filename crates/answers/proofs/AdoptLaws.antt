@@ -8,9 +8,9 @@ use Rattle.verdicts.specs.declared.verdicts.Verdict.TheVariants.{Impossible}
 use Rattle.study.proofs.WholeStudies.{studies_whole}
 use Rattle.words.specs.Words.{Proof, Adopt, request_of}
 use Rattle.answers.specs.declared.runs.Run.{Run}
-use Rattle.answers.specs.FileLimits.{most_proof_bytes, Holds}
+use Rattle.answers.specs.FileLimits.{most_proof_bytes, HasFile}
 use Rattle.answers.specs.Studies.{GivesStudy}
-use Rattle.answers.specs.Grounding.{fault_of, OverClauses, clauses_refused, clauses_made}
+use Rattle.answers.specs.Grounding.{clauses_fault, OverClauses, clauses_refused, clauses_made}
 use Rattle.answers.specs.Evidence.{by_verdict}
 use Rattle.answers.specs.Export.{export_text, exported_formula}
 use Rattle.answers.specs.Proof.{Proves}
@@ -19,7 +19,7 @@ use Rattle.answers.specs.Adopt.{IsRefutedBy, IsRetold, Adopts, proof_refused, pr
 use Rattle.answers.specs.Devices.{Devices}
 use Rattle.answers.specs.Call.{IsCall, are_told}
 use Rattle.answers.specs.Laws.{Wrote, AdoptsIt, WrittenProofsAreAdopted}
-use Rattle.answers.specs.RowLaws.{IsConclusive, IsAdoptedRight, AdoptedHolds, WrittenAdoptionsHold, AdoptedAreConfirmed, AdoptsAsLrat, ProvedAreAdopted, EnoughAdopts}
+use Rattle.answers.specs.RowLaws.{IsConclusiveRun, IsAdoptedRight, AdoptedHolds, WrittenAdoptionsHold, AdoptedAreConfirmed, AdoptsAsLrat, ProvedAreAdopted, EnoughAdopts}
 use Rattle.answers.proofs.RowLemmas.{some_same, over_study, granted}
 use Rattle.verdicts.proofs.ReportLaws.{printed_is_report}
 use Rattle.answers.proofs.JudgedLaws.{report_checked}
@@ -75,11 +75,11 @@ module _ (files : Files) (proof : List ℕ) (study : Question) (run : Run) (text
 
   -- ---- a large limit
 
-  enough : 3 ^ variable_count study.size ≤ study.conflicts → Adopts files proof study run text → IsConclusive run
+  enough : 3 ^ variable_count study.size ≤ study.conflicts → Adopts files proof study run text → IsConclusiveRun run
   enough many (proof_refused bytes held one is bare) = bare_conclusive run 1 (λ no. absurd (omega (arith, no))) bare
   enough many (proof_retold bytes lines held refutes told) = conclusive study run (Impossible told.core told.story told.witnesses) many (by_verdict told.found)
 
-  enough_row : 3 ^ variable_count study.size ≤ study.conflicts → OverClauses study run text (Adopts files proof study run text) → IsConclusive run
+  enough_row : 3 ^ variable_count study.size ≤ study.conflicts → OverClauses study run text (Adopts files proof study run text) → IsConclusiveRun run
   enough_row many (clauses_refused fault e t bare) = bare_conclusive run 3 (λ no. absurd (omega (arith, no))) bare
   enough_row many (clauses_made e r) = enough many r
 
@@ -101,7 +101,7 @@ adopted_confirmed files name proof run text study row g zero_is fits =
     (verdict, f.told, report_checked study text verdict (reportable files name study g) (listed files name study g) report fits)
 
 adopted_as_said : (files : Files) (name proof : List ℕ) (run : Run) (text bytes : List ℕ) (study : Question) → IsAdoption files name proof run text → GivesStudy files name study
-    → fault_of study ≡ None → files proof ≡ Some bytes → EndsAsSaid files proof study run text bytes
+    → clauses_fault study ≡ None → files proof ≡ Some bytes → EndsAsSaid files proof study run text bytes
 adopted_as_said files name proof run text bytes study row g none held =
     as_said files proof study run text bytes held (rest_of files name run text (λ s. Adopts files proof s run text) study g none row)
 
@@ -133,7 +133,7 @@ enough_adopted files name proof run text study row g many =
 
 pub proved_adopted : ProvedAreAdopted
 proved_adopted study proved files name' name proof run' run refutation text row' g' zero_is other row g holds =
-    let none : fault_of study ≡ None =
+    let none : clauses_fault study ≡ None =
     not_faulty study run' refutation (Proves study run' refutation) zero_is (over_study proved name' run' refutation (λ s. OverClauses s run' refutation (Proves s run' refutation)) study g' row') in
     let (lines, refutes, is) = refuting proved name' study run' refutation g' zero_is other row' in
     let said = said_of_written study refutation lines (export_read proved name' study g' none) refutes is holds.fits in
@@ -142,7 +142,7 @@ proved_adopted study proved files name' name proof run' run refutation text row'
 
 module _ (study : Question) (refutation : List ℕ) (wrote : Wrote Proof study refutation) (other : refutation ≢ codes "c possible\n")
     (words : List (List ℕ)) (d : Devices) (run : Run) (files : Files) (name proof : List ℕ) (workers : ℕ) (call : IsCall words d run) (told : d.told ≡ Some files)
-    (asked : request_of words ≡ Some (Adopt name proof workers)) (g : GivesStudy files name study) (holds : Holds files most_proof_bytes proof refutation) where
+    (asked : request_of words ≡ Some (Adopt name proof workers)) (g : GivesStudy files name study) (holds : HasFile files most_proof_bytes proof refutation) where
   zero_there : (text : List ℕ) → IsAdoption files name proof run text → run.status ≡ 0
   zero_there text row =
       proved_adopted study wrote.files files wrote.name name proof wrote.run run refutation text (row_written Proof study refutation wrote) wrote.given wrote.done other row g holds

@@ -12,15 +12,15 @@ use Rattle.verdicts.specs.Report.{IsConfirmed}
 use Rattle.clause_text.specs.ReadDimacs.{Formula}
 use Rattle.samples.specs.Sample.{IsSampleStudy}
 use Rattle.words.specs.Words.{Request, Decide, Check, Export, Proof, Lrat, Axioms, Sample, Adopt, Gain, Sharpen, request_of}
-use Rattle.sharp_verdicts.specs.Totals.{is_over, total}
+use Rattle.sharp_verdicts.specs.Totals.{passes_clause_limits, total}
 use Rattle.answers.specs.declared.runs.Run.{Run}
 use Rattle.answers.specs.FileLimits.{most_report_bytes}
 use Rattle.verdicts.specs.declared.verdicts.Verdict.{Verdict}
 use Rattle.samples.proofs.Samples.{samples_once}
 use Rattle.answers.specs.Studies.{GivesStudy, OverStudy}
-use Rattle.answers.specs.Grounding.{fault_of, OverClauses, clauses_refused, clauses_made}
+use Rattle.answers.specs.Grounding.{clauses_fault, OverClauses, clauses_refused, clauses_made}
 use Rattle.answers.specs.Evidence.{Decides, by_verdict, by_limit}
-use Rattle.answers.specs.Check.{judgement, status_of}
+use Rattle.answers.specs.Check.{judgement, judgement_status}
 use Rattle.answers.specs.Decide.{IsReported}
 use Rattle.answers.specs.Adopt.{Adopts, proof_refused, proof_retold}
 use Rattle.answers.specs.Export.{exported_formula, IsWritten}
@@ -29,7 +29,7 @@ use Rattle.answers.specs.Lrat.{GivesFormula, IsConfirmedBy, formula_refused, pro
 use Rattle.answers.specs.Sample.{IsSampled}
 use Rattle.answers.specs.Gain.{Gains, other_kind, of_sets}
 use Rattle.answers.specs.Sharpen.{Sharpens, total_refused, decided, sharpened}
-use Rattle.answers.specs.Lawful.{IsAnswer, Lawful}
+use Rattle.answers.specs.Lawful.{IsBenchAnswer, Lawful}
 use Rattle.answers.specs.Devices.{Devices}
 use Rattle.answers.specs.Call.{IsCall, AreFiles, are_told, none_read, HasReadCause, at_first, at_second, files_of, statuses_of}
 use Rattle.answers.specs.Laws.{IsRightText, AreQuiet, HasNoFault, IsDecidedOrWanting, CallsAreComplete}
@@ -75,12 +75,12 @@ all_quiet d none (name ∷ names) = (none name, all_quiet d none names)
 
 -- ---- what a row says where nothing is refused
 
-pub given_clauses : (study : Question) (run : Run) (text : List ℕ) (P : Type 0) → fault_of study ≡ None → OverClauses study run text P → P
+pub given_clauses : (study : Question) (run : Run) (text : List ℕ) (P : Type 0) → clauses_fault study ≡ None → OverClauses study run text P → P
 given_clauses study run text P none (clauses_refused fault e t bare) = let no : None ≡ Some fault = sym none ∙ e in absurd (cc)
 given_clauses study run text P none (clauses_made e p) = p
 
 -- the rest of a command over the clauses of a study
-pub rest_of : (files : Files) (name : List ℕ) (run : Run) (text : List ℕ) (P : Question → Type 0) (study : Question) → GivesStudy files name study → fault_of study ≡ None
+pub rest_of : (files : Files) (name : List ℕ) (run : Run) (text : List ℕ) (P : Question → Type 0) (study : Question) → GivesStudy files name study → clauses_fault study ≡ None
     → OverStudy files name run text (λ s. OverClauses s run text (P s)) → P study
 rest_of files name run text P study g none row =
     given_clauses study run text (P study) none (over_study files name run text (λ s. OverClauses s run text (P s)) study g row)
@@ -111,20 +111,20 @@ by_adopted files proof run text study bytes held zero_is (proof_refused bytes' h
 by_adopted files proof run text study bytes held zero_is (proof_retold bytes' lines held' refutes retold) = retold.found.ends
 
 by_gained : (files : Files) (report : List ℕ) (run : Run) (text : List ℕ) (study : Question) (bytes : List ℕ) → study.size.kind ≡ Sets → files report ≡ Some bytes
-    → status_of (judgement study bytes) ≡ 0 → Gains files report study run text → run.status ≡ 0
+    → judgement_status (judgement study bytes) ≡ 0 → Gains files report study run text → run.status ≡ 0
 by_gained files report run text study bytes sets held zero_is (other_kind other t bare) = absurd (other sets)
 by_gained files report run text study bytes sets held zero_is (of_sets same said) =
-    said.ends.ends ∙ ap (λ b. status_of (judgement study b)) (some_same (files report) said.bytes bytes said.held held) ∙ zero_is
+    said.ends.ends ∙ ap (λ b. judgement_status (judgement study b)) (some_same (files report) said.bytes bytes said.held held) ∙ zero_is
 
-by_sharpened : (study : Question) (run : Run) (text : List ℕ) → is_over (total study) ≡ false → Sharpens study run text → IsDecidedOrWanting run
+by_sharpened : (study : Question) (run : Run) (text : List ℕ) → passes_clause_limits (total study) ≡ false → Sharpens study run text → IsDecidedOrWanting run
 by_sharpened study run text within (total_refused over is bare) = absurd (true≢false (sym over ∙ within))
 by_sharpened study run text within (decided less reported other) = by_decides study run reported.verdict reported.decides
 by_sharpened study run text within (sharpened less s) = inl s.ends
 
-by_summed : (n : ℕ) (study : Question) (run : Run) (text : List ℕ) → IsSampleStudy n study → fault_of study ≡ None → IsSampled n run text → IsDecidedOrWanting run
+by_summed : (n : ℕ) (study : Question) (run : Run) (text : List ℕ) → IsSampleStudy n study → clauses_fault study ≡ None → IsSampled n run text → IsDecidedOrWanting run
 by_summed n study run text sample none row =
     let same : row.0 ≡ study = samples_once n row.0 study row.1 sample in
-    let made = given_clauses row.0 run text _ (subst (λ (s : Question). fault_of s ≡ None) (sym same) none) row.2 in
+    let made = given_clauses row.0 run text _ (subst (λ (s : Question). clauses_fault s ≡ None) (sym same) none) row.2 in
     by_decides row.0 run made.verdict made.decides
 
 module _ (words : List (List ℕ)) (d : Devices) (run : Run) (call : IsCall words d run) (calm : HasNoFault words d) where
@@ -149,28 +149,28 @@ module _ (words : List (List ℕ)) (d : Devices) (run : Run) (call : IsCall word
 
   -- a row of the table, where the shelf tells its files
   pub settled_row : (request : Option Request) (files : Files) → request_of words ≡ request → d.told ≡ Some files
-      → ((text : List ℕ) × IsAnswer request files run text) ⊎ (run.status ≡ 7)
+      → ((text : List ℕ) × IsBenchAnswer request files run text) ⊎ (run.status ≡ 7)
   settled_row request files asked told = elim (settled files (are_told told)) [
     | inl a ↦ inl (a.0, row_of words files run a.0 request asked a.1)
     | inr seven ↦ inr seven
   ]
 
   decide_settled : (files : Files) (name : List ℕ) (workers : ℕ) (study : Question) → d.told ≡ Some files → request_of words ≡ Some (Decide name workers)
-      → GivesStudy files name study → fault_of study ≡ None → IsDecidedOrWanting run
+      → GivesStudy files name study → clauses_fault study ≡ None → IsDecidedOrWanting run
   decide_settled files name workers study told asked g none = elim (settled_row (Some (Decide name workers)) files asked told) [
     | inl a ↦ let made : IsReported study run a.0 = rest_of files name run a.0 _ study g none a.1 in by_decides study run made.verdict made.decides
     | inr seven ↦ inr (inr seven)
   ]
 
   export_settled : (files : Files) (name : List ℕ) (workers : ℕ) (study : Question) → d.told ≡ Some files → request_of words ≡ Some (Export name workers)
-      → GivesStudy files name study → fault_of study ≡ None → (run.status ≡ 0) ⊎ (run.status ≡ 7)
+      → GivesStudy files name study → clauses_fault study ≡ None → (run.status ≡ 0) ⊎ (run.status ≡ 7)
   export_settled files name workers study told asked g none = elim (settled_row (Some (Export name workers)) files asked told) [
     | inl a ↦ let made : IsWritten study run a.0 = rest_of files name run a.0 _ study g none a.1 in inl made.0.ends
     | inr seven ↦ inr seven
   ]
 
   proof_settled : (files : Files) (name : List ℕ) (workers : ℕ) (study : Question) → d.told ≡ Some files → request_of words ≡ Some (Proof name workers)
-      → GivesStudy files name study → fault_of study ≡ None → IsDecidedOrWanting run
+      → GivesStudy files name study → clauses_fault study ≡ None → IsDecidedOrWanting run
   proof_settled files name workers study told asked g none = elim (settled_row (Some (Proof name workers)) files asked told) [
     | inl a ↦ by_shown study run a.0 (rest_of files name run a.0 (λ s. Proves s run a.0) study g none a.1)
     | inr seven ↦ inr (inr seven)
@@ -184,7 +184,7 @@ module _ (words : List (List ℕ)) (d : Devices) (run : Run) (call : IsCall word
   ]
 
   adopt_settled : (files : Files) (name proof bytes : List ℕ) (workers : ℕ) (study : Question) → d.told ≡ Some files → request_of words ≡ Some (Adopt name proof workers)
-      → GivesStudy files name study → fault_of study ≡ None → files proof ≡ Some bytes → (said_of (exported_formula study) bytes).status ≡ 0 → (run.status ≡ 0) ⊎ (run.status ≡ 7)
+      → GivesStudy files name study → clauses_fault study ≡ None → files proof ≡ Some bytes → (said_of (exported_formula study) bytes).status ≡ 0 → (run.status ≡ 0) ⊎ (run.status ≡ 7)
   adopt_settled files name proof bytes workers study told asked g none held zero_is = elim (settled_row (Some (Adopt name proof workers)) files asked told) [
     | inl a ↦ inl (by_adopted files proof run a.0 study bytes held zero_is (rest_of files name run a.0 (λ s. Adopts files proof s run a.0) study g none a.1))
     | inr seven ↦ inr seven
@@ -209,7 +209,7 @@ module _ (words : List (List ℕ)) (d : Devices) (run : Run) (call : IsCall word
   ]
 
   sharpen_settled : (files : Files) (name : List ℕ) (workers : ℕ) (study : Question) → d.told ≡ Some files → request_of words ≡ Some (Sharpen name workers)
-      → GivesStudy files name study → fault_of study ≡ None → is_over (total study) ≡ false → IsDecidedOrWanting run
+      → GivesStudy files name study → clauses_fault study ≡ None → passes_clause_limits (total study) ≡ false → IsDecidedOrWanting run
   sharpen_settled files name workers study told asked g none within = elim (settled_row (Some (Sharpen name workers)) files asked told) [
     | inl a ↦ by_sharpened study run a.0 within (rest_of files name run a.0 (λ s. Sharpens s run a.0) study g none a.1)
     | inr seven ↦ inr (inr seven)
@@ -218,7 +218,7 @@ module _ (words : List (List ℕ)) (d : Devices) (run : Run) (call : IsCall word
   without_files : (request : Option Request) → request_of words ≡ request → files_of request ≡ [] → ((text : List ℕ) × Lawful words (λ name. None) run text) ⊎ (run.status ≡ 7)
   without_files request asked none = settled (λ name. None) (none_read (subst (λ (r : Option Request). files_of r ≡ []) (sym asked) none))
 
-  sample_settled : (number : ℕ) (study : Question) → request_of words ≡ Some (Sample number) → IsSampleStudy number study → fault_of study ≡ None
+  sample_settled : (number : ℕ) (study : Question) → request_of words ≡ Some (Sample number) → IsSampleStudy number study → clauses_fault study ≡ None
       → IsDecidedOrWanting run
   sample_settled number study asked sample none = elim (without_files (Some (Sample number)) asked refl) [
     | inl a ↦ by_summed number study run a.0 sample none (row_of words (λ name. None) run a.0 (Some (Sample number)) asked a.1)

@@ -1,7 +1,6 @@
 -- What `export`, `proof` and `lrat` say of rules and of assignments.
-use Rattle.std.proofs.Common.{◌≡◌, ◌∙◌, ◌↔◌, refl, sym, subst, ℕ, Bool, true, false, List, length, Option, None, Some, Result, Ok, Err, arith, lt-ltb}
+use Rattle.std.proofs.Common.{◌≡◌, ◌∙◌, ◌↔◌, refl, sym, subst, ℕ, Bool, true, false, List, length, Option, None, Some, Result, Ok, Err, arith}
 use Rattle.std.specs.Prelude.{IsTrue, nat_lt}
-use Rattle.std.specs.List.{list_all}
 use Rattle.edge.specs.Shelf.{Files}
 use Rattle.vocab.specs.Study.{Question}
 use Rattle.cnf.specs.declared.derivations.Line.{Line}
@@ -10,9 +9,8 @@ use Rattle.cnf.specs.Derived.{IsAccepted, first_fault}
 use Rattle.cnf.specs.Sat.{IsUnsatisfiable, is_satisfied}
 use Rattle.cnf.proofs.SoundLaws.{accepted_unsatisfiable}
 use Rattle.cnf.proofs.TrimmedLaws.{trimmed_accepted}
-use Rattle.meaning.specs.Space.{below}
 use Rattle.meaning.proofs.RuleLaws.{are_satisfiable}
-use Rattle.meaning.proofs.SpaceLaws.{all_from}
+use Rattle.meaning.proofs.SpaceLaws.{all_below}
 use Rattle.study.proofs.WholeStudies.{studies_whole}
 use Rattle.clause_text.specs.declared.faults.LratFault.{LratFault}
 use Rattle.clause_text.specs.ReadDimacs.{Formula}
@@ -29,15 +27,11 @@ use Rattle.answers.specs.Lrat.{GivesFormula, IsConfirmedBy, formula_refused, pro
 use Rattle.answers.specs.RowLaws.{ExportedSaysStudy, IsProofRight, a_refutation, its_rule, ProvedHolds, ConfirmedIsUnsatisfiable}
 use Rattle.answers.proofs.RowLemmas.{granted, one_formula}
 
--- the places of all axioms are places
-places_below : (n : ℕ) → list_all (λ k. nat_lt k n) (below n) ≡ true
-places_below n = all_from (λ k. nat_lt k n) n 0 (λ k low high. lt-ltb k n (omega (arith, high)))
-
 -- the clauses of all axioms are satisfiable exactly where some rule satisfies them
 pub clauses_mean : (files : Files) (name : List ℕ) (study : Question) → GivesStudy files name study
     → ((v : ℕ → Bool) × IsTrue (is_satisfied v (all_clauses study))) ↔ ((table : List ℕ) × IsRuleFor study table)
 clauses_mean files name study g =
-    are_satisfiable study.size study.axioms (studies_whole g.bytes study g.read).0.sentences (all_places study) (places_below (length study.axioms))
+    are_satisfiable study.size study.axioms (studies_whole g.bytes study g.read).0.sentences (all_places study) (all_below (length study.axioms))
 
 pub exported_says : ExportedSaysStudy
 exported_says files name run text study row g zero_is = record {

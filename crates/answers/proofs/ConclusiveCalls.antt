@@ -6,14 +6,14 @@ use Rattle.verdicts.specs.declared.verdicts.Verdict.TheVariants.{Impossible}
 use Rattle.words.specs.Words.{Request, Decide, Check, Export, Proof, Lrat, Axioms, Sample, Adopt, Gain, Sharpen, request_of}
 use Rattle.answers.specs.declared.runs.Run.{Run}
 use Rattle.answers.specs.Runs.{with_status}
-use Rattle.answers.specs.Lawful.{IsAnswer}
+use Rattle.answers.specs.Lawful.{IsBenchAnswer}
 use Rattle.answers.specs.Devices.{Devices}
 use Rattle.answers.specs.Call.{IsCall, are_told}
 use Rattle.answers.specs.Decide.{IsDecided}
 use Rattle.answers.specs.Proof.{IsProved}
 use Rattle.answers.specs.Adopt.{IsAdoption}
 use Rattle.answers.specs.Sharpen.{IsSharpening}
-use Rattle.answers.specs.RowLaws.{IsConclusive, CallsAreConclusive}
+use Rattle.answers.specs.RowLaws.{IsConclusiveRun, CallsAreConclusive}
 use Rattle.answers.proofs.DecidedLaws.{no_sharpening, enough_decided, enough_proved}
 use Rattle.answers.proofs.AdoptLaws.{enough_adopted}
 use Rattle.answers.proofs.SharpenLaws.{enough_sharpened}
@@ -22,11 +22,11 @@ use Rattle.answers.proofs.CallLaws.{low_status}
 
 -- a row that is conclusive whatever run has it makes the call so
 module _ (words : List (List ℕ)) (d : Devices) (run : Run) (call : IsCall words d run) (request : Request) (asked : request_of words ≡ Some request) (files : Files) (told : d.told ≡ Some files)
-    (row : (r : Run) (text : List ℕ) → IsAnswer (Some request) files r text → IsConclusive r) where
-  done : run.status ≤ 4 → IsConclusive run
+    (row : (r : Run) (text : List ℕ) → IsBenchAnswer (Some request) files r text → IsConclusiveRun r) where
+  done : run.status ≤ 4 → IsConclusiveRun run
   done low = let a = written_at words d run call (Some request) asked files (are_told told) low in row run a.0 a.1
 
-  cut_short : run.status ≡ 6 → IsConclusive run
+  cut_short : run.status ≡ 6 → IsConclusiveRun run
   cut_short six =
       let a = front_at words d run call (Some request) asked files (are_told told) six in
       let c = row (with_status a.0 run) a.1 a.2 in
@@ -37,7 +37,7 @@ module _ (words : List (List ℕ)) (d : Devices) (run : Run) (call : IsCall word
         sharp = c.sharp;
       }
 
-  silent : (status : ℕ) → run.status ≡ status → 5 ≤ status → (run.status ≡ 5) ⊎ (run.status ≡ 7) → IsConclusive run
+  silent : (status : ℕ) → run.status ≡ status → 5 ≤ status → (run.status ≡ 5) ⊎ (run.status ≡ 7) → IsConclusiveRun run
   silent status is high h =
       let s = call.silent h in
       record {
@@ -47,7 +47,7 @@ module _ (words : List (List ℕ)) (d : Devices) (run : Run) (call : IsCall word
         sharp = no_sharpening run s.no_sharp;
       }
 
-  ended : IsConclusive run
+  ended : IsConclusiveRun run
   ended = elim (cases_lt run.status 5) [
     | inl low ↦ done (omega (arith, low))
     | inr high ↦ elim (cases_lt run.status 6) [

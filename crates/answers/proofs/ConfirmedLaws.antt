@@ -13,13 +13,13 @@ use Rattle.clause_text.specs.ReadLrat.{read_lrat}
 use Rattle.words.specs.Words.{Request, Export, Proof, Lrat, request_of}
 use Rattle.answers.specs.declared.runs.Run.{Run}
 use Rattle.answers.specs.Runs.{IsBare}
-use Rattle.answers.specs.FileLimits.{most_proof_bytes, Holds}
+use Rattle.answers.specs.FileLimits.{most_proof_bytes, HasFile}
 use Rattle.answers.specs.Studies.{GivesStudy}
-use Rattle.answers.specs.Grounding.{all_clauses, fault_of, OverClauses, clauses_refused, clauses_made}
+use Rattle.answers.specs.Grounding.{all_clauses, clauses_fault, OverClauses, clauses_refused, clauses_made}
 use Rattle.answers.specs.Export.{export_text, exported_formula, IsWritten, IsExported}
 use Rattle.answers.specs.Proof.{Refutes, Proves, refuted, possible, undecided, IsProved}
 use Rattle.answers.specs.Lrat.{GivesFormula, Said, refused, said_of, of_reading, of_derivation, IsConfirmedBy, proof_judged}
-use Rattle.answers.specs.Lawful.{IsAnswer}
+use Rattle.answers.specs.Lawful.{IsBenchAnswer}
 use Rattle.answers.specs.Devices.{Devices}
 use Rattle.answers.specs.Call.{IsCall, are_told}
 use Rattle.answers.specs.Laws.{Says, HasNoFault, Wrote, WrittenProofsAreConfirmed}
@@ -34,12 +34,12 @@ use Rattle.answers.proofs.CallLaws.{settled_row}
 -- ---- what the rows say with status 0
 
 -- the clauses of a run that does not end with status 3 are not refused
-pub not_faulty : (study : Question) (run : Run) (text : List ℕ) (P : Type 0) → run.status ≡ 0 → OverClauses study run text P → fault_of study ≡ None
+pub not_faulty : (study : Question) (run : Run) (text : List ℕ) (P : Type 0) → run.status ≡ 0 → OverClauses study run text P → clauses_fault study ≡ None
 not_faulty study run text P zero_is (clauses_refused fault e t bare) = absurd (not_three run zero_is bare)
 not_faulty study run text P zero_is (clauses_made none p) = none
 
 module _ (files : Files) (name : List ℕ) (study : Question) (run : Run) (text : List ℕ) (g : GivesStudy files name study) (zero_is : run.status ≡ 0) where
-  unrefused : IsExported files name run text → fault_of study ≡ None
+  unrefused : IsExported files name run text → clauses_fault study ≡ None
   unrefused row = not_faulty study run text (IsWritten study run text) zero_is (over_study files name run text (λ s. OverClauses s run text (IsWritten s run text)) study g row)
 
   exported_text : IsExported files name run text → text ≡ export_text study
@@ -73,7 +73,7 @@ said_of_written study refutation lines again refutes proved fits =
     said_accepted (exported_formula study) refutation fits accepted
 
 module _ (study : Question) (files : Files) (cnf proof clauses refutation : List ℕ) (again : IsReadAgain study) (lines : List Line) (refutes : Refutes study lines)
-    (exported : clauses ≡ export_text study) (proved : refutation ≡ lrat_text lines) (held : files cnf ≡ Some clauses) (holds : Holds files most_proof_bytes proof refutation) where
+    (exported : clauses ≡ export_text study) (proved : refutation ≡ lrat_text lines) (held : files cnf ≡ Some clauses) (holds : HasFile files most_proof_bytes proof refutation) where
   formula_given : GivesFormula files cnf (exported_formula study)
   formula_given = record {
     bytes = export_text study;
@@ -117,11 +117,11 @@ all_written d text written empty taken appended =
     sym all
 
 -- the row of such a call
-pub row_written : (request : List ℕ → ℕ → Request) (study : Question) (text : List ℕ) (w : Wrote request study text) → IsAnswer (Some (request w.name w.workers)) w.files w.run text
+pub row_written : (request : List ℕ → ℕ → Request) (study : Question) (text : List ℕ) (w : Wrote request study text) → IsBenchAnswer (Some (request w.name w.workers)) w.files w.run text
 row_written request study text w =
     let done = w.done in
     let a = written_at w.words w.d w.run w.call (Some (request w.name w.workers)) w.asked w.files (are_told w.told) (omega (arith, done)) in
-    subst (λ (t : List ℕ). IsAnswer (Some (request w.name w.workers)) w.files w.run t) (all_written w.d text a.0 w.empty w.taken a.2) a.1
+    subst (λ (t : List ℕ). IsBenchAnswer (Some (request w.name w.workers)) w.files w.run t) (all_written w.d text a.0 w.empty w.taken a.2) a.1
 
 module _ (words : List (List ℕ)) (d : Devices) (run : Run) (files : Files) (cnf proof : List ℕ) (call : IsCall words d run) (told : d.told ≡ Some files)
     (asked : request_of words ≡ Some (Lrat cnf proof)) (alone : IsConfirming files cnf proof) where

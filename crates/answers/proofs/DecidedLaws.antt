@@ -33,7 +33,7 @@ use Rattle.verdicts.specs.Claims.{Claims}
 use Rattle.answers.specs.Decide.{IsReported}
 use Rattle.answers.specs.Proof.{Proves, refuted, possible, undecided}
 use Rattle.answers.specs.Sample.{IsSummed}
-use Rattle.answers.specs.RowLaws.{IsNeeded, by_rule, by_mark, IsImpossible, IsPrinted, a_rule, an_impossibility, DecidedHolds, IsWithoutOpen, IsConclusive, EnoughDecides, EnoughProves, IsSampleRight, SampledHolds}
+use Rattle.answers.specs.RowLaws.{IsNeeded, by_rule, by_mark, IsImpossibilityRight, IsPrinted, a_rule, an_impossibility, DecidedHolds, IsWithoutOpen, IsConclusiveRun, EnoughDecides, EnoughProves, IsSampleRight, SampledHolds}
 use Rattle.answers.proofs.RowLemmas.{some_same, over_study, past_clauses, not_three, granted}
 
 -- the witnesses of a right core
@@ -64,7 +64,7 @@ module _ (study : Question) (logs : List SearchLog) (core : List ℕ) where
       ]
 
   pub impossible : (story : List Lemma) (witnesses : List Witness) → is_right study (Impossible core story witnesses) ≡ true
-      → IsBacked study logs (Impossible core story witnesses) → AreSpentLogs study logs → IsSize study.size → IsImpossible study logs core story witnesses
+      → IsBacked study logs (Impossible core story witnesses) → AreSpentLogs study logs → IsSize study.size → IsImpossibilityRight study logs core story witnesses
   impossible story witnesses right backed spent size =
       let parts = core_witnesses study core story witnesses right in
       record {
@@ -147,7 +147,7 @@ found_given study run verdict none f core story witnesses told =
 pub no_sharpening : (run : Run) → run.sharp ≡ None → (s : Sharp) → run.sharp ≡ Some s → IsWithoutOpen s
 no_sharpening run none s told = let no : None ≡ Some s = sym none ∙ told in absurd (cc)
 
-pub conclusive : (study : Question) (run : Run) (verdict : Verdict) → 3 ^ variable_count study.size ≤ study.conflicts → Decides study run verdict → IsConclusive run
+pub conclusive : (study : Question) (run : Run) (verdict : Verdict) → 3 ^ variable_count study.size ≤ study.conflicts → Decides study run verdict → IsConclusiveRun run
 conclusive study run verdict enough (by_verdict f) =
     let none = no_logs study run.logs enough f.logs in
     record {
@@ -158,7 +158,7 @@ conclusive study run verdict enough (by_verdict f) =
     }
 conclusive study run verdict enough (by_limit u v) = absurd (none_among run.logs (IsOfAll study) (no_logs study run.logs enough u.logs) u.spent)
 
-pub bare_conclusive : (run : Run) (status : ℕ) → status ≢ 4 → IsBare run status → IsConclusive run
+pub bare_conclusive : (run : Run) (status : ℕ) → status ≢ 4 → IsBare run status → IsConclusiveRun run
 bare_conclusive run status other bare = record {
   decided = λ four. other (sym bare.ends ∙ four);
   no_log = bare.no_logs;
@@ -166,7 +166,7 @@ bare_conclusive run status other bare = record {
   sharp = no_sharpening run bare.no_sharp;
 }
 
-conclusive_row : (study : Question) (run : Run) (text : List ℕ) → 3 ^ variable_count study.size ≤ study.conflicts → OverClauses study run text (IsReported study run text) → IsConclusive run
+conclusive_row : (study : Question) (run : Run) (text : List ℕ) → 3 ^ variable_count study.size ≤ study.conflicts → OverClauses study run text (IsReported study run text) → IsConclusiveRun run
 conclusive_row study run text enough (clauses_refused fault e t bare) = bare_conclusive run 3 (λ no. absurd (omega (arith, no))) bare
 conclusive_row study run text enough (clauses_made e r) = conclusive study run r.verdict enough r.decides
 
@@ -174,12 +174,12 @@ pub enough_decided : EnoughDecides
 enough_decided files name run text study row g enough =
     conclusive_row study run text enough (over_study files name run text (λ s. OverClauses s run text (IsReported s run text)) study g row)
 
-proved_conclusive : (study : Question) (run : Run) (text : List ℕ) → 3 ^ variable_count study.size ≤ study.conflicts → Proves study run text → IsConclusive run
+proved_conclusive : (study : Question) (run : Run) (text : List ℕ) → 3 ^ variable_count study.size ≤ study.conflicts → Proves study run text → IsConclusiveRun run
 proved_conclusive study run text enough (refuted lines r bare is) = bare_conclusive run 0 (λ no. absurd (omega (arith, no))) bare
 proved_conclusive study run text enough (possible table f is) = conclusive study run (Possible table) enough (by_verdict f)
 proved_conclusive study run text enough (undecided u is) = absurd (none_among run.logs (IsOfAll study) (no_logs study run.logs enough u.logs) u.spent)
 
-proved_row : (study : Question) (run : Run) (text : List ℕ) → 3 ^ variable_count study.size ≤ study.conflicts → OverClauses study run text (Proves study run text) → IsConclusive run
+proved_row : (study : Question) (run : Run) (text : List ℕ) → 3 ^ variable_count study.size ≤ study.conflicts → OverClauses study run text (Proves study run text) → IsConclusiveRun run
 proved_row study run text enough (clauses_refused fault e t bare) = bare_conclusive run 3 (λ no. absurd (omega (arith, no))) bare
 proved_row study run text enough (clauses_made e r) = proved_conclusive study run text enough r
 

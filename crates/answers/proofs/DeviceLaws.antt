@@ -1,10 +1,12 @@
 -- What a call says and touches, by the devices.
-use Rattle.std.proofs.Common.{◌≡◌, ◌∙◌, ◌≢◌, refl, sym, ap, ap₂, subst, ℕ, ◌≤◌, inl, inr, Bool, true, false, cond, true≢false, eqb-true, List, [], ◌∷◌, take, length, Option, None, Some, arith}
+use Rattle.std.proofs.Common.{◌≡◌, ◌∙◌, ◌≢◌, refl, sym, ap, subst, ℕ, ◌≤◌, inl, inr, Bool, true, false, cond, true≢false, List, [], ◌∷◌, take, length, Option, None, Some, arith}
 use Rattle.std.specs.Prelude.{◌==◌, IfSome}
 use Rattle.std.specs.List.{list_any}
 use Rattle.std.specs.Str.{bytes_eq}
 use Rattle.std.specs.Io.KnownBytes.{Appends}
-use Rattle.std.proofs.lemmas.Bool.{and_parts, cases_lt}
+use Rattle.std.proofs.lemmas.Bool.{cases_lt}
+use Rattle.lists.proofs.PlaceLaws.{head_same}
+use Rattle.lists.proofs.TextLaws.{same_from_test}
 use Rattle.edge.specs.Shelf.{Files, OthersStay}
 use Rattle.edge.specs.Told.{AppendsPrefix}
 use Rattle.vocab.specs.declared.kinds.Kind.{Kind}
@@ -25,13 +27,13 @@ use Rattle.answers.specs.declared.runs.Run.{Run}
 use Rattle.answers.specs.Runs.{with_status}
 use Rattle.answers.specs.FileLimits.{most_report_bytes}
 use Rattle.answers.specs.Studies.{GivesStudy, RefusesStudy, OverStudy, study_refused, study_given}
-use Rattle.answers.specs.Grounding.{fault_of, OverClauses, clauses_refused, clauses_made}
+use Rattle.answers.specs.Grounding.{clauses_fault, OverClauses, clauses_refused, clauses_made}
 use Rattle.answers.specs.Lrat.{GivesFormula, IsConfirmedBy, formula_refused, proof_judged}
 use Rattle.answers.specs.Usage.{usage_line}
 use Rattle.answers.specs.Check.{IsJudged, judged, judged_status}
 use Rattle.answers.specs.Axioms.{library_text}
 use Rattle.answers.specs.Gain.{Gains, other_kind, of_sets}
-use Rattle.answers.specs.Lawful.{IsAnswer}
+use Rattle.answers.specs.Lawful.{IsBenchAnswer}
 use Rattle.answers.specs.Devices.{Devices}
 use Rattle.answers.specs.Call.{IsCall, AreFiles, are_told, none_read, AreUntouched, HasReadCause, at_first, at_second, IsFirstTaken, files_of, statuses_of, touched_at}
 use Rattle.answers.specs.Laws.{confirmed_sharp_line, Says, IsConfirmedAs, as_report, as_sharp_text, IsConfirmedRight, ConfirmedHolds, ChecksAreAnswered, UsageIsExact, LibraryIsWritten, RefusedLeavesUnopened, OtherWordsTouchNone}
@@ -44,13 +46,13 @@ use Rattle.answers.proofs.RowLemmas.{some_same, row_of, over_study, not_refused}
 
 module _ (words : List (List ℕ)) (d : Devices) (run : Run) (call : IsCall words d run) (request : Option Request) (asked : request_of words ≡ request) where
   -- the row of what was asked, and what was written of it
-  pub written_at : (files : Files) → AreFiles d.told (files_of request) files → run.status ≤ 4 → (text : List ℕ) × IsAnswer request files run text × Appends d.taken_before d.taken_now text
+  pub written_at : (files : Files) → AreFiles d.told (files_of request) files → run.status ≤ 4 → (text : List ℕ) × IsBenchAnswer request files run text × Appends d.taken_before d.taken_now text
   written_at files are low =
       let a = call.lawful files (subst (λ (r : Option Request). AreFiles d.told (files_of r) files) (sym asked) are) low in
       (a.text, row_of words files run a.text request asked a.lawful, a.written)
 
   pub front_at : (files : Files) → AreFiles d.told (files_of request) files → run.status ≡ 6
-      → (status : ℕ) × (text : List ℕ) × IsAnswer request files (with_status status run) text × AppendsPrefix d.taken_before d.taken_now text
+      → (status : ℕ) × (text : List ℕ) × IsBenchAnswer request files (with_status status run) text × AppendsPrefix d.taken_before d.taken_now text
   front_at files are six =
       let a = call.cut_short files (subst (λ (r : Option Request). AreFiles d.told (files_of r) files) (sym asked) are) six in
       (a.status, a.text, row_of words files (with_status a.status run) a.text request asked a.lawful, a.written)
@@ -196,20 +198,9 @@ decisions_hold words d run files name workers study call told asked g zero_is =
 
 -- ---- files that are not opened
 
-same_from_test : (name other : List ℕ) → bytes_eq name other ≡ true → name ≡ other
-same_from_test [] [] e = refl
-same_from_test [] (c ∷ other) e = absurd (true≢false (sym e))
-same_from_test (c ∷ name) [] e = absurd (true≢false (sym e))
-same_from_test (c ∷ name) (b ∷ other) e =
-    let p = and_parts (c == b) (bytes_eq name other) e in
-    ap₂ (λ (x : ℕ) (xs : List ℕ). x ∷ xs) (eqb-true c b p.0) (same_from_test name other p.1)
-
-other_name : (name other : List ℕ) (b : Bool) → bytes_eq name other ≡ b → name ≢ other → list_any (bytes_eq name) (other ∷ []) ≡ false
+pub other_name : (name other : List ℕ) (b : Bool) → bytes_eq name other ≡ b → name ≢ other → list_any (bytes_eq name) (other ∷ []) ≡ false
 other_name name other true e ne = absurd (ne (same_from_test name other e))
 other_name name other false e ne = rw e refl
-
-first_same : (name other : List ℕ) (names others : List (List ℕ)) → name ∷ names ≡ other ∷ others → name ≡ other
-first_same name other names others e = cc
 
 at_three : (words : List (List ℕ)) (d : Devices) (run : Run) → IsCall words d run → run.status ≡ 3 → (first : List ℕ) (others : List (List ℕ))
     → files_of (request_of words) ≡ first ∷ others → OthersStay d.left_before d.left_now first
@@ -224,7 +215,7 @@ over_untaken : (files : Files) (name first : List ℕ) (run : Run) (text : List 
 over_untaken files name first run text P same given (study_refused r bare) = bare.ends
 over_untaken files name first run text P same given (study_given study g p) = given study (subst (λ (n : List ℕ). GivesStudy files n study) same g) p
 
-adopted_untaken : (study : Question) (run : Run) (text : List ℕ) (P : Type 0) → (fault_of study ≡ None → ⊥) → OverClauses study run text P → run.status ≡ 3
+adopted_untaken : (study : Question) (run : Run) (text : List ℕ) (P : Type 0) → (clauses_fault study ≡ None → ⊥) → OverClauses study run text P → run.status ≡ 3
 adopted_untaken study run text P faulty (clauses_refused fault e t bare) = bare.ends
 adopted_untaken study run text P faulty (clauses_made none p) = absurd (faulty none)
 
@@ -239,21 +230,21 @@ confirmed_untaken files name proof first run text same untaken (proof_judged for
     absurd (untaken (formula, subst (λ (n : List ℕ). GivesFormula files n formula) same g))
 
 three_untaken : (request : Option Request) (files : Files) (first second : List ℕ) (run : Run) (text : List ℕ) → files_of request ≡ first ∷ second ∷ []
-    → (IsFirstTaken request files first → ⊥) → IsAnswer request files run text → run.status ≡ 3
+    → (IsFirstTaken request files first → ⊥) → IsBenchAnswer request files run text → run.status ≡ 3
 three_untaken None files first second run text two untaken row = absurd (cc)
 three_untaken (Some (Decide study workers)) files first second run text two untaken row = absurd (cc)
 three_untaken (Some (Check study report workers)) files first second run text two untaken row =
-    over_untaken files study first run text _ (first_same study first _ _ two) (λ s g p. absurd (untaken (s, g))) row
+    over_untaken files study first run text _ (head_same study first _ _ two) (λ s g p. absurd (untaken (s, g))) row
 three_untaken (Some (Export study workers)) files first second run text two untaken row = absurd (cc)
 three_untaken (Some (Proof study workers)) files first second run text two untaken row = absurd (cc)
 three_untaken (Some (Lrat cnf proof)) files first second run text two untaken row =
-    confirmed_untaken files cnf proof first run text (first_same cnf first _ _ two) untaken row
+    confirmed_untaken files cnf proof first run text (head_same cnf first _ _ two) untaken row
 three_untaken (Some (Axioms kind)) files first second run text two untaken row = absurd (cc)
 three_untaken (Some (Sample number)) files first second run text two untaken row = absurd (cc)
 three_untaken (Some (Adopt study proof workers)) files first second run text two untaken row =
-    over_untaken files study first run text _ (first_same study first _ _ two) (λ s g p. adopted_untaken s run text _ (λ none. untaken (s, g, none)) p) row
+    over_untaken files study first run text _ (head_same study first _ _ two) (λ s g p. adopted_untaken s run text _ (λ none. untaken (s, g, none)) p) row
 three_untaken (Some (Gain study report)) files first second run text two untaken row =
-    over_untaken files study first run text _ (first_same study first _ _ two) (λ s g p. gained_untaken files report s run text (λ is. untaken (s, g, is)) p) row
+    over_untaken files study first run text _ (head_same study first _ _ two) (λ s g p. gained_untaken files report s run text (λ is. untaken (s, g, is)) p) row
 three_untaken (Some (Sharpen study workers)) files first second run text two untaken row = absurd (cc)
 
 module _ (words : List (List ℕ)) (d : Devices) (run : Run) (files : Files) (first second : List ℕ) (call : IsCall words d run) (told : d.told ≡ Some files)
@@ -278,9 +269,9 @@ module _ (words : List (List ℕ)) (d : Devices) (run : Run) (files : Files) (fi
   -- the cause of a fault is not at the second file, since the first is not taken
   by_cause : (names : List (List ℕ)) → names ≡ first ∷ second ∷ [] → HasReadCause (request_of words) d.told d.left_before d.left_now d.faults_before d.faults_now names
       → OthersStay d.left_before d.left_now first
-  by_cause names is (at_first name others named rose stay) = subst (λ (n : List ℕ). OthersStay d.left_before d.left_now n) (first_same name first others (second ∷ []) (sym named ∙ is)) stay
+  by_cause names is (at_first name others named rose stay) = subst (λ (n : List ℕ). OthersStay d.left_before d.left_now n) (head_same name first others (second ∷ []) (sym named ∙ is)) stay
   by_cause names is (at_second name other named rose taken) =
-      let same : name ≡ first = first_same name first (other ∷ []) (second ∷ []) (sym named ∙ is) in
+      let same : name ≡ first = head_same name first (other ∷ []) (second ∷ []) (sym named ∙ is) in
       let of_request : IsFirstTaken (request_of words) files name = subst (λ (o : Option Files). IfSome o (λ f. IsFirstTaken (request_of words) f name)) told taken in
       absurd (untaken (subst (λ (n : List ℕ). IsFirstTaken (request_of words) files n) same of_request))
 
@@ -299,7 +290,7 @@ left_unopened words d run call = record {
   at_pair = λ files first second told two untaken few. kept words d run files first second call told two untaken few;
 }
 
-none_of_none : (name : List ℕ) (b : Bool) → list_any (bytes_eq name) (cond b (take 1 []) []) ≡ false
+pub none_of_none : (name : List ℕ) (b : Bool) → list_any (bytes_eq name) (cond b (take 1 []) []) ≡ false
 none_of_none name true = refl
 none_of_none name false = refl
 

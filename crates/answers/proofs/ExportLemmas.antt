@@ -18,13 +18,13 @@ use Rattle.meaning.specs.Variables.{variable_count}
 use Rattle.verdicts.specs.Numbers.{number_text}
 use Rattle.verdicts.proofs.NumberLaws.{text_small, text_large}
 use Rattle.clause_form.proofs.OverLaws.{clauses_over}
-use Rattle.clause_text.specs.Dimacs.{literal_text, clause_text, size_text, dimacs_text}
+use Rattle.clause_text.specs.Dimacs.{signed_text, clause_text, size_text, dimacs_text}
 use Rattle.clause_text.specs.ReadDimacs.{read_dimacs}
 use Rattle.clause_text.proofs.RoundLemmas.{plain_line, number_plain, written_is_read}
 use Rattle.search_logs.specs.Spent.{all_places}
 use Rattle.study.proofs.WholeStudies.{studies_whole}
 use Rattle.answers.specs.Studies.{GivesStudy}
-use Rattle.answers.specs.Grounding.{all_clauses, fault_of}
+use Rattle.answers.specs.Grounding.{all_clauses, clauses_fault}
 use Rattle.answers.specs.Export.{export_text}
 use Rattle.answers.proofs.LimitLemmas.{AreFew, clauses_few, variables_few}
 
@@ -50,7 +50,7 @@ digits_seven =
 digits_six : (n : ℕ) → n < 1000000 → length (number_text n) ≤ 6
 digits_six = one_digit 100000 5 (one_digit 10000 4 (one_digit 1000 3 (one_digit 100 2 (one_digit 10 1 digits_one (omega arith)) (omega arith)) (omega arith)) (omega arith)) (omega arith)
 
-literal_short : (v : ℕ) (l : Signed) → v ≤ 200000 → (nat_le 1 l.variable && nat_le l.variable v) ≡ true → length (literal_text l) ≤ 7
+literal_short : (v : ℕ) (l : Signed) → v ≤ 200000 → (nat_le 1 l.variable && nat_le l.variable v) ≡ true → length (signed_text l) ≤ 7
 literal_short v l few within = by_sign l.positive
   where
     digits : length (number_text l.variable) ≤ 6
@@ -61,20 +61,20 @@ literal_short v l few within = by_sign l.positive
     by_sign false = omega (arith, digits)
 
 module _ (v : ℕ) (few : v ≤ 200000) where
-  literals_short : (clause : Clause) → is_over v clause ≡ true → length (flat_map (λ (l : Signed). literal_text l ++ 32 ∷ []) clause) ≤ 8 * length clause
+  literals_short : (clause : Clause) → is_over v clause ≡ true → length (flat_map (λ (l : Signed). signed_text l ++ 32 ∷ []) clause) ≤ 8 * length clause
   literals_short [] over = omega arith
   literals_short (l ∷ ls) over =
       let p = and_parts (nat_le 1 l.variable && nat_le l.variable v) (is_over v ls) over in
-      let here : length (literal_text l) ≤ 7 = literal_short v l few p.0 in
+      let here : length (signed_text l) ≤ 7 = literal_short v l few p.0 in
       let rest = literals_short ls p.1 in
-      let one : length (literal_text l ++ 32 ∷ []) ≡ length (literal_text l) + 1 = length-append (literal_text l) (32 ∷ []) in
-      let all = length-append (literal_text l ++ 32 ∷ []) (flat_map (λ (l : Signed). literal_text l ++ 32 ∷ []) ls) in
+      let one : length (signed_text l ++ 32 ∷ []) ≡ length (signed_text l) + 1 = length-append (signed_text l) (32 ∷ []) in
+      let all = length-append (signed_text l ++ 32 ∷ []) (flat_map (λ (l : Signed). signed_text l ++ 32 ∷ []) ls) in
       omega (arith, here, rest, one, all)
 
   clause_short : (clause : Clause) → is_over v clause ≡ true → length (clause_text clause ++ 10 ∷ []) ≤ 8 * length clause + 2
   clause_short clause over =
       let literals = literals_short clause over in
-      let front : length (clause_text clause) ≡ length (flat_map (λ (l : Signed). literal_text l ++ 32 ∷ []) clause) + 1 = length-append (flat_map (λ (l : Signed). literal_text l ++ 32 ∷ []) clause) (48 ∷ []) in
+      let front : length (clause_text clause) ≡ length (flat_map (λ (l : Signed). signed_text l ++ 32 ∷ []) clause) + 1 = length-append (flat_map (λ (l : Signed). signed_text l ++ 32 ∷ []) clause) (48 ∷ []) in
       let all : length (clause_text clause ++ 10 ∷ []) ≡ length (clause_text clause) + 1 = length-append (clause_text clause) (10 ∷ []) in
       omega (arith, literals, front, all)
 
@@ -157,7 +157,7 @@ pub record IsReadAgain (study : Question) : Type 0 where
   pub read : read_dimacs (export_text study) ≡ Ok (record { variables = variable_count study.size; clauses = all_clauses study })
   pub few : AreFew (all_clauses study)
 
-pub export_read : (files : Files) (name : List ℕ) (study : Question) → GivesStudy files name study → fault_of study ≡ None → IsReadAgain study
+pub export_read : (files : Files) (name : List ℕ) (study : Question) → GivesStudy files name study → clauses_fault study ≡ None → IsReadAgain study
 export_read files name study g none =
     let size : IsSize study.size = (studies_whole g.bytes study g.read).1 in
     let few = clauses_few study size none in

@@ -19,9 +19,9 @@ use Rattle.sharp_verdicts.specs.Judged.{has_sharp_title}
 use Rattle.answers.specs.declared.runs.Run.{Run}
 use Rattle.answers.specs.FileLimits.{most_report_bytes}
 use Rattle.answers.specs.Studies.{GivesStudy, RefusesStudy}
-use Rattle.answers.specs.Check.{judgement, status_of}
+use Rattle.answers.specs.Check.{judgement, judgement_status}
 use Rattle.answers.specs.Gain.{Gains, gain_text, of_sets, other_kind, said_of_gain}
-use Rattle.answers.specs.Lawful.{IsAnswer}
+use Rattle.answers.specs.Lawful.{IsBenchAnswer}
 use Rattle.answers.specs.Devices.{Devices}
 use Rattle.answers.specs.Call.{IsCall, are_told}
 use Rattle.answers.specs.Laws.{Says}
@@ -64,15 +64,15 @@ other_row files report study run text other (other_kind ne t bare) = (bare.ends,
 other_row files report study run text other (of_sets is said) = absurd (other is)
 
 judged_row : (files : Files) (report bytes : List ℕ) (study : Question) (run : Run) (text : List ℕ) → study.size.kind ≡ Sets → files report ≡ Some bytes
-    → Gains files report study run text → (run.status ≡ status_of (judgement study bytes)) × (text ≡ said_of_gain study (judgement study bytes))
+    → Gains files report study run text → (run.status ≡ judgement_status (judgement study bytes)) × (text ≡ said_of_gain study (judgement study bytes))
 judged_row files report bytes study run text sets held (other_kind other t bare) = absurd (other sets)
 judged_row files report bytes study run text sets held (of_sets same said) =
     let is : said.bytes ≡ bytes = some_same (files report) said.bytes bytes said.held held in
-    (said.ends.ends ∙ ap (λ b. status_of (judgement study b)) is, said.is ∙ ap (λ b. said_of_gain study (judgement study b)) is)
+    (said.ends.ends ∙ ap (λ b. judgement_status (judgement study b)) is, said.is ∙ ap (λ b. said_of_gain study (judgement study b)) is)
 
 module _ (words : List (List ℕ)) (d : Devices) (run : Run) (files : Files) (name report : List ℕ) (call : IsCall words d run) (told : d.told ≡ Some files)
     (asked : request_of words ≡ Some (Gain name report)) (low : run.status ≤ 4) where
-  row_there : (text : List ℕ) × IsAnswer (Some (Gain name report)) files run text × Appends d.taken_before d.taken_now text
+  row_there : (text : List ℕ) × IsBenchAnswer (Some (Gain name report)) files run text × Appends d.taken_before d.taken_now text
   row_there = written_at words d run call (Some (Gain name report)) asked files (are_told told) low
 
   -- a row that gives a status and a text was said
@@ -86,20 +86,20 @@ module _ (words : List (List ℕ)) (d : Devices) (run : Run) (files : Files) (na
   other_says study g other = said 3 _ (other_row files report study run row_there.0 other (over_study files name run row_there.0 _ study g row_there.1))
 
   judged_says : (study : Question) (bytes : List ℕ) → GivesStudy files name study → study.size.kind ≡ Sets → files report ≡ Some bytes
-      → Says d run (status_of (judgement study bytes)) (said_of_gain study (judgement study bytes))
+      → Says d run (judgement_status (judgement study bytes)) (said_of_gain study (judgement study bytes))
   judged_says study bytes g sets held =
       said _ _ (judged_row files report bytes study run row_there.0 sets held (over_study files name run row_there.0 _ study g row_there.1))
 
   right_says : (study : Question) (bytes : List ℕ) (verdict : Verdict) → GivesStudy files name study → study.size.kind ≡ Sets → files report ≡ Some bytes
       → IsReport study verdict bytes → length bytes ≤ most_report_bytes → Says d run 0 (said_of_gain study (Confirmed verdict))
   right_says study bytes verdict g sets held right fits =
-      subst (λ (a : Judgement). Says d run (status_of a) (said_of_gain study a))
+      subst (λ (a : Judgement). Says d run (judgement_status a) (said_of_gain study a))
       (right_judged study bytes verdict (reportable files name study g) (listed files name study g) right fits) (judged_says study bytes g sets held)
 
   sharp_says : (study : Question) (bytes : List ℕ) → GivesStudy files name study → study.size.kind ≡ Sets → files report ≡ Some bytes → has_sharp_title bytes ≡ true
       → Says d run 1 (codes "refused line 1: form\n")
   sharp_says study bytes g sets held titled =
-      subst (λ (a : Judgement). Says d run (status_of a) (said_of_gain study a)) (titled_is_faulty study bytes titled) (judged_says study bytes g sets held)
+      subst (λ (a : Judgement). Says d run (judgement_status a) (said_of_gain study a)) (titled_is_faulty study bytes titled) (judged_says study bytes g sets held)
 
 pub gains_answered : GainsAreAnswered
 gains_answered words d run files name report call told asked low = record {

@@ -22,7 +22,7 @@ use Rattle.sharp_laws.proofs.ApartLaws.{no_report}
 use Rattle.sharp_laws.proofs.FaultLaws.{within_limit as sharp_within_limit}
 use Rattle.sharp_laws.proofs.JudgeLaws.{judge_sound as sharp_judge_sound}
 use Rattle.answers.specs.FileLimits.{most_report_bytes}
-use Rattle.answers.specs.Check.{judgement, judged, status_of, judged_status}
+use Rattle.answers.specs.Check.{judgement, judged, judgement_status, judged_status}
 use Rattle.answers.proofs.FitLemmas.{right_judged}
 
 -- which of two answers was given
@@ -108,7 +108,7 @@ module _ (study : Question) (text : List ℕ) where
       (sharp_judge_sound study text v within.1, within.0)
 
 -- status 0 says that the answer is a confirmation
-zero_confirms : (a : Judgement) → status_of a ≡ 0 → (verdict : Verdict) × (a ≡ Confirmed verdict)
+zero_confirms : (a : Judgement) → judgement_status a ≡ 0 → (verdict : Verdict) × (a ≡ Confirmed verdict)
 zero_confirms (Confirmed verdict) e = (verdict, refl)
 zero_confirms (Faulty line word) e = absurd (omega (arith, e))
 zero_confirms TooLong e = absurd (omega (arith, e))

@@ -1,12 +1,12 @@
 -- In proof order.
-mod RowLemmas
+pub mod RowLemmas
 mod FitLemmas
 pub mod JudgedLaws
 mod DecidedLaws
 pub mod ReportLaws
 mod ClauseLaws
 mod OneAnswer
-mod DeviceLaws
+pub mod DeviceLaws
 pub mod CallLaws
 pub mod LimitLemmas
 mod RangeLemmas

@@ -24,7 +24,7 @@ use Rattle.clause_form.specs.Refusals.{is_over_limits, first_wide, first_full}
 use Rattle.outcomes.specs.Laws.{AreFramesSmall}
 use Rattle.outcomes.proofs.SmallFrames.{frames_small}
 use Rattle.search_logs.specs.Spent.{all_places}
-use Rattle.answers.specs.Grounding.{all_clauses, fault_of}
+use Rattle.answers.specs.Grounding.{all_clauses, clauses_fault}
 
 -- a clause list is within its limits
 pub record AreFew (clauses : List Clause) : Type 0 where
@@ -92,7 +92,7 @@ second_none None second h = h
 second_none (Some fault) second h = absurd (cc)
 
 -- clauses that are not refused are within the limits of a list
-pub clauses_few : (study : Question) → IsSize study.size → fault_of study ≡ None → AreFew (all_clauses study)
+pub clauses_few : (study : Question) → IsSize study.size → clauses_fault study ≡ None → AreFew (all_clauses study)
 clauses_few study size none =
     let small = frames_small study.size size in
     full_nowhere study.size study.axioms [] (all_places study) (all_frames study.size small study.axioms size.few_profiles)

@@ -7,15 +7,15 @@ use Rattle.sharp_verdicts.specs.Judged.{judged_text}
 use Rattle.words.specs.Words.{Request, Decide, Check, Export, Proof, Lrat, Axioms, Sample, Adopt, Gain, Sharpen, request_of}
 use Rattle.answers.specs.declared.runs.Run.{Run}
 use Rattle.answers.specs.Runs.{IsBare}
-use Rattle.answers.specs.FileLimits.{Holds, HoldsTooMany, most_study_bytes, most_cnf_bytes}
+use Rattle.answers.specs.FileLimits.{HasFile, HoldsTooMany, most_study_bytes, most_cnf_bytes}
 use Rattle.answers.specs.StudyLines.{study_line}
 use Rattle.answers.specs.Studies.{RefusesStudy, too_long, no_study, OverStudy, study_refused, study_given}
-use Rattle.answers.specs.Check.{IsJudged, judgement, judged, status_of, judged_status}
-use Rattle.answers.specs.Grounding.{fault_of, refusal_line, OverClauses, clauses_refused, clauses_made}
+use Rattle.answers.specs.Check.{IsJudged, judgement, judged, judgement_status, judged_status}
+use Rattle.answers.specs.Grounding.{clauses_fault, refusal_line, OverClauses, clauses_refused, clauses_made}
 use Rattle.answers.specs.Export.{IsExported}
 use Rattle.answers.specs.Lrat.{GivesFormula, RefusesFormula, too_long as long_cnf, no_formula, cnf_line, IsConfirmedBy, formula_refused, proof_judged, said_of}
 use Rattle.answers.specs.Gain.{Gains, other_kind, of_sets, said_of_gain}
-use Rattle.answers.specs.Lawful.{IsAnswer}
+use Rattle.answers.specs.Lawful.{IsBenchAnswer}
 use Rattle.answers.specs.Laws.{IsSettled, AnswersAreOne}
 use Rattle.answers.specs.RowLaws.{AreSame, RowsAreOne}
 use Rattle.answers.proofs.RowLemmas.{some_same, same_reading, one_study, not_refused, one_formula}
@@ -30,7 +30,7 @@ one_run run run' s s' b b' e =
     λ i. record { status = ends i; verdict = verdicts i; logs = logs i; sharp = sharps i }
 
 module _ (files : Files) (name : List ℕ) where
-  long_or_not : (limit : ℕ) (h : HoldsTooMany files limit name) (bytes : List ℕ) → Holds files limit name bytes → ⊥
+  long_or_not : (limit : ℕ) (h : HoldsTooMany files limit name) (bytes : List ℕ) → HasFile files limit name bytes → ⊥
   long_or_not limit h bytes h' =
       let same : h.bytes ≡ bytes = some_same (files name) h.bytes bytes h.held h'.held in
       let l : length h.bytes ≡ length bytes = ap length same in
@@ -77,7 +77,7 @@ module _ (files : Files) (name : List ℕ) where
 one_clauses : (study : Question) (run run' : Run) (text text' : List ℕ) (P P' : Type 0) → (P → P' → AreSame run run' text text')
     → OverClauses study run text P → OverClauses study run' text' P' → AreSame run run' text text'
 one_clauses study run run' text text' P P' rest (clauses_refused fault e t b) (clauses_refused fault' e' t' b') =
-    (one_run run run' 3 3 b b' refl, t ∙ ap (refusal_line study) (some_same (fault_of study) fault fault' e e') ∙ sym t')
+    (one_run run run' 3 3 b b' refl, t ∙ ap (refusal_line study) (some_same (clauses_fault study) fault fault' e e') ∙ sym t')
 one_clauses study run run' text text' P P' rest (clauses_refused fault e t b) (clauses_made e' p') = let no : None ≡ Some fault = sym e' ∙ e in absurd (cc)
 one_clauses study run run' text text' P P' rest (clauses_made e p) (clauses_refused fault e' t b) = let no : None ≡ Some fault = sym e ∙ e' in absurd (cc)
 one_clauses study run run' text text' P P' rest (clauses_made e p) (clauses_made e' p') = rest p p'
@@ -110,11 +110,11 @@ module _ (files : Files) (run run' : Run) (text text' : List ℕ) where
   one_gain report study (of_sets is j) (other_kind ne t b) = absurd (ne is)
   one_gain report study (of_sets is j) (of_sets is' j') =
       let same : j.bytes ≡ j'.bytes = some_same (files report) j.bytes j'.bytes j.held j'.held in (
-        one_run run run' _ _ j.ends j'.ends (ap (λ b. status_of (judgement study b)) same),
+        one_run run run' _ _ j.ends j'.ends (ap (λ b. judgement_status (judgement study b)) same),
         j.is ∙ ap (λ b. said_of_gain study (judgement study b)) same ∙ sym j'.is,
       )
 
-  one_row : (request : Option Request) → IsSettled request → IsAnswer request files run text → IsAnswer request files run' text' → AreSame run run' text text'
+  one_row : (request : Option Request) → IsSettled request → IsBenchAnswer request files run text → IsBenchAnswer request files run' text' → AreSame run run' text text'
   one_row None settled a a' = (one_run run run' 2 2 a.0 a'.0 refl, a.1 ∙ sym a'.1)
   one_row (Some (Decide study workers)) settled a a' = absurd settled
   one_row (Some (Check study report workers)) settled a a' = one_over files study run run' text text' _ _ (one_judged report) a a'

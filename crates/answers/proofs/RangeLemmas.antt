@@ -9,7 +9,7 @@ use Rattle.cnf.specs.declared.derivations.Step.{Step}
 use Rattle.cnf.specs.declared.derivations.Step.TheVariants.{Add, Drop}
 use Rattle.cnf.specs.Signed.{Signed}
 use Rattle.cnf.specs.Sat.{Clause, opposite_lit}
-use Rattle.cnf.specs.Derived.{Standing, clause_under, Effect, Satisfied, Falsified, Forces, Unresolved, without, add_fault, after_add, after_step, fault_from, IsAccepted}
+use Rattle.cnf.specs.Derived.{StandingClauses, clause_under, Effect, Satisfied, Falsified, Forces, Unresolved, without, add_fault, after_add, after_step, fault_from, IsAccepted}
 use Rattle.cnf.specs.Fresh.{is_over, added_by, AreOver}
 use Rattle.cnf.specs.Trimmed.{is_in_option, effect_under, is_falsified_effect, is_used, are_hints_trimmed, is_cited_by, is_empty_clause, is_step_trimmed, is_trimmed_from, is_trimmed}
 use Rattle.cnf.proofs.TrimmedLaws.{trimmed_accepted}
@@ -22,7 +22,7 @@ use Rattle.clause_text.proofs.LineRoundLemmas.{written_lines_are_read}
 
 -- ---- the ids of clauses that stand
 
-abbrev are_ids : Standing → Bool
+abbrev are_ids : StandingClauses → Bool
 are_ids standing = list_all (λ (s : ℕ × Clause). is_id s.0) standing
 
 id_from : (n : ℕ) → 1 ≤ n → n ≤ 1000000000 → is_id n ≡ true
@@ -34,7 +34,7 @@ ids_of_clauses n (c ∷ cs) low few =
     and_from (is_id n) (are_ids (enumerate_from (n + 1) cs)) (id_from n low (omega (arith, few))) (ids_of_clauses (n + 1) cs (omega arith) (omega (arith, few)))
 
 -- a clause stands under an id
-under_id : (standing : Standing) (id : ℕ) (clause : Clause) → are_ids standing ≡ true → clause_under standing id ≡ Some clause → is_id id ≡ true
+under_id : (standing : StandingClauses) (id : ℕ) (clause : Clause) → are_ids standing ≡ true → clause_under standing id ≡ Some clause → is_id id ≡ true
 under_id [] id clause ids is = absurd (cc)
 under_id ((k, c) ∷ rest) id clause ids is =
     let a = and_parts (is_id k) (are_ids rest) ids in
@@ -46,22 +46,22 @@ under_id ((k, c) ∷ rest) id clause ids is =
 
 -- ---- the hints of a trimmed line
 
-last_id : (standing : Standing) (id : ℕ) (known : List Signed) (o : Option Clause) → are_ids standing ≡ true → clause_under standing id ≡ o → is_falsified_effect (effect_under known o) ≡ true → is_id id ≡ true
+last_id : (standing : StandingClauses) (id : ℕ) (known : List Signed) (o : Option Clause) → are_ids standing ≡ true → clause_under standing id ≡ o → is_falsified_effect (effect_under known o) ≡ true → is_id id ≡ true
 last_id standing id known None ids is h = absurd (true≢false (sym h))
 last_id standing id known (Some clause) ids is h = under_id standing id clause ids is
 
-used_id : (standing : Standing) (later : List ℕ) (id : ℕ) (known : List Signed) (o : Option Clause) (go : Signed → Bool) → are_ids standing ≡ true → clause_under standing id ≡ o
+used_id : (standing : StandingClauses) (later : List ℕ) (id : ℕ) (known : List Signed) (o : Option Clause) (go : Signed → Bool) → are_ids standing ≡ true → clause_under standing id ≡ o
     → is_used standing later (effect_under known o) go ≡ true → is_id id ≡ true
 used_id standing later id known None go ids is h = absurd (true≢false (sym h))
 used_id standing later id known (Some clause) go ids is h = under_id standing id clause ids is
 
-used_next : (standing : Standing) (later : List ℕ) (e : Effect) (go : Signed → Bool) → is_used standing later e go ≡ true → (l : Signed) × (go l ≡ true)
+used_next : (standing : StandingClauses) (later : List ℕ) (e : Effect) (go : Signed → Bool) → is_used standing later e go ≡ true → (l : Signed) × (go l ≡ true)
 used_next standing later Satisfied go h = absurd (true≢false (sym h))
 used_next standing later Falsified go h = absurd (true≢false (sym h))
 used_next standing later (Forces l) go h = (l, (and_parts (list_any (λ i. is_in_option (opposite_lit l) (clause_under standing i)) later) (go l) h).1)
 used_next standing later Unresolved go h = absurd (true≢false (sym h))
 
-hints_are_ids : (standing : Standing) (ids : List ℕ) (known : List Signed) → are_ids standing ≡ true → are_hints_trimmed standing ids known ≡ true → list_all is_id ids ≡ true
+hints_are_ids : (standing : StandingClauses) (ids : List ℕ) (known : List Signed) → are_ids standing ≡ true → are_hints_trimmed standing ids known ≡ true → list_all is_id ids ≡ true
 hints_are_ids standing [] known good h = absurd (true≢false (sym h))
 hints_are_ids standing (id ∷ []) known good h = and_from (is_id id) true (last_id standing id known (clause_under standing id) good refl h) refl
 hints_are_ids standing (id ∷ next ∷ ids) known good h =
@@ -76,14 +76,14 @@ module _ (v : ℕ) where
   abbrev are_in_range : List Line → Bool
   are_in_range lines = list_all (λ (line : Line). adds_in_range v line.step) lines
 
-  add_in_range : (standing : Standing) (id k : ℕ) (clause : Clause) (hints : List ℕ) → are_ids standing ≡ true → is_id id ≡ true → is_over v clause ≡ true → (k == id) ≡ true
+  add_in_range : (standing : StandingClauses) (id k : ℕ) (clause : Clause) (hints : List ℕ) → are_ids standing ≡ true → is_id id ≡ true → is_over v clause ≡ true → (k == id) ≡ true
       → are_hints_trimmed standing hints (map opposite_lit clause) ≡ true → adds_in_range v (Add k clause hints) ≡ true
   add_in_range standing id k clause hints good fits over same h =
       and_from (is_id k) (is_over v clause && list_all is_id hints) (subst (λ (n : ℕ). is_id n ≡ true) (sym (eqb-true k id same)) fits)
       (and_from (is_over v clause) (list_all is_id hints) over (hints_are_ids standing hints (map opposite_lit clause) good h))
 
-  step_in_range : (standing : Standing) (id : ℕ) (step : Step) (lines : List Line) (test : Standing → Bool) → are_ids standing ≡ true → is_id id ≡ true → is_over v (added_by step) ≡ true
-      → is_step_trimmed standing id step lines test ≡ true → ((s : Standing) → are_ids s ≡ true → test s ≡ true → are_in_range lines ≡ true) → (adds_in_range v step && are_in_range lines) ≡ true
+  step_in_range : (standing : StandingClauses) (id : ℕ) (step : Step) (lines : List Line) (test : StandingClauses → Bool) → are_ids standing ≡ true → is_id id ≡ true → is_over v (added_by step) ≡ true
+      → is_step_trimmed standing id step lines test ≡ true → ((s : StandingClauses) → are_ids s ≡ true → test s ≡ true → are_in_range lines ≡ true) → (adds_in_range v step && are_in_range lines) ≡ true
   step_in_range standing id (Drop ids) lines test good fits over h more = absurd (true≢false (sym h))
   step_in_range standing id (Add k clause hints) [] test good fits over h more =
       let a = and_parts (k == id && is_empty_clause clause) (are_hints_trimmed standing hints (map opposite_lit clause)) h in
@@ -98,7 +98,7 @@ module _ (v : ℕ) where
       and_from (adds_in_range v (Add k clause hints)) (are_in_range (line ∷ later)) (add_in_range standing id k clause hints good fits over same d.1)
       (more ((k, clause) ∷ standing) (and_from (is_id k) (are_ids standing) here good) a.1)
 
-  lines_in_range : (lines : List Line) (standing : Standing) (id : ℕ) → are_ids standing ≡ true → 1 ≤ id → id + length lines ≤ 1000000000 → is_trimmed_from standing id lines ≡ true → AreOver v lines
+  lines_in_range : (lines : List Line) (standing : StandingClauses) (id : ℕ) → are_ids standing ≡ true → 1 ≤ id → id + length lines ≤ 1000000000 → is_trimmed_from standing id lines ≡ true → AreOver v lines
       → are_in_range lines ≡ true
   lines_in_range [] standing id good low few h over = refl
   lines_in_range (line ∷ lines) standing id good low few h over =
@@ -119,15 +119,15 @@ add_longer k clause hints lines rest =
     let one : suc (length (lrat_text lines)) ≤ length (step_text (Add k clause hints) ++ lrat_text lines) = one_longer (number_text k ++ 32 ∷ clause_text clause ++ 32 ∷ hints_text hints) (lrat_text lines) 10 in
     omega (arith, rest, one)
 
-step_longer : (standing : Standing) (id : ℕ) (step : Step) (lines : List Line) (test : Standing → Bool) → is_step_trimmed standing id step lines test ≡ true
-    → ((s : Standing) → test s ≡ true → length lines ≤ length (lrat_text lines)) → suc (length lines) ≤ length (step_text step ++ lrat_text lines)
+step_longer : (standing : StandingClauses) (id : ℕ) (step : Step) (lines : List Line) (test : StandingClauses → Bool) → is_step_trimmed standing id step lines test ≡ true
+    → ((s : StandingClauses) → test s ≡ true → length lines ≤ length (lrat_text lines)) → suc (length lines) ≤ length (step_text step ++ lrat_text lines)
 step_longer standing id (Drop ids) lines test h more = absurd (true≢false (sym h))
 step_longer standing id (Add k clause hints) [] test h more = add_longer k clause hints [] (omega arith)
 step_longer standing id (Add k clause hints) (line ∷ later) test h more =
     let a = and_parts (k == id && not (is_empty_clause clause) && are_hints_trimmed standing hints (map opposite_lit clause) && list_any (λ l. is_cited_by id l.step) (line ∷ later)) (test ((k, clause) ∷ standing)) h in
     add_longer k clause hints (line ∷ later) (more ((k, clause) ∷ standing) a.1)
 
-lines_shorter : (lines : List Line) (standing : Standing) (id : ℕ) → is_trimmed_from standing id lines ≡ true → length lines ≤ length (lrat_text lines)
+lines_shorter : (lines : List Line) (standing : StandingClauses) (id : ℕ) → is_trimmed_from standing id lines ≡ true → length lines ≤ length (lrat_text lines)
 lines_shorter [] standing id h = absurd (true≢false (sym h))
 lines_shorter (line ∷ lines) standing id h =
     step_longer standing id line.step lines (λ s. is_trimmed_from s (id + 1) lines) h (λ s k. lines_shorter lines s (id + 1) k)
@@ -139,13 +139,13 @@ placed_add (Some fault) at at' clause go go' next h = absurd (cc)
 placed_add None at at' [] go go' next h = refl
 placed_add None at at' (l ∷ ls) go go' next h = next h
 
-placed_step : (step : Step) (at at' : ℕ) (standing : Standing) (last : ℕ) (go go' : Standing → ℕ → Option (ℕ × LineFault)) → ((s : Standing) (k : ℕ) → go s k ≡ None → go' s k ≡ None)
+placed_step : (step : Step) (at at' : ℕ) (standing : StandingClauses) (last : ℕ) (go go' : StandingClauses → ℕ → Option (ℕ × LineFault)) → ((s : StandingClauses) (k : ℕ) → go s k ≡ None → go' s k ≡ None)
     → after_step step at standing last go ≡ None → after_step step at' standing last go' ≡ None
 placed_step (Drop ids) at at' standing last go go' next h = next (without ids standing) last h
 placed_step (Add id clause hints) at at' standing last go go' next h =
     placed_add (add_fault standing last id clause hints) at at' clause (go ((id, clause) ∷ standing) id) (go' ((id, clause) ∷ standing) id) (next ((id, clause) ∷ standing) id) h
 
-placed_lines : (n : ℕ) (lines : List Line) (standing : Standing) (last end end' : ℕ) → fault_from lines standing last end ≡ None → fault_from (placed_from n lines) standing last end' ≡ None
+placed_lines : (n : ℕ) (lines : List Line) (standing : StandingClauses) (last end end' : ℕ) → fault_from lines standing last end ≡ None → fault_from (placed_from n lines) standing last end' ≡ None
 placed_lines n [] standing last end end' h = absurd (cc)
 placed_lines n (line ∷ lines) standing last end end' h =
     placed_step line.step line.at n standing last (λ s k. fault_from lines s k (line.at + 1)) (λ s k. fault_from (placed_from (n + 1) lines) s k (n + 1))

@@ -16,7 +16,7 @@ use Rattle.words.specs.Words.{Check}
 use Rattle.answers.specs.declared.runs.Run.{Run}
 use Rattle.answers.specs.FileLimits.{most_report_bytes}
 use Rattle.answers.specs.Studies.{GivesStudy}
-use Rattle.answers.specs.Check.{IsJudged, judgement, judged, status_of, judged_status}
+use Rattle.answers.specs.Check.{IsJudged, judgement, judged, judgement_status, judged_status}
 use Rattle.verdicts.specs.Claims.{Claims}
 use Rattle.answers.specs.Decide.{IsReported}
 use Rattle.answers.specs.Laws.{IsRightText, CheckedAreRight}
@@ -65,8 +65,8 @@ module _ (study : Question) (bytes : List ℕ) where
   by_text whole few (inr c) fits = ap judged_status (sharp_checked study bytes c.0 whole few c.1 fits)
 
   -- a confirmed report within its limit has it for `gain` too
-  pub by_report : IsReportable study → HasFewAxioms study → IsConfirmed study bytes → length bytes ≤ most_report_bytes → status_of (judgement study bytes) ≡ 0
-  by_report whole few c fits = ap status_of (right_judged study bytes c.0 whole few c.1 fits)
+  pub by_report : IsReportable study → HasFewAxioms study → IsConfirmed study bytes → length bytes ≤ most_report_bytes → judgement_status (judgement study bytes) ≡ 0
+  by_report whole few c fits = ap judgement_status (right_judged study bytes c.0 whole few c.1 fits)
 
 checked_row : (files : Files) (name report : List ℕ) (run : Run) (text : List ℕ) (study : Question) (bytes : List ℕ) → GivesStudy files name study → files report ≡ Some bytes
     → IsJudged files report study run text → (run.status ≡ 0) ↔ (IsRightText study bytes × (length bytes ≤ most_report_bytes))

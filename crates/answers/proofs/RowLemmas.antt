@@ -8,27 +8,27 @@ use Rattle.study.proofs.OneAnswer.{studies_once}
 use Rattle.clause_text.specs.ReadDimacs.{Formula, read_dimacs}
 use Rattle.words.specs.Words.{Request, request_of}
 use Rattle.answers.specs.declared.runs.Run.{Run}
-use Rattle.answers.specs.FileLimits.{most_study_bytes, Holds}
+use Rattle.answers.specs.FileLimits.{most_study_bytes, HasFile}
 use Rattle.answers.specs.Studies.{GivesStudy, RefusesStudy, too_long, no_study, OverStudy, study_refused, study_given}
 use Rattle.answers.specs.Runs.{IsBare}
 use Rattle.answers.specs.Grounding.{OverClauses, clauses_refused, clauses_made}
 use Rattle.answers.specs.Lrat.{GivesFormula}
-use Rattle.answers.specs.Lawful.{IsAnswer, Lawful}
+use Rattle.answers.specs.Lawful.{IsBenchAnswer, Lawful}
 
 pub some_same : {A : Type 0} (o : Option A) (x y : A) → o ≡ Some x → o ≡ Some y → x ≡ y
 some_same o x y h k = cc
 
 -- the row of a request
 pub row_of : (words : List (List ℕ)) (files : Files) (run : Run) (text : List ℕ) (request : Option Request) → request_of words ≡ request → Lawful words files run text
-    → IsAnswer request files run text
-row_of words files run text request e lawful = subst (λ (r : Option Request). IsAnswer r files run text) e lawful
+    → IsBenchAnswer request files run text
+row_of words files run text request e lawful = subst (λ (r : Option Request). IsBenchAnswer r files run text) e lawful
 
 not_long : (b b' : List ℕ) → b ≡ b' → most_study_bytes < length b → length b' ≤ most_study_bytes → ⊥
 not_long b b' same long fits = let l : length b ≡ length b' = ap length same in omega arith
 
 module _ (files : Files) (name : List ℕ) where
   -- the bytes of a study give one answer
-  pub same_reading : (b b' : List ℕ) (r r' : Result Question StudyFault) → Holds files most_study_bytes name b → Holds files most_study_bytes name b' → IsStudyOf b r → IsStudyOf b' r' → r ≡ r'
+  pub same_reading : (b b' : List ℕ) (r r' : Result Question StudyFault) → HasFile files most_study_bytes name b → HasFile files most_study_bytes name b' → IsStudyOf b r → IsStudyOf b' r' → r ≡ r'
   same_reading b b' r r' h h' read read' =
       studies_once b' r r' (subst (λ (x : List ℕ). IsStudyOf x r) (some_same (files name) b b' h.held h'.held) read) read'
 

@@ -27,7 +27,7 @@ use Rattle.sharp_verdicts.specs.Right.{satisfies_instances, is_mark, pointed}
 use Rattle.sharp_verdicts.specs.Sharpened.{IsWithoutInstance, HasMarkEvidence, HaveMarkEvidence, IsSharpened}
 use Rattle.sharp_laws.proofs.ClaimLaws.{claims_hold}
 use Rattle.answers.specs.declared.runs.Run.{Run}
-use Rattle.answers.specs.FileLimits.{most_report_bytes, Holds}
+use Rattle.answers.specs.FileLimits.{most_report_bytes, HasFile}
 use Rattle.answers.specs.Studies.{GivesStudy}
 use Rattle.answers.specs.Grounding.{OverClauses, clauses_refused, clauses_made}
 use Rattle.answers.specs.Evidence.{IsFound}
@@ -36,7 +36,7 @@ use Rattle.answers.specs.Sharpen.{is_impossible, IsSharp, Sharpens, total_refuse
 use Rattle.answers.specs.Devices.{Devices}
 use Rattle.answers.specs.Call.{IsCall, are_told}
 use Rattle.answers.specs.Laws.{Says}
-use Rattle.answers.specs.RowLaws.{IsWithoutOpen, IsConclusive}
+use Rattle.answers.specs.RowLaws.{IsWithoutOpen, IsConclusiveRun}
 use Rattle.answers.specs.SharpenLaws.{IsInstanceNeeded, by_rule, by_mark, IsSharpeningRight, IsSharpPrinted, a_rule, a_sharpening, SharpenedHolds, WrittenSharpeningsHold, EnoughSharpens, IsConfirmedFor, by_verdict, by_sharp, SharpenedAreConfirmed, ConfirmsFound, a_verdict, a_sharp_text, WrittenSharpeningsAreConfirmed}
 use Rattle.answers.proofs.RowLemmas.{some_same, over_study, not_three, granted}
 use Rattle.answers.proofs.JudgedLaws.{report_checked, sharp_checked, sharp_answered}
@@ -134,7 +134,7 @@ sharpenings_hold words d run files name workers study call told asked g zero_is 
 
 -- ---- a large limit
 
-sharp_conclusive : (study : Question) (run : Run) (text : List ℕ) → 3 ^ variable_count study.size ≤ study.conflicts → IsSharp study run text → IsConclusive run
+sharp_conclusive : (study : Question) (run : Run) (text : List ℕ) → 3 ^ variable_count study.size ≤ study.conflicts → IsSharp study run text → IsConclusiveRun run
 sharp_conclusive study run text enough s = record {
   decided = λ four. let no : 0 ≡ 4 = sym s.ends ∙ four in absurd (omega (arith, no));
   no_log = no_logs study run.logs enough s.logs;
@@ -142,12 +142,12 @@ sharp_conclusive study run text enough s = record {
   sharp = λ t told. subst IsWithoutOpen (some_same run.sharp s.sharp t s.told told) (without_open study s.sharp enough s.right);
 }
 
-sharpens_conclusive : (study : Question) (run : Run) (text : List ℕ) → 3 ^ variable_count study.size ≤ study.conflicts → Sharpens study run text → IsConclusive run
+sharpens_conclusive : (study : Question) (run : Run) (text : List ℕ) → 3 ^ variable_count study.size ≤ study.conflicts → Sharpens study run text → IsConclusiveRun run
 sharpens_conclusive study run text enough (total_refused over is bare) = bare_conclusive run 3 (λ no. absurd (omega (arith, no))) bare
 sharpens_conclusive study run text enough (decided within r other) = conclusive study run r.verdict enough r.decides
 sharpens_conclusive study run text enough (sharpened within s) = sharp_conclusive study run text enough s
 
-conclusive_row : (study : Question) (run : Run) (text : List ℕ) → 3 ^ variable_count study.size ≤ study.conflicts → OverClauses study run text (Sharpens study run text) → IsConclusive run
+conclusive_row : (study : Question) (run : Run) (text : List ℕ) → 3 ^ variable_count study.size ≤ study.conflicts → OverClauses study run text (Sharpens study run text) → IsConclusiveRun run
 conclusive_row study run text enough (clauses_refused fault e t bare) = bare_conclusive run 3 (λ no. absurd (omega (arith, no))) bare
 conclusive_row study run text enough (clauses_made e r) = sharpens_conclusive study run text enough r
 
@@ -174,7 +174,7 @@ sharpened_confirmed files name run text study row g zero_is fits =
 -- ---- what calls have written
 
 module _ (found : Run) (study : Question) (text : List ℕ) (words : List (List ℕ)) (d : Devices) (run : Run) (files : Files) (name report : List ℕ) (workers : ℕ) (call : IsCall words d run)
-    (told : d.told ≡ Some files) (asked : request_of words ≡ Some (Check name report workers)) (g : GivesStudy files name study) (holds : Holds files most_report_bytes report text) where
+    (told : d.told ≡ Some files) (asked : request_of words ≡ Some (Check name report workers)) (g : GivesStudy files name study) (holds : HasFile files most_report_bytes report text) where
   found_confirmed : IsConfirmedFor study found text → ConfirmsFound found words d run
   found_confirmed (by_verdict verdict tells is) = a_verdict verdict tells (judged_confirms study text verdict is words d run files name report workers call told asked g holds)
   found_confirmed (by_sharp s tells is) = a_sharp_text s tells (record {

@@ -10,13 +10,13 @@ use Rattle.clause_text.specs.ReadDimacs.{Formula}
 use Rattle.sharp_verdicts.specs.declared.refusals.SharpRefusal.TheVariants.{Instance}
 use Rattle.sharp_verdicts.specs.SharpJudge.{SharpConfirmed, SharpFaulty, SharpTooLong}
 use Rattle.answers.specs.Call.{touched_at}
-use Rattle.answers.specs.Check.{status_of, sharp_status_of}
-use Rattle.answers.specs.Gain.{rule_text}
+use Rattle.answers.specs.Check.{judgement_status, sharp_status_of}
+use Rattle.answers.specs.Gain.{rule_gain_text}
 use Rattle.answers.specs.Lrat.{said_of}
 
 -- ---- `check`
 
-confirmed_reports_alone_end_with_status_0 : map status_of (Confirmed (Possible (0 ∷ [])) ∷ Faulty 9 Form ∷ TooLong ∷ []) ≡ 0 ∷ 1 ∷ 1 ∷ []
+confirmed_reports_alone_end_with_status_0 : map judgement_status (Confirmed (Possible (0 ∷ [])) ∷ Faulty 9 Form ∷ TooLong ∷ []) ≡ 0 ∷ 1 ∷ 1 ∷ []
 confirmed_reports_alone_end_with_status_0 = refl
 
 confirmed_sharp_texts_alone_end_with_status_0 : map sharp_status_of (SharpConfirmed (record { core = []; story = []; instances = []; marks = [] }) ∷ SharpFaulty 19 Instance ∷ SharpTooLong ∷ [])
@@ -45,6 +45,6 @@ two_and_two = full_size Sets 2 2
 
 -- codes 0, 1 and 2 are the sets a, b and ab. Both voters have ab, and b is chosen: voter 1 gets ab by casting ba.
 -- Where a is chosen there, and b where both have ba, none gains
-first_gain_is_told : map (λ rule. rule_text two_and_two rule) (Some (1 ∷ 2 ∷ 2 ∷ 0 ∷ []) ∷ Some (0 ∷ 2 ∷ 2 ∷ 1 ∷ []) ∷ None ∷ [])
+first_gain_is_told : map (λ rule. rule_gain_text two_and_two rule) (Some (1 ∷ 2 ∷ 2 ∷ 0 ∷ []) ∷ Some (0 ∷ 2 ∷ 2 ∷ 1 ∷ []) ∷ None ∷ [])
     ≡ codes "voter 1 at ab|ab gains by ba: ab over b\n" ∷ codes "none\n" ∷ codes "no rule\n" ∷ []
 first_gain_is_told = refl

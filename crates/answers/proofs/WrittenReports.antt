@@ -7,7 +7,7 @@ use Rattle.verdicts.specs.Judge.{Confirmed}
 use Rattle.words.specs.Words.{Decide, Check, Adopt, request_of}
 use Rattle.sharp_verdicts.specs.Judged.{Judged, AsReport, judged_text}
 use Rattle.answers.specs.declared.runs.Run.{Run}
-use Rattle.answers.specs.FileLimits.{most_report_bytes, Holds}
+use Rattle.answers.specs.FileLimits.{most_report_bytes, HasFile}
 use Rattle.answers.specs.Studies.{GivesStudy}
 use Rattle.answers.specs.Check.{judged, judged_status}
 use Rattle.answers.specs.Devices.{Devices}
@@ -23,7 +23,7 @@ use Rattle.answers.proofs.AdoptLaws.{adopted_confirmed}
 -- a report that the judge confirms is confirmed by each call over files that hold it
 pub judged_confirms : (study : Question) (text : List ℕ) (verdict : Verdict) → judged study text ≡ AsReport (Confirmed verdict)
     → (words : List (List ℕ)) (d : Devices) (run : Run) (files : Files) (name report : List ℕ) (workers : ℕ) → IsCall words d run → d.told ≡ Some files
-    → request_of words ≡ Some (Check name report workers) → GivesStudy files name study → Holds files most_report_bytes report text → ConfirmsReport words d run verdict
+    → request_of words ≡ Some (Check name report workers) → GivesStudy files name study → HasFile files most_report_bytes report text → ConfirmsReport words d run verdict
 judged_confirms study text verdict is words d run files name report workers call told asked g holds = record {
   says = λ low. subst (λ (a : Judged). Says d run (judged_status a) (judged_text a)) is ((checks_answered words d run files name report workers call told asked low).judged study text g holds.held);
   completes = λ calm. (calls_complete words d run call calm).check files name report text workers study told asked g holds.held

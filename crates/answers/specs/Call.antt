@@ -14,7 +14,7 @@ use Rattle.words.specs.Words.{Request, Decide, Check, Export, Proof, Lrat, Axiom
 use Rattle.answers.specs.declared.runs.Run.{Run}
 use Rattle.answers.specs.Runs.{with_status}
 use Rattle.answers.specs.Studies.{GivesStudy}
-use Rattle.answers.specs.Grounding.{fault_of}
+use Rattle.answers.specs.Grounding.{clauses_fault}
 use Rattle.answers.specs.Lrat.{GivesFormula}
 use Rattle.answers.specs.Lawful.{Lawful}
 use Rattle.answers.specs.Devices.{Devices}
@@ -63,7 +63,7 @@ AreUntouched status names before now =
 abbrev pub IsFirstTaken : Option Request → Files → List ℕ → Type 0
 IsFirstTaken (Some (Lrat cnf proof)) files name = (formula : Formula) × GivesFormula files name formula
 IsFirstTaken (Some (Adopt study proof workers)) files name =
-    (study : Question) × GivesStudy files name study × (fault_of study ≡ None)
+    (study : Question) × GivesStudy files name study × (clauses_fault study ≡ None)
 IsFirstTaken (Some (Gain study report)) files name =
     (study : Question) × GivesStudy files name study × (study.size.kind ≡ Sets)
 IsFirstTaken request files name = (study : Question) × GivesStudy files name study

@@ -19,7 +19,7 @@ abbrev pub most_proof_bytes : ℕ
 most_proof_bytes = 536870912
 
 -- the file of this name holds these bytes, and they are not too many
-pub record Holds (files : Files) (limit : ℕ) (name bytes : List ℕ) : Type 0 where
+pub record HasFile (files : Files) (limit : ℕ) (name bytes : List ℕ) : Type 0 where
   pub held : files name ≡ Some bytes
   pub fits : length bytes ≤ limit
 

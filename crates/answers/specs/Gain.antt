@@ -14,7 +14,7 @@ use Rattle.choice_sets.specs.Gains.{first_gain}
 use Rattle.answers.specs.declared.runs.Run.{Run}
 use Rattle.answers.specs.Runs.{IsBare}
 use Rattle.answers.specs.Studies.{OverStudy}
-use Rattle.answers.specs.Check.{judgement, status_of}
+use Rattle.answers.specs.Check.{judgement, judgement_status}
 
 -- who gains where and by which ballot, numbered from 1; and the sets that the rule gives at the changed profile
 -- and at the profile
@@ -30,13 +30,13 @@ gain_text size table None = codes "none\n"
 gain_text size table (Some m) = gain_line size table m
 
 -- what is said of the rule of a confirmed report
-abbrev pub rule_text : Extent → Option (List ℕ) → List ℕ
-rule_text size None = codes "no rule\n"
-rule_text size (Some table) = gain_text size table (first_gain size table)
+abbrev pub rule_gain_text : Extent → Option (List ℕ) → List ℕ
+rule_gain_text size None = codes "no rule\n"
+rule_gain_text size (Some table) = gain_text size table (first_gain size table)
 
 -- what is said of a report: of one that is not confirmed, what `check` says
 abbrev pub said_of_gain : Question → Judgement → List ℕ
-said_of_gain study (Confirmed verdict) = rule_text study.size (rule_in verdict)
+said_of_gain study (Confirmed verdict) = rule_gain_text study.size (rule_in verdict)
 said_of_gain study (Faulty line word) = answer_text (Faulty line word)
 said_of_gain study TooLong = answer_text TooLong
 
@@ -44,7 +44,7 @@ said_of_gain study TooLong = answer_text TooLong
 pub record IsGainSaid (files : Files) (report : List ℕ) (study : Question) (run : Run) (text : List ℕ) : Type 0 where
   pub bytes : List ℕ
   pub held : files report ≡ Some bytes
-  pub ends : IsBare run (status_of (judgement study bytes))
+  pub ends : IsBare run (judgement_status (judgement study bytes))
   pub is : text ≡ said_of_gain study (judgement study bytes)
 
 -- a study of another kind is refused; over one of sets the report is judged

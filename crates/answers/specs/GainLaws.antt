@@ -13,7 +13,7 @@ use Rattle.sharp_verdicts.specs.Judged.{has_sharp_title}
 use Rattle.answers.specs.declared.runs.Run.{Run}
 use Rattle.answers.specs.FileLimits.{most_report_bytes}
 use Rattle.answers.specs.Studies.{GivesStudy, RefusesStudy}
-use Rattle.answers.specs.Check.{judgement, status_of}
+use Rattle.answers.specs.Check.{judgement, judgement_status}
 use Rattle.answers.specs.Gain.{said_of_gain}
 use Rattle.answers.specs.Lawful.{Lawful}
 use Rattle.answers.specs.Devices.{Devices}
@@ -36,7 +36,7 @@ pub record AreGainRows (d : Devices) (run : Run) (files : Files) (name report : 
       → Says d run 3 (codes "study: kind not sets\n")
   pub judged : (study : Question) (bytes : List ℕ) → GivesStudy files name study → study.size.kind ≡ Sets
       → files report ≡ Some bytes
-      → Says d run (status_of (judgement study bytes)) (said_of_gain study (judgement study bytes))
+      → Says d run (judgement_status (judgement study bytes)) (said_of_gain study (judgement study bytes))
   pub right : (study : Question) (bytes : List ℕ) (verdict : Verdict) → GivesStudy files name study
       → study.size.kind ≡ Sets → files report ≡ Some bytes → IsReport study verdict bytes
       → length bytes ≤ most_report_bytes → Says d run 0 (said_of_gain study (Confirmed verdict))

@@ -19,8 +19,8 @@ abbrev pub all_clauses : Question → List Clause
 all_clauses study = clauses_for study.size study.axioms (all_places study)
 
 -- what is refused of them
-abbrev pub fault_of : Question → Option GroundFault
-fault_of study = ground_fault study.size study.axioms (all_places study)
+abbrev pub clauses_fault : Question → Option GroundFault
+clauses_fault study = ground_fault study.size study.axioms (all_places study)
 
 -- an instance with its numbers of clauses and of literals
 abbrev pub wide_text : ℕ → Counts → List ℕ
@@ -28,19 +28,19 @@ wide_text instance counts =
     codes "wide " ++ (decimal instance ++ (32 ∷ (decimal counts.clauses ++ (32 ∷ decimal counts.literals))))
 
 -- a refusal, by the name of its axiom; want of memory is never told
-abbrev pub refusal_text : Question → GroundFault → List ℕ
-refusal_text study (Wide place instance counts) =
+abbrev pub clause_refusal_text : Question → GroundFault → List ℕ
+clause_refusal_text study (Wide place instance counts) =
     of_axiom (name_at study.axioms place) (wide_text instance counts)
-refusal_text study (Full place) = of_axiom (name_at study.axioms place) (codes "full")
-refusal_text study NoMemory = []
+clause_refusal_text study (Full place) = of_axiom (name_at study.axioms place) (codes "full")
+clause_refusal_text study NoMemory = []
 
 -- the line of a refusal
 abbrev pub refusal_line : Question → GroundFault → List ℕ
-refusal_line study fault = codes "study: " ++ (refusal_text study fault ++ 10 ∷ [])
+refusal_line study fault = codes "study: " ++ (clause_refusal_text study fault ++ 10 ∷ [])
 
 -- a command over the clauses of all axioms: they are refused, or the rest holds
 pub data OverClauses (study : Question) (run : Run) (text : List ℕ) (IsRest : Type 0) : Type 0 where
-  clauses_refused : (fault : GroundFault) → fault_of study ≡ Some fault → text ≡ refusal_line study fault
+  clauses_refused : (fault : GroundFault) → clauses_fault study ≡ Some fault → text ≡ refusal_line study fault
       → IsBare run 3
       → OverClauses study run text IsRest
-  clauses_made : fault_of study ≡ None → IsRest → OverClauses study run text IsRest
+  clauses_made : clauses_fault study ≡ None → IsRest → OverClauses study run text IsRest

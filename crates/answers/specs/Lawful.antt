@@ -16,19 +16,19 @@ use Rattle.answers.specs.Gain.{IsGained}
 use Rattle.answers.specs.Sharpen.{IsSharpening}
 
 -- A row for each request. Where a file that is needed is not held, no answer is lawful. The number of workers changes none.
-abbrev pub IsAnswer : Option Request → Files → Run → List ℕ → Type 0
-IsAnswer None files run text = IsUsage run text
-IsAnswer (Some (Decide study workers)) files run text = IsDecided files study run text
-IsAnswer (Some (Check study report workers)) files run text = IsChecked files study report run text
-IsAnswer (Some (Export study workers)) files run text = IsExported files study run text
-IsAnswer (Some (Proof study workers)) files run text = IsProved files study run text
-IsAnswer (Some (Lrat cnf proof)) files run text = IsConfirmedBy files cnf proof run text
-IsAnswer (Some (Axioms kind)) files run text = IsListed kind run text
-IsAnswer (Some (Sample number)) files run text = IsSampled number run text
-IsAnswer (Some (Adopt study proof workers)) files run text = IsAdoption files study proof run text
-IsAnswer (Some (Gain study report)) files run text = IsGained files study report run text
-IsAnswer (Some (Sharpen study workers)) files run text = IsSharpening files study run text
+abbrev pub IsBenchAnswer : Option Request → Files → Run → List ℕ → Type 0
+IsBenchAnswer None files run text = IsUsage run text
+IsBenchAnswer (Some (Decide study workers)) files run text = IsDecided files study run text
+IsBenchAnswer (Some (Check study report workers)) files run text = IsChecked files study report run text
+IsBenchAnswer (Some (Export study workers)) files run text = IsExported files study run text
+IsBenchAnswer (Some (Proof study workers)) files run text = IsProved files study run text
+IsBenchAnswer (Some (Lrat cnf proof)) files run text = IsConfirmedBy files cnf proof run text
+IsBenchAnswer (Some (Axioms kind)) files run text = IsListed kind run text
+IsBenchAnswer (Some (Sample number)) files run text = IsSampled number run text
+IsBenchAnswer (Some (Adopt study proof workers)) files run text = IsAdoption files study proof run text
+IsBenchAnswer (Some (Gain study report)) files run text = IsGained files study report run text
+IsBenchAnswer (Some (Sharpen study workers)) files run text = IsSharpening files study run text
 
 -- this run and this text answer the words
 abbrev pub Lawful : List (List ℕ) → Files → Run → List ℕ → Type 0
-Lawful words files run text = IsAnswer (request_of words) files run text
+Lawful words files run text = IsBenchAnswer (request_of words) files run text

@@ -15,14 +15,14 @@ use Rattle.verdicts.specs.Words.{answer_text}
 use Rattle.words.specs.Words.{Request, Decide, Check, Export, Proof, Lrat, Axioms, Sample, Adopt, Gain, Sharpen, request_of}
 use Rattle.sharp_verdicts.specs.Judged.{judged_text}
 use Rattle.sharp_verdicts.specs.Right.{Pointed}
-use Rattle.sharp_verdicts.specs.Totals.{is_over, total}
+use Rattle.sharp_verdicts.specs.Totals.{passes_clause_limits, total}
 use Rattle.sharp_laws.specs.Laws.{IsSharpText, SharpClaims}
 use Rattle.answers.specs.declared.runs.Run.{Run}
-use Rattle.answers.specs.FileLimits.{most_report_bytes, most_proof_bytes, Holds}
+use Rattle.answers.specs.FileLimits.{most_report_bytes, most_proof_bytes, HasFile}
 use Rattle.clause_text.specs.ReadDimacs.{Formula}
 use Rattle.samples.specs.Sample.{IsSampleStudy}
 use Rattle.answers.specs.Studies.{GivesStudy, RefusesStudy}
-use Rattle.answers.specs.Grounding.{fault_of}
+use Rattle.answers.specs.Grounding.{clauses_fault}
 use Rattle.answers.specs.Export.{exported_formula}
 use Rattle.answers.specs.Lrat.{GivesFormula, said_of}
 use Rattle.verdicts.specs.Claims.{Claims}
@@ -185,14 +185,14 @@ IsDecidedOrWanting run = (run.status ≡ 0) ⊎ ((run.status ≡ 4) ⊎ (run.sta
 -- `adopt` makes, and `axioms`; words that are no command end with 2 or 7; and no call ends with 5 or 6
 pub record AreAnswered (words : List (List ℕ)) (d : Devices) (run : Run) : Type 0 where
   pub decide : (files : Files) (name : List ℕ) (workers : ℕ) (study : Question) → d.told ≡ Some files → request_of words ≡ Some (Decide name workers)
-      → GivesStudy files name study → fault_of study ≡ None → IsDecidedOrWanting run
+      → GivesStudy files name study → clauses_fault study ≡ None → IsDecidedOrWanting run
   pub export : (files : Files) (name : List ℕ) (workers : ℕ) (study : Question) → d.told ≡ Some files → request_of words ≡ Some (Export name workers)
-      → GivesStudy files name study → fault_of study ≡ None → (run.status ≡ 0) ⊎ (run.status ≡ 7)
+      → GivesStudy files name study → clauses_fault study ≡ None → (run.status ≡ 0) ⊎ (run.status ≡ 7)
   pub proof : (files : Files) (name : List ℕ) (workers : ℕ) (study : Question) → d.told ≡ Some files → request_of words ≡ Some (Proof name workers)
-      → GivesStudy files name study → fault_of study ≡ None → IsDecidedOrWanting run
+      → GivesStudy files name study → clauses_fault study ≡ None → IsDecidedOrWanting run
   pub lrat : (files : Files) (name proof bytes : List ℕ) (formula : Formula) → d.told ≡ Some files → request_of words ≡ Some (Lrat name proof)
       → GivesFormula files name formula → files proof ≡ Some bytes → (said_of formula bytes).status ≡ 0 → (run.status ≡ 0) ⊎ (run.status ≡ 7)
-  pub sample : (number : ℕ) (study : Question) → request_of words ≡ Some (Sample number) → IsSampleStudy number study → fault_of study ≡ None
+  pub sample : (number : ℕ) (study : Question) → request_of words ≡ Some (Sample number) → IsSampleStudy number study → clauses_fault study ≡ None
       → IsDecidedOrWanting run
   pub check : (files : Files) (name report bytes : List ℕ) (workers : ℕ) (study : Question)
       → d.told ≡ Some files → request_of words ≡ Some (Check name report workers)
@@ -200,14 +200,14 @@ pub record AreAnswered (words : List (List ℕ)) (d : Devices) (run : Run) : Typ
       → length bytes ≤ most_report_bytes → (run.status ≡ 0) ⊎ (run.status ≡ 7)
   pub adopt : (files : Files) (name proof bytes : List ℕ) (workers : ℕ) (study : Question)
       → d.told ≡ Some files → request_of words ≡ Some (Adopt name proof workers)
-      → GivesStudy files name study → fault_of study ≡ None → files proof ≡ Some bytes
+      → GivesStudy files name study → clauses_fault study ≡ None → files proof ≡ Some bytes
       → (said_of (exported_formula study) bytes).status ≡ 0 → (run.status ≡ 0) ⊎ (run.status ≡ 7)
   pub gain : (files : Files) (name report bytes : List ℕ) (study : Question)
       → d.told ≡ Some files → request_of words ≡ Some (Gain name report)
       → GivesStudy files name study → study.size.kind ≡ Sets → files report ≡ Some bytes → IsConfirmed study bytes
       → length bytes ≤ most_report_bytes → (run.status ≡ 0) ⊎ (run.status ≡ 7)
   pub sharpen : (files : Files) (name : List ℕ) (workers : ℕ) (study : Question) → d.told ≡ Some files → request_of words ≡ Some (Sharpen name workers)
-      → GivesStudy files name study → fault_of study ≡ None → IsFalse (is_over (total study)) → IsDecidedOrWanting run
+      → GivesStudy files name study → clauses_fault study ≡ None → IsFalse (passes_clause_limits (total study)) → IsDecidedOrWanting run
   pub axioms : (kind : Kind) → request_of words ≡ Some (Axioms kind) → (run.status ≡ 0) ⊎ (run.status ≡ 7)
   pub usage : request_of words ≡ None → (run.status ≡ 2) ⊎ (run.status ≡ 7)
   pub no_read_fault : run.status ≢ 5
@@ -250,7 +250,7 @@ WrittenProofsAreConfirmed =
     Wrote Export study clauses → Wrote Proof study refutation → refutation ≢ codes "c possible\n" →
     (words : List (List ℕ)) (d : Devices) (run : Run) (files : Files) (cnf proof : List ℕ) →
     IsCall words d run → d.told ≡ Some files → request_of words ≡ Some (Lrat cnf proof) →
-    files cnf ≡ Some clauses → Holds files most_proof_bytes proof refutation →
+    files cnf ≡ Some clauses → HasFile files most_proof_bytes proof refutation →
     Confirms words d run
 
 -- ---- `proof` and `adopt`
@@ -269,7 +269,7 @@ WrittenProofsAreAdopted =
     Wrote Proof study refutation → refutation ≢ codes "c possible\n" →
     (words : List (List ℕ)) (d : Devices) (run : Run) (files : Files) (name proof : List ℕ) (workers : ℕ) →
     IsCall words d run → d.told ≡ Some files → request_of words ≡ Some (Adopt name proof workers) →
-    GivesStudy files name study → Holds files most_proof_bytes proof refutation →
+    GivesStudy files name study → HasFile files most_proof_bytes proof refutation →
     AdoptsIt words d run
 
 -- ---- `decide`, `adopt` and `check`
@@ -286,7 +286,7 @@ abbrev pub IsConfirmedByCalls : Run → Question → List ℕ → Type 0
 IsConfirmedByCalls found study text =
     (words : List (List ℕ)) (d : Devices) (run : Run) (files : Files) (name report : List ℕ) (workers : ℕ) →
     IsCall words d run → d.told ≡ Some files → request_of words ≡ Some (Check name report workers) →
-    GivesStudy files name study → Holds files most_report_bytes report text →
+    GivesStudy files name study → HasFile files most_report_bytes report text →
     (verdict : Verdict) × (found.verdict ≡ Some verdict) × ConfirmsReport words d run verdict
 
 -- what a call of `decide` or of `adopt` has written of a study is confirmed

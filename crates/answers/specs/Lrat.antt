@@ -14,7 +14,7 @@ use Rattle.clause_text.specs.ReadDimacs.{Formula, read_dimacs}
 use Rattle.clause_text.specs.ReadLrat.{read_lrat}
 use Rattle.answers.specs.declared.runs.Run.{Run}
 use Rattle.answers.specs.Runs.{IsBare}
-use Rattle.answers.specs.FileLimits.{most_cnf_bytes, most_proof_bytes, Holds, HoldsTooMany}
+use Rattle.answers.specs.FileLimits.{most_cnf_bytes, most_proof_bytes, HasFile, HoldsTooMany}
 
 -- ---- the clauses
 
@@ -33,14 +33,14 @@ cnf_line fault = codes "cnf: " ++ (cnf_fault_text fault ++ 10 ∷ [])
 -- the file gives these clauses
 pub record GivesFormula (files : Files) (name : List ℕ) (formula : Formula) : Type 0 where
   pub bytes : List ℕ
-  pub holds : Holds files most_cnf_bytes name bytes
+  pub holds : HasFile files most_cnf_bytes name bytes
   pub read : read_dimacs bytes ≡ Ok formula
 
 -- the file is refused with this line
 pub data RefusesFormula (files : Files) (name text : List ℕ) : Type 0 where
   too_long : HoldsTooMany files most_cnf_bytes name → text ≡ codes "cnf: too long\n"
       → RefusesFormula files name text
-  no_formula : (bytes : List ℕ) (fault : CnfFault) → Holds files most_cnf_bytes name bytes
+  no_formula : (bytes : List ℕ) (fault : CnfFault) → HasFile files most_cnf_bytes name bytes
       → read_dimacs bytes ≡ Err fault
       → text ≡ cnf_line fault → RefusesFormula files name text
 

@@ -30,10 +30,10 @@ use Rattle.sharp_verdicts.specs.declared.sharp.Sharp.{Sharp}
 use Rattle.sharp_verdicts.specs.Judged.{AsReport}
 use Rattle.answers.specs.declared.runs.Run.{Run}
 use Rattle.answers.specs.Runs.{IsBare}
-use Rattle.answers.specs.FileLimits.{most_report_bytes, most_proof_bytes, Holds}
+use Rattle.answers.specs.FileLimits.{most_report_bytes, most_proof_bytes, HasFile}
 use Rattle.answers.specs.Studies.{GivesStudy}
 use Rattle.verdicts.specs.Claims.{IsRuleFor, HasNoRule, Claims}
-use Rattle.answers.specs.Grounding.{all_clauses, fault_of}
+use Rattle.answers.specs.Grounding.{all_clauses, clauses_fault}
 use Rattle.words.specs.Words.{Request, Decide, Proof, Adopt, Sharpen, request_of}
 use Rattle.answers.specs.Devices.{Devices}
 use Rattle.answers.specs.Call.{IsCall}
@@ -72,7 +72,7 @@ pub data IsNeeded (study : Question) (logs : List SearchLog) (core : List ℕ) (
 -- and tidy; the core is of axioms in the order of the study, each with its witness, a rule that satisfies the
 -- others or an open mark with the limit and its log; so each axiom of the core is needed or marked; and the
 -- searches that stand for the marks spent their limit
-pub record IsImpossible (study : Question) (logs : List SearchLog) (core : List ℕ) (story : List Lemma)
+pub record IsImpossibilityRight (study : Question) (logs : List SearchLog) (core : List ℕ) (story : List Lemma)
     (witnesses : List Witness) : Type 0 where
   pub none : HasNoRule study core
   pub witnessed : IsTrue (is_core_right study.size study.axioms study.conflicts core witnesses)
@@ -89,7 +89,7 @@ pub data IsPrinted (study : Question) (run : Run) (text : List ℕ) : Type 0 whe
   an_impossibility : (core : List ℕ) (story : List Lemma) (witnesses : List Witness)
       → run.verdict ≡ Some (Impossible core story witnesses)
       → text ≡ report_text study (Impossible core story witnesses)
-      → IsImpossible study run.logs core story witnesses → IsPrinted study run text
+      → IsImpossibilityRight study run.logs core story witnesses → IsPrinted study run text
 
 -- whatever study is read, what `decide` prints with status 0 holds
 abbrev pub DecidedHolds : Type 0
@@ -119,7 +119,7 @@ pub record IsWithoutOpen (s : Sharp) : Type 0 where
 
 -- as far as the run tells, no search spent its limit: status 4 did not come, and each axiom of a core that was
 -- found has a rule, and so has each instance of a sharpening
-pub record IsConclusive (run : Run) : Type 0 where
+pub record IsConclusiveRun (run : Run) : Type 0 where
   pub decided : run.status ≢ 4
   pub no_log : run.logs ≡ []
   pub marked : (core : List ℕ) (story : List Lemma) (witnesses : List Witness)
@@ -130,7 +130,7 @@ pub record IsConclusive (run : Run) : Type 0 where
 abbrev pub EnoughDecides : Type 0
 EnoughDecides = (files : Files) (name : List ℕ) (run : Run) (text : List ℕ) (study : Question) →
     IsDecided files name run text → GivesStudy files name study →
-    3 ^ variable_count study.size ≤ study.conflicts → IsConclusive run
+    3 ^ variable_count study.size ≤ study.conflicts → IsConclusiveRun run
 
 -- ---- `proof`
 
@@ -138,7 +138,7 @@ EnoughDecides = (files : Files) (name : List ℕ) (run : Run) (text : List ℕ) 
 abbrev pub EnoughProves : Type 0
 EnoughProves = (files : Files) (name : List ℕ) (run : Run) (text : List ℕ) (study : Question) →
     IsProved files name run text → GivesStudy files name study →
-    3 ^ variable_count study.size ≤ study.conflicts → IsConclusive run
+    3 ^ variable_count study.size ≤ study.conflicts → IsConclusiveRun run
 
 -- an accepted derivation from the clauses of all axioms, so that no rule satisfies these; or a rule that does
 pub data IsProofRight (study : Question) (run : Run) (text : List ℕ) : Type 0 where
@@ -177,7 +177,7 @@ ProvedAreConfirmed =
     IsExported exported name run clauses → GivesStudy exported name study → run.status ≡ 0 →
     IsProved proved name' run' refutation → GivesStudy proved name' study → run'.status ≡ 0 →
     refutation ≢ codes "c possible\n" →
-    files cnf ≡ Some clauses → Holds files most_proof_bytes proof refutation →
+    files cnf ≡ Some clauses → HasFile files most_proof_bytes proof refutation →
     IsConfirming files cnf proof
 
 -- ---- `adopt`
@@ -190,7 +190,7 @@ pub record IsAdoptedRight (study : Question) (bytes : List ℕ) (run : Run) (tex
   pub lines : List Line
   pub told : run.verdict ≡ Some (Impossible core story witnesses)
   pub is : text ≡ report_text study (Impossible core story witnesses)
-  pub holds : IsImpossible study run.logs core story witnesses
+  pub holds : IsImpossibilityRight study run.logs core story witnesses
   pub read : read_lrat (variable_count study.size) bytes ≡ Ok lines
   pub cited : AreCited study lines core
 
@@ -228,7 +228,7 @@ abbrev pub AdoptsAsLrat : Type 0
 AdoptsAsLrat =
     (study : Question) (adopted confirmed : Files) (name proof cnf proof' : List ℕ) (run run' : Run)
     (text text' bytes : List ℕ) →
-    IsAdoption adopted name proof run text → GivesStudy adopted name study → fault_of study ≡ None →
+    IsAdoption adopted name proof run text → GivesStudy adopted name study → clauses_fault study ≡ None →
     adopted proof ≡ Some bytes →
     IsConfirmedBy confirmed cnf proof' run' text' → confirmed cnf ≡ Some (export_text study) →
     confirmed proof' ≡ Some bytes → EndsAs run run' text text'
@@ -242,13 +242,13 @@ ProvedAreAdopted =
     IsProved proved name' run' refutation → GivesStudy proved name' study → run'.status ≡ 0 →
     refutation ≢ codes "c possible\n" →
     IsAdoption files name proof run text → GivesStudy files name study →
-    Holds files most_proof_bytes proof refutation → run.status ≡ 0
+    HasFile files most_proof_bytes proof refutation → run.status ≡ 0
 
 -- where the limit of a study is at least 3 to the number of its variables, no mark of `adopt` is open
 abbrev pub EnoughAdopts : Type 0
 EnoughAdopts = (files : Files) (name proof : List ℕ) (run : Run) (text : List ℕ) (study : Question) →
     IsAdoption files name proof run text → GivesStudy files name study →
-    3 ^ variable_count study.size ≤ study.conflicts → IsConclusive run
+    3 ^ variable_count study.size ≤ study.conflicts → IsConclusiveRun run
 
 -- the command searches over the study of this name
 abbrev pub Searches : Request → List ℕ → Type 0
@@ -265,7 +265,7 @@ CallsAreConclusive =
     (words : List (List ℕ)) (d : Devices) (run : Run) (files : Files) (request : Request) (name : List ℕ)
     (study : Question) → IsCall words d run → d.told ≡ Some files → request_of words ≡ Some request →
     Searches request name → GivesStudy files name study →
-    3 ^ variable_count study.size ≤ study.conflicts → IsConclusive run
+    3 ^ variable_count study.size ≤ study.conflicts → IsConclusiveRun run
 
 -- ---- `sample`
 

@@ -11,7 +11,7 @@ use Rattle.sharp_verdicts.specs.declared.sharp.Sharp.{Sharp}
 use Rattle.sharp_verdicts.specs.Right.{pointed}
 use Rattle.sharp_verdicts.specs.Sharpened.{IsSharpened}
 use Rattle.sharp_verdicts.specs.SharpLines.{sharp_text}
-use Rattle.sharp_verdicts.specs.Totals.{is_over, total}
+use Rattle.sharp_verdicts.specs.Totals.{passes_clause_limits, total}
 use Rattle.answers.specs.declared.runs.Run.{Run}
 use Rattle.answers.specs.Runs.{IsBare}
 use Rattle.answers.specs.Studies.{OverStudy}
@@ -41,11 +41,11 @@ pub record IsSharp (study : Question) (run : Run) (text : List ℕ) : Type 0 whe
 -- the frames with all instances pass a limit; or the study is decided, and what is found is no impossibility; or the
 -- impossibility that is found is sharpened
 pub data Sharpens (study : Question) (run : Run) (text : List ℕ) : Type 0 where
-  total_refused : IsTrue (is_over (total study)) → text ≡ total_line (total study) → IsBare run 3
+  total_refused : IsTrue (passes_clause_limits (total study)) → text ≡ total_line (total study) → IsBare run 3
       → Sharpens study run text
-  decided : IsFalse (is_over (total study)) → (reported : IsReported study run text)
+  decided : IsFalse (passes_clause_limits (total study)) → (reported : IsReported study run text)
       → IsFalse (is_impossible reported.verdict) → Sharpens study run text
-  sharpened : IsFalse (is_over (total study)) → IsSharp study run text → Sharpens study run text
+  sharpened : IsFalse (passes_clause_limits (total study)) → IsSharp study run text → Sharpens study run text
 
 abbrev pub IsSharpening : Files → List ℕ → Run → List ℕ → Type 0
 IsSharpening files name run text =

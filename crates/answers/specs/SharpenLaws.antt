@@ -24,18 +24,18 @@ use Rattle.sharp_verdicts.specs.Right.{satisfies_instances, IsSharpRight, pointe
 use Rattle.sharp_verdicts.specs.SharpJudge.{SharpConfirmed}
 use Rattle.sharp_verdicts.specs.SharpLines.{sharp_text}
 use Rattle.sharp_verdicts.specs.Sharpened.{IsWithoutInstance}
-use Rattle.sharp_verdicts.specs.Totals.{is_over, total}
+use Rattle.sharp_verdicts.specs.Totals.{passes_clause_limits, total}
 use Rattle.sharp_laws.specs.Laws.{HasNoRuleOfAll, SharpClaims}
 use Rattle.answers.specs.declared.runs.Run.{Run}
-use Rattle.answers.specs.FileLimits.{most_report_bytes, Holds}
+use Rattle.answers.specs.FileLimits.{most_report_bytes, HasFile}
 use Rattle.answers.specs.Studies.{GivesStudy, RefusesStudy}
-use Rattle.answers.specs.Grounding.{fault_of, refusal_line}
+use Rattle.answers.specs.Grounding.{clauses_fault, refusal_line}
 use Rattle.answers.specs.Check.{judged}
 use Rattle.answers.specs.Sharpen.{total_line, IsSharpening}
 use Rattle.answers.specs.Devices.{Devices}
 use Rattle.answers.specs.Call.{IsCall}
 use Rattle.answers.specs.Laws.{confirmed_sharp_line, Says, HasNoFault, Wrote, ConfirmsReport}
-use Rattle.answers.specs.RowLaws.{IsConclusive}
+use Rattle.answers.specs.RowLaws.{IsConclusiveRun}
 
 -- ---- what holds
 
@@ -91,18 +91,18 @@ WrittenSharpeningsHold =
 abbrev pub EnoughSharpens : Type 0
 EnoughSharpens = (files : Files) (name : List ℕ) (run : Run) (text : List ℕ) (study : Question) →
     IsSharpening files name run text → GivesStudy files name study →
-    3 ^ variable_count study.size ≤ study.conflicts → IsConclusive run
+    3 ^ variable_count study.size ≤ study.conflicts → IsConclusiveRun run
 
 -- row by row: a study that is refused, one whose clauses are, and one whose frames and instances together pass a limit;
 -- over any other what is found is told, or that nothing is
 pub record AreSharpenRows (d : Devices) (run : Run) (files : Files) (name : List ℕ) : Type 0 where
   pub refused : (text : List ℕ) → RefusesStudy files name text → Says d run 3 text
   pub clauses_refused : (study : Question) (fault : GroundFault) → GivesStudy files name study
-      → fault_of study ≡ Some fault → Says d run 3 (refusal_line study fault)
-  pub total_refused : (study : Question) → GivesStudy files name study → fault_of study ≡ None
-      → IsTrue (is_over (total study)) → Says d run 3 (total_line (total study))
-  pub decided : (study : Question) → GivesStudy files name study → fault_of study ≡ None
-      → IsFalse (is_over (total study)) → (run.status ≡ 0) ⊎ (run.status ≡ 4)
+      → clauses_fault study ≡ Some fault → Says d run 3 (refusal_line study fault)
+  pub total_refused : (study : Question) → GivesStudy files name study → clauses_fault study ≡ None
+      → IsTrue (passes_clause_limits (total study)) → Says d run 3 (total_line (total study))
+  pub decided : (study : Question) → GivesStudy files name study → clauses_fault study ≡ None
+      → IsFalse (passes_clause_limits (total study)) → (run.status ≡ 0) ⊎ (run.status ≡ 4)
 
 -- each row of `sharpen` is what is answered where it applies, faults and want of memory aside
 abbrev pub SharpeningsAreAnswered : Type 0
@@ -145,5 +145,5 @@ WrittenSharpeningsAreConfirmed =
     (study : Question) (text : List ℕ) (wrote : Wrote Sharpen study text) →
     (words : List (List ℕ)) (d : Devices) (run : Run) (files : Files) (name report : List ℕ) (workers : ℕ) →
     IsCall words d run → d.told ≡ Some files → request_of words ≡ Some (Check name report workers) →
-    GivesStudy files name study → Holds files most_report_bytes report text →
+    GivesStudy files name study → HasFile files most_report_bytes report text →
     ConfirmsFound wrote.run words d run

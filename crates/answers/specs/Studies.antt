@@ -6,19 +6,19 @@ use Rattle.study.specs.declared.faults.StudyFault.{StudyFault}
 use Rattle.study.specs.Reading.{IsStudyOf}
 use Rattle.answers.specs.declared.runs.Run.{Run}
 use Rattle.answers.specs.Runs.{IsBare}
-use Rattle.answers.specs.FileLimits.{most_study_bytes, Holds, HoldsTooMany}
+use Rattle.answers.specs.FileLimits.{most_study_bytes, HasFile, HoldsTooMany}
 use Rattle.answers.specs.StudyLines.{study_line}
 
 -- the file gives this study
 pub record GivesStudy (files : Files) (name : List ℕ) (study : Question) : Type 0 where
   pub bytes : List ℕ
-  pub holds : Holds files most_study_bytes name bytes
+  pub holds : HasFile files most_study_bytes name bytes
   pub read : IsStudyOf bytes (Ok study)
 
 -- the file is refused with this line
 pub data RefusesStudy (files : Files) (name text : List ℕ) : Type 0 where
   too_long : HoldsTooMany files most_study_bytes name → text ≡ codes "study: too long\n" → RefusesStudy files name text
-  no_study : (bytes : List ℕ) (fault : StudyFault) → Holds files most_study_bytes name bytes → IsStudyOf bytes (Err fault) → text ≡ study_line fault
+  no_study : (bytes : List ℕ) (fault : StudyFault) → HasFile files most_study_bytes name bytes → IsStudyOf bytes (Err fault) → text ≡ study_line fault
       → RefusesStudy files name text
 
 -- a command over the study of a file: the file is refused, or gives a study of which the rest holds

@@ -11,11 +11,11 @@ use Rattle.study.specs.declared.faults.StudyFault.{StudyFault}
 use Rattle.study.specs.declared.faults.StudyFault.TheVariants as study
 
 -- numbers that are no size
-abbrev pub size_text : SizeFault → List ℕ
-size_text (size.Voters n) = codes "voters " ++ signed_decimal n
-size_text (size.Alternatives m) = codes "alternatives " ++ signed_decimal m
-size_text (size.Profiles count) = codes "profiles " ++ decimal count
-size_text size.Domain = codes "no ballots"
+abbrev pub size_fault_text : SizeFault → List ℕ
+size_fault_text (size.Voters n) = codes "voters " ++ signed_decimal n
+size_fault_text (size.Alternatives m) = codes "alternatives " ++ signed_decimal m
+size_fault_text (size.Profiles count) = codes "profiles " ++ decimal count
+size_fault_text size.Domain = codes "no ballots"
 
 -- a text that is no sentence; want of memory is never told
 abbrev pub syntax_text : SyntaxFault → List ℕ
@@ -44,7 +44,7 @@ of_axiom name text = name ++ (codes ": " ++ text)
 abbrev pub fault_text : StudyFault → List ℕ
 fault_text study.Toml = codes "not toml"
 fault_text (study.Key key) = codes "key " ++ key
-fault_text (study.Size fault) = size_text fault
+fault_text (study.Size fault) = size_fault_text fault
 fault_text (study.Ballot text) = codes "ballot " ++ text
 fault_text (study.Conflicts n) = codes "conflicts " ++ signed_decimal n
 fault_text (study.Many count) = codes "axioms " ++ decimal count

@@ -3,6 +3,7 @@ use Rattle.std.proofs.Common.{◌≡◌, ◌≢◌, Ok, Err, ℕ, zero, suc, Lis
 use Rattle.std.specs.Cmp.Lexicographic.{same_text}
 use Rattle.std.specs.List.{AllByRecursion}
 use Rattle.std.specs.Str.{bytes_eq}
+use Rattle.std.proofs.lemmas.Option.{same_Some}
 use Rattle.vocab.specs.Name.{is_name}
 use Rattle.vocab.specs.declared.kinds.Kind.{Kind}
 use Rattle.vocab.specs.declared.kinds.Kind.TheVariants.{Choice, Ranking, Sets}
@@ -15,18 +16,15 @@ use Rattle.axiom_library.specs.Library.{Entry, choice, ranking, sets, library, t
 use Rattle.axiom_library.specs.Laws.{IsReadable}
 use Rattle.axiom_library.proofs.Reading as reading
 
-some_once : {A : Type 0} {x y : A} → Some x ≡ Some y → x ≡ y
-some_once e = cc
-
 -- what holds of each entry holds of the one at a place
 pub at_place : (P : Entry → Type 0) (entries : List Entry) → AllByRecursion P entries → (place : ℕ) (e : Entry) → slice_get entries place ≡ Some e → P e
 at_place P [] all place e at = absurd cc
-at_place P (x ∷ entries) all zero e at = subst P (some_once at) all.0
+at_place P (x ∷ entries) all zero e at = subst P (same_Some _ _ at) all.0
 at_place P (x ∷ entries) all (suc place) e at = at_place P entries all.1 place e at
 
 here_or_later : (P : List ℕ → List ℕ → Type 0) (x : Entry) (name text : List ℕ) (later : Option (List ℕ)) → P x.name x.text → (later ≡ Some text → P name text)
     → (same : Bool) → bytes_eq x.name name ≡ same → (if same then Some x.text else later) ≡ Some text → P name text
-here_or_later P x name text later here others true is at = subst (λ n. P n text) (same_text x.name name (sym is)) (subst (λ t. P x.name t) (some_once at) here)
+here_or_later P x name text later here others true is at = subst (λ n. P n text) (same_text x.name name (sym is)) (subst (λ t. P x.name t) (same_Some _ _ at) here)
 here_or_later P x name text later here others false is at = others at
 
 -- what holds of each name and text holds of a name and the text under it
@@ -84,20 +82,20 @@ name_at_place kind place bytes found = named_at (slice_get (library kind) place)
   where
     named_at : (entry : Option Entry) → slice_get (library kind) place ≡ entry → Some bytes ≡ option_map (λ e. e.name) entry → IsTrue (is_name bytes)
     named_at None at e = absurd cc
-    named_at (Some e) at same = subst (λ n. IsTrue (is_name n)) (sym (some_once same)) (name_shaped kind place e at).is_name
+    named_at (Some e) at same = subst (λ n. IsTrue (is_name n)) (sym (same_Some _ _ same)) (name_shaped kind place e at).is_name
 
 -- the text at a place whose name is sought
 pub text_here : (entries : List Entry) (place : ℕ) (name bytes : List ℕ) → Some bytes ≡ option_map (λ e. e.name) (slice_get entries place) → bytes_eq bytes name ≡ true
     → option_map (λ e. e.text) (slice_get entries place) ≡ text_among (drop place entries) name
 text_here [] place name bytes at same = absurd cc
-text_here (x ∷ entries) zero name bytes at same = let e : bytes ≡ x.name = some_once at in rw (← e, same) refl
+text_here (x ∷ entries) zero name bytes at same = let e : bytes ≡ x.name = same_Some _ _ at in rw (← e, same) refl
 text_here (x ∷ entries) (suc place) name bytes at same = text_here entries place name bytes at same
 
 -- a place with another name
 pub text_later : (entries : List Entry) (place : ℕ) (name bytes : List ℕ) → Some bytes ≡ option_map (λ e. e.name) (slice_get entries place) → bytes_eq bytes name ≡ false
     → text_among (drop (place + 1) entries) name ≡ text_among (drop place entries) name
 text_later [] place name bytes at other = absurd cc
-text_later (x ∷ entries) zero name bytes at other = let e : bytes ≡ x.name = some_once at in rw (← e, other) refl
+text_later (x ∷ entries) zero name bytes at other = let e : bytes ≡ x.name = same_Some _ _ at in rw (← e, other) refl
 text_later (x ∷ entries) (suc place) name bytes at other = rw add-one (rw add-one at (text_later entries place name bytes at other))
 
 -- a text that reads as a sentence has no fault but want of memory

@@ -1,9 +1,9 @@
 -- Each text of the library reads as its tree.
 use Rattle.std.proofs.Common.{◌≡◌, ◌≤◌, ℕ, List, [], length, codes, refl, subst, true, lit≤}
 use Rattle.vocab.specs.Name.{is_name}
-use Rattle.vocab.specs.NamedDepth.{depth, quantifiers}
+use Rattle.vocab.specs.NamedDepth.{named_depth, quantifiers}
 use Rattle.vocab.specs.NamedTree.{NamedTree}
-use Rattle.syntax.specs.Canonical.{text_of}
+use Rattle.syntax.specs.Canonical.{canonical_text}
 use Rattle.syntax.specs.Sentence.{IsSentence}
 use Rattle.syntax.proofs.RoundTrip.{tree_lexemes, writable_read}
 use Rattle.axiom_library.specs.Laws.{IsReadable}
@@ -11,11 +11,11 @@ use Rattle.axiom_library.proofs.Trees as trees
 use Rattle.axiom_library.proofs.Writing.{is_writable, writable_by_test}
 
 -- the canonical text of a tree within the limits reads as it
-reads_as : (text : List ℕ) (f : NamedTree) → text_of f ≡ text → is_writable f ≡ true → length (tree_lexemes f []) ≤ 600 → depth f ≤ 64 → quantifiers f ≤ 12 → IsSentence text f
+reads_as : (text : List ℕ) (f : NamedTree) → canonical_text f ≡ text → is_writable f ≡ true → length (tree_lexemes f []) ≤ 600 → named_depth f ≤ 64 → quantifiers f ≤ 12 → IsSentence text f
 reads_as text f same writable few shallow few_variables = subst (λ t. IsSentence t f) same (writable_read f (writable_by_test f writable) few shallow few_variables)
 
 -- a text that is the canonical one of a tree within the limits
-readable : (name text : List ℕ) (f : NamedTree) → is_name name ≡ true → text_of f ≡ text → is_writable f ≡ true → length (tree_lexemes f []) ≤ 600 → depth f ≤ 64 → quantifiers f ≤ 12 → IsReadable name text
+readable : (name text : List ℕ) (f : NamedTree) → is_name name ≡ true → canonical_text f ≡ text → is_writable f ≡ true → length (tree_lexemes f []) ≤ 600 → named_depth f ≤ 64 → quantifiers f ≤ 12 → IsReadable name text
 readable name text f named same writable few shallow few_variables =
     record { is_name = named; tree = f; reads = reads_as text f same writable few shallow few_variables; canonical = same }
 

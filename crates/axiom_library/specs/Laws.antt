@@ -3,7 +3,7 @@ use Rattle.std.specs.Prelude.{◌≡◌, ℕ, List, slice_get, Some, IsTrue}
 use Rattle.vocab.specs.Name.{is_name}
 use Rattle.vocab.specs.NamedTree.{NamedTree}
 use Rattle.vocab.specs.declared.kinds.Kind.{Kind}
-use Rattle.syntax.specs.Canonical.{text_of}
+use Rattle.syntax.specs.Canonical.{canonical_text}
 use Rattle.syntax.specs.Sentence.{IsSentence}
 use Rattle.axiom_library.specs.Library.{Entry, library, text_under}
 
@@ -12,7 +12,7 @@ pub record IsReadable (name text : List ℕ) : Type 0 where
   pub is_name : IsTrue (is_name name)
   pub tree : NamedTree
   pub reads : IsSentence text tree
-  pub canonical : text_of tree ≡ text
+  pub canonical : canonical_text tree ≡ text
 
 -- each text that is found under a name is the canonical text of a sentence
 abbrev pub TextsAreSentences : Type 0

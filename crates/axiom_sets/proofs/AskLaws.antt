@@ -7,6 +7,8 @@ use Rattle.std.proofs.lemmas.Bool.{and_parts, and_from, and_cases, or_left, or_r
 use Rattle.std.proofs.lemmas.List.Folds.{list_all-append, list_all-map}
 use Rattle.std.proofs.lemmas.List.Elements.{filter-append}
 use Rattle.std.proofs.lemmas.List.Sums.{sum_by-append}
+use Rattle.lists.proofs.TestLaws.{all_read}
+use Rattle.vocab.proofs.Ranges.{below_more}
 use Rattle.cnf.specs.ClauseList.{ClauseList, IsFullFor}
 use Rattle.cnf.specs.Derived.{IsAccepted}
 use Rattle.cnf.specs.Fresh.{is_over}
@@ -17,26 +19,21 @@ use Rattle.cnf.proofs.SoundLaws.{accepted_unsatisfiable}
 use Rattle.meaning.specs.Cores.{is_core_from}
 use Rattle.meaning.specs.Space.{up_from, below}
 use Rattle.meaning.proofs.SpaceLaws.{any_at, any_from}
-use Rattle.meaning.proofs.TestLaws.{all_read, any-agree, list_any-map}
+use Rattle.meaning.proofs.TestLaws.{any-agree, list_any-map}
+use Rattle.meaning.proofs.CoreLaws.{core_in_range}
 use Rattle.search_logs.specs.Spent.{has_place}
-use Rattle.search_logs.proofs.PlaceLaws.{below_more}
+use Rattle.search_logs.proofs.PlaceLaws.{member_passes}
 use Rattle.axiom_sets.specs.declared.maps.AxiomMap.{AxiomMap}
 use Rattle.axiom_sets.specs.Sets.{is_set, is_within, has_part, has_whole}
 use Rattle.axiom_sets.specs.Maps.{covers, IsTidy}
 use Rattle.axiom_sets.specs.Next.{lacks_some, goes_beyond, uncovered_clauses, chosen, AreTooMany}
-use Rattle.axiom_sets.proofs.SetLaws.{member_passes, all_on}
+use Rattle.axiom_sets.proofs.SetLaws.{all_on}
 
 -- ---- places of sets
 
 -- a set is of so many axioms: each place is below their number
-set_below : (from count : ℕ) (set : List ℕ) → is_core_from from count set ≡ true → list_all (λ k. nat_lt k count) set ≡ true
-set_below from count [] h = refl
-set_below from count (k ∷ set) h =
-    let a = and_parts (not (nat_lt k from) && nat_lt k count) (is_core_from (k + 1) count set) h in
-    and_from _ _ (and_parts (not (nat_lt k from)) (nat_lt k count) a.0).1 (set_below (k + 1) count set a.1)
-
 pub places_below : (count : ℕ) (set : List ℕ) → is_set count set ≡ true → list_all (λ k. nat_lt k count) set ≡ true
-places_below count set h = set_below 0 count set h
+places_below count set h = core_in_range 0 count set h
 
 pub member_below : (count : ℕ) (set : List ℕ) (k : ℕ) → is_set count set ≡ true → has_place set k ≡ true → k < count
 member_below count set k h m = ltb-true k count (member_passes (λ c. nat_lt c count) set k (places_below count set h) m)
@@ -199,7 +196,7 @@ beyond_over : (count : ℕ) (s : List ℕ) → is_over count (goes_beyond count 
 beyond_over count s =
     list_all-map (λ (l : Signed). nat_le 1 l.variable && nat_le l.variable count) (λ a. record { variable = a + 1; positive = false }) (filter (λ a. not (has_place s a)) (below count))
     ∙ all_on (λ k. nat_lt k count) (λ k. nat_le 1 (k + 1) && nat_le (k + 1) count) (filter (λ a. not (has_place s a)) (below count)) (λ k e. over_at count k (ltb-true k count e))
-    (let e : 0 + count ≡ count = omega arith in set_below 0 count (filter (λ a. not (has_place s a)) (below count)) (subst (λ (m : ℕ). is_core_from 0 m (filter (λ a. not (has_place s a)) (below count)) ≡ true) e (chosen_from (λ a. not (has_place s a)) 0 count)))
+    (let e : 0 + count ≡ count = omega arith in core_in_range 0 count (filter (λ a. not (has_place s a)) (below count)) (subst (λ (m : ℕ). is_core_from 0 m (filter (λ a. not (has_place s a)) (below count)) ≡ true) e (chosen_from (λ a. not (has_place s a)) 0 count)))
 
 each_over : (count : ℕ) (sets : List (List ℕ)) (clause_of : List ℕ → Clause) (fits : List ℕ → Bool) → ((s : List ℕ) → fits s ≡ true → is_over count (clause_of s) ≡ true) → list_all fits sets ≡ true → list_all (is_over count) (map clause_of sets) ≡ true
 each_over count sets clause_of fits on h = list_all-map (is_over count) clause_of sets ∙ all_on fits (λ s. is_over count (clause_of s)) sets on h

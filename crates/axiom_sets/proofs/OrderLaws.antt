@@ -1,37 +1,23 @@
 -- The order in which sets are told: by the number of their axioms, and then by their places.
-use Rattle.std.proofs.Common.{◌≡◌, refl, sym, ◌∙◌, ap, subst, ℕ, Bool, true, false, not, ◌&&◌, cond, List, [], ◌∷◌, ◌++◌, filter, length, zero, suc, inl, inr, arith, true≢false, eqb-true, eq-eqb, ltb-true, lt-ltb}
-use Rattle.std.specs.Prelude.{◌==◌, nat_lt, drop, slice_get, Some}
+use Rattle.std.proofs.Common.{◌≡◌, refl, sym, ◌∙◌, ap, subst, ℕ, Bool, true, false, not, ◌&&◌, cond, List, [], ◌∷◌, ◌++◌, filter, length, inl, inr, arith, true≢false, eqb-true, eq-eqb, ltb-true, lt-ltb}
+use Rattle.std.specs.Prelude.{◌==◌, nat_lt}
 use Rattle.std.specs.List.{list_all}
-use Rattle.std.proofs.lemmas.Bool.{and_parts, and_from, or_cases, or_left, or_right, or_parts, both_ways, cases_order}
+use Rattle.std.proofs.lemmas.Bool.{and_parts, and_from, or_cases, or_left, or_right, or_parts, both_ways, cases_order, not-true}
 use Rattle.std.proofs.lemmas.List.Folds.{list_all-append}
+use Rattle.lists.proofs.TestLaws.{all_kept, all_weaker}
+use Rattle.lists.proofs.OrderLaws.{IsLexicographic, lexicographic_on}
+use Rattle.meaning.proofs.TestLaws.{rest_false}
 use Rattle.axiom_sets.specs.Sets.{is_within, is_left_of, is_before, is_rising}
-use Rattle.axiom_sets.proofs.SetLaws.{all_kept, within_self}
+use Rattle.axiom_sets.proofs.SetLaws.{within_self}
 
-rest_false : (a b : Bool) → a ≡ true → (a && b) ≡ false → b ≡ false
-rest_false true b e h = h
-rest_false false b e h = absurd (true≢false (sym e))
+left : IsLexicographic is_left_of
+left = record { none = refl; more = λ y b. refl; fewer = λ x a. refl; each = λ x y a b. refl }
 
 left_on : (a b c : List ℕ) → is_left_of a b ≡ true → is_left_of b c ≡ true → is_left_of a c ≡ true
-left_on [] [] c h k = absurd (true≢false (sym h))
-left_on [] (y ∷ b) [] h k = absurd (true≢false (sym k))
-left_on [] (y ∷ b) (z ∷ c) h k = refl
-left_on (x ∷ a) [] c h k = absurd (true≢false (sym h))
-left_on (x ∷ a) (y ∷ b) [] h k = absurd (true≢false (sym k))
-left_on (x ∷ a) (y ∷ b) (z ∷ c) h k = elim (or_cases (nat_lt x y) (x == y && is_left_of a b) h) [
-  | inl less ↦ elim (or_cases (nat_lt y z) (y == z && is_left_of b c) k) [
-    | inl more ↦ or_left _ _ (let p = ltb-true x y less in let q = ltb-true y z more in lt-ltb x z (omega (arith, p, q)))
-    | inr same ↦ or_left _ _ (subst (λ (n : ℕ). nat_lt x n ≡ true) (eqb-true y z (and_parts _ _ same).0) less)
-  ]
-  | inr same ↦ elim (or_cases (nat_lt y z) (y == z && is_left_of b c) k) [
-    | inl more ↦ or_left _ _ (subst (λ (n : ℕ). nat_lt n z ≡ true) (sym (eqb-true x y (and_parts _ _ same).0)) more)
-    | inr also ↦ or_right (nat_lt x z) _ (and_from (x == z) (is_left_of a c)
-        (subst (λ (n : ℕ). (n == z) ≡ true) (sym (eqb-true x y (and_parts _ _ same).0)) (and_parts _ _ also).0)
-        (left_on a b c (and_parts _ _ same).1 (and_parts _ _ also).1))
-  ]
-]
+left_on a b c h k = lexicographic_on is_left_of left a b c h k
 
 -- what comes before a set comes before all that this one comes before
-pub before_on : (a b c : List ℕ) → is_before a b ≡ true → is_before b c ≡ true → is_before a c ≡ true
+before_on : (a b c : List ℕ) → is_before a b ≡ true → is_before b c ≡ true → is_before a c ≡ true
 before_on a b c h k = elim (or_cases (nat_lt (length a) (length b)) (length a == length b && is_left_of a b) h) [
   | inl less ↦ elim (or_cases (nat_lt (length b) (length c)) (length b == length c && is_left_of b c) k) [
     | inl more ↦ or_left _ _ (let p = ltb-true _ _ less in let q = ltb-true _ _ more in lt-ltb (length a) (length c) (omega (arith, p, q)))
@@ -84,10 +70,7 @@ one_before a b other h = cases (is_before a b) refl
     cases false e = absurd (both_ways (is_within b a && is_within a b) other (subst (λ (l : List ℕ). (is_within l a && is_within a l) ≡ true) (same e) (and_from _ _ (within_self a) (within_self a))))
 
 all_after : (x b : List ℕ) (sets : List (List ℕ)) → is_before x b ≡ true → list_all (is_before b) sets ≡ true → list_all (is_before x) sets ≡ true
-all_after x b [] h all = refl
-all_after x b (t ∷ sets) h all =
-    let p = and_parts (is_before b t) (list_all (is_before b) sets) all in
-    and_from (is_before x t) (list_all (is_before x) sets) (before_on x b t h p.0) (all_after x b sets h p.1)
+all_after x b sets h all = all_weaker (is_before b) (is_before x) (λ t. before_on x b t h) sets all
 
 pub rising_kept : (keep : List ℕ → Bool) (sets : List (List ℕ)) → is_rising sets ≡ true → is_rising (filter keep sets) ≡ true
 rising_kept keep [] h = refl
@@ -101,17 +84,13 @@ rising_kept keep (x ∷ sets) h = let e = and_parts (list_all (is_before x) sets
 abbrev pub other_than : List ℕ → List ℕ → Bool
 other_than set s = not (is_within s set && is_within set s)
 
-not_true : (b : Bool) → not b ≡ true → b ≡ false
-not_true true h = absurd (true≢false (sym h))
-not_true false h = refl
-
 rising_rest : (set : List ℕ) (after : List (List ℕ)) → is_rising after ≡ true → list_all (other_than set) after ≡ true → (first : (t : List ℕ) (rest : List (List ℕ)) → after ≡ t ∷ rest → is_before t set ≡ false)
     → is_rising (set ∷ after) ≡ true
 rising_rest set [] rising fresh first = refl
 rising_rest set (t ∷ rest) rising fresh first =
     let p = and_parts (list_all (is_before t) rest) (is_rising rest) rising in
     let other = and_parts (other_than set t) (list_all (other_than set) rest) fresh in
-    let here : is_before set t ≡ true = one_before set t (not_true _ other.0) (first t rest refl) in
+    let here : is_before set t ≡ true = one_before set t (not-true _ other.0) (first t rest refl) in
     and_from (list_all (is_before set) (t ∷ rest)) (is_rising (t ∷ rest))
     (and_from (is_before set t) (list_all (is_before set) rest) here (all_after set t rest here p.0)) rising
 
@@ -127,10 +106,3 @@ put_in_order set (b ∷ before) after rising fresh front first =
     and_from (list_all (is_before b) (before ++ set ∷ after)) (is_rising (before ++ set ∷ after))
     (list_all-append (is_before b) before (set ∷ after) ∙ and_from (list_all (is_before b) before) (list_all (is_before b) (set ∷ after)) parts.0 (and_from (is_before b set) (list_all (is_before b) after) q.0 parts.1))
     (put_in_order set before after p.1 (and_parts (other_than set b) (list_all (other_than set) (before ++ after)) fresh).1 q.1 first)
-
--- what stands first behind some sets stands at the place after them
-pub drop_first : (sets : List (List ℕ)) (k : ℕ) (t : List ℕ) (rest : List (List ℕ)) → drop k sets ≡ t ∷ rest → slice_get sets k ≡ Some t
-drop_first [] zero t rest h = absurd (let l : 0 ≡ suc (length rest) = ap length h in omega (arith, l))
-drop_first [] (suc k) t rest h = absurd (let l : 0 ≡ suc (length rest) = ap length h in omega (arith, l))
-drop_first (x ∷ sets) zero t rest h = ap (λ (l : List (List ℕ)). slice_get l 0) h
-drop_first (x ∷ sets) (suc k) t rest h = drop_first sets k t rest h

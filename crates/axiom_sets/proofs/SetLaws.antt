@@ -1,26 +1,13 @@
 -- Which sets lie within which, and lists of sets that pass a test.
-use Rattle.std.proofs.Common.{◌≡◌, refl, sym, ◌∙◌, ap, subst, ℕ, Bool, true, false, not, ◌&&◌, ◌||◌, cond, List, [], ◌∷◌, ◌++◌, filter, inl, inr, ◌⊎◌, eqb-true, eq-eqb, true≢false}
-use Rattle.std.specs.Prelude.{◌==◌}
+use Rattle.std.proofs.Common.{◌≡◌, refl, sym, ◌∙◌, ap, subst, ℕ, Bool, true, false, not, ◌&&◌, ◌||◌, cond, List, [], ◌∷◌, ◌++◌, filter, inl, inr, ◌⊎◌, true≢false}
 use Rattle.std.specs.List.{list_all, list_any, AllByRecursion}
 use Rattle.std.proofs.lemmas.Bool.{and_parts, and_from, or_cases, or_left, or_right}
 use Rattle.std.proofs.lemmas.List.Folds.{list_all-append, list_any-append}
+use Rattle.lists.proofs.TestLaws.{all_kept}
 use Rattle.search_logs.specs.Spent.{has_place}
+use Rattle.search_logs.proofs.PlaceLaws.{each_member, member_passes}
 use Rattle.axiom_sets.specs.Sets.{is_within, has_part, has_whole}
 use Rattle.axiom_sets.specs.Maps.{are_apart, IsInserted}
-
--- ---- members
-
--- a member of a list passes what all pass
-pub member_passes : (test : ℕ → Bool) (xs : List ℕ) (c : ℕ) → list_all test xs ≡ true → has_place xs c ≡ true → test c ≡ true
-member_passes test [] c h m = absurd (true≢false (sym m))
-member_passes test (x ∷ xs) c h m =
-    let e = and_parts (test x) (list_all test xs) h in
-    elim (or_cases (x == c) (has_place xs c) m) [ inl f ↦ subst (λ (y : ℕ). test y ≡ true) (eqb-true x c f) e.0 | inr f ↦ member_passes test xs c e.1 f ]
-
--- a test that each member of a list passes
-pub each_member : (test : ℕ → Bool) (xs : List ℕ) → ((c : ℕ) → has_place xs c ≡ true → test c ≡ true) → list_all test xs ≡ true
-each_member test [] h = refl
-each_member test (x ∷ xs) h = and_from _ _ (h x (or_left _ _ (eq-eqb x x refl))) (each_member test xs (λ c e. h c (or_right _ _ e)))
 
 -- ---- sets within sets
 
@@ -69,22 +56,6 @@ module _ {X : Type 0} where
   some_with P p (x ∷ xs) all h = elim (or_cases (p x) (list_any p xs) h) [ inl e ↦ (x, all.0, e) | inr e ↦ some_with P p xs all.1 e ]
 
   -- ---- of the items that are kept
-
-  pub all_kept : (p keep : X → Bool) (xs : List X) → list_all p xs ≡ true → list_all p (filter keep xs) ≡ true
-  all_kept p keep [] h = refl
-  all_kept p keep (x ∷ xs) h = let e = and_parts (p x) (list_all p xs) h in cases (keep x) e.0 (all_kept p keep xs e.1)
-    where
-      cases : (b : Bool) → p x ≡ true → list_all p (filter keep xs) ≡ true → list_all p (cond b (x ∷ filter keep xs) (filter keep xs)) ≡ true
-      cases true here ih = and_from _ _ here ih
-      cases false here ih = ih
-
-  pub kept_pass : (keep : X → Bool) (xs : List X) → list_all keep (filter keep xs) ≡ true
-  kept_pass keep [] = refl
-  kept_pass keep (x ∷ xs) = cases (keep x) refl (kept_pass keep xs)
-    where
-      cases : (b : Bool) → keep x ≡ b → list_all keep (filter keep xs) ≡ true → list_all keep (cond b (x ∷ filter keep xs) (filter keep xs)) ≡ true
-      cases true here ih = and_from _ _ here ih
-      cases false here ih = ih
 
   pub any_kept : (p keep : X → Bool) (xs : List X) → list_any p (filter keep xs) ≡ true → list_any p xs ≡ true
   any_kept p keep [] h = h

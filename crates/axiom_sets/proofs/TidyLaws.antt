@@ -2,11 +2,12 @@
 use Rattle.std.proofs.Common.{◌≡◌, refl, ◌∙◌, ap, ap₂, ℕ, Bool, true, false, not, ◌&&◌, ◌||◌, List, filter, inl, inr, ◌⊎◌, true≢false}
 use Rattle.std.specs.List.{list_all}
 use Rattle.std.proofs.lemmas.Bool.{and_parts, and_left, and_right, or_cases, or_parts, or_from, or_left, or_right, both_ways, not-true, not_from_false, false_from_ne_true}
+use Rattle.lists.proofs.TestLaws.{all_kept, kept_pass}
 use Rattle.meaning.proofs.TestLaws.{none_passes}
 use Rattle.axiom_sets.specs.declared.maps.AxiomMap.{AxiomMap}
 use Rattle.axiom_sets.specs.Sets.{is_set, is_within, has_part, has_whole, is_rising}
 use Rattle.axiom_sets.specs.Maps.{decides, covers, are_apart, IsTidy, HasImpossible, HasPossible, HasOpen}
-use Rattle.axiom_sets.proofs.SetLaws.{all_on, all_both, all_kept, any_kept, any_split, kept_pass, apart, apart_kept, within_on, within_self, all_put, any_put, apart_put}
+use Rattle.axiom_sets.proofs.SetLaws.{all_on, all_both, any_kept, any_split, apart, apart_kept, within_on, within_self, all_put, any_put, apart_put}
 use Rattle.axiom_sets.proofs.OrderLaws.{other_than, rising_kept}
 
 module _ (set : List ℕ) where

@@ -40,7 +40,7 @@ IsCutShort count sets =
     ⊎ AreTooMany (uncovered_clauses count sets)
 
 -- a set that the map does not cover; or it covers all; or the search was cut short
-abbrev pub IsNext : ℕ → AxiomMap → Next → Type 0
-IsNext count sets (Uncovered set) = IsTrue (is_set count set) × IsFalse (covers sets set)
-IsNext count sets Whole = (set : List ℕ) → IsTrue (is_set count set) → IsTrue (covers sets set)
-IsNext count sets Cut = IsCutShort count sets
+abbrev pub IsNextSet : ℕ → AxiomMap → Next → Type 0
+IsNextSet count sets (Uncovered set) = IsTrue (is_set count set) × IsFalse (covers sets set)
+IsNextSet count sets Whole = (set : List ℕ) → IsTrue (is_set count set) → IsTrue (covers sets set)
+IsNextSet count sets Cut = IsCutShort count sets

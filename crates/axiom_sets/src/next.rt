@@ -2,7 +2,7 @@
 
 ghost use Rattle.std.specs.Prelude.{◌<◌, ◌^◌, IfOk};
 ghost use Rattle.axiom_sets.specs.Maps.{IsTidy};
-ghost use Rattle.axiom_sets.specs.Next.{IsNext};
+ghost use Rattle.axiom_sets.specs.Next.{IsNextSet};
 
 use crate::asking::{chosen, uncovered_clauses};
 use crate::maps::AxiomMap;
@@ -30,7 +30,7 @@ impl AxiomMap {
     pub fn next(&self, alloc: Global, count: u32) -> Result<Next, NoMemory>
         requires few { count < 2 ^ 31 }
         requires tidy { IsTidy count self.now }
-        ensures { IfOk result (IsNext count self.now) }
+        ensures { IfOk result (IsNextSet count self.now) }
     {
         let clauses = match uncovered_clauses(alloc, count, self) {
             Ok(clauses) => clauses,

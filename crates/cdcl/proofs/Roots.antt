@@ -15,7 +15,7 @@ use Rattle.propagate.proofs.TrailLemmas.{is_decided}
 use Rattle.propagate.proofs.Levels.{level_at}
 use Rattle.propagate.proofs.Holding.{All-entry_of}
 use Rattle.propagate.proofs.EntryLemmas.{value_from_entry}
-use Rattle.cdcl.specs.Analysis.{is_seen, is_open, IsBelow, RootHolds, RootLeads}
+use Rattle.cdcl.specs.Analysis.{is_marked_variable, is_open_entry, IsBelow, RootHolds, RootLeads}
 use Rattle.cdcl.specs.Lesson.{Teaches}
 use Rattle.cdcl.proofs.Found.{Failing, failing}
 use Rattle.cdcl.proofs.Leads.{Extends, leads_by, holds_among}
@@ -33,8 +33,8 @@ set_more seen i j lt h =
 -- with more marks
 pub RootHolds-more : (k : List Signed) (t : TrailState) (p : ℕ) (old new : List Bool) → ((i : ℕ) → get_or old i false ≡ true → get_or new i false ≡ true) → RootHolds k t p new → RootHolds k t p old
 RootHolds-more k t p old new more h =
-    All-weaker (λ e. is_open new 0 e ≡ true → HoldsIn k e.literal) (λ e. is_open old 0 e ≡ true → HoldsIn k e.literal)
-    (λ e holds o. holds (and_from (is_seen new e.literal.variable) (eqb e.level 0) (more (e.literal.variable - 1) (left _ _ o)) (right _ _ o))) (take p t.entries) h
+    All-weaker (λ e. is_open_entry new 0 e ≡ true → HoldsIn k e.literal) (λ e. is_open_entry old 0 e ≡ true → HoldsIn k e.literal)
+    (λ e holds o. holds (and_from (is_marked_variable new e.literal.variable) (eqb e.level 0) (more (e.literal.variable - 1) (left _ _ o)) (right _ _ o))) (take p t.entries) h
   where
     left : (a b : Bool) → (a && b) ≡ true → a ≡ true
     left true b o = refl
@@ -46,7 +46,7 @@ RootHolds-more k t p old new more h =
 
 RootHolds-extends : (k j : List Signed) (t : TrailState) (p : ℕ) (seen : List Bool) → RootHolds k t p seen → Extends k j → RootHolds j t p seen
 RootHolds-extends k j t p seen h x =
-    All-weaker (λ e. is_open seen 0 e ≡ true → HoldsIn k e.literal) (λ e. is_open seen 0 e ≡ true → HoldsIn j e.literal)
+    All-weaker (λ e. is_open_entry seen 0 e ≡ true → HoldsIn k e.literal) (λ e. is_open_entry seen 0 e ≡ true → HoldsIn j e.literal)
     (λ e holds o. x.keeps e.literal.variable e.literal.positive (holds o)) (take p t.entries) h
 
 -- a marked literal that is false at level 0
@@ -54,24 +54,24 @@ pub fails_at_root : (k : List Signed) (t : TrailState) (seen : List Bool) (l : S
 fails_at_root k t seen l b h root marked =
     let whole : take (length t.entries) t.entries ≡ t.entries = take_all (length t.entries) t.entries (omega arith) in
     let v : b.by.literal.variable ≡ l.variable = ap (λ (x : Signed). x.variable) b.opposite in
-    let opens : is_open seen 0 b.by ≡ true = and_from (is_seen seen b.by.literal.variable) (eqb b.by.level 0) (rw v marked) (eq-eqb b.by.level 0 root) in
-    let holds : HoldsIn k b.by.literal = All-entry_of (λ e. is_open seen 0 e ≡ true → HoldsIn k e.literal) t.entries l.variable b.by (rw whole at h) b.entry opens in
+    let opens : is_open_entry seen 0 b.by ≡ true = and_from (is_marked_variable seen b.by.literal.variable) (eqb b.by.level 0) (rw v marked) (eq-eqb b.by.level 0 root) in
+    let holds : HoldsIn k b.by.literal = All-entry_of (λ e. is_open_entry seen 0 e ≡ true → HoldsIn k e.literal) t.entries l.variable b.by (rw whole at h) b.entry opens in
     subst (λ (x : Signed). HoldsIn k x) b.opposite holds
 
 -- an entry that is not open is passed over
-pub RootLeads-skip : (t : TrailState) (p : ℕ) (seen : List Bool) (clause : List Signed) (hints : List ℕ) (d : Entry) → p < length t.entries → is_open seen 0 (get_or t.entries p d) ≡ false →
+pub RootLeads-skip : (t : TrailState) (p : ℕ) (seen : List Bool) (clause : List Signed) (hints : List ℕ) (d : Entry) → p < length t.entries → is_open_entry seen 0 (get_or t.entries p d) ≡ false →
     RootLeads t (p + 1) seen clause hints → RootLeads t p seen clause hints
 RootLeads-skip t p seen clause hints d lt closed h = λ k f r.
-    h k f (All-more (λ e. is_open seen 0 e ≡ true → HoldsIn k e.literal) t.entries p d lt r (λ o. absurd (let q = sym closed ∙ o in cc)))
+    h k f (All-more (λ e. is_open_entry seen 0 e ≡ true → HoldsIn k e.literal) t.entries p d lt r (λ o. absurd (let q = sym closed ∙ o in cc)))
 
 -- an entry that is not open: its variable is not marked, or its level is above 0
-pub root_unseen : (t : TrailState) (p : ℕ) (l : Signed) (seen : List Bool) (i : ℕ) → Here t p l → i + 1 ≡ l.variable → get_or seen i false ≡ false → is_open seen 0 (entry_here t p l) ≡ false
+pub root_unseen : (t : TrailState) (p : ℕ) (l : Signed) (seen : List Bool) (i : ℕ) → Here t p l → i + 1 ≡ l.variable → get_or seen i false ≡ false → is_open_entry seen 0 (entry_here t p l) ≡ false
 root_unseen t p l seen i h at s =
     let z : (entry_here t p l).literal.variable - 1 ≡ i = omega (arith, h.variable) in
-    and_left (is_seen seen (entry_here t p l).literal.variable) (eqb (entry_here t p l).level 0) (rw z s)
+    and_left (is_marked_variable seen (entry_here t p l).literal.variable) (eqb (entry_here t p l).level 0) (rw z s)
 
-pub root_high : (t : TrailState) (p : ℕ) (l : Signed) (seen : List Bool) → (entry_here t p l).level ≢ 0 → is_open seen 0 (entry_here t p l) ≡ false
-root_high t p l seen d = and_right (is_seen seen (entry_here t p l).literal.variable) (eqb (entry_here t p l).level 0) (ne_eqb (entry_here t p l).level 0 d)
+pub root_high : (t : TrailState) (p : ℕ) (l : Signed) (seen : List Bool) → (entry_here t p l).level ≢ 0 → is_open_entry seen 0 (entry_here t p l) ≡ false
+root_high t p l seen d = and_right (is_marked_variable seen (entry_here t p l).literal.variable) (eqb (entry_here t p l).level 0) (ne_eqb (entry_here t p l).level 0 d)
 
 -- the variable of a lower literal
 pub below_within : (t : TrailState) (l : Signed) → IsTrail t → IsBelow t l → l.variable ≤ t.variables
@@ -102,7 +102,7 @@ root_is_forced t p d trail lt root none =
 
 -- an open entry of level 0 is traced back by the clause that forced it
 pub RootLeads-resolve : (t : TrailState) (p : ℕ) (seen next : List Bool) (clause : List Signed) (hints : List ℕ) (k : ℕ) (l : Signed) → IsTrail t → Here t p l → (entry_here t p l).level ≡ 0 → k < length t.clauses →
-    Forces (clause_at t k) (take p t.entries) l → ((i : ℕ) → get_or seen i false ≡ true → get_or next i false ≡ true) → All (λ n. is_seen next n.variable ≡ true) (clause_at t k) →
+    Forces (clause_at t k) (take p t.entries) l → ((i : ℕ) → get_or seen i false ≡ true → get_or next i false ≡ true) → All (λ n. is_marked_variable next n.variable ≡ true) (clause_at t k) →
     RootLeads t (p + 1) seen clause hints → RootLeads t p next clause (hints ++ k ∷ [])
 RootLeads-resolve t p seen next clause hints k l trail here root lt forces more marked h = λ j f r.
     let others : All (λ n. (n ≡ l) ⊎ FailsIn j n) (clause_at t k) = λ i x within. elim (forces.others i x within) [
@@ -112,14 +112,14 @@ RootLeads-resolve t p seen next clause hints k l trail here root lt forces more 
           let found : Failing t p n = failing t p n trail g in
           let v : found.by.literal.variable ≡ n.variable = ap (λ (y : Signed). y.variable) found.literal in
           let low : found.by.level ≡ 0 = All-entry_of (λ e. e.level ≡ 0) (take p t.entries) n.variable found.by (root_before t p (stand_in l) trail here.within root) found.front in
-          let opens : is_open next 0 found.by ≡ true = and_from (is_seen next found.by.literal.variable) (eqb found.by.level 0) (rw v (marked i x within)) (eq-eqb found.by.level 0 low) in
-          let holds : HoldsIn j found.by.literal = All-entry_of (λ e. is_open next 0 e ≡ true → HoldsIn j e.literal) (take p t.entries) n.variable found.by r found.front opens in
+          let opens : is_open_entry next 0 found.by ≡ true = and_from (is_marked_variable next found.by.literal.variable) (eqb found.by.level 0) (rw v (marked i x within)) (eq-eqb found.by.level 0 low) in
+          let holds : HoldsIn j found.by.literal = All-entry_of (λ e. is_open_entry next 0 e ≡ true → HoldsIn j e.literal) (take p t.entries) n.variable found.by r found.front opens in
           inr (subst (λ (y : Signed). HoldsIn j y) found.literal holds)
     ] in
     rw (reverse-append hints (k ∷ []))
     (leads_by t.clauses j k (reverse hints) l lt forces.member others
     (λ i x holds. h i (All-weaker (FailsIn j) (FailsIn i) (λ n g. x.keeps n.variable (not n.positive) g) clause f)
-    (All-more (λ e. is_open seen 0 e ≡ true → HoldsIn i e.literal) t.entries p (stand_in l) here.within (RootHolds-extends j i t p seen (RootHolds-more j t p seen next more r) x) (λ o. subst (λ (y : Signed). HoldsIn i y) (sym here.literal) holds))))
+    (All-more (λ e. is_open_entry seen 0 e ≡ true → HoldsIn i e.literal) t.entries p (stand_in l) here.within (RootHolds-extends j i t p seen (RootHolds-more j t p seen next more r) x) (λ o. subst (λ (y : Signed). HoldsIn i y) (sym here.literal) holds))))
 
 -- the opposites of literals that all fail under one assignment make these false
 opposites_fail : (f : List Signed) (clause : List Signed) → All (λ n. HoldsIn f (opposite_lit n)) clause → AllFail (map opposite_lit clause) clause
@@ -150,7 +150,7 @@ Teaches-kept t lower kept u hints more seen next h below_lower below fails leads
     let top : HoldsIn (known t) (opposite_lit u) = value_from_entry t.entries u.variable h.top entry ∙ ap (λ (b : Bool). Some b) sign in
     let lower_hold : All (λ n. HoldsIn (known t) (opposite_lit n)) kept = All-weaker (IsBelow t) (λ n. HoldsIn (known t) (opposite_lit n)) (λ n b. below_holds t n b) kept below in
     record {
-      follows = all (map opposite_lit clause) (opposites_fail (known t) clause (All-push (λ n. HoldsIn (known t) (opposite_lit n)) kept u lower_hold top)) (All-nil (λ e. is_open next 0 e ≡ true → HoldsIn (map opposite_lit clause) e.literal));
+      follows = all (map opposite_lit clause) (opposites_fail (known t) clause (All-push (λ n. HoldsIn (known t) (opposite_lit n)) kept u lower_hold top)) (All-nil (λ e. is_open_entry next 0 e ≡ true → HoldsIn (map opposite_lit clause) e.literal));
       u = u;
       member = Contains-push kept u;
       top = h.top;
@@ -158,5 +158,5 @@ Teaches-kept t lower kept u hints more seen next h below_lower below fails leads
       fails = h.fails ∙ ap opposite_lit same;
       at_top = h.at_top;
       others = All-push (λ n. (n ≡ u) ⊎ IsBelow t n) kept u (All-weaker (IsBelow t) (λ n. (n ≡ u) ⊎ IsBelow t n) (λ n b. inr b) kept below) (inl refl);
-      leads = λ k f. all k f (All-nil (λ e. is_open next 0 e ≡ true → HoldsIn k e.literal));
+      leads = λ k f. all k f (All-nil (λ e. is_open_entry next 0 e ≡ true → HoldsIn k e.literal));
     }

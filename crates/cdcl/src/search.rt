@@ -8,9 +8,9 @@ ghost use Rattle.propagate.specs.Entries.{up_to};
 ghost use Rattle.propagate.specs.Values.{value_in, IsUnassigned, StaysWithin};
 ghost use Rattle.propagate.specs.TrailState.{IsTrail, IsClosed, cut_to, known, clause_at};
 ghost use Rattle.cdcl.specs.Hints.{FollowsBy};
-ghost use Rattle.cdcl.specs.Order.{HasAll, IsChosen, IsHeld, raised_by};
+ghost use Rattle.cdcl.specs.Order.{HasAll, IsFirstUnset, IsHeld, raised_by};
 ghost use Rattle.cdcl.specs.Search.{RestsBelow, Restarted, KeepsSigns, Descends, IsComplete, IsSearching, AreNumbered};
-ghost use Rattle.cdcl.specs.Answer.{Answers, IsConclusive, IsFirstEmpty, citing};
+ghost use Rattle.cdcl.specs.Answer.{IsSearchAnswer, IsConclusive, IsFirstEmpty, citing};
 
 use crate::analysis::analyze;
 use crate::lines::line;
@@ -51,7 +51,7 @@ pub fn solve(
     requires few { variables < 2 ^ 31 }
     requires range { All (λ clause. All (λ l. l.variable ≤ variables) clause) clauses.now.clauses }
     requires limit { limit ≤ 1000000 }
-    ensures answers { IfOk result (Answers clauses.now.clauses variables limit) }
+    ensures answers { IfOk result (IsSearchAnswer clauses.now.clauses variables limit) }
     ensures conclusive { 3 ^ variables ≤ limit → IfOk result IsConclusive }
     ensures empty { (k : ℕ) → IsFirstEmpty clauses.now.clauses k →
         IfOk result (λ search. search ≡ Search.Refuted (citing clauses.now.clauses k)) }
@@ -106,7 +106,7 @@ fn search_clauses(
     requires few { variables < 2 ^ 31 }
     requires range { All (λ clause. All (λ l. l.variable ≤ variables) clause) clauses.now.clauses }
     requires limit { limit ≤ 1000000 }
-    ensures { IfOk result (Answers clauses.now.clauses variables limit) }
+    ensures { IfOk result (IsSearchAnswer clauses.now.clauses variables limit) }
 {
     let mut order = Order::new(alloc, variables)?;
     let mut seen = Seen::new(alloc, variables)?;
@@ -132,7 +132,7 @@ fn search_from(
     requires seen { length seen.old ≡ variables }
     requires few { variables < 2 ^ 31 }
     requires limit { limit ≤ 1000000 }
-    ensures { IfOk result (Answers clauses.now.clauses variables limit) }
+    ensures { IfOk result (IsSearchAnswer clauses.now.clauses variables limit) }
 {
     let mut restarts = Restarts::new();
     let mut lines = Items::new(alloc);
@@ -181,7 +181,7 @@ fn choose(trail: &Trail, order: &mut Order, variables: u32) -> Option<Lit>
     ensures signs { order.new.phases ≡ order.old.phases }
     ensures some { IfSome result
         (λ l. (1 ≤ l.variable) × (l.variable ≤ variables) × IsUnassigned (known trail.now) l) }
-    ensures first { IfSome result (λ l. IsChosen trail.now order.old variables (l.variable - 1)) }
+    ensures first { IfSome result (λ l. IsFirstUnset trail.now order.old variables (l.variable - 1)) }
     ensures sign { IfSome result
         (λ l. l.positive ≡ slice_index_or order.old.phases (l.variable - 1) false) }
     ensures others { IfSome result

@@ -16,21 +16,21 @@ use Rattle.report_files.specs.declared.worths.JudgedWorth.TheVariants as judged_
 use Rattle.report_files.specs.Files.{IsWorth, IsSharpWorth, IsJudgedWorth, IsJudgedWorthOf}
 use Rattle.words.specs.Words.{Check}
 use Rattle.answers.specs.Studies.{GivesStudy, study_refused, study_given}
-use Rattle.answers.specs.Check.{IsChecked, IsJudged, judged, status_of, sharp_status_of, judged_status as answered_status}
+use Rattle.answers.specs.Check.{IsChecked, IsJudged, judged, judgement_status, sharp_status_of, judged_status}
 use Rattle.answers.specs.Call.{AreFiles, are_told, none_read}
 use Rattle.command_parts.specs.declared.answer.Answer.{Answer}
 use Rattle.command_parts.specs.declared.answer.Answer.TheVariants.{Judged}
 use Rattle.command_parts.specs.declared.answer.Stop.{Stop}
 use Rattle.answer_text.specs.Said.{worth_text, sharp_worth_text, judged_worth_text}
-use Rattle.command_parts.specs.Answers.{run_of, text_of, worth_status, sharp_status, judged_status}
-use Rattle.command_parts.specs.Opened.{IsRead, Refuses}
+use Rattle.command_parts.specs.Answers.{run_of, text_of, worth_status, sharp_status, judged_worth_status}
+use Rattle.command_parts.specs.Opened.{IsStudyRead, Refuses}
 use Rattle.command_parts.proofs.OpenLemmas.{given, if_some}
 use Rattle.command_parts.proofs.PairLemmas.{IsPairCommand}
 
 -- ---- what is said of a report or a sharp text
 
 abbrev SaidAs : Judgement → Worth → Type 0
-SaidAs a w = (worth_status w ≡ status_of a) × (worth_text w ≡ answer_text a)
+SaidAs a w = (worth_status w ≡ judgement_status a) × (worth_text w ≡ answer_text a)
 
 abbrev SharpSaidAs : SharpJudgement → SharpWorth → Type 0
 SharpSaidAs a w = (sharp_status w ≡ sharp_status_of a) × (sharp_worth_text w ≡ sharp_answer_text a)
@@ -50,7 +50,7 @@ by_sharp_judgement (SharpFaulty line word) w is = subst (λ (x : SharpWorth). Sh
 by_sharp_judgement SharpTooLong w is = subst (λ (x : SharpWorth). SharpSaidAs SharpTooLong x) (sym is) (refl, refl)
 
 -- the same of either
-by_either : (a : OfEither) (w : JudgedWorth) → IsJudgedWorth a w → (judged_status w ≡ answered_status a) × (judged_worth_text w ≡ judged_text a)
+by_either : (a : OfEither) (w : JudgedWorth) → IsJudgedWorth a w → (judged_worth_status w ≡ judged_status a) × (judged_worth_text w ≡ judged_text a)
 by_either (AsReport a) (judged_worth.Report w) is = by_judgement a w is
 by_either (AsReport a) (judged_worth.Sharp w) is = absurd is
 by_either (AsSharp a) (judged_worth.Report w) is = absurd is
@@ -70,7 +70,7 @@ worth_low (worth.Confirmed claim) = omega arith
 worth_low (worth.Faulty line word) = omega arith
 worth_low worth.TooLong = omega arith
 
-pub judged_low : (w : JudgedWorth) → judged_status w ≤ 1
+pub judged_low : (w : JudgedWorth) → judged_worth_status w ≤ 1
 judged_low (judged_worth.Report w) = worth_low w
 judged_low (judged_worth.Sharp sharp_worth.Confirmed) = omega arith
 judged_low (judged_worth.Sharp (sharp_worth.Faulty line word)) = omega arith
@@ -83,7 +83,7 @@ check_command name report workers = record { two = refl; statuses = refl }
 
 module _ (told : Option Files) (name report : List ℕ) where
   -- a study that was read is taken
-  pub study_taken : (study : Question) → IsRead told name study → IfSome told (λ files. (study : Question) × GivesStudy files name study)
+  pub study_taken : (study : Question) → IsStudyRead told name study → IfSome told (λ files. (study : Question) × GivesStudy files name study)
   study_taken study read = go told refl
     where
       go : (o : Option Files) → told ≡ o → IfSome o (λ files. (study : Question) × GivesStudy files name study)
@@ -91,7 +91,7 @@ module _ (told : Option Files) (name report : List ℕ) where
       go (Some files) e = (study, given told name study files read e)
 
   -- the report is judged over it
-  pub judged_rows : (study : Question) (result : Result Answer Stop) → IsRead told name study
+  pub judged_rows : (study : Question) (result : Result Answer Stop) → IsStudyRead told name study
       → IfOk result (λ answer. (files : Files) → told ≡ Some files → IsJudged files report study (run_of answer) (text_of answer))
       → (files : Files) → AreFiles told (name ∷ report ∷ []) files → IfOk result (λ answer. IsChecked files name report (run_of answer) (text_of answer))
   judged_rows study (Ok answer) read judged files (are_told e) = study_given study (given told name study files read e) (judged files e)

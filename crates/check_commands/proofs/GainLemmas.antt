@@ -23,15 +23,15 @@ use Rattle.words.specs.Words.{Gain}
 use Rattle.answers.specs.declared.runs.Run.{Run}
 use Rattle.answers.specs.FileLimits.{most_report_bytes}
 use Rattle.answers.specs.Studies.{GivesStudy, study_refused, study_given}
-use Rattle.answers.specs.Check.{judgement, status_of as judged_status}
-use Rattle.answers.specs.Gain.{IsGained, IsGainSaid, other_kind, of_sets, rule_text, said_of_gain}
+use Rattle.answers.specs.Check.{judgement, judgement_status}
+use Rattle.answers.specs.Gain.{IsGained, IsGainSaid, other_kind, of_sets, rule_gain_text, said_of_gain}
 use Rattle.answers.specs.Call.{AreFiles, are_told, none_read}
 use Rattle.command_parts.specs.declared.answer.Answer.{Answer}
 use Rattle.command_parts.specs.declared.answer.Answer.TheVariants.{Judged, OtherKind}
 use Rattle.command_parts.specs.declared.answer.Stop.{Stop}
 use Rattle.answer_text.specs.Said.{worth_text}
 use Rattle.command_parts.specs.Answers.{run_of, text_of, worth_status}
-use Rattle.command_parts.specs.Opened.{IsRead, Refuses}
+use Rattle.command_parts.specs.Opened.{IsStudyRead, Refuses}
 use Rattle.command_parts.proofs.OpenLemmas.{given, if_some}
 use Rattle.command_parts.proofs.PairLemmas.{IsPairCommand}
 
@@ -39,7 +39,7 @@ use Rattle.command_parts.proofs.PairLemmas.{IsPairCommand}
 
 module _ (study : Question) where
   abbrev SaidAs : Judgement → Worth → Type 0
-  SaidAs a w = (worth_status w ≡ judged_status a) × (worth_text w ≡ said_of_gain study a)
+  SaidAs a w = (worth_status w ≡ judgement_status a) × (worth_text w ≡ said_of_gain study a)
 
   -- of one that is not confirmed, what `check` says
   by_judgement : (a : Judgement) (w : Worth) → ((claim : Claim) → w ≢ worth.Confirmed claim) → IsWorth a w → SaidAs a w
@@ -62,16 +62,16 @@ module _ (study : Question) where
   -- of a confirmed one, what is said of its rule
   rule_said : (held : List ℕ) (claim : Claim) (w : Worth) (rule : Option (List ℕ)) (a : Judgement) → judgement study held ≡ a
       → w ≡ worth.Confirmed claim → IsWorth a w → rule ≡ rule_of (answer study held)
-      → (0 ≡ judged_status a) × (rule_text study.size rule ≡ said_of_gain study a)
+      → (0 ≡ judgement_status a) × (rule_gain_text study.size rule ≡ said_of_gain study a)
   rule_said held claim w rule (Confirmed verdict) e same is told =
       let within = (within_limit most_report_bytes study held verdict).0 e in
-      (refl, ap (rule_text study.size) (told ∙ ap rule_of within.1))
+      (refl, ap (rule_gain_text study.size) (told ∙ ap rule_of within.1))
   rule_said held claim w rule (Faulty line word) e same is told = absurd (let wrong = sym same ∙ is in cc)
   rule_said held claim w rule TooLong e same is told = absurd (let wrong = sym same ∙ is in cc)
 
   pub confirmed_file : (told : Option Files) (report : List ℕ) (w : Worth) (claim : Claim) (said : Answer) (rule : Option (List ℕ)) → w ≡ worth.Confirmed claim
       → IfSome told (λ files. IsWorthOf study files report w) → IfSome told (λ files. (held : List ℕ) → files report ≡ Some held → rule ≡ rule_of (answer study held))
-      → run_of said ≡ record { status = 0; verdict = None; logs = []; sharp = None } → text_of said ≡ rule_text study.size rule
+      → run_of said ≡ record { status = 0; verdict = None; logs = []; sharp = None } → text_of said ≡ rule_gain_text study.size rule
       → (files : Files) → told ≡ Some files → IsGainSaid files report study (run_of said) (text_of said)
   confirmed_file told report w claim said rule same is rules run text files e =
       let (bytes, held, worth_is) = if_some told (λ files. IsWorthOf study files report w) files is e in
@@ -115,7 +115,7 @@ gain_command name report = record { two = refl; statuses = refl }
 
 module _ (told : Option Files) (name report : List ℕ) where
   -- a study of sets that was read is taken
-  pub sets_taken : (study : Question) → study.size.kind ≡ Sets → IsRead told name study
+  pub sets_taken : (study : Question) → study.size.kind ≡ Sets → IsStudyRead told name study
       → IfSome told (λ files. (study : Question) × GivesStudy files name study × (study.size.kind ≡ Sets))
   sets_taken study sets read = go told refl
     where
@@ -124,7 +124,7 @@ module _ (told : Option Files) (name report : List ℕ) where
       go (Some files) e = (study, given told name study files read e, sets)
 
   -- the report is judged over it
-  pub gain_rows : (study : Question) (result : Result Answer Stop) → study.size.kind ≡ Sets → IsRead told name study
+  pub gain_rows : (study : Question) (result : Result Answer Stop) → study.size.kind ≡ Sets → IsStudyRead told name study
       → IfOk result (λ answer. (files : Files) → told ≡ Some files → IsGainSaid files report study (run_of answer) (text_of answer))
       → (files : Files) → AreFiles told (name ∷ report ∷ []) files → IfOk result (λ answer. IsGained files name report (run_of answer) (text_of answer))
   gain_rows study (Ok answer) sets read said files (are_told e) = study_given study (given told name study files read e) (of_sets sets (said files e))
@@ -132,7 +132,7 @@ module _ (told : Option Files) (name report : List ℕ) where
   gain_rows study (Err stop) sets read said files h = tt
 
   -- a study of another kind is refused
-  pub other_row : (study : Question) → study.size.kind ≢ Sets → IsRead told name study → (files : Files) → AreFiles told (name ∷ report ∷ []) files
+  pub other_row : (study : Question) → study.size.kind ≢ Sets → IsStudyRead told name study → (files : Files) → AreFiles told (name ∷ report ∷ []) files
       → IsGained files name report (run_of OtherKind) (text_of OtherKind)
   other_row study other read files (are_told e) =
       study_given study (given told name study files read e) (other_kind other refl (record { ends = refl; no_verdict = refl; no_logs = refl; no_sharp = refl }))

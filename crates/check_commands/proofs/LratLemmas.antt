@@ -3,7 +3,7 @@ use Rattle.std.proofs.Common.{◌≡◌, ◌≢◌, refl, ℕ, ◌≤◌, List, 
 use Rattle.edge.specs.Shelf.{Files}
 use Rattle.clause_text.specs.declared.faults.CnfFault.{CnfFault}
 use Rattle.clause_text.specs.declared.faults.CnfFault.TheVariants as cnf
-use Rattle.clause_text.specs.CnfReadings.{IsRefused}
+use Rattle.clause_text.specs.CnfReadings.{IsCnfRefused}
 use Rattle.clause_text.specs.ReadDimacs.{Formula, read_dimacs}
 use Rattle.words.specs.Words.{Lrat}
 use Rattle.answers.specs.FileLimits.{most_cnf_bytes}
@@ -23,7 +23,7 @@ lrat_command name proof = record { two = refl; statuses = refl }
 -- ---- the clauses
 
 -- a refusal other than want of memory is the one of the text
-pub cnf_refused : (fault : CnfFault) (wanted : Result Formula CnfFault) → fault ≢ cnf.NoMemory → IsRefused fault wanted → wanted ≡ Err fault
+pub cnf_refused : (fault : CnfFault) (wanted : Result Formula CnfFault) → fault ≢ cnf.NoMemory → IsCnfRefused fault wanted → wanted ≡ Err fault
 cnf_refused cnf.Header wanted known is = is
 cnf_refused (cnf.Literal line) wanted known is = is
 cnf_refused (cnf.Count found) wanted known is = is

@@ -12,8 +12,8 @@ use Rattle.check_commands.specs.declared.lrat.Given.TheVariants as given
 use Rattle.command_parts.specs.Answers.{HasText, run_of, text_of}
 
 -- the clauses without their origins
-abbrev pub formula_of : Formulas → Formula
-formula_of f = record { variables = f.variables; clauses = f.clauses.clauses }
+abbrev pub without_origins : Formulas → Formula
+without_origins f = record { variables = f.variables; clauses = f.clauses.clauses }
 
 -- bytes within the limit give the clauses; where the shelf tells its files, they are those of this name
 pub record IsCnf (told : Option Files) (name : List ℕ) (formula : Formula) : Type 0 where
@@ -31,10 +31,10 @@ pub record RefusesCnf (told : Option Files) (name : List ℕ) (answer : Answer) 
 
 -- clauses were read, or they are refused
 abbrev pub IsGiven : Option Files → List ℕ → Given → Type 0
-IsGiven told name (given.Clauses formulas) = IsCnf told name (formula_of formulas)
+IsGiven told name (given.Clauses formulas) = IsCnf told name (without_origins formulas)
 IsGiven told name (given.Refused answer) = RefusesCnf told name answer
 
 -- the text is this one, with this status and without a search
-pub record IsSaid (answer : Answer) (said : Said) : Type 0 where
+pub record AnswerSays (answer : Answer) (said : Said) : Type 0 where
   pub ends : IsBare (run_of answer) said.status
   pub is : text_of answer ≡ said.text

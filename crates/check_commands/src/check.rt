@@ -6,7 +6,7 @@ ghost use Rattle.edge.specs.Shelf.{Files, OthersStay};
 ghost use Rattle.report_files.specs.Files.{IsJudgedWorthOf};
 ghost use Rattle.words.specs.Words.{Check};
 ghost use Rattle.answers.specs.Check.{IsJudged};
-ghost use Rattle.command_parts.specs.Answers.{HasText, run_of, status_of, text_of};
+ghost use Rattle.command_parts.specs.Answers.{HasText, run_of, answer_status, text_of};
 ghost use Rattle.command_parts.specs.Answered.{Answers};
 ghost use Rattle.vocab.specs.Study.{HasFewAxioms};
 
@@ -82,7 +82,7 @@ fn judge_report<R: Threads + Sync, S: Shelf, G: Gate>(
     requires listed { HasFewAxioms study.now }
     ensures judged { IfOk result (λ answer. (files : Files) → S.files shelf.old ≡ Some files →
         IsJudged files report.now study.now (run_of answer) (text_of answer)) }
-    ensures status { IfOk result (λ answer. status_of answer ≤ 1) }
+    ensures status { IfOk result (λ answer. answer_status answer ≤ 1) }
     ensures has_text { IfOk result HasText }
     ensures fault { IsErrOf result Stop.ReadFault →
         Rose (S.faults shelf.old report.now) (S.faults shelf.new report.now) }

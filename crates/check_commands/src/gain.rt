@@ -10,9 +10,9 @@ ghost use Rattle.meaning.specs.Texts.{outcome_text};
 ghost use Rattle.meaning.specs.Truth.{is_rule};
 ghost use Rattle.choice_sets.specs.Laws.{IsManipulation};
 ghost use Rattle.words.specs.Words.{Gain};
-ghost use Rattle.answers.specs.Gain.{gain_line, rule_text, IsGainSaid};
+ghost use Rattle.answers.specs.Gain.{gain_line, rule_gain_text, IsGainSaid};
 ghost use Rattle.answer_text.specs.Gains.{words_text};
-ghost use Rattle.command_parts.specs.Answers.{HasText, run_of, status_of, text_of};
+ghost use Rattle.command_parts.specs.Answers.{HasText, run_of, answer_status, text_of};
 ghost use Rattle.command_parts.specs.Answered.{Answers};
 
 use answer_text::GainWords;
@@ -61,7 +61,8 @@ fn words_of(kind: &SetsKind, table: &Table, gain: Manipulation) -> GainWords
 fn said_of_rule(kind: &SetsKind, rule: Option<&Table>) -> Answer
     requires { IfSome rule (λ table. IsTrue (is_rule (⟦<SetsKind as OutcomeKind>⟧.size kind.now) table.now)) }
     ensures text { text_of result ≡
-        rule_text (⟦<SetsKind as OutcomeKind>⟧.size kind.now) (option_map (λ table. table.now) rule.entry) }
+        rule_gain_text (⟦<SetsKind as OutcomeKind>⟧.size kind.now)
+        (option_map (λ table. table.now) rule.entry) }
     ensures run { run_of result ≡ record { status = 0; verdict = None; logs = []; sharp = None } }
     ensures has_text { HasText result }
 {
@@ -89,7 +90,7 @@ fn judge_gain<R: Threads + Sync, S: Shelf, G: Gate>(
     requires listed { HasFewAxioms study.now }
     ensures said { IfOk result (λ answer. (files : Files) → S.files shelf.old ≡ Some files →
         IsGainSaid files report.now study.now (run_of answer) (text_of answer)) }
-    ensures status { IfOk result (λ answer. status_of answer ≤ 1) }
+    ensures status { IfOk result (λ answer. answer_status answer ≤ 1) }
     ensures has_text { IfOk result HasText }
     ensures fault { IsErrOf result Stop.ReadFault →
         Rose (S.faults shelf.old report.now) (S.faults shelf.new report.now) }

@@ -7,10 +7,10 @@ ghost use Rattle.edge.specs.Faults.{Rose};
 ghost use Rattle.edge.specs.Shelf.{Files, NoneFell, OthersStay};
 ghost use Rattle.words.specs.Words.{Lrat};
 ghost use Rattle.answers.specs.Lrat.{of_reading};
-ghost use Rattle.command_parts.specs.Answers.{HasText, run_of, status_of, text_of};
+ghost use Rattle.command_parts.specs.Answers.{HasText, run_of, answer_status, text_of};
 ghost use Rattle.command_parts.specs.Answered.{Answers};
 ghost use Rattle.command_parts.specs.GivenProof.{IsProofSaid};
-ghost use Rattle.check_commands.specs.Given.{IsGiven, IsSaid, formula_of};
+ghost use Rattle.check_commands.specs.Given.{IsGiven, AnswerSays, without_origins};
 
 use clause_text::{CnfFault, Formulas, read_dimacs};
 use cnf::Derivation;
@@ -57,8 +57,8 @@ fn open_clauses<S: Shelf>(alloc: Global, shelf: &mut S, name: &str) -> Result<Gi
 fn checked(alloc: Global, formulas: &Formulas, lines: &Derivation) -> Result<Answer, Stop>
     requires { IsTrue (list_all has_next lines.now) }
     ensures said { IfOk result
-        (λ answer. IsSaid answer (of_reading (formula_of formulas.now) (Ok lines.now))) }
-    ensures status { IfOk result (λ answer. status_of answer ≤ 1) }
+        (λ answer. AnswerSays answer (of_reading (without_origins formulas.now) (Ok lines.now))) }
+    ensures status { IfOk result (λ answer. answer_status answer ≤ 1) }
     ensures has_text { IfOk result HasText }
     ensures read { result ≢ Err Stop.ReadFault }
 {
@@ -78,8 +78,8 @@ fn judge_proof<S: Shelf>(
 ) -> Result<Answer, Stop>
     requires { formulas.now.variables ≤ 10000000 }
     ensures judged { IfOk result (λ answer. (files : Files) → S.files shelf.old ≡ Some files →
-        IsProofSaid files proof.now (formula_of formulas.now) (run_of answer) (text_of answer)) }
-    ensures status { IfOk result (λ answer. status_of answer ≤ 1) }
+        IsProofSaid files proof.now (without_origins formulas.now) (run_of answer) (text_of answer)) }
+    ensures status { IfOk result (λ answer. answer_status answer ≤ 1) }
     ensures has_text { IfOk result HasText }
     ensures fault { IsErrOf result Stop.ReadFault →
         Rose (S.faults shelf.old proof.now) (S.faults shelf.new proof.now) }

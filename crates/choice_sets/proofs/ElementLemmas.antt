@@ -12,7 +12,7 @@ use Rattle.meaning.specs.Subsets.{elements, is_element}
 use Rattle.meaning.specs.Texts.{letter}
 use Rattle.meaning.specs.Truth.{is_rule}
 use Rattle.meaning.proofs.SpaceLaws.{all_at}
-use Rattle.worlds.proofs.RuleLemmas.{rule_outcome}
+use Rattle.meaning.proofs.RuleLaws.{rule_outcome}
 
 -- there are few sets
 pub few_sets : (m : ℕ) → m ≤ 5 → 2 ^ m - 1 ≤ 31

@@ -1,7 +1,7 @@
 -- Bounds of the counts of formulas.
 use Rattle.std.proofs.Common.{◌≡◌, refl, sym, ◌∙◌, ap, subst, ℕ, suc, ◌+◌, ◌*◌, ◌≤◌, min, Bool, true, false, List, [], ◌∷◌, ◌++◌, map, length, sum_by, arith, length-append}
-use Rattle.std.proofs.Math.Nat.{mul-le-mul_left}
 use Rattle.std.proofs.lemmas.List.Sums.{sum_by-append}
+use Rattle.std.proofs.lemmas.Nat.{mul-le}
 use Rattle.meaning.specs.Clauses.{Disjunction, for_falsity, for_truth, joined, known_truth, minus, plus}
 use Rattle.meaning.specs.declared.clauses.Counts.{Counts}
 use Rattle.meaning.specs.declared.three.Three.{Three}
@@ -19,14 +19,11 @@ use Rattle.clause_form.proofs.KnownLaws.{SameForm, and_true_left, and_true_right
 
 -- ---- arithmetic that ends at m
 
-times : (s t u v : ℕ) → s ≤ u → t ≤ v → s * t ≤ u * v
-times s t u v h k = let l = mul-le-mul_left s k in let r = mul-le-mul_left v h in omega (arith, l, r)
-
 product_within : (m a b x y : ℕ) → min a m ≤ x → min b m ≤ y → min (a * b) m ≤ min (x * y) m
-product_within m a b x y h k = omega (arith, min-product m a b, times (min a m) (min b m) x y h k)
+product_within m a b x y h k = omega (arith, min-product m a b, mul-le (min a m) (min b m) x y h k)
 
 some_product : (m x y : ℕ) → 1 ≤ m → 1 ≤ x → 1 ≤ y → 1 ≤ min (x * y) m
-some_product m x y some h k = omega (arith, times 1 1 x y h k)
+some_product m x y some h k = omega (arith, mul-le 1 1 x y h k)
 
 -- ---- bounds of lists
 

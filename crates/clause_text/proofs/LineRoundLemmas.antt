@@ -1,6 +1,6 @@
 -- What is written of a derivation is read again.
 use Rattle.std.proofs.Common.{◌≡◌, refl, sym, ap, ap₂, ◌∙◌, ℕ, suc, ◌+◌, ◌≤◌, Bool, true, false, not, cond, List, [], ◌∷◌, ◌++◌, length, map, Option, Some, None, option_map, option_and_then, Ok, ◌≢◌, ne_eqb, append_assoc, arith}
-use Rattle.std.proofs.lemmas.Bool.{false≢true, leb-true}
+use Rattle.std.proofs.lemmas.Bool.{false≢true, leb-true, and_from}
 use Rattle.std.proofs.lemmas.List.Folds.{list_all-append}
 use Rattle.std.specs.Prelude.{◌==◌, ◌&&◌, ◌||◌, nat_le, codes}
 use Rattle.std.specs.List.{list_all, flat_map, slice_split}
@@ -16,41 +16,41 @@ use Rattle.verdicts.specs.Numbers.{number_text}
 use Rattle.verdicts.proofs.NumberLaws.{number_digits}
 use Rattle.clause_text.specs.declared.steps.Told.{Told}
 use Rattle.clause_text.specs.declared.steps.Told.TheVariants.{Read}
-use Rattle.clause_text.specs.Words.{is_comment, words_of, number_up_to, Token}
-use Rattle.clause_text.specs.Dimacs.{literal_text, clause_text}
+use Rattle.clause_text.specs.Words.{is_comment, words_in_line, number_up_to, Token}
+use Rattle.clause_text.specs.Dimacs.{signed_text, clause_text}
 use Rattle.clause_text.specs.Lrat.{hints_text, step_text, lrat_text}
-use Rattle.clause_text.specs.ReadLrat.{most_id, id_of, hint_of, hints_of, after_token, literals_of, added, adding, dropping, ids_of, told, before_rest, steps_of, read_lrat}
+use Rattle.clause_text.specs.ReadLrat.{most_id, id_of, hint_of, hints_of, after_token, literals_read, added_clause, adding, dropping, ids_of, told, before_rest, steps_of, read_lrat}
 use Rattle.clause_text.specs.Left.{saying}
 use Rattle.clause_text.specs.Laws.{is_id, adds_in_range, placed_from}
 use Rattle.clause_text.proofs.WordLemmas.{is_end, said_first}
-use Rattle.clause_text.proofs.RoundLemmas.{and_left, and_right, both, some_bytes, number_plain, number_some, literal_some, literal_plain, split_off, one_word, plain_line, clause_front, clause_line, number_again, literal_token, end_token, digits_say}
+use Rattle.clause_text.proofs.RoundLemmas.{and_left, and_right, some_bytes, number_plain, number_some, literal_some, literal_plain, split_off, one_word, plain_line, clause_front, clause_line, number_again, literal_token, end_token, digits_say}
 
 -- ---- the words of a line
 
-clause_words_then : (clause : Clause) (rest : List ℕ) → words_of (clause_text clause ++ 32 ∷ rest) ≡ map literal_text clause ++ (48 ∷ []) ∷ words_of rest
+clause_words_then : (clause : Clause) (rest : List ℕ) → words_in_line (clause_text clause ++ 32 ∷ rest) ≡ map signed_text clause ++ (48 ∷ []) ∷ words_in_line rest
 clause_words_then [] rest = one_word (48 ∷ []) rest refl refl
 clause_words_then (l ∷ ls) rest =
-    ap (λ (text : List ℕ). words_of (text ++ 32 ∷ rest)) (clause_front l ls)
-    ∙ ap words_of (append_assoc (literal_text l) (32 ∷ clause_text ls) (32 ∷ rest))
-    ∙ one_word (literal_text l) (clause_text ls ++ 32 ∷ rest) (literal_some l) (literal_plain l)
-    ∙ ap (λ (ws : List (List ℕ)). literal_text l ∷ ws) (clause_words_then ls rest)
+    ap (λ (text : List ℕ). words_in_line (text ++ 32 ∷ rest)) (clause_front l ls)
+    ∙ ap words_in_line (append_assoc (signed_text l) (32 ∷ clause_text ls) (32 ∷ rest))
+    ∙ one_word (signed_text l) (clause_text ls ++ 32 ∷ rest) (literal_some l) (literal_plain l)
+    ∙ ap (λ (ws : List (List ℕ)). signed_text l ∷ ws) (clause_words_then ls rest)
 
 hints_front : (h : ℕ) (hs : List ℕ) → hints_text (h ∷ hs) ≡ number_text h ++ 32 ∷ hints_text hs
 hints_front h hs =
     let more : List ℕ = flat_map (λ (id : ℕ). number_text id ++ 32 ∷ []) hs in
     append_assoc (number_text h ++ 32 ∷ []) more (48 ∷ []) ∙ append_assoc (number_text h) (32 ∷ []) (more ++ 48 ∷ [])
 
-hint_words : (hints : List ℕ) → words_of (hints_text hints) ≡ map number_text hints ++ (48 ∷ []) ∷ []
+hint_words : (hints : List ℕ) → words_in_line (hints_text hints) ≡ map number_text hints ++ (48 ∷ []) ∷ []
 hint_words [] = refl
 hint_words (h ∷ hs) =
-    ap words_of (hints_front h hs) ∙ one_word (number_text h) (hints_text hs) (number_some h) (number_plain h) ∙ ap (λ (ws : List (List ℕ)). number_text h ∷ ws) (hint_words hs)
+    ap words_in_line (hints_front h hs) ∙ one_word (number_text h) (hints_text hs) (number_some h) (number_plain h) ∙ ap (λ (ws : List (List ℕ)). number_text h ∷ ws) (hint_words hs)
 
 hint_line : (hints : List ℕ) → list_all (λ b. not (is_end b)) (hints_text hints) ≡ true
 hint_line [] = refl
 hint_line (h ∷ hs) =
     ap (list_all (λ b. not (is_end b))) (hints_front h hs)
     ∙ list_all-append (λ b. not (is_end b)) (number_text h) (32 ∷ hints_text hs)
-    ∙ both (list_all (λ b. not (is_end b)) (number_text h)) (list_all (λ b. not (is_end b)) (hints_text hs)) (plain_line (number_text h) (number_plain h)) (hint_line hs)
+    ∙ and_from (list_all (λ b. not (is_end b)) (number_text h)) (list_all (λ b. not (is_end b)) (hints_text hs)) (plain_line (number_text h) (number_plain h)) (hint_line hs)
 
 -- ---- ids, hints and literals
 
@@ -85,10 +85,10 @@ hints_again (h ∷ k ∷ ks) within =
     one_hint (number_text h) (map number_text (k ∷ ks) ++ (48 ∷ []) ∷ []) (number_text k) (map number_text ks ++ (48 ∷ []) ∷ []) h (k ∷ ks) refl
     (hint_again h (and_left (is_id h) (list_all is_id (k ∷ ks)) within)) (hints_again (k ∷ ks) (and_right (is_id h) (list_all is_id (k ∷ ks)) within))
 
-literals_again : (v : ℕ) (clause : Clause) (rest : List (List ℕ)) → is_over v clause ≡ true → literals_of v (map literal_text clause ++ (48 ∷ []) ∷ rest) ≡ Some (clause, rest)
-literals_again v [] rest over = ap (λ (t : Option Token). after_token t rest (literals_of v rest)) (end_token v)
+literals_again : (v : ℕ) (clause : Clause) (rest : List (List ℕ)) → is_over v clause ≡ true → literals_read v (map signed_text clause ++ (48 ∷ []) ∷ rest) ≡ Some (clause, rest)
+literals_again v [] rest over = ap (λ (t : Option Token). after_token t rest (literals_read v rest)) (end_token v)
 literals_again v (l ∷ ls) rest over =
-    ap (λ (t : Option Token). after_token t (map literal_text ls ++ (48 ∷ []) ∷ rest) (literals_of v (map literal_text ls ++ (48 ∷ []) ∷ rest)))
+    ap (λ (t : Option Token). after_token t (map signed_text ls ++ (48 ∷ []) ∷ rest) (literals_read v (map signed_text ls ++ (48 ∷ []) ∷ rest)))
     (literal_token v l (and_left (nat_le 1 l.variable && nat_le l.variable v) (is_over v ls) over))
     ∙ ap (λ (found : Option (Clause × List (List ℕ))). option_map (λ (found : Clause × List (List ℕ)). (l ∷ found.0, found.1)) found) (literals_again v ls rest (and_right (nat_le 1 l.variable && nat_le l.variable v) (is_over v ls) over))
 
@@ -100,7 +100,7 @@ digits_no_d (c ∷ cs) some digits =
     let other : c ≢ 100 = omega (arith, high) in
     ap (λ (t : Bool). t && bytes_eq cs []) (ne_eqb c 100 other)
 
-literal_no_d : (l : Signed) → bytes_eq (literal_text l) (codes "d") ≡ false
+literal_no_d : (l : Signed) → bytes_eq (signed_text l) (codes "d") ≡ false
 literal_no_d l = by_sign l.positive
   where
     by_sign : (t : Bool) → bytes_eq (cond t (number_text l.variable) (45 ∷ number_text l.variable)) (codes "d") ≡ false
@@ -114,38 +114,38 @@ module _ (v id : ℕ) (clause : Clause) (hints : List ℕ) where
   added_line = number_text id ++ 32 ∷ (clause_text clause ++ 32 ∷ hints_text hints)
 
   abbrev after_id : List (List ℕ)
-  after_id = map literal_text clause ++ (48 ∷ []) ∷ (map number_text hints ++ (48 ∷ []) ∷ [])
+  after_id = map signed_text clause ++ (48 ∷ []) ∷ (map number_text hints ++ (48 ∷ []) ∷ [])
 
-  added_words : words_of added_line ≡ number_text id ∷ after_id
+  added_words : words_in_line added_line ≡ number_text id ∷ after_id
   added_words =
       one_word (number_text id) (clause_text clause ++ 32 ∷ hints_text hints) (number_some id) (number_plain id)
       ∙ ap (λ (ws : List (List ℕ)). number_text id ∷ ws) (clause_words_then clause (hints_text hints)
-      ∙ ap (λ (ws : List (List ℕ)). map literal_text clause ++ (48 ∷ []) ∷ ws) (hint_words hints))
+      ∙ ap (λ (ws : List (List ℕ)). map signed_text clause ++ (48 ∷ []) ∷ ws) (hint_words hints))
 
   added_one_line : list_all (λ b. not (is_end b)) added_line ≡ true
   added_one_line =
       list_all-append (λ b. not (is_end b)) (number_text id) (32 ∷ (clause_text clause ++ 32 ∷ hints_text hints))
-      ∙ both (list_all (λ b. not (is_end b)) (number_text id)) (list_all (λ b. not (is_end b)) (clause_text clause ++ 32 ∷ hints_text hints)) (plain_line (number_text id) (number_plain id))
+      ∙ and_from (list_all (λ b. not (is_end b)) (number_text id)) (list_all (λ b. not (is_end b)) (clause_text clause ++ 32 ∷ hints_text hints)) (plain_line (number_text id) (number_plain id))
       (list_all-append (λ b. not (is_end b)) (clause_text clause) (32 ∷ hints_text hints)
-      ∙ both (list_all (λ b. not (is_end b)) (clause_text clause)) (list_all (λ b. not (is_end b)) (hints_text hints)) (clause_line clause) (hint_line hints))
+      ∙ and_from (list_all (λ b. not (is_end b)) (clause_text clause)) (list_all (λ b. not (is_end b)) (hints_text hints)) (clause_line clause) (hint_line hints))
 
-  added_says : (not (is_comment added_line) && not (length (words_of added_line) == 0)) ≡ true
+  added_says : (not (is_comment added_line) && not (length (words_in_line added_line) == 0)) ≡ true
   added_says =
       let more : suc (length after_id) ≢ 0 = omega arith in
-      both (not (is_comment added_line)) (not (length (words_of added_line) == 0))
+      and_from (not (is_comment added_line)) (not (length (words_in_line added_line) == 0))
       (ap not (digits_say (number_text id) (32 ∷ (clause_text clause ++ 32 ∷ hints_text hints)) (number_some id) (number_digits id)))
       (ap (λ (ws : List (List ℕ)). not (length ws == 0)) added_words ∙ ap not (ne_eqb (suc (length after_id)) 0 more))
 
-  by_second : (clause' : Clause) (rest : List (List ℕ)) → told v (number_text id ∷ (map literal_text clause' ++ (48 ∷ []) ∷ rest)) ≡ adding (id_of (number_text id)) (literals_of v (map literal_text clause' ++ (48 ∷ []) ∷ rest))
+  by_second : (clause' : Clause) (rest : List (List ℕ)) → told v (number_text id ∷ (map signed_text clause' ++ (48 ∷ []) ∷ rest)) ≡ adding (id_of (number_text id)) (literals_read v (map signed_text clause' ++ (48 ∷ []) ∷ rest))
   by_second [] rest = refl
   by_second (l ∷ ls) rest =
-      ap (λ (t : Bool). cond t (dropping (number_up_to most_id (number_text id)) (ids_of (map literal_text ls ++ (48 ∷ []) ∷ rest))) (adding (id_of (number_text id)) (literals_of v (map literal_text (l ∷ ls) ++ (48 ∷ []) ∷ rest)))) (literal_no_d l)
+      ap (λ (t : Bool). cond t (dropping (number_up_to most_id (number_text id)) (ids_of (map signed_text ls ++ (48 ∷ []) ∷ rest))) (adding (id_of (number_text id)) (literals_read v (map signed_text (l ∷ ls) ++ (48 ∷ []) ∷ rest)))) (literal_no_d l)
 
-  told_again : is_id id ≡ true → is_over v clause ≡ true → list_all is_id hints ≡ true → told v (words_of added_line) ≡ Read (Add id clause hints)
+  told_again : is_id id ≡ true → is_over v clause ≡ true → list_all is_id hints ≡ true → told v (words_in_line added_line) ≡ Read (Add id clause hints)
   told_again fits over within =
       ap (told v) added_words ∙ by_second clause (map number_text hints ++ (48 ∷ []) ∷ [])
       ∙ ap₂ adding (id_again id fits) (literals_again v clause (map number_text hints ++ (48 ∷ []) ∷ []) over)
-      ∙ ap (added id clause) (hints_again hints within)
+      ∙ ap (added_clause id clause) (hints_again hints within)
 
   regrouped : (rest : List ℕ) → step_text (Add id clause hints) ++ rest ≡ added_line ++ 10 ∷ rest
   regrouped rest = same (number_text id) (clause_text clause) (hints_text hints)

@@ -15,8 +15,8 @@ use Rattle.verdicts.specs.Numbers.{read_number}
 use Rattle.clause_text.specs.declared.faults.LratFault.{LratFault}
 use Rattle.clause_text.specs.declared.steps.Told.{Told}
 use Rattle.clause_text.specs.declared.steps.Told.TheVariants.{Read, Negative, Formless}
-use Rattle.clause_text.specs.Words.{Worded, words_of, says, said_lines, number_up_to, Token, Ends, Says, plain_token, minus_token, token_of}
-use Rattle.clause_text.specs.ReadLrat.{most_id, id_of, ids_of, hints_of, literals_of, after_token, added, adding, dropping, told, before_rest, steps_of, read_lrat}
+use Rattle.clause_text.specs.Words.{WordedLine, words_in_line, says, said_lines, number_up_to, Token, Ends, Says, plain_token, minus_token, token_of}
+use Rattle.clause_text.specs.ReadLrat.{most_id, id_of, ids_of, hints_of, literals_read, after_token, added_clause, adding, dropping, told, before_rest, steps_of, read_lrat}
 
 some_number : (n : ℕ) → (n == 0) ≡ false → nat_le 1 n ≡ true
 some_number n e = by_test (nat_le 1 n) refl
@@ -83,9 +83,9 @@ module _ (v : ℕ) where
   AreLiteralsOver None = Unit {0}
   AreLiteralsOver (Some found) = IsTrue (is_over v found.0)
 
-  literals_are_over : (words : List (List ℕ)) → AreLiteralsOver (literals_of v words)
+  literals_are_over : (words : List (List ℕ)) → AreLiteralsOver (literals_read v words)
   literals_are_over [] = tt
-  literals_are_over (word ∷ rest) = by_token (token_of v word) (token_is_over word) (literals_of v rest) (literals_are_over rest)
+  literals_are_over (word ∷ rest) = by_token (token_of v word) (token_is_over word) (literals_read v rest) (literals_are_over rest)
     where
       by_token : (token : Option Token) → IsTokenOver token → (more : Option (Clause × List (List ℕ))) → AreLiteralsOver more → AreLiteralsOver (after_token token rest more)
       by_token None one more others = tt
@@ -105,7 +105,7 @@ module _ (v : ℕ) where
   dropping_is_over (Some id) None = tt
   dropping_is_over (Some id) (Some ids) = refl
 
-  added_is_over : (id : ℕ) (clause : Clause) (hints : Option (Bool × List ℕ)) → is_over v clause ≡ true → IsToldOver (added id clause hints)
+  added_is_over : (id : ℕ) (clause : Clause) (hints : Option (Bool × List ℕ)) → is_over v clause ≡ true → IsToldOver (added_clause id clause hints)
   added_is_over id clause None over = tt
   added_is_over id clause (Some (true, hints)) over = tt
   added_is_over id clause (Some (false, hints)) over = over
@@ -120,11 +120,11 @@ module _ (v : ℕ) where
   told_is_over (id ∷ []) = tt
   told_is_over (id ∷ word ∷ rest) = by_test (bytes_eq word (codes "d"))
     where
-      by_test : (t : Bool) → IsToldOver (cond t (dropping (number_up_to most_id id) (ids_of rest)) (adding (id_of id) (literals_of v (word ∷ rest))))
+      by_test : (t : Bool) → IsToldOver (cond t (dropping (number_up_to most_id id) (ids_of rest)) (adding (id_of id) (literals_read v (word ∷ rest))))
       by_test true = dropping_is_over (number_up_to most_id id) (ids_of rest)
-      by_test false = adding_is_over (id_of id) (literals_of v (word ∷ rest)) (literals_are_over (word ∷ rest))
+      by_test false = adding_is_over (id_of id) (literals_read v (word ∷ rest)) (literals_are_over (word ∷ rest))
 
-  steps_are_over : (lines : List Worded) → IfOk (steps_of v lines) (AreOver v)
+  steps_are_over : (lines : List WordedLine) → IfOk (steps_of v lines) (AreOver v)
   steps_are_over [] = refl
   steps_are_over (line ∷ lines) = by_told (told v line.words) (told_is_over line.words) (steps_of v lines) (steps_are_over lines)
     where
@@ -135,7 +135,7 @@ module _ (v : ℕ) where
       by_told (Read step) one (Ok more) others = ap (λ (t : Bool). t && list_all (λ (l : Line). is_over v (added_by l.step)) more) one ∙ others
 
   -- a step for each line
-  steps_are_as_many : (lines : List Worded) → IfOk (steps_of v lines) (λ read. length read ≡ length lines)
+  steps_are_as_many : (lines : List WordedLine) → IfOk (steps_of v lines) (λ read. length read ≡ length lines)
   steps_are_as_many [] = refl
   steps_are_as_many (line ∷ lines) = by_told (told v line.words) (steps_of v lines) (steps_are_as_many lines)
     where
@@ -160,7 +160,7 @@ said_lines_are_few : (text : List ℕ) → length (said_lines text) ≤ length t
 said_lines_are_few text =
     let parts : List (List ℕ) = slice_split (λ c. c == 10) text in
     let numbered : List (ℕ × List ℕ) = enumerate_from 1 parts in
-    let said : length (said_lines text) ≡ length (filter says numbered) = length-map {B = Worded} (filter says numbered) (λ line. record { at = line.0; words = words_of line.1 }) in
+    let said : length (said_lines text) ≡ length (filter says numbered) = length-map {B = WordedLine} (filter says numbered) (λ line. record { at = line.0; words = words_in_line line.1 }) in
     omega (arith, said, length-filter says numbered, count_by-le-length says numbered, length-enumerate_from 1 parts, length-slice_split (λ c. c == 10) text, count_by-le-length (λ c. c == 10) text)
 
 -- a text gives fewer lines than there are numbers for them

@@ -1,6 +1,6 @@
 -- What is written of clauses is read again.
-use Rattle.std.proofs.Common.{◌≡◌, refl, sym, ap, ◌∙◌, ℕ, suc, ◌+◌, ◌≤◌, Bool, true, false, not, cond, List, [], ◌∷◌, ◌++◌, length, map, filter, Option, Some, None, option_map, option_and_then, Ok, Err, ◌≢◌, ne_eqb, append_assoc, append-nil, arith}
-use Rattle.std.proofs.lemmas.Bool.{false≢true, eq-eqb, leb-true, leb-false}
+use Rattle.std.proofs.Common.{◌≡◌, refl, sym, ap, ◌∙◌, ℕ, suc, ◌+◌, ◌≤◌, Bool, true, false, not, cond, List, [], ◌∷◌, ◌++◌, length, map, filter, Option, Some, None, option_map, option_and_then, Ok, Err, ◌≢◌, ne_eqb, append_assoc, append-nil, arith, le-leb}
+use Rattle.std.proofs.lemmas.Bool.{false≢true, eq-eqb, leb-true, not-true, and_from}
 use Rattle.std.proofs.lemmas.List.Folds.{list_all-append}
 use Rattle.std.proofs.lemmas.List.Sums.{sum_by-append, sum_by-cons}
 use Rattle.std.proofs.lemmas.List.Splits.{slice_split-cons_yes, slice_split-cons_no}
@@ -13,8 +13,8 @@ use Rattle.cnf.specs.Fresh.{is_over}
 use Rattle.verdicts.specs.Numbers.{number_text, is_number}
 use Rattle.verdicts.proofs.NumberLaws.{number_digits, text_is_number, read_text}
 use Rattle.clause_text.specs.declared.faults.CnfFault.TheVariants as fault
-use Rattle.clause_text.specs.Words.{Worded, is_blank, is_comment, words_of, number_up_to, Token, Ends, Says, token_of, minus_token, plain_token}
-use Rattle.clause_text.specs.Dimacs.{literal_text, clause_text, dimacs_text}
+use Rattle.clause_text.specs.Words.{WordedLine, is_blank, is_comment, words_in_line, number_up_to, Token, Ends, Says, token_of, minus_token, plain_token}
+use Rattle.clause_text.specs.Dimacs.{signed_text, clause_text, dimacs_text}
 use Rattle.clause_text.specs.ReadDimacs.{header_of, placed_words, at_word, is_full_for, clauses_from, with_variables, after_header, read_lines, read_dimacs}
 use Rattle.clause_text.specs.Left.{saying}
 use Rattle.clause_text.proofs.WordLemmas.{is_end, keeps, said_first, unsaid_first}
@@ -30,20 +30,6 @@ pub and_right : (a b : Bool) → (a && b) ≡ true → b ≡ true
 and_right true b h = h
 and_right false b h = absurd (false≢true h)
 
-pub both : (a b : Bool) → a ≡ true → b ≡ true → (a && b) ≡ true
-both a b h k = ap (λ (t : Bool). t && b) h ∙ k
-
-not_true : (a : Bool) → not a ≡ true → a ≡ false
-not_true true h = absurd (false≢true h)
-not_true false h = refl
-
-le_true : (a b : ℕ) → a ≤ b → nat_le a b ≡ true
-le_true a b h = by_test (nat_le a b) refl
-  where
-    by_test : (t : Bool) → nat_le a b ≡ t → nat_le a b ≡ true
-    by_test true e = e
-    by_test false e = absurd (omega (arith, h, leb-false a b e))
-
 -- ---- bytes
 
 -- a byte of a word
@@ -53,7 +39,7 @@ is_plain c = not (is_blank c) && not (is_end c)
 module _ (p q : ℕ → Bool) (weaker : (c : ℕ) → p c ≡ true → q c ≡ true) where
   all_weaker : (text : List ℕ) → list_all p text ≡ true → list_all q text ≡ true
   all_weaker [] h = refl
-  all_weaker (c ∷ cs) h = both (q c) (list_all q cs) (weaker c (and_left (p c) (list_all p cs) h)) (all_weaker cs (and_right (p c) (list_all p cs) h))
+  all_weaker (c ∷ cs) h = and_from (q c) (list_all q cs) (weaker c (and_left (p c) (list_all p cs) h)) (all_weaker cs (and_right (p c) (list_all p cs) h))
 
 digit_plain : (c : ℕ) → is_digit c ≡ true → is_plain c ≡ true
 digit_plain c h =
@@ -78,14 +64,14 @@ number_some n = by_text (number_text n) (text_is_number n)
     by_text [] h = h
     by_text (c ∷ cs) h = refl
 
-pub literal_plain : (l : Signed) → list_all is_plain (literal_text l) ≡ true
+pub literal_plain : (l : Signed) → list_all is_plain (signed_text l) ≡ true
 literal_plain l = by_sign l.positive
   where
     by_sign : (t : Bool) → list_all is_plain (cond t (number_text l.variable) (45 ∷ number_text l.variable)) ≡ true
     by_sign true = number_plain l.variable
     by_sign false = number_plain l.variable
 
-pub literal_some : (l : Signed) → some_bytes (literal_text l) ≡ true
+pub literal_some : (l : Signed) → some_bytes (signed_text l) ≡ true
 literal_some l = by_sign l.positive
   where
     by_sign : (t : Bool) → some_bytes (cond t (number_text l.variable) (45 ∷ number_text l.variable)) ≡ true
@@ -98,13 +84,13 @@ module _ (p : ℕ → Bool) where
   pub split_off : (part : List ℕ) (c : ℕ) (rest : List ℕ) → list_all (λ b. not (p b)) part ≡ true → p c ≡ true → slice_split p (part ++ c ∷ rest) ≡ part ∷ slice_split p rest
   split_off [] c rest h e = slice_split-cons_yes p c rest e
   split_off (b ∷ part) c rest h e =
-      slice_split-cons_no p b (part ++ c ∷ rest) (not_true (p b) (and_left (not (p b)) (list_all (λ b. not (p b)) part) h))
+      slice_split-cons_no p b (part ++ c ∷ rest) (not-true (p b) (and_left (not (p b)) (list_all (λ b. not (p b)) part) h))
       ∙ ap (onto_first b) (split_off part c rest (and_right (not (p b)) (list_all (λ b. not (p b)) part) h) e)
 
   split_last : (part : List ℕ) → list_all (λ b. not (p b)) part ≡ true → slice_split p part ≡ part ∷ []
   split_last [] h = refl
   split_last (b ∷ part) h =
-      slice_split-cons_no p b part (not_true (p b) (and_left (not (p b)) (list_all (λ b. not (p b)) part) h))
+      slice_split-cons_no p b part (not-true (p b) (and_left (not (p b)) (list_all (λ b. not (p b)) part) h))
       ∙ ap (onto_first b) (split_last part (and_right (not (p b)) (list_all (λ b. not (p b)) part) h))
 
 plain_word : (text : List ℕ) → list_all is_plain text ≡ true → list_all (λ b. not (is_blank b)) text ≡ true
@@ -114,14 +100,14 @@ pub plain_line : (text : List ℕ) → list_all is_plain text ≡ true → list_
 plain_line text h = all_weaker is_plain (λ b. not (is_end b)) (λ c e. and_right (not (is_blank c)) (not (is_end c)) e) text h
 
 -- a word with a blank after it
-pub one_word : (word rest : List ℕ) → some_bytes word ≡ true → list_all is_plain word ≡ true → words_of (word ++ 32 ∷ rest) ≡ word ∷ words_of rest
+pub one_word : (word rest : List ℕ) → some_bytes word ≡ true → list_all is_plain word ≡ true → words_in_line (word ++ 32 ∷ rest) ≡ word ∷ words_in_line rest
 one_word [] rest some plain = absurd (false≢true some)
 one_word (c ∷ x) rest some plain =
     ap (filter (λ (w : List ℕ). not (length w == 0))) (split_off is_blank (c ∷ x) 32 rest (plain_word (c ∷ x) plain) refl)
     ∙ keeps c x (slice_split is_blank rest)
 
 -- a word alone
-pub last_word : (word : List ℕ) → some_bytes word ≡ true → list_all is_plain word ≡ true → words_of word ≡ word ∷ []
+pub last_word : (word : List ℕ) → some_bytes word ≡ true → list_all is_plain word ≡ true → words_in_line word ≡ word ∷ []
 last_word [] some plain = absurd (false≢true some)
 last_word (c ∷ x) some plain =
     ap (filter (λ (w : List ℕ). not (length w == 0))) (split_last is_blank (c ∷ x) (plain_word (c ∷ x) plain))
@@ -129,28 +115,28 @@ last_word (c ∷ x) some plain =
 
 -- ---- clauses
 
-pub clause_front : (l : Signed) (ls : Clause) → clause_text (l ∷ ls) ≡ literal_text l ++ 32 ∷ clause_text ls
+pub clause_front : (l : Signed) (ls : Clause) → clause_text (l ∷ ls) ≡ signed_text l ++ 32 ∷ clause_text ls
 clause_front l ls =
-    let more : List ℕ = flat_map (λ (l : Signed). literal_text l ++ 32 ∷ []) ls in
-    append_assoc (literal_text l ++ 32 ∷ []) more (48 ∷ []) ∙ append_assoc (literal_text l) (32 ∷ []) (more ++ 48 ∷ [])
+    let more : List ℕ = flat_map (λ (l : Signed). signed_text l ++ 32 ∷ []) ls in
+    append_assoc (signed_text l ++ 32 ∷ []) more (48 ∷ []) ∙ append_assoc (signed_text l) (32 ∷ []) (more ++ 48 ∷ [])
 
-clause_words : (clause : Clause) → words_of (clause_text clause) ≡ map literal_text clause ++ (48 ∷ []) ∷ []
+clause_words : (clause : Clause) → words_in_line (clause_text clause) ≡ map signed_text clause ++ (48 ∷ []) ∷ []
 clause_words [] = refl
 clause_words (l ∷ ls) =
-    ap words_of (clause_front l ls) ∙ one_word (literal_text l) (clause_text ls) (literal_some l) (literal_plain l) ∙ ap (λ (ws : List (List ℕ)). literal_text l ∷ ws) (clause_words ls)
+    ap words_in_line (clause_front l ls) ∙ one_word (signed_text l) (clause_text ls) (literal_some l) (literal_plain l) ∙ ap (λ (ws : List (List ℕ)). signed_text l ∷ ws) (clause_words ls)
 
 pub clause_line : (clause : Clause) → list_all (λ b. not (is_end b)) (clause_text clause) ≡ true
 clause_line [] = refl
 clause_line (l ∷ ls) =
     ap (list_all (λ b. not (is_end b))) (clause_front l ls)
-    ∙ list_all-append (λ b. not (is_end b)) (literal_text l) (32 ∷ clause_text ls)
-    ∙ both (list_all (λ b. not (is_end b)) (literal_text l)) (list_all (λ b. not (is_end b)) (clause_text ls)) (plain_line (literal_text l) (literal_plain l)) (clause_line ls)
+    ∙ list_all-append (λ b. not (is_end b)) (signed_text l) (32 ∷ clause_text ls)
+    ∙ and_from (list_all (λ b. not (is_end b)) (signed_text l)) (list_all (λ b. not (is_end b)) (clause_text ls)) (plain_line (signed_text l) (literal_plain l)) (clause_line ls)
 
 -- ---- words of clauses
 
 pub number_again : (most n : ℕ) → n ≤ most → number_up_to most (number_text n) ≡ Some n
 number_again most n h =
-    ap (λ (read : Option ℕ). option_and_then (λ (n : ℕ). cond (nat_le n most) (Some n) None) read) (read_text n) ∙ ap (λ (t : Bool). cond t (Some n) None) (le_true n most h)
+    ap (λ (read : Option ℕ). option_and_then (λ (n : ℕ). cond (nat_le n most) (Some n) None) read) (read_text n) ∙ ap (λ (t : Bool). cond t (Some n) None) (le-leb n most h)
 
 -- a word of digits has no sign
 unsigned : (v : ℕ) (text : List ℕ) → some_bytes text ≡ true → list_all is_digit text ≡ true → token_of v text ≡ plain_token (number_up_to v text)
@@ -160,7 +146,7 @@ unsigned v (c ∷ cs) some digits =
     let sign : c ≢ 45 = omega (arith, low) in
     ap (λ (t : Bool). cond t (minus_token (number_up_to v cs)) (plain_token (number_up_to v (c ∷ cs)))) (ne_eqb c 45 sign)
 
-pub literal_token : (v : ℕ) (l : Signed) → (nat_le 1 l.variable && nat_le l.variable v) ≡ true → token_of v (literal_text l) ≡ Some (Says l)
+pub literal_token : (v : ℕ) (l : Signed) → (nat_le 1 l.variable && nat_le l.variable v) ≡ true → token_of v (signed_text l) ≡ Some (Says l)
 literal_token v l within = by_sign l.positive refl
   where
     some : l.variable ≢ 0
@@ -181,18 +167,18 @@ literal_token v l within = by_sign l.positive refl
         ∙ ap (λ (t : Bool). Some (Says (record { variable = l.variable; positive = t }))) (sym is)
 
 pub end_token : (v : ℕ) → token_of v (48 ∷ []) ≡ Some Ends
-end_token v = let low : 0 ≤ v = omega arith in ap (λ (t : Bool). plain_token (cond t (Some 0) None)) (le_true 0 v low)
+end_token v = let low : 0 ≤ v = omega arith in ap (λ (t : Bool). plain_token (cond t (Some 0) None)) (le-leb 0 v low)
 
 module _ (v count n : ℕ) (whole : Clause) (done : List Clause) (rest : List (ℕ × List ℕ)) (room : is_full_for done whole ≡ false) where
   -- the words of a clause end it
   take_clause : (c begun : Clause) → whole ≡ begun ++ c → is_over v c ≡ true
-      → clauses_from v count (map (λ (w : List ℕ). (n, w)) (map literal_text c ++ (48 ∷ []) ∷ []) ++ rest) done begun ≡ clauses_from v count rest (done ++ whole ∷ []) []
+      → clauses_from v count (map (λ (w : List ℕ). (n, w)) (map signed_text c ++ (48 ∷ []) ∷ []) ++ rest) done begun ≡ clauses_from v count rest (done ++ whole ∷ []) []
   take_clause [] begun same over =
       ap (λ (t : Option Token). at_word n done begun t (clauses_from v count rest)) (end_token v)
       ∙ ap (λ (b : Clause). cond (is_full_for done b) (Err fault.Full) (clauses_from v count rest (done ++ b ∷ []) [])) (sym (same ∙ append-nil begun))
       ∙ ap (λ (t : Bool). cond t (Err fault.Full) (clauses_from v count rest (done ++ whole ∷ []) [])) room
   take_clause (l ∷ ls) begun same over =
-      ap (λ (t : Option Token). at_word n done begun t (clauses_from v count (map (λ (w : List ℕ). (n, w)) (map literal_text ls ++ (48 ∷ []) ∷ []) ++ rest)))
+      ap (λ (t : Option Token). at_word n done begun t (clauses_from v count (map (λ (w : List ℕ). (n, w)) (map signed_text ls ++ (48 ∷ []) ∷ []) ++ rest)))
       (literal_token v l (and_left (nat_le 1 l.variable && nat_le l.variable v) (is_over v ls) over))
       ∙ take_clause ls (begun ++ l ∷ []) (same ∙ sym (append_assoc begun (l ∷ []) ls)) (and_right (nat_le 1 l.variable && nat_le l.variable v) (is_over v ls) over)
 
@@ -218,25 +204,25 @@ digits_say (c ∷ cs) rest some digits =
     let other : c ≢ 99 = omega (arith, high) in
     ne_eqb c 99 other
 
-literal_says : (l : Signed) (rest : List ℕ) → is_comment (literal_text l ++ rest) ≡ false
+literal_says : (l : Signed) (rest : List ℕ) → is_comment (signed_text l ++ rest) ≡ false
 literal_says l rest = by_sign l.positive
   where
     by_sign : (t : Bool) → is_comment (cond t (number_text l.variable) (45 ∷ number_text l.variable) ++ rest) ≡ false
     by_sign true = digits_say (number_text l.variable) rest (number_some l.variable) (number_digits l.variable)
     by_sign false = refl
 
-clause_says : (c : Clause) → (not (is_comment (clause_text c)) && not (length (words_of (clause_text c)) == 0)) ≡ true
-clause_says c = both (not (is_comment (clause_text c))) (not (length (words_of (clause_text c)) == 0)) (ap not (comment c)) (ap (λ (ws : List (List ℕ)). not (length ws == 0)) (clause_words c) ∙ some c)
+clause_says : (c : Clause) → (not (is_comment (clause_text c)) && not (length (words_in_line (clause_text c)) == 0)) ≡ true
+clause_says c = and_from (not (is_comment (clause_text c))) (not (length (words_in_line (clause_text c)) == 0)) (ap not (comment c)) (ap (λ (ws : List (List ℕ)). not (length ws == 0)) (clause_words c) ∙ some c)
   where
     comment : (c : Clause) → is_comment (clause_text c) ≡ false
     comment [] = refl
     comment (l ∷ ls) = ap is_comment (clause_front l ls) ∙ literal_says l (32 ∷ clause_text ls)
 
-    some : (c : Clause) → not (length (map literal_text c ++ (48 ∷ []) ∷ []) == 0) ≡ true
+    some : (c : Clause) → not (length (map signed_text c ++ (48 ∷ []) ∷ []) == 0) ≡ true
     some [] = refl
     some (l ∷ ls) =
-        let more : suc (length (map literal_text ls ++ (48 ∷ []) ∷ [])) ≢ 0 = omega arith in
-        ap not (ne_eqb (suc (length (map literal_text ls ++ (48 ∷ []) ∷ []))) 0 more)
+        let more : suc (length (map signed_text ls ++ (48 ∷ []) ∷ [])) ≢ 0 = omega arith in
+        ap not (ne_eqb (suc (length (map signed_text ls ++ (48 ∷ []) ∷ []))) 0 more)
 
 room_for : (done : List Clause) (c : Clause) → length done + 1 ≤ 4000000 → sum_by length done + length c ≤ 60000000 → is_full_for done c ≡ false
 room_for done c few short =
@@ -258,7 +244,7 @@ module _ (v count : ℕ) where
       → clauses_from v count (placed_words (saying n (lines_of cs))) done [] ≡ Ok (done ++ cs)
   body_read n [] done over few short is =
       let all : length done ≡ count = omega (arith, is) in
-      ap (λ (t : Bool). cond t (Ok done) (Err (fault.Count (length done)))) (both (length done == count) true (eq-eqb (length done) count all) refl)
+      ap (λ (t : Bool). cond t (Ok done) (Err (fault.Count (length done)))) (and_from (length done == count) true (eq-eqb (length done) count all) refl)
       ∙ ap (λ (cs : List Clause). Ok cs) (sym (append-nil done))
   body_read n (c ∷ cs) done over few short is =
       let more : length (done ++ c ∷ []) ≡ length done + 1 = length_more done c in
@@ -269,7 +255,7 @@ module _ (v count : ℕ) where
       let is' : count ≡ length (done ++ c ∷ []) + length cs = omega (arith, more, is) in
       let one : length done + 1 ≤ 4000000 = omega (arith, few) in
       let fits : sum_by length done + length c ≤ 60000000 = omega (arith, here, short) in
-      ap (λ (ls : List Worded). clauses_from v count (placed_words ls) done []) (said_first n (clause_text c) (lines_of cs) (clause_says c))
+      ap (λ (ls : List WordedLine). clauses_from v count (placed_words ls) done []) (said_first n (clause_text c) (lines_of cs) (clause_says c))
       ∙ ap (λ (ws : List (List ℕ)). clauses_from v count (map (λ (w : List ℕ). (n, w)) ws ++ placed_words (saying (n + 1) (lines_of cs))) done []) (clause_words c)
       ∙ take_clause v count n c done (placed_words (saying (n + 1) (lines_of cs))) (room_for done c one fits) c [] refl (and_left (is_over v c) (list_all (is_over v) cs) over)
       ∙ body_read (n + 1) cs (done ++ c ∷ []) (and_right (is_over v c) (list_all (is_over v) cs) over) few' short' is'
@@ -287,7 +273,7 @@ module _ (head : List ℕ) (v : ℕ) (clauses : List Clause) where
   abbrev header : List ℕ
   header = codes "p" ++ 32 ∷ (codes "cnf" ++ 32 ∷ (number_text v ++ 32 ∷ number_text (length clauses)))
 
-  header_words : words_of header ≡ codes "p" ∷ codes "cnf" ∷ number_text v ∷ number_text (length clauses) ∷ []
+  header_words : words_in_line header ≡ codes "p" ∷ codes "cnf" ∷ number_text v ∷ number_text (length clauses) ∷ []
   header_words =
       one_word (codes "p") (codes "cnf" ++ 32 ∷ (number_text v ++ 32 ∷ number_text (length clauses))) refl refl
       ∙ ap (λ (ws : List (List ℕ)). codes "p" ∷ ws) (one_word (codes "cnf") (number_text v ++ 32 ∷ number_text (length clauses)) refl refl
@@ -302,7 +288,7 @@ module _ (head : List ℕ) (v : ℕ) (clauses : List Clause) where
   header_line : list_all (λ b. not (is_end b)) header ≡ true
   header_line =
       list_all-append (λ b. not (is_end b)) (number_text v) (32 ∷ number_text (length clauses))
-      ∙ both _ _ (plain_line (number_text v) (number_plain v)) (plain_line (number_text (length clauses)) (number_plain (length clauses)))
+      ∙ and_from _ _ (plain_line (number_text v) (number_plain v)) (plain_line (number_text (length clauses)) (number_plain (length clauses)))
 
   text_lines : list_all (λ b. not (is_end b)) head ≡ true → slice_split is_end (dimacs_text head v clauses) ≡ codes "c bench export 1" ∷ (codes "c " ++ head) ∷ header ∷ lines_of clauses
   text_lines one_line =
@@ -312,10 +298,10 @@ module _ (head : List ℕ) (v : ℕ) (clauses : List Clause) where
       ∙ ap (λ (ls : List (List ℕ)). (codes "c " ++ head) ∷ ls) (split_off is_end header 10 body header_line refl
       ∙ ap (λ (ls : List (List ℕ)). header ∷ ls) (body_lines clauses)))
 
-  header_says : (not (is_comment header) && not (length (words_of header) == 0)) ≡ true
+  header_says : (not (is_comment header) && not (length (words_in_line header) == 0)) ≡ true
   header_says = ap (λ (ws : List (List ℕ)). not (length ws == 0)) header_words
 
-  sizes_again : v ≤ 10000000 → length clauses ≤ 4000000 → header_of (words_of header) ≡ Some (v, length clauses)
+  sizes_again : v ≤ 10000000 → length clauses ≤ 4000000 → header_of (words_in_line header) ≡ Some (v, length clauses)
   sizes_again few short =
       let fits : length clauses ≤ 4294967295 = omega (arith, short) in
       ap header_of header_words

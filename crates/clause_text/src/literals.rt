@@ -4,7 +4,7 @@ ghost use Rattle.std.specs.Prelude.{◌++◌, ◌∷◌, []};
 ghost use Rattle.std.specs.List.{flat_map};
 ghost use Rattle.texts.specs.Page.{Pours};
 ghost use Rattle.verdicts.specs.Numbers.{number_text};
-ghost use Rattle.clause_text.specs.Dimacs.{literal_text, clause_text};
+ghost use Rattle.clause_text.specs.Dimacs.{signed_text, clause_text};
 
 use cnf::Lit;
 use edge::{Failed, Sink};
@@ -39,7 +39,7 @@ struct Literal(Lit);
 impl Text for Literal {
     ghost can = { λ _. Unit {0} };
 
-    ghost text = { λ literal. literal_text literal.0 };
+    ghost text = { λ literal. signed_text literal.0 };
 
     fn pour<O: Sink>(&self, page: &mut Page, out: &mut O) -> Result<(), Failed> {
         let variable = Numeral(u64::from(self.0.variable()));
@@ -58,7 +58,7 @@ struct Literals<'a>(&'a [Lit]);
 impl Text for Literals<'_> {
     ghost can = { λ _. Unit {0} };
 
-    ghost text = { λ literals. flat_map (λ l. literal_text l ++ 32 ∷ []) literals.0.now };
+    ghost text = { λ literals. flat_map (λ l. signed_text l ++ 32 ∷ []) literals.0.now };
 
     fn pour<O: Sink>(&self, page: &mut Page, out: &mut O) -> Result<(), Failed> {
         for lit in self.0 {

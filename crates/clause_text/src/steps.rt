@@ -1,8 +1,8 @@
 //! The lines of a derivation.
 
 ghost use Rattle.std.specs.Prelude.{◌≡◌, ◌≤◌, [], IfOk, option_map};
-ghost use Rattle.clause_text.specs.ReadLrat.{most_id, id_of, hint_of, is_zero, ids_of, hints_of, literals_of, dropping, adding, told};
-ghost use Rattle.clause_text.specs.Words.{words_of, number_up_to};
+ghost use Rattle.clause_text.specs.ReadLrat.{most_id, id_of, hint_of, is_zero, ids_of, hints_of, literals_read, dropping, adding, told};
+ghost use Rattle.clause_text.specs.Words.{words_in_line, number_up_to};
 
 use crate::lines::{is_same, next_word};
 use crate::numbers::number_up_to;
@@ -62,7 +62,7 @@ fn is_zero(word: &[u8]) -> bool
 
 /// Ids, and then 0 as the last word.
 fn ids_of(alloc: Global, line: &[u8]) -> Result<Option<Ids>, NoMemory>
-    ensures { IfOk result (λ ids. ids ≡ ids_of (words_of line.now)) }
+    ensures { IfOk result (λ ids. ids ≡ ids_of (words_in_line line.now)) }
 {
     let mut ids = Ids::new(alloc);
     let Some((first, rest)) = next_word(line) else {
@@ -90,7 +90,7 @@ struct Hints {
 
 /// Hints, and then 0 as the last word.
 fn hints_of(alloc: Global, line: &[u8]) -> Result<Option<Hints>, NoMemory>
-    ensures { IfOk result (λ found. hints_of (words_of line.now) ≡
+    ensures { IfOk result (λ found. hints_of (words_in_line line.now) ≡
         option_map (λ hints. (hints.negative, hints.ids)) found) }
 {
     let mut hints = Hints {
@@ -122,8 +122,8 @@ fn read_literals<'a>(
 ) -> Result<Option<&'a [u8]>, NoMemory>
     requires variables { variables ≤ 10000000 }
     requires empty { clause.old ≡ [] }
-    ensures { IfOk result (λ found. literals_of variables (words_of line.now) ≡
-        option_map (λ rest. (clause.new, words_of rest.now)) found) }
+    ensures { IfOk result (λ found. literals_read variables (words_in_line line.now) ≡
+        option_map (λ rest. (clause.new, words_in_line rest.now)) found) }
 {
     let mut left = line;
     while let Some((word, more)) = next_word(left) {
@@ -140,7 +140,7 @@ fn read_literals<'a>(
 /// What is taken away; the id at the front means nothing.
 fn dropping(alloc: Global, front: &[u8], rest: &[u8]) -> Result<Told, NoMemory>
     ensures { IfOk result (λ found. found ≡
-        dropping (number_up_to most_id front.now) (ids_of (words_of rest.now))) }
+        dropping (number_up_to most_id front.now) (ids_of (words_in_line rest.now))) }
 {
     if number_up_to(MOST_ID, front).is_none() {
         return Ok(Told::Formless);
@@ -155,7 +155,7 @@ fn dropping(alloc: Global, front: &[u8], rest: &[u8]) -> Result<Told, NoMemory>
 fn adding(alloc: Global, variables: u32, front: &[u8], rest: &[u8]) -> Result<Told, NoMemory>
     requires { variables ≤ 10000000 }
     ensures { IfOk result (λ found. found ≡
-        adding (id_of front.now) (literals_of variables (words_of rest.now))) }
+        adding (id_of front.now) (literals_read variables (words_in_line rest.now))) }
 {
     let Some(id) = id_of(front) else {
         return Ok(Told::Formless);
@@ -180,7 +180,7 @@ fn adding(alloc: Global, variables: u32, front: &[u8], rest: &[u8]) -> Result<To
 /// What a line is.
 pub(crate) fn told_by(alloc: Global, variables: u32, line: &[u8]) -> Result<Told, NoMemory>
     requires { variables ≤ 10000000 }
-    ensures { IfOk result (λ found. found ≡ told variables (words_of line.now)) }
+    ensures { IfOk result (λ found. found ≡ told variables (words_in_line line.now)) }
 {
     let Some((front, rest)) = next_word(line) else {
         return Ok(Told::Formless);

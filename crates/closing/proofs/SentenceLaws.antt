@@ -13,6 +13,7 @@ use Rattle.vocab.specs.Sorted.{same_sort, all_sorts, is_option_sort, has_winners
 use Rattle.vocab.specs.Study.{is_sentence}
 use Rattle.vocab.specs.Titled.{Titled}
 use Rattle.vocab.specs.Tree.{TermTree, AtomTree, Tree, Var, Const, With, SwapVoters, SwapAlts, Swap, Equal, Prefers, Better, Casts, Majority, WinsAt, Ranks, Leaf, Not, Both, Either, Implies, Same, All, Exists}
+use Rattle.vocab.proofs.SortLaws.{same_sort_is}
 use Rattle.meaning.proofs.SentenceLaws.{body_sorted, suited_from}
 use Rattle.meaning.specs.Clauses.{plus}
 use Rattle.meaning.specs.Instances.{instance_values}
@@ -91,24 +92,6 @@ is_instance size a k =
     }
 
 -- ---- sorts
-
-same_sort_is : (s t : Sort) → same_sort s t ≡ true → s ≡ t
-same_sort_is Voter Voter h = refl
-same_sort_is Voter Alt h = absurd cc
-same_sort_is Voter Ballot h = absurd cc
-same_sort_is Voter Profile h = absurd cc
-same_sort_is Alt Voter h = absurd cc
-same_sort_is Alt Alt h = refl
-same_sort_is Alt Ballot h = absurd cc
-same_sort_is Alt Profile h = absurd cc
-same_sort_is Ballot Voter h = absurd cc
-same_sort_is Ballot Alt h = absurd cc
-same_sort_is Ballot Ballot h = refl
-same_sort_is Ballot Profile h = absurd cc
-same_sort_is Profile Voter h = absurd cc
-same_sort_is Profile Alt h = absurd cc
-same_sort_is Profile Ballot h = absurd cc
-same_sort_is Profile Profile h = refl
 
 module _ (size : Extent) where
   -- a variable that has a value has one of its sort

@@ -4,11 +4,11 @@ use Rattle.std.specs.Prelude.{◌==◌, IsTrue}
 use Rattle.std.specs.List.{list_any}
 use Rattle.edge.specs.Shelf.{Files}
 use Rattle.words.specs.Words.{Request, Decide, Check, Export, Proof, Lrat, Axioms, Sample, Adopt, Gain, Sharpen}
-use Rattle.answers.specs.Lawful.{IsAnswer}
+use Rattle.answers.specs.Lawful.{IsBenchAnswer}
 use Rattle.answers.specs.Call.{statuses_of}
 use Rattle.command_parts.specs.declared.answer.Answer.{Answer}
 use Rattle.command_parts.specs.declared.answer.Stop.TheVariants as stop
-use Rattle.command_parts.specs.Answers.{HasText, run_of, status_of, text_of}
+use Rattle.command_parts.specs.Answers.{HasText, run_of, answer_status, text_of}
 use Rattle.command_parts.specs.Answered.{Answers}
 
 -- ---- commands
@@ -41,8 +41,8 @@ module _ (request : Option Request) (told : Option Files) (left : Files) (faults
   }
 
   -- an answer that read no file
-  pub bare_answer : (answer : Answer) → status_of answer ≤ 4 → HasText answer → IsTrue (list_any (λ s. s == status_of answer) (statuses_of request))
-      → ((files : Files) → IsAnswer request files (run_of answer) (text_of answer)) → Answers request told left left faults faults (Ok answer)
+  pub bare_answer : (answer : Answer) → answer_status answer ≤ 4 → HasText answer → IsTrue (list_any (λ s. s == answer_status answer) (statuses_of request))
+      → ((files : Files) → IsBenchAnswer request files (run_of answer) (text_of answer)) → Answers request told left left faults faults (Ok answer)
   bare_answer answer low has_text one lawful = record {
     lawful = λ files h. lawful files;
     status = one;

@@ -9,7 +9,7 @@ use Rattle.verdicts.specs.Laws.{IsReportable}
 use Rattle.answers.specs.FileLimits.{most_study_bytes}
 use Rattle.answers.specs.StudyLines.{study_line}
 use Rattle.answers.specs.Studies.{GivesStudy, RefusesStudy, no_study}
-use Rattle.command_parts.specs.Opened.{IsRead}
+use Rattle.command_parts.specs.Opened.{IsStudyRead}
 
 pub if_some : {A : Type 0} (o : Option A) (P : A → Type 0) (x : A) → IfSome o P → o ≡ Some x → P x
 if_some o P x h e = subst (λ (p : Option _). IfSome p P) e h
@@ -21,15 +21,15 @@ refuses_bytes told name bytes text fault h fits bad t files e =
     no_study bytes fault (record { held = if_some told (λ files. files name ≡ Some bytes) files h e; fits = fits }) bad t
 
 -- a study that was read is one that reports speak of
-pub reportable : (told : Option Files) (name : List ℕ) (study : Question) → IsRead told name study → IsReportable study
+pub reportable : (told : Option Files) (name : List ℕ) (study : Question) → IsStudyRead told name study → IsReportable study
 reportable told name study read =
     let whole = studies_whole read.bytes study read.gives in
     record { taken = whole.0; size = whole.1; names = whole.2 }
 
 -- and it has at most 40 axioms
-pub listed : (told : Option Files) (name : List ℕ) (study : Question) → IsRead told name study → HasFewAxioms study
+pub listed : (told : Option Files) (name : List ℕ) (study : Question) → IsStudyRead told name study → HasFewAxioms study
 listed told name study read = (studies_whole read.bytes study read.gives).3
 
 -- it is the study that the file of this name gives
-pub given : (told : Option Files) (name : List ℕ) (study : Question) (files : Files) → IsRead told name study → told ≡ Some files → GivesStudy files name study
+pub given : (told : Option Files) (name : List ℕ) (study : Question) (files : Files) → IsStudyRead told name study → told ≡ Some files → GivesStudy files name study
 given told name study files read e = record { bytes = read.bytes; holds = record { held = read.held files e; fits = read.fits }; read = read.gives }

@@ -1,5 +1,5 @@
 -- Commands over two files, of which the second is read where the first is not refused.
-use Rattle.std.proofs.Common.{◌≡◌, ◌∙◌, sym, refl, subst, ℕ, ◌≤◌, true, false, List, [], ◌∷◌, Option, IfSome, Result, Ok, Err, IfOk, IsErrOf, arith, zero, suc}
+use Rattle.std.proofs.Common.{◌≡◌, ◌∙◌, sym, refl, subst, ℕ, ◌≤◌, true, false, List, [], ◌∷◌, Option, IfSome, Result, Ok, Err, IfOk, IsErrOf, arith, zero, suc, Bool, cond, take, ◌||◌}
 use Rattle.std.specs.Prelude.{◌==◌, IsFalse}
 use Rattle.std.specs.List.{list_any}
 use Rattle.std.specs.Str.{bytes_eq}
@@ -8,12 +8,12 @@ use Rattle.edge.specs.Shelf.{Files, OthersStay, NoneFell}
 use Rattle.edge.specs.Faults.{Rose}
 use Rattle.words.specs.Words.{Request}
 use Rattle.answers.specs.Runs.{IsBare}
-use Rattle.answers.specs.Lawful.{IsAnswer}
+use Rattle.answers.specs.Lawful.{IsBenchAnswer}
 use Rattle.answers.specs.Call.{AreFiles, IsFirstTaken, at_first, at_second, files_of, statuses_of, touched_at}
 use Rattle.command_parts.specs.declared.answer.Answer.{Answer}
 use Rattle.command_parts.specs.declared.answer.Stop.{Stop}
 use Rattle.command_parts.specs.declared.answer.Stop.TheVariants as stop
-use Rattle.command_parts.specs.Answers.{HasText, run_of, status_of, text_of}
+use Rattle.command_parts.specs.Answers.{HasText, run_of, answer_status, text_of}
 use Rattle.command_parts.specs.Answered.{Answers}
 use Rattle.command_parts.proofs.StudyLemmas.{not_first}
 
@@ -27,13 +27,28 @@ low_status zero low = refl
 low_status (suc zero) low = refl
 low_status (suc (suc s)) low = absurd (omega (arith, low))
 
+pub not_in_front : (test : List ℕ → Bool) (s : ℕ) (names : List (List ℕ)) → list_any test names ≡ false → list_any test (touched_at s names) ≡ false
+not_in_front test s names free = by_status (s == 3) names free
+  where
+    first_alone : (names : List (List ℕ)) → list_any test names ≡ false → list_any test (take 1 names) ≡ false
+    first_alone [] free = refl
+    first_alone (name ∷ names) free = one (test name) (list_any test names) free
+      where
+        one : (a b : Bool) → (a || b) ≡ false → (a || false) ≡ false
+        one true b e = e
+        one false b e = refl
+
+    by_status : (b : Bool) (names : List (List ℕ)) → list_any test names ≡ false → list_any test (cond b (take 1 names) names) ≡ false
+    by_status true names free = first_alone names free
+    by_status false names free = free
+
 -- with a status of at most 1 both files may be touched
-both_touched : (s : ℕ) (names : List (List ℕ)) → s ≤ 1 → touched_at s names ≡ names
+pub both_touched : (s : ℕ) (names : List (List ℕ)) → s ≤ 1 → touched_at s names ≡ names
 both_touched zero names low = refl
 both_touched (suc zero) names low = refl
 both_touched (suc (suc s)) names low = absurd (omega (arith, low))
 
-rose_since : (a b c : ℕ) → a ≤ b → Rose b c → Rose a c
+pub rose_since : (a b c : ℕ) → a ≤ b → Rose b c → Rose a c
 rose_since a b c h k = omega arith
 
 -- a command reads these two files, with these statuses
@@ -67,17 +82,17 @@ module _ (request : Option Request) (name second : List ℕ) (command : IsPairCo
 
     -- the first file is taken, and the second was judged
     pub second_judged : (result : Result Answer Stop) → IfSome told (λ files. IsFirstTaken request files name) → NoneFell faults_before faults_middle
-        → ((files : Files) → AreFiles told (name ∷ second ∷ []) files → IfOk result (λ answer. IsAnswer request files (run_of answer) (text_of answer)))
-        → IfOk result (λ answer. status_of answer ≤ 1) → IfOk result HasText
+        → ((files : Files) → AreFiles told (name ∷ second ∷ []) files → IfOk result (λ answer. IsBenchAnswer request files (run_of answer) (text_of answer)))
+        → IfOk result (λ answer. answer_status answer ≤ 1) → IfOk result HasText
         → (IsErrOf result stop.ReadFault → Rose (faults_middle second) (faults_now second)) → OthersStay left_middle left_now second → Promised result
     second_judged (Ok answer) taken fell row low has_text rose more = record {
       lawful = λ files h. row files (files_are files h);
-      status = status_is (status_of answer) (low_status (status_of answer) low);
+      status = status_is (answer_status answer) (low_status (answer_status answer) low);
       low = omega (arith, low);
       has_text = has_text;
       read_fault = λ e. absurd (cc);
       untouched = λ other free. two_files more other
-          (subst (λ (names : List (List ℕ)). list_any (bytes_eq other) names ≡ false) (both_touched (status_of answer) (name ∷ second ∷ []) low) (free_at (status_of answer) other free));
+          (subst (λ (names : List (List ℕ)). list_any (bytes_eq other) names ≡ false) (both_touched (answer_status answer) (name ∷ second ∷ []) low) (free_at (answer_status answer) other free));
       uncounted = λ e. absurd (reads_two e);
     }
     second_judged (Err stop.ReadFault) taken fell row low has_text rose more = record {
@@ -101,16 +116,16 @@ module _ (request : Option Request) (name second : List ℕ) (command : IsPairCo
 
   -- the first file is refused, and the second was not opened
   pub first_refused : (answer : Answer) → IsBare (run_of answer) 3 → HasText answer
-      → ((files : Files) → AreFiles told (name ∷ second ∷ []) files → IsAnswer request files (run_of answer) (text_of answer))
+      → ((files : Files) → AreFiles told (name ∷ second ∷ []) files → IsBenchAnswer request files (run_of answer) (text_of answer))
       → Promised left_middle faults_middle (Ok answer)
   first_refused answer bare has_text row = record {
     lawful = λ files h. row files (files_are files h);
-    status = status_is (status_of answer) (subst (λ (s : ℕ). list_any (λ n. n == s) pair_statuses ≡ true) (sym bare.ends) refl);
+    status = status_is (answer_status answer) (subst (λ (s : ℕ). list_any (λ n. n == s) pair_statuses ≡ true) (sym bare.ends) refl);
     low = let three = bare.ends in omega (arith, three);
     has_text = has_text;
     read_fault = λ e. absurd (cc);
     untouched = λ other free. others other (not_first other name []
-        (subst (λ (s : ℕ). list_any (bytes_eq other) (touched_at s (name ∷ second ∷ [])) ≡ false) bare.ends (free_at (status_of answer) other free)));
+        (subst (λ (s : ℕ). list_any (bytes_eq other) (touched_at s (name ∷ second ∷ [])) ≡ false) bare.ends (free_at (answer_status answer) other free)));
     uncounted = λ e. absurd (reads_two e);
   }
 

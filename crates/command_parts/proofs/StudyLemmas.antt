@@ -1,9 +1,10 @@
 -- Commands over the study of a file, from what each part promises to what the command does.
-use Rattle.std.proofs.Common.{◌≡◌, ◌∙◌, sym, refl, subst, cond, ℕ, ◌≤◌, Bool, true, false, true≢false, List, [], ◌∷◌, Option, Result, Ok, Err, IfOk, IsErrOf, eq-eqb}
+use Rattle.std.proofs.Common.{◌≡◌, ◌∙◌, sym, refl, subst, cond, ℕ, ◌≤◌, Bool, true, false, true≢false, List, [], ◌∷◌, Option, Result, Ok, Err, IfOk, IsErrOf}
 use Rattle.std.specs.Prelude.{◌≢◌, ◌==◌, IsTrue, IsFalse}
 use Rattle.std.specs.List.{list_any}
 use Rattle.std.specs.Str.{bytes_eq}
-use Rattle.std.proofs.lemmas.Bool.{and_from, or_parts}
+use Rattle.std.proofs.lemmas.Bool.{or_parts}
+use Rattle.lists.proofs.TextLaws.{same_bytes}
 use Rattle.edge.specs.Shelf.{Files, OthersStay}
 use Rattle.edge.specs.Faults.{Rose}
 use Rattle.vocab.specs.Study.{Question}
@@ -11,22 +12,18 @@ use Rattle.words.specs.Words.{Request}
 use Rattle.answers.specs.declared.runs.Run.{Run}
 use Rattle.answers.specs.Studies.{GivesStudy, OverStudy, study_refused, study_given}
 use Rattle.answers.specs.Grounding.{OverClauses, clauses_refused, clauses_made}
-use Rattle.answers.specs.Lawful.{IsAnswer}
+use Rattle.answers.specs.Lawful.{IsBenchAnswer}
 use Rattle.answers.specs.Call.{AreFiles, are_told, none_read, at_first, files_of, statuses_of, touched_at}
 use Rattle.command_parts.specs.declared.answer.Answer.{Answer}
 use Rattle.command_parts.specs.declared.answer.Stop.{Stop}
 use Rattle.command_parts.specs.declared.answer.Stop.TheVariants as stop
 use Rattle.command_parts.specs.declared.studies.Opened.{Opened}
-use Rattle.command_parts.specs.Answers.{HasText, run_of, status_of, text_of}
+use Rattle.command_parts.specs.Answers.{HasText, run_of, answer_status, text_of}
 use Rattle.command_parts.specs.Answered.{Answers}
-use Rattle.command_parts.specs.Opened.{IsRead, Refuses}
+use Rattle.command_parts.specs.Opened.{IsStudyRead, Refuses}
 use Rattle.command_parts.proofs.AnswerLemmas.{may_want_memory}
 
 -- ---- names
-
-same_bytes : (name : List ℕ) → bytes_eq name name ≡ true
-same_bytes [] = refl
-same_bytes (c ∷ name) = and_from _ _ (eq-eqb c c refl) (same_bytes name)
 
 -- a name that is none of some is not the first of them
 pub not_first : (name other : List ℕ) (names : List (List ℕ)) → list_any (bytes_eq name) (other ∷ names) ≡ false → name ≢ other
@@ -67,14 +64,14 @@ over_low request study run text P three rest (clauses_made e p) = rest p
 -- a command reads this file alone, and its row is a study that is refused, or one of which the rest holds
 pub record IsStudyCommand (request : Option Request) (name : List ℕ) (IsRest : Question → Run → List ℕ → Type 0) : Type 0 where
   pub one : files_of request ≡ name ∷ []
-  pub into : (files : Files) (run : Run) (text : List ℕ) → OverStudy files name run text (λ study. IsRest study run text) → IsAnswer request files run text
+  pub into : (files : Files) (run : Run) (text : List ℕ) → OverStudy files name run text (λ study. IsRest study run text) → IsBenchAnswer request files run text
   pub can_refuse : IsLow request 3
   pub can_fail : IsTrue (list_any (λ n. n == 5) (statuses_of request))
   pub ends : (study : Question) (run : Run) (text : List ℕ) → IsRest study run text → IsLow request run.status
 
 -- the study as the table has it
 module _ (told : Option Files) (name : List ℕ) where
-  given : (study : Question) → IsRead told name study → (files : Files) → AreFiles told (name ∷ []) files → GivesStudy files name study
+  given : (study : Question) → IsStudyRead told name study → (files : Files) → AreFiles told (name ∷ []) files → GivesStudy files name study
   given study read files (are_told e) = record { bytes = read.bytes; holds = record { held = read.held files e; fits = read.fits }; read = read.gives }
   given study read files (none_read e) = absurd (cc)
 
@@ -99,15 +96,15 @@ module _ (request : Option Request) (name : List ℕ) (IsRest : Question → Run
   reads_one : files_of request ≡ [] → ⊥
   reads_one e = let no : name ∷ [] ≡ [] = sym command.one ∙ e in cc
 
-  ended : (answer : Answer) → IsLow request (status_of answer) → HasText answer
-      → ((files : Files) → AreFiles told (name ∷ []) files → IsAnswer request files (run_of answer) (text_of answer)) → Promised (Ok answer)
+  ended : (answer : Answer) → IsLow request (answer_status answer) → HasText answer
+      → ((files : Files) → AreFiles told (name ∷ []) files → IsBenchAnswer request files (run_of answer) (text_of answer)) → Promised (Ok answer)
   ended answer low has_text row = record {
     lawful = λ files h. row files (files_are files h);
     status = low.0;
     low = low.1;
     has_text = has_text;
     read_fault = λ e. absurd (cc);
-    untouched = others_stay (status_of answer);
+    untouched = others_stay (answer_status answer);
     uncounted = λ e. absurd (reads_one e);
   }
 
@@ -123,7 +120,7 @@ module _ (request : Option Request) (name : List ℕ) (IsRest : Question → Run
   }
 
   -- the study was read, and the rest holds of the answer
-  pub study_answer : (study : Question) (result : Result Answer Stop) → IsRead told name study
+  pub study_answer : (study : Question) (result : Result Answer Stop) → IsStudyRead told name study
       → IfOk result (λ answer. IsRest study (run_of answer) (text_of answer)) → IfOk result HasText → result ≢ Err stop.ReadFault → Promised result
   study_answer study (Ok answer) read rest has_text none =
       ended answer (command.ends study (run_of answer) (text_of answer) rest) has_text
@@ -134,7 +131,7 @@ module _ (request : Option Request) (name : List ℕ) (IsRest : Question → Run
   -- the study is refused
   pub refused_study : (answer : Answer) → Refuses told name answer → Promised (Ok answer)
   refused_study answer refuses =
-      ended answer (low_at request 3 (status_of answer) refuses.bare.ends command.can_refuse) refuses.has_text
+      ended answer (low_at request 3 (answer_status answer) refuses.bare.ends command.can_refuse) refuses.has_text
       (λ files h. command.into files (run_of answer) (text_of answer) (refusal told name answer (λ study. IsRest study (run_of answer) (text_of answer)) refuses files h))
 
   -- or could not be read

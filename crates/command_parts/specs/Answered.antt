@@ -3,16 +3,16 @@ use Rattle.std.specs.Prelude.{◌≡◌, ℕ, ◌==◌, ◌≤◌, List, [], Opt
 use Rattle.std.specs.List.{list_any}
 use Rattle.edge.specs.Shelf.{Files}
 use Rattle.words.specs.Words.{Request}
-use Rattle.answers.specs.Lawful.{IsAnswer}
+use Rattle.answers.specs.Lawful.{IsBenchAnswer}
 use Rattle.answers.specs.Call.{AreFiles, AreUntouched, HasReadCause, files_of, statuses_of}
 use Rattle.command_parts.specs.declared.answer.Answer.{Answer}
 use Rattle.command_parts.specs.declared.answer.Stop.{Stop}
 use Rattle.command_parts.specs.declared.answer.Stop.TheVariants as stop
-use Rattle.command_parts.specs.Answers.{HasText, run_of, status_of, text_of}
+use Rattle.command_parts.specs.Answers.{HasText, run_of, answer_status, text_of}
 
 -- the status of a result
 abbrev pub ended_with : Result Answer Stop → ℕ
-ended_with (Ok answer) = status_of answer
+ended_with (Ok answer) = answer_status answer
 ended_with (Err stop.ReadFault) = 5
 ended_with (Err stop.NoMemory) = 7
 
@@ -21,9 +21,9 @@ ended_with (Err stop.NoMemory) = 7
 pub record Answers (request : Option Request) (told : Option Files) (left_before left_now : Files)
     (faults_before faults_now : List ℕ → ℕ) (result : Result Answer Stop) : Type 0 where
   pub lawful : (files : Files) → AreFiles told (files_of request) files
-      → IfOk result (λ answer. IsAnswer request files (run_of answer) (text_of answer))
+      → IfOk result (λ answer. IsBenchAnswer request files (run_of answer) (text_of answer))
   pub status : IsTrue (list_any (λ s. s == ended_with result) (statuses_of request))
-  pub low : IfOk result (λ answer. status_of answer ≤ 4)
+  pub low : IfOk result (λ answer. answer_status answer ≤ 4)
   pub has_text : IfOk result HasText
   pub read_fault : IsErrOf result stop.ReadFault
       → HasReadCause request told left_before left_now faults_before faults_now (files_of request)

@@ -53,39 +53,39 @@ sharp_status (sharp.Faulty line word) = 1
 sharp_status sharp.TooLong = 1
 
 -- what a text is worth that was judged
-abbrev pub judged_status : JudgedWorth → ℕ
-judged_status (judged.Report worth) = worth_status worth
-judged_status (judged.Sharp worth) = sharp_status worth
+abbrev pub judged_worth_status : JudgedWorth → ℕ
+judged_worth_status (judged.Report worth) = worth_status worth
+judged_worth_status (judged.Sharp worth) = sharp_status worth
 
 -- the report of a verdict: 4 where the search spent its limit
 abbrev pub report_status : Verdict → ℕ
 report_status Undecided = 4
 report_status verdict = 0
 
-abbrev pub status_of : Answer → ℕ
-status_of answer.Usage = 2
-status_of answer.LongStudy = 3
-status_of (answer.NoStudy fault) = 3
-status_of (answer.NoClauses study fault) = 3
-status_of (answer.Report study verdict logs) = report_status verdict
-status_of (answer.OverTotal counts) = 3
-status_of (answer.Sharp study sharp logs) = 0
-status_of (answer.Judged worth) = judged_status worth
-status_of answer.OtherKind = 3
-status_of answer.NoRule = 0
-status_of answer.NoGain = 0
-status_of (answer.Gain words) = 0
-status_of (answer.Clauses size variables clauses) = 0
-status_of (answer.Refutation lines) = 0
-status_of (answer.Claim verdict logs) = report_status verdict
-status_of answer.LongCnf = 3
-status_of (answer.NoCnf fault) = 3
-status_of answer.LongProof = 1
-status_of (answer.NoProof fault) = 1
-status_of (answer.BadProof line fault) = 1
-status_of answer.GoodProof = 0
-status_of (answer.Library kind) = 0
-status_of (answer.Summary number study clauses verdict logs) = report_status verdict
+abbrev pub answer_status : Answer → ℕ
+answer_status answer.Usage = 2
+answer_status answer.LongStudy = 3
+answer_status (answer.NoStudy fault) = 3
+answer_status (answer.NoClauses study fault) = 3
+answer_status (answer.Report study verdict logs) = report_status verdict
+answer_status (answer.OverTotal counts) = 3
+answer_status (answer.Sharp study sharp logs) = 0
+answer_status (answer.Judged worth) = judged_worth_status worth
+answer_status answer.OtherKind = 3
+answer_status answer.NoRule = 0
+answer_status answer.NoGain = 0
+answer_status (answer.Gain words) = 0
+answer_status (answer.Clauses size variables clauses) = 0
+answer_status (answer.Refutation lines) = 0
+answer_status (answer.Claim verdict logs) = report_status verdict
+answer_status answer.LongCnf = 3
+answer_status (answer.NoCnf fault) = 3
+answer_status answer.LongProof = 1
+answer_status (answer.NoProof fault) = 1
+answer_status (answer.BadProof line fault) = 1
+answer_status answer.GoodProof = 0
+answer_status (answer.Library kind) = 0
+answer_status (answer.Summary number study clauses verdict logs) = report_status verdict
 
 -- what its search found, where it tells of one
 abbrev pub verdict_of : Answer → Option Verdict
@@ -108,7 +108,7 @@ logs_of (answer.Summary number study clauses verdict logs) = logs
 logs_of a = []
 
 abbrev pub run_of : Answer → Run
-run_of a = record { status = status_of a; verdict = verdict_of a; logs = logs_of a; sharp = sharp_of a }
+run_of a = record { status = answer_status a; verdict = verdict_of a; logs = logs_of a; sharp = sharp_of a }
 
 abbrev pub text_of : Answer → List ℕ
 text_of answer.Usage = usage_line

@@ -12,7 +12,7 @@ use Rattle.command_parts.specs.declared.studies.Opened.TheVariants as opened
 use Rattle.command_parts.specs.Answers.{HasText, run_of, text_of}
 
 -- bytes within the limit give the study; where the shelf tells its files, they are those of this name
-pub record IsRead (told : Option Files) (name : List ℕ) (study : Question) : Type 0 where
+pub record IsStudyRead (told : Option Files) (name : List ℕ) (study : Question) : Type 0 where
   pub bytes : List ℕ
   pub fits : length bytes ≤ most_study_bytes
   pub gives : IsStudyOf bytes (Ok study)
@@ -26,5 +26,5 @@ pub record Refuses (told : Option Files) (name : List ℕ) (answer : Answer) : T
 
 -- a study was read, or it is refused
 abbrev pub IsOpened : Option Files → List ℕ → Opened → Type 0
-IsOpened told name (opened.Study study) = IsRead told name study
+IsOpened told name (opened.Study study) = IsStudyRead told name study
 IsOpened told name (opened.Refused answer) = Refuses told name answer

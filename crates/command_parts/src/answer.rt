@@ -6,7 +6,7 @@ ghost use Rattle.texts.specs.Page.{Pours};
 ghost use Rattle.sharp_verdicts.specs.Right.{pointed};
 ghost use Rattle.sharp_verdicts.specs.SharpLines.{sharp_text};
 ghost use Rattle.sharp_text.specs.Conditions.{has_sharp_text};
-ghost use Rattle.command_parts.specs.Answers.{HasText, judged_status, report_status, run_of, sharp_status, text_of, worth_status};
+ghost use Rattle.command_parts.specs.Answers.{HasText, judged_worth_status, report_status, run_of, sharp_status, text_of, worth_status};
 
 use answer_text::{
     ClaimLine, CnfLine, GainLine, GainWords, GroundLine, JudgedLine, LibraryLines, LratLine,
@@ -140,8 +140,8 @@ fn sharp_status(worth: &SharpWorth) -> u8
 }
 
 /// The status of what a text is worth that was judged.
-fn judged_status(worth: &JudgedWorth) -> u8
-    ensures { result ≡ judged_status worth.now }
+fn judged_worth_status(worth: &JudgedWorth) -> u8
+    ensures { result ≡ judged_worth_status worth.now }
 {
     match worth {
         JudgedWorth::Report(report) => worth_status(report),
@@ -180,7 +180,7 @@ impl Answer {
                 logs,
                 sharp: Some(sharp),
             },
-            Answer::Judged(worth) => Run::bare(alloc, judged_status(&worth)),
+            Answer::Judged(worth) => Run::bare(alloc, judged_worth_status(&worth)),
             Answer::OtherKind => Run::bare(alloc, 3),
             Answer::NoRule => Run::bare(alloc, 0),
             Answer::NoGain => Run::bare(alloc, 0),

@@ -4,7 +4,7 @@ ghost use Rattle.std.specs.Prelude.{◌≡◌, None, IfOk, IfErr};
 ghost use Rattle.clause_form.specs.Refusals.{IsRefused};
 ghost use Rattle.meaning.specs.StudyClauses.{study_clauses};
 ghost use Rattle.search_logs.specs.Spent.{all_places};
-ghost use Rattle.answers.specs.Grounding.{fault_of};
+ghost use Rattle.answers.specs.Grounding.{clauses_fault};
 
 use clause_form::{Ground, GroundFault};
 use crew::Crew;
@@ -28,8 +28,8 @@ pub fn ground_all<R: Threads + Sync, K: OutcomeKind, G: Gate>(
     requires size { study.now.size ≡ K.size kind.now }
     ensures clauses { IfOk result (λ made. made ≡
         study_clauses study.now.size study.now.axioms (all_places study.now)) }
-    ensures none { IfOk result (λ made. fault_of study.now ≡ None) }
-    ensures fault { IfErr result (λ fault. IsRefused fault (fault_of study.now)) }
+    ensures none { IfOk result (λ made. clauses_fault study.now ≡ None) }
+    ensures fault { IfErr result (λ fault. IsRefused fault (clauses_fault study.now)) }
 {
     let Ok(all) = all_places(alloc, study) else {
         return Err(GroundFault::NoMemory);
@@ -45,8 +45,8 @@ pub fn ground_study<R: Threads + Sync, G: Gate>(
 ) -> Result<Ground, GroundFault>
     ensures clauses { IfOk result (λ made. made ≡
         study_clauses study.now.size study.now.axioms (all_places study.now)) }
-    ensures none { IfOk result (λ made. fault_of study.now ≡ None) }
-    ensures fault { IfErr result (λ fault. IsRefused fault (fault_of study.now)) }
+    ensures none { IfOk result (λ made. clauses_fault study.now ≡ None) }
+    ensures fault { IfErr result (λ fault. IsRefused fault (clauses_fault study.now)) }
 {
     over_kind!(study.size(), kind, ground_all(alloc, crew, &kind, study))
 }

@@ -5,11 +5,12 @@ use Rattle.std.specs.List.{list_all, AllByRecursion}
 use Rattle.std.proofs.lemmas.Bool.{and_parts, and_from, or_cases, or_from, or_parts, both_ways, false_from_ne_true}
 use Rattle.vocab.specs.Study.{Question}
 use Rattle.meaning.specs.Truth.{is_rule, is_axiom_true}
+use Rattle.search_logs.proofs.PlaceLaws.{each_member}
 use Rattle.axiom_sets.specs.declared.maps.AxiomMap.{AxiomMap}
 use Rattle.axiom_sets.specs.Sets.{is_within, has_part, has_whole}
 use Rattle.axiom_sets.specs.Maps.{decides, covers, IsPut, HasImpossible, HasPossible, HasOpen}
-use Rattle.axiom_sets.proofs.SetLaws.{each_kept, each_member, each_put, member_passes, part_on, whole_on, within_member}
-use Rattle.core_maps.specs.CoreMaps.{HasRule, HasNoRule, IsOpen, IsRight}
+use Rattle.axiom_sets.proofs.SetLaws.{each_kept, each_put, part_on, whole_on, within_member}
+use Rattle.core_maps.specs.CoreMaps.{HasRule, IsImpossibleSet, IsOpen, IsRight}
 use Rattle.core_maps.specs.Asking.{IsCoreOf, IsWider}
 
 -- ---- lists of sets
@@ -34,14 +35,14 @@ module _ (study : Question) where
       let e = and_parts (is_rule study.size r.0) (list_all test set) r.1 in
       (r.0, and_from (is_rule study.size r.0) (list_all test part) e.0 (each_member test part (λ c m. member_passes test set c e.1 (within_member part set c h m))))
 
-  pub none_of_more : (part set : List ℕ) → is_within part set ≡ true → HasNoRule study part → HasNoRule study set
+  pub none_of_more : (part set : List ℕ) → is_within part set ≡ true → IsImpossibleSet study part → IsImpossibleSet study set
   none_of_more part set h no_rule table sat = let r = rule_of_part part set h (table, sat) in no_rule r.0 r.1
 
   pub rule_of_whole : (sets : List (List ℕ)) → AllByRecursion (HasRule study) sets → (set : List ℕ) → has_whole sets set ≡ true → HasRule study set
   rule_of_whole [] h set e = absurd (true≢false (sym e))
   rule_of_whole (s ∷ sets) h set e = elim (or_cases (is_within set s) (has_whole sets set) e) [ inl f ↦ rule_of_part set s f h.0 | inr f ↦ rule_of_whole sets h.1 set f ]
 
-  pub none_of_part : (sets : List (List ℕ)) → AllByRecursion (HasNoRule study) sets → (set : List ℕ) → has_part sets set ≡ true → HasNoRule study set
+  pub none_of_part : (sets : List (List ℕ)) → AllByRecursion (IsImpossibleSet study) sets → (set : List ℕ) → has_part sets set ≡ true → IsImpossibleSet study set
   none_of_part [] h set e = absurd (true≢false (sym e))
   none_of_part (s ∷ sets) h set e = elim (or_cases (is_within s set) (has_part sets set) e) [ inl f ↦ none_of_more s set f h.0 | inr f ↦ none_of_part sets h.1 set f ]
 
@@ -75,23 +76,23 @@ module _ (study : Question) where
 
   -- ---- one set more
 
-  pub right_impossible : (old new : AxiomMap) (set : List ℕ) → IsRight study old → HasImpossible old new set → HasNoRule study set → IsRight study new
+  pub right_impossible : (old new : AxiomMap) (set : List ℕ) → IsRight study old → HasImpossible old new set → IsImpossibleSet study set → IsRight study new
   right_impossible old new set h has is = record {
-    impossible = all_put (HasNoRule study) old.impossible new.impossible _ set has.impossible h.impossible is;
+    impossible = all_put (IsImpossibleSet study) old.impossible new.impossible _ set has.impossible h.impossible is;
     possible = subst (AllByRecursion (HasRule study)) (sym has.possible) h.possible;
     open_sets = subst (AllByRecursion (IsOpen study)) (sym has.open_sets) (each_kept (IsOpen study) _ old.open h.open_sets);
   }
 
   pub right_possible : (old new : AxiomMap) (set : List ℕ) → IsRight study old → HasPossible old new set → HasRule study set → IsRight study new
   right_possible old new set h has is = record {
-    impossible = subst (AllByRecursion (HasNoRule study)) (sym has.impossible) h.impossible;
+    impossible = subst (AllByRecursion (IsImpossibleSet study)) (sym has.impossible) h.impossible;
     possible = all_put (HasRule study) old.possible new.possible _ set has.possible h.possible is;
     open_sets = subst (AllByRecursion (IsOpen study)) (sym has.open_sets) (each_kept (IsOpen study) _ old.open h.open_sets);
   }
 
   pub right_open : (old new : AxiomMap) (set : List ℕ) → IsRight study old → HasOpen old new set → IsOpen study set → IsRight study new
   right_open old new set h has is = record {
-    impossible = subst (AllByRecursion (HasNoRule study)) (sym has.impossible) h.impossible;
+    impossible = subst (AllByRecursion (IsImpossibleSet study)) (sym has.impossible) h.impossible;
     possible = subst (AllByRecursion (HasRule study)) (sym has.possible) h.possible;
     open_sets = all_put (IsOpen study) old.open new.open _ set has.open_sets h.open_sets is;
   }

@@ -15,7 +15,7 @@ use Rattle.core_reduce.specs.Reducing.{others}
 use Rattle.core_reduce.proofs.CoreLaws.{core-filter, others_lack}
 use Rattle.core_maps.specs.declared.answers.CoreMap.{CoreMap}
 use Rattle.core_maps.specs.declared.answers.Ending.TheVariants.{Whole}
-use Rattle.core_maps.specs.CoreMaps.{HasRule, HasNoRule, IsOpen, IsMapping, EndsWith}
+use Rattle.core_maps.specs.CoreMaps.{HasRule, IsImpossibleSet, IsOpen, IsMapping, MapEndsAs}
 use Rattle.core_maps.proofs.SetLaws.{others_within}
 use Rattle.core_maps.proofs.KnownLaws.{none_of_part, rule_of_whole}
 
@@ -81,7 +81,7 @@ module _ (study : Question) (map : CoreMap) (is : IsMapping study map) where
   -- ---- the laws
 
   covered : map.ending ≡ Whole → (set : List ℕ) → is_set (length study.axioms) set ≡ true → covers map.sets set ≡ true
-  covered whole = subst (EndsWith study map.sets) whole is.ends
+  covered whole = subst (MapEndsAs study map.sets) whole is.ends
 
   known : map.ending ≡ Whole → (set : List ℕ) → is_set (length study.axioms) set ≡ true
       → (has_part map.sets.impossible set ≡ true) ⊎ ((has_whole map.sets.possible set ≡ true) ⊎ (has_part map.sets.open set ≡ true))
@@ -101,10 +101,10 @@ module _ (study : Question) (map : CoreMap) (is : IsMapping study map) where
       ])
       is.tidy.impossible (no_parts map.sets.impossible is.tidy.least)
 
-  pub largest : map.ending ≡ Whole → AllByRecursion (λ set. (more : List ℕ) (k : ℕ) → IsTrue (is_set (length study.axioms) more) → IsTrue (is_within set more) → IsTrue (has_place more k) → has_place set k ≡ false → HasNoRule study more ⊎ IsTrue (has_part map.sets.open more)) map.sets.possible
+  pub largest : map.ending ≡ Whole → AllByRecursion (λ set. (more : List ℕ) (k : ℕ) → IsTrue (is_set (length study.axioms) more) → IsTrue (is_within set more) → IsTrue (has_place more k) → has_place set k ≡ false → IsImpossibleSet study more ⊎ IsTrue (has_part map.sets.open more)) map.sets.possible
   largest whole =
       all_with (HasNoWhole map.sets.possible)
-      (λ set. (more : List ℕ) (k : ℕ) → IsTrue (is_set (length study.axioms) more) → IsTrue (is_within set more) → IsTrue (has_place more k) → has_place set k ≡ false → HasNoRule study more ⊎ IsTrue (has_part map.sets.open more))
+      (λ set. (more : List ℕ) (k : ℕ) → IsTrue (is_set (length study.axioms) more) → IsTrue (is_within set more) → IsTrue (has_place more k) → has_place set k ≡ false → IsImpossibleSet study more ⊎ IsTrue (has_part map.sets.open more))
       (is_set (length study.axioms)) map.sets.possible
       (λ set in_study p more k is_more w m l.
       elim (known whole more is_more) [
@@ -114,7 +114,7 @@ module _ (study : Question) (map : CoreMap) (is : IsMapping study map) where
       is.tidy.possible (no_wholes map.sets.possible is.tidy.largest)
 
   pub decided : map.ending ≡ Whole → map.sets.open ≡ [] → (set : List ℕ) → IsTrue (is_set (length study.axioms) set)
-      → (HasRule study set ↔ IsTrue (has_whole map.sets.possible set)) × (HasNoRule study set ↔ IsTrue (has_part map.sets.impossible set))
+      → (HasRule study set ↔ IsTrue (has_whole map.sets.possible set)) × (IsImpossibleSet study set ↔ IsTrue (has_part map.sets.impossible set))
   decided whole none set h =
       let either : (has_part map.sets.impossible set ≡ true) ⊎ (has_whole map.sets.possible set ≡ true) =
       elim (known whole set h) [

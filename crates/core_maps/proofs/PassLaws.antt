@@ -11,14 +11,14 @@ use Rattle.meaning.specs.Laws.{clauses_for}
 use Rattle.meaning.specs.Space.{below}
 use Rattle.meaning.specs.StudyClauses.{Sourced, study_clauses}
 use Rattle.meaning.proofs.RuleLaws.{are_satisfiable}
+use Rattle.meaning.proofs.CoreLaws.{core_in_range}
 use Rattle.clause_form.specs.Cited.{is_of_axiom}
 use Rattle.clause_form.specs.Sources.{clauses_in, is_of, is_left}
 use Rattle.clause_form.proofs.RestLaws.{rest_is_ground}
 use Rattle.search_logs.specs.Spent.{has_place, all_places}
-use Rattle.search_logs.proofs.PlaceLaws.{core_below}
+use Rattle.search_logs.proofs.PlaceLaws.{core_below, each_member, member_passes}
 use Rattle.axiom_sets.specs.Sets.{is_set}
-use Rattle.core_reduce.proofs.CoreLaws.{core-filter, core_in_range, each_member}
-use Rattle.core_reduce.proofs.FinishLaws.{member_passes}
+use Rattle.core_reduce.proofs.CoreLaws.{core-filter}
 use Rattle.core_maps.specs.Asking.{is_whole_true, IsWider}
 use Rattle.core_maps.proofs.SetLaws.{filter_set, in_below, in_filter, same_below}
 

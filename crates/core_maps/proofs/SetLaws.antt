@@ -2,18 +2,19 @@
 use Rattle.std.proofs.Common.{◌≡◌, refl, sym, ◌∙◌, ap, ap₂, subst, ℕ, zero, suc, ◌+◌, ◌<◌, ◌≤◌, Bool, true, false, not, ◌&&◌, ◌||◌, ◌⊎◌, inl, inr, cond, List, [], ◌∷◌, filter, length, arith, eqb-true, eq-eqb, true≢false, ltb-true, ltb-false, lt-ltb}
 use Rattle.std.specs.Prelude.{◌==◌, nat_lt, slice_index}
 use Rattle.std.proofs.lemmas.Bool.{and_parts, and_from, or_cases, or_left, or_right, or_from, not-true, ne_eqb, le-ltb, cases_eq}
+use Rattle.lists.proofs.TestLaws.{all_kept}
 use Rattle.meaning.specs.Cores.{is_core_from}
 use Rattle.meaning.specs.Space.{up_from, below}
 use Rattle.search_logs.specs.Spent.{has_place}
 use Rattle.axiom_sets.specs.Sets.{is_set, is_within}
 use Rattle.axiom_sets.proofs.SetLaws.{within_self}
 use Rattle.core_reduce.specs.Reducing.{others}
-use Rattle.core_reduce.proofs.CoreLaws.{all-filter, length-filter-le}
+use Rattle.core_reduce.proofs.CoreLaws.{length-filter-le}
 
 -- ---- a set without one of its axioms
 
 pub others_within : (k : ℕ) (set : List ℕ) → is_within (others k set) set ≡ true
-others_within k set = all-filter (has_place set) (λ c. not (c == k)) set (within_self set)
+others_within k set = all_kept (has_place set) (λ c. not (c == k)) set (within_self set)
 
 -- without an axiom that it has, a set is shorter
 pub others_shorter : (part : List ℕ) (at : ℕ) → at < length part → length (others (slice_index part at) part) < length part

@@ -13,7 +13,7 @@ use Rattle.core_maps.specs.declared.asking.Tried.{Tried}
 use Rattle.core_maps.specs.declared.asking.Tried.TheVariants as tried
 use Rattle.core_maps.specs.declared.seeking.Sought.{Sought}
 use Rattle.core_maps.specs.declared.seeking.Sought.TheVariants as sought
-use Rattle.core_maps.specs.CoreMaps.{HasRule, HasNoRule, IsOpen}
+use Rattle.core_maps.specs.CoreMaps.{HasRule, IsImpossibleSet, IsOpen}
 
 -- each clause of an axiom is true under an assignment
 abbrev pub is_whole_true : (ℕ → Bool) → List Sourced → ℕ → Bool
@@ -26,7 +26,7 @@ module _ (study : Question) (set : List ℕ) where
 
   -- no rule satisfies a set of axioms that lies within this one
   abbrev pub IsCoreOf : List ℕ → Type 0
-  IsCoreOf core = IsTrue (is_set (length study.axioms) core) × IsTrue (is_within core set) × HasNoRule study core
+  IsCoreOf core = IsTrue (is_set (length study.axioms) core) × IsTrue (is_within core set) × IsImpossibleSet study core
 
   -- what a search over the clauses of the set came to
   abbrev pub IsSought : Sought → Type 0

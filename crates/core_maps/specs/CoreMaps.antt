@@ -21,8 +21,8 @@ module _ (study : Question) where
   HasRule set = (table : List ℕ) × IsTrue (satisfies study.size study.axioms set table)
 
   -- no rule of the size satisfies all axioms of a set
-  abbrev pub HasNoRule : List ℕ → Type 0
-  HasNoRule set = (table : List ℕ) → ¬ IsTrue (satisfies study.size study.axioms set table)
+  abbrev pub IsImpossibleSet : List ℕ → Type 0
+  IsImpossibleSet set = (table : List ℕ) → ¬ IsTrue (satisfies study.size study.axioms set table)
 
   -- a search over the clauses of the axioms of a set spent the study's limit
   abbrev pub IsOpen : List ℕ → Type 0
@@ -30,17 +30,17 @@ module _ (study : Question) where
 
   -- what a map says of its sets is right
   pub record IsRight (sets : AxiomMap) : Type 0 where
-    pub impossible : AllByRecursion HasNoRule sets.impossible
+    pub impossible : AllByRecursion IsImpossibleSet sets.impossible
     pub possible : AllByRecursion HasRule sets.possible
     pub open_sets : AllByRecursion IsOpen sets.open
 
   -- how a map ends: it covers each set of the study's axioms; or the search for one that it does not cover was cut short
-  abbrev pub EndsWith : AxiomMap → Ending → Type 0
-  EndsWith sets Whole = (set : List ℕ) → IsTrue (is_set (length study.axioms) set) → IsTrue (covers sets set)
-  EndsWith sets Cut = IsCutShort (length study.axioms) sets
+  abbrev pub MapEndsAs : AxiomMap → Ending → Type 0
+  MapEndsAs sets Whole = (set : List ℕ) → IsTrue (is_set (length study.axioms) set) → IsTrue (covers sets set)
+  MapEndsAs sets Cut = IsCutShort (length study.axioms) sets
 
   -- a map of a study: its sets are tidy, what it says of them is right, and it ends so
   pub record IsMapping (map : CoreMap) : Type 0 where
     pub tidy : IsTidy (length study.axioms) map.sets
     pub right : IsRight map.sets
-    pub ends : EndsWith map.sets map.ending
+    pub ends : MapEndsAs map.sets map.ending

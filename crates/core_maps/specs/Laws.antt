@@ -8,7 +8,7 @@ use Rattle.axiom_sets.specs.Sets.{is_set, is_within, has_part, has_whole}
 use Rattle.core_reduce.specs.Reducing.{others}
 use Rattle.core_maps.specs.declared.answers.CoreMap.{CoreMap}
 use Rattle.core_maps.specs.declared.answers.Ending.TheVariants.{Whole}
-use Rattle.core_maps.specs.CoreMaps.{HasRule, HasNoRule, IsMapping}
+use Rattle.core_maps.specs.CoreMaps.{HasRule, IsImpossibleSet, IsMapping}
 
 -- of each impossible set of a map that is whole, each set with one axiom less has a rule, or an open set lies within it
 abbrev pub ImpossibleAreMinimal : Type 0
@@ -19,13 +19,13 @@ ImpossibleAreMinimal = (study : Question) (map : CoreMap) → IsMapping study ma
 abbrev pub PossibleAreLargest : Type 0
 PossibleAreLargest = (study : Question) (map : CoreMap) → IsMapping study map → map.ending ≡ Whole →
     AllByRecursion (λ set. (more : List ℕ) (k : ℕ) → IsTrue (is_set (length study.axioms) more) → IsTrue (is_within set more) → IsTrue (has_place more k) → IsFalse (has_place set k) →
-    HasNoRule study more ⊎ IsTrue (has_part map.sets.open more)) map.sets.possible
+    IsImpossibleSet study more ⊎ IsTrue (has_part map.sets.open more)) map.sets.possible
 
 -- a map that is whole and has no open set decides each set of the study's axioms: some rule satisfies it exactly where it lies within a possible one, and none does exactly where an impossible one lies within it
 abbrev pub MapsDecide : Type 0
 MapsDecide = (study : Question) (map : CoreMap) → IsMapping study map → map.ending ≡ Whole → map.sets.open ≡ [] →
     (set : List ℕ) → IsTrue (is_set (length study.axioms) set) →
-    (HasRule study set ↔ IsTrue (has_whole map.sets.possible set)) × (HasNoRule study set ↔ IsTrue (has_part map.sets.impossible set))
+    (HasRule study set ↔ IsTrue (has_whole map.sets.possible set)) × (IsImpossibleSet study set ↔ IsTrue (has_part map.sets.impossible set))
 
 -- where the limit is at least 3 to the number of variables, a map has no open set
 abbrev pub EnoughLeavesNone : Type 0

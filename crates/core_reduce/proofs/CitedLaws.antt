@@ -1,9 +1,9 @@
 -- What a trimmed derivation cites is what it needs.
-use Rattle.std.proofs.Common.{◌≡◌, refl, sym, ◌∙◌, ap, ap₂, subst, ℕ, zero, suc, ◌<◌, ◌≤◌, Bool, true, ◌&&◌, ◌⊎◌, inl, inr, List, [], ◌∷◌, map, filter, length, arith, Some, eqb-true, eq-eqb, true≢false}
+use Rattle.std.proofs.Common.{◌≡◌, refl, sym, ◌∙◌, ap, ap₂, subst, ℕ, zero, suc, ◌<◌, ◌≤◌, Bool, true, ◌&&◌, inl, inr, List, [], ◌∷◌, map, filter, length, arith, Some, eqb-true, eq-eqb, true≢false}
 use Rattle.std.specs.Prelude.{◌==◌, slice_get}
 use Rattle.std.specs.List.{list_all, list_any}
 use Rattle.std.proofs.lemmas.List.{length-map}
-use Rattle.std.proofs.lemmas.Bool.{and_from, or_cases, or_left, or_right}
+use Rattle.std.proofs.lemmas.Bool.{and_from, or_cases, or_left, or_right, cases_lt}
 use Rattle.cnf.specs.declared.derivations.Line.{Line}
 use Rattle.cnf.specs.declared.derivations.Step.{Step}
 use Rattle.cnf.specs.declared.derivations.Step.TheVariants.{Add, Drop}
@@ -128,11 +128,6 @@ flag_beyond [] a h = refl
 flag_beyond (b ∷ gone) zero h = absurd (omega arith)
 flag_beyond (b ∷ gone) (suc a) h = flag_beyond gone a (omega (arith, h))
 
-le_or : (n m : ℕ) → (n < m) ⊎ (m ≤ n)
-le_or n zero = inr (omega arith)
-le_or zero (suc m) = inl (omega arith)
-le_or (suc n) (suc m) = elim (le_or n m) [ inl a ↦ inl (omega (arith, a)) | inr a ↦ inr (omega (arith, a)) ]
-
 pub is_focus : (sources : List Sourced) (given : List Line) (count : ℕ) (trimmed : List Line) (clauses : List Clause) (f : Focus) → clauses_in sources ≡ clauses →
     is_trimmed clauses trimmed ≡ true →
     ((test : Clause → Bool) → list_all (λ (line : Line). test (added_by line.step)) given ≡ true → list_all (λ (line : Line). test (added_by line.step)) trimmed ≡ true) →
@@ -158,4 +153,4 @@ is_focus sources given count trimmed clauses f same h no_new no_hint no_more siz
 }
   where
     kept : (a : ℕ) → is_axiom_cited sources trimmed a ≡ true → keeps f.gone.items a ≡ true
-    kept a e = elim (le_or a count) [ inl lt ↦ flags a lt ∙ e | inr le ↦ flag_beyond f.gone.items a (omega (arith, le, size)) ]
+    kept a e = elim (cases_lt a count) [ inl lt ↦ flags a lt ∙ e | inr le ↦ flag_beyond f.gone.items a (omega (arith, le, size)) ]

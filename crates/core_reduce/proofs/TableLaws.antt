@@ -6,8 +6,6 @@ use Rattle.std.proofs.lemmas.Bool.{and_parts}
 use Rattle.std.proofs.Math.Seq.{get_or-append_seam}
 use Rattle.std.proofs.lemmas.List.{ext_get_or, get_or_append_left}
 use Rattle.std.proofs.lemmas.List.Folds.{list_all-map, list_all-append}
-use Rattle.vocab.specs.declared.kinds.Kind.{Kind}
-use Rattle.vocab.specs.declared.kinds.Kind.TheVariants.{Choice, Ranking, Sets}
 use Rattle.vocab.specs.declared.kinds.Sort.TheVariants.{Profile}
 use Rattle.vocab.specs.Size.{Extent, sort_count, outcome_count}
 use Rattle.vocab.specs.Study.{is_sentence}
@@ -28,7 +26,6 @@ use Rattle.meaning.proofs.VariableLaws.{are_variables}
 use Rattle.outcomes.specs.Frames.{frame_clauses}
 use Rattle.outcomes.specs.OutcomeBits.{AreBitsAt}
 use Rattle.outcomes.proofs.BitLaws.{variable_in, says_one_outcome}
-use Rattle.profiles.proofs.TableLemmas.{factorial_small}
 use Rattle.core_reduce.specs.Tables.{IsTableOf}
 
 -- the variables of a profile are among all

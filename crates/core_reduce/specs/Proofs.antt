@@ -21,6 +21,6 @@ module _ (study : Question) where
   IsShown logs Undecided = Any (IsOfAll study) logs
 
   -- what was found is right, and each log is of a search that spent its limit
-  pub record IsProved (p : Proved) : Type 0 where
+  pub record IsProvedRight (p : Proved) : Type 0 where
     pub shown : IsShown p.logs p.shown
     pub logs : AreSpentLogs study p.logs

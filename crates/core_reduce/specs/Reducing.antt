@@ -19,7 +19,7 @@ use Rattle.core_reduce.specs.declared.rests.Rest.{Rest}
 use Rattle.search_logs.specs.Spent.{has_place, IsSpentLog, HasEvidence}
 use Rattle.clause_form.specs.Cited.{is_axiom_cited}
 use Rattle.core_reduce.specs.Kept.{keeps}
-use Rattle.core_reduce.specs.Moved.{place_in}
+use Rattle.core_reduce.specs.Moved.{moved_place}
 
 -- ---- leaving out
 
@@ -31,14 +31,14 @@ pub record IsRestricting (sources : List Sourced) (clauses : List Clause) (gone 
   pub small : sum_by length rest.clauses ≤ sum_by length (take k clauses)
 
 -- the flags are as before, but that the axioms which pass a test are kept
-pub record IsKeeping (old new : List Bool) (test : ℕ → Bool) : Type 0 where
+pub record KeepsPassing (old new : List Bool) (test : ℕ → Bool) : Type 0 where
   pub count : length new ≡ length old
   pub flags : (a : ℕ) → a < length old → keeps new a ≡ (keeps old a || test a)
 
 -- the new places: how many of the clauses before a place are left
-pub record AreNumbers (keep : Sourced → Bool) (sources : List Sourced) (upto : ℕ) (numbers : List ℕ) : Type 0 where
+pub record AreNewPlaces (keep : Sourced → Bool) (sources : List Sourced) (upto : ℕ) (numbers : List ℕ) : Type 0 where
   pub count : length numbers ≡ upto
-  pub places : (j : ℕ) → j < upto → slice_index numbers j ≡ place_in keep sources j
+  pub places : (j : ℕ) → j < upto → slice_index numbers j ≡ moved_place keep sources j
 
 -- the witnesses of the places that are kept
 abbrev pub kept_marks : (ℕ → Bool) → List ℕ → List Witness → List Witness
@@ -69,7 +69,7 @@ next_open r = slice_index r.core (length r.witnesses.items)
 
 module _ (study : Question) where
   -- an axiom of the core has a right witness, and its evidence
-  pub record IsMarked (logs : List SearchLog) (core : List ℕ) (k : ℕ) (w : Witness) : Type 0 where
+  pub record IsWitnessed (logs : List SearchLog) (core : List ℕ) (k : ℕ) (w : Witness) : Type 0 where
     pub witness : IsTrue (is_witness study.size study.axioms study.conflicts core k w)
     pub evidence : HasEvidence study logs core k w
 
@@ -77,7 +77,7 @@ module _ (study : Question) where
   abbrev pub AreMarked : List SearchLog → List ℕ → List ℕ → List Witness → Type 0
   AreMarked logs core places [] = Unit {0}
   AreMarked logs core [] (w ∷ witnesses) = ⊥
-  AreMarked logs core (k ∷ places) (w ∷ witnesses) = IsMarked logs core k w × AreMarked logs core places witnesses
+  AreMarked logs core (k ∷ places) (w ∷ witnesses) = IsWitnessed logs core k w × AreMarked logs core places witnesses
 
   -- the core names axioms of the study, each once and in order; its clauses and the trimmed proof over them stand; its first axioms have their witnesses; and each log is of a search that spent its limit
   pub record IsReducing (r : Reduction) : Type 0 where
@@ -90,8 +90,8 @@ module _ (study : Question) where
     pub logs : AllByRecursion (IsSpentLog study) r.logs
 
 -- whatever holds of each place of a list holds of each place of its part
-abbrev pub IsPart : List ℕ → List ℕ → Type 0
-IsPart part places = (test : ℕ → Bool) → IsTrue (list_all test places) → IsTrue (list_all test part)
+abbrev pub IsPartOf : List ℕ → List ℕ → Type 0
+IsPartOf part places = (test : ℕ → Bool) → IsTrue (list_all test places) → IsTrue (list_all test part)
 
 -- how many axioms of the core have no witness yet
 abbrev pub unmarked : Reduction → ℕ
@@ -100,7 +100,7 @@ unmarked r = length r.core - length r.witnesses.items
 -- a reduction went on: it stands, its core is a part of the core before, and fewer axioms have no witness
 pub record IsNext (study : Question) (before after : Reduction) : Type 0 where
   pub reducing : IsReducing study after
-  pub part : IsPart after.core before.core
+  pub part : IsPartOf after.core before.core
   pub fewer : unmarked after < unmarked before
 
 -- the core without one of its axioms, and the clauses of what is left

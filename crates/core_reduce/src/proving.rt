@@ -3,7 +3,7 @@
 ghost use Rattle.std.specs.Prelude.{◌≡◌, IfOk};
 ghost use Rattle.meaning.specs.StudyClauses.{study_clauses};
 ghost use Rattle.search_logs.specs.Spent.{all_places};
-ghost use Rattle.core_reduce.specs.Proofs.{IsProved};
+ghost use Rattle.core_reduce.specs.Proofs.{IsProvedRight};
 
 use crate::answers::{Proved, Shown};
 use crate::reduction::search;
@@ -27,7 +27,7 @@ pub fn prove<K: OutcomeKind>(
 ) -> Result<Proved, NoMemory>
     requires size { study.now.size ≡ K.size kind.now }
     requires clauses { clauses.now ≡ study_clauses study.now.size study.now.axioms (all_places study.now) }
-    ensures { IfOk result (IsProved study.now) }
+    ensures { IfOk result (IsProvedRight study.now) }
 {
     let all = all_places(alloc, study)?;
     match search(alloc, kind, study, &all, clauses)? {

@@ -4,7 +4,7 @@ ghost use Rattle.std.specs.Prelude.{◌≡◌, ◌<◌, ◌≤◌, ◌-◌, ◌^
 ghost use Rattle.std.specs.List.{AllByRecursion};
 ghost use Rattle.cnf.specs.Derived.{IsAccepted};
 ghost use Rattle.cnf.specs.Fresh.{AreOver, IsSpent};
-ghost use Rattle.cdcl.specs.Answer.{Answers};
+ghost use Rattle.cdcl.specs.Answer.{IsSearchAnswer};
 ghost use Rattle.meaning.specs.Laws.{clauses_for};
 ghost use Rattle.meaning.specs.StudyClauses.{study_clauses};
 ghost use Rattle.meaning.specs.Truth.{satisfies};
@@ -71,7 +71,7 @@ pub fn search<K: OutcomeKind>(
     requires size { study.now.size ≡ K.size kind.now }
     requires clauses { clauses.now ≡ study_clauses study.now.size study.now.axioms chosen.now }
     ensures { IfOk result
-        (Answers (clauses_for study.now.size study.now.axioms chosen.now)
+        (IsSearchAnswer (clauses_for study.now.size study.now.axioms chosen.now)
         (variable_count study.now.size) study.now.conflicts) }
 {
     let _chosen = chosen;

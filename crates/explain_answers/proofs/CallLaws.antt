@@ -1,5 +1,5 @@
 -- What calls come to where no device fails, and what words that are no command come to.
-use Rattle.std.proofs.Common.{◌≡◌, ◌≢◌, ◌∙◌, refl, sym, ap, subst, cond, ℕ, ◌≤◌, ◌⊎◌, inl, inr, Bool, true, false, true≢false, List, [], ◌∷◌, take, Option, None, Some, arith}
+use Rattle.std.proofs.Common.{◌≡◌, ◌≢◌, ◌∙◌, refl, sym, ap, subst, ℕ, ◌≤◌, ◌⊎◌, inl, inr, true, false, true≢false, List, [], ◌∷◌, Option, None, Some, arith}
 use Rattle.std.specs.Prelude.{◌==◌, Contains}
 use Rattle.std.specs.List.{list_any}
 use Rattle.std.specs.Str.{bytes_eq}
@@ -17,20 +17,22 @@ use Rattle.instance_text.specs.Said.{is_there}
 use Rattle.answers.specs.Call.{AreFiles, are_told, none_read, touched_at}
 use Rattle.answers.specs.Check.{judged, judged_status}
 use Rattle.answers.specs.Devices.{Devices}
-use Rattle.answers.specs.Grounding.{fault_of}
+use Rattle.answers.specs.Grounding.{clauses_fault}
 use Rattle.answers.specs.Laws.{AreQuiet}
 use Rattle.answers.specs.Studies.{GivesStudy, RefusesStudy, OverStudy, study_refused, study_given}
-use Rattle.explain_words.specs.Words.{Request, Story, Instance, Rules, Cores, Look, request_of}
+use Rattle.answers.proofs.RowLemmas.{some_same}
+use Rattle.answers.proofs.DeviceLaws.{none_of_none}
+use Rattle.explain_words.specs.Words.{ExplainRequest, Story, Instance, Rules, Cores, Look, request_of}
 use Rattle.explain_answers.specs.Story.{IsStory, bare_run}
 use Rattle.explain_answers.specs.Instance.{instance_status}
 use Rattle.explain_answers.specs.Rules.{rules_status}
 use Rattle.explain_answers.specs.Cores.{ending_status}
 use Rattle.explain_answers.specs.Look.{IsLook, long, refused, told, within}
-use Rattle.explain_answers.specs.Lawful.{IsAnswer, usage_line}
-use Rattle.explain_answers.specs.Call.{HasReadCause, IsAnswered, IsCall, at_study, at_report, files_of, statuses_of}
-use Rattle.explain_answers.specs.Completeness.{HasNoFault, IsSearchedOrWanting, CallsAreComplete, UsageIsExact, EnoughMaps}
+use Rattle.explain_answers.specs.Lawful.{IsExplanation, explain_usage}
+use Rattle.explain_answers.specs.Call.{HasCauseAtFile, IsExplained, IsExplainCall, at_study, at_report, explain_files, explain_statuses}
+use Rattle.explain_answers.specs.Completeness.{NoCountRose, IsSearchedOrWanting, ExplainCallsAreComplete, ExplainUsageIsExact, EnoughMaps}
 use Rattle.explain_answers.proofs.StatusLemmas.{among_found, few_statuses}
-use Rattle.explain_answers.proofs.PageLaws.{not_refused, some_same, told_of}
+use Rattle.explain_answers.proofs.PageLaws.{not_refused, told_of}
 use Rattle.explain_answers.proofs.InstanceLaws.{instances_exact}
 use Rattle.explain_answers.proofs.RulesLaws.{rules_exact}
 use Rattle.explain_answers.proofs.CoresLaws.{cores_exact}
@@ -70,8 +72,8 @@ look_refused files name first line text status same refuses (within bytes holds 
 look_refused files name first line text status same refuses (within bytes holds (told study gives row)) =
     absurd (not_refused files name study (record { bytes = bytes; holds = holds; read = gives }) line (subst (λ (n : List ℕ). RefusesStudy files n line) (sym same) refuses))
 
-three_refused : (request : Option Request) (files : Files) (first line text : List ℕ) (others : List (List ℕ)) (status : ℕ) → files_of request ≡ first ∷ others
-    → RefusesStudy files first line → IsAnswer request files status text → status ≡ 3
+three_refused : (request : Option ExplainRequest) (files : Files) (first line text : List ℕ) (others : List (List ℕ)) (status : ℕ) → explain_files request ≡ first ∷ others
+    → RefusesStudy files first line → IsExplanation request files status text → status ≡ 3
 three_refused None files first line text others status named refuses row = absurd (cc)
 three_refused (Some (Story study report workers)) files first line text others status named refuses row =
     over_refused files study first line text status _ (first_same study first _ others named) refuses row
@@ -90,26 +92,22 @@ by_judged files name report bytes text status study g held row =
     let is = told_of files name study g report text status row in
     is.ends ∙ ap (λ (b : List ℕ). judged_status (judged study b)) (some_same (files report) is.bytes bytes is.held held)
 
-no_read_cause : (d : Devices) (names : List (List ℕ)) → AreQuiet d names → HasReadCause d.told d.left_before d.left_now d.faults_before d.faults_now names → ⊥
+no_read_cause : (d : Devices) (names : List (List ℕ)) → AreQuiet d names → HasCauseAtFile d.told d.left_before d.left_now d.faults_before d.faults_now names → ⊥
 no_read_cause d names quiet (at_study name others is rose stay) = (subst (λ (xs : List (List ℕ)). AreQuiet d xs) is quiet).0 rose
 no_read_cause d names quiet (at_report name report is rose given) = (subst (λ (xs : List (List ℕ)). AreQuiet d xs) is quiet).1.0 rose
 
-none_of_none : (name : List ℕ) (b : Bool) → list_any (bytes_eq name) (cond b (take 1 []) []) ≡ false
-none_of_none name true = refl
-none_of_none name false = refl
-
 -- ---- calls
 
-module _ (words : List (List ℕ)) (d : Devices) (status : ℕ) (call : IsCall words d status) where
-  module _ (calm : HasNoFault words d) where
+module _ (words : List (List ℕ)) (d : Devices) (status : ℕ) (call : IsExplainCall words d status) where
+  module _ (calm : NoCountRose words d) where
     no_read_fault : status ≢ 5
-    no_read_fault five = no_read_cause d (files_of (request_of words)) calm.files (call.read_fault five)
+    no_read_fault five = no_read_cause d (explain_files (request_of words)) calm.files (call.read_fault five)
 
     no_write_fault : status ≢ 6
     no_write_fault six = calm.sink (call.write_fault six)
 
     -- the answer is lawful and was written, or memory was wanting
-    settled : (files : Files) → AreFiles d.told (files_of (request_of words)) files → IsAnswered words d files status ⊎ (status ≡ 7)
+    settled : (files : Files) → AreFiles d.told (explain_files (request_of words)) files → IsExplained words d files status ⊎ (status ≡ 7)
     settled files are = elim (cases_lt status 5) [
       | inl low ↦ inl (call.lawful files are (omega (arith, low)))
       | inr high ↦ elim (cases_lt status 6) [
@@ -121,7 +119,7 @@ module _ (words : List (List ℕ)) (d : Devices) (status : ℕ) (call : IsCall w
       ]
     ]
 
-    refused_settled : (files : Files) (name line : List ℕ) (others : List (List ℕ)) → d.told ≡ Some files → files_of (request_of words) ≡ name ∷ others
+    refused_settled : (files : Files) (name line : List ℕ) (others : List (List ℕ)) → d.told ≡ Some files → explain_files (request_of words) ≡ name ∷ others
         → RefusesStudy files name line → (status ≡ 3) ⊎ (status ≡ 7)
     refused_settled files name line others told_files named refuses = elim (settled files (are_told told_files)) [
       | inl a ↦ inl (three_refused (request_of words) files name line a.text others status named refuses a.lawful)
@@ -131,7 +129,7 @@ module _ (words : List (List ℕ)) (d : Devices) (status : ℕ) (call : IsCall w
     story_settled : (files : Files) (name report bytes : List ℕ) (workers : ℕ) (study : Question) → d.told ≡ Some files → request_of words ≡ Some (Story name report workers)
         → GivesStudy files name study → files report ≡ Some bytes → (status ≡ judged_status (judged study bytes)) ⊎ (status ≡ 7)
     story_settled files name report bytes workers study told_files asked g held = elim (settled files (are_told told_files)) [
-      | inl a ↦ inl (by_judged files name report bytes a.text status study g held (subst (λ (r : Option Request). IsAnswer r files status a.text) asked a.lawful))
+      | inl a ↦ inl (by_judged files name report bytes a.text status study g held (subst (λ (r : Option ExplainRequest). IsExplanation r files status a.text) asked a.lawful))
       | inr seven ↦ inr seven
     ]
 
@@ -143,29 +141,29 @@ module _ (words : List (List ℕ)) (d : Devices) (status : ℕ) (call : IsCall w
     ]
 
     rules_settled : (files : Files) (name : List ℕ) (most workers : ℕ) (study : Question) → d.told ≡ Some files → request_of words ≡ Some (Rules name most workers)
-        → GivesStudy files name study → fault_of study ≡ None → IsSearchedOrWanting status
+        → GivesStudy files name study → clauses_fault study ≡ None → IsSearchedOrWanting status
     rules_settled files name most workers study told_files asked g none = elim (settled files (are_told told_files)) [
       | inl a ↦ let is = rules_exact words files status most workers a.text name study a.lawful asked g none in by_ending is.list.ending status is.ends
       | inr seven ↦ inr (inr seven)
     ]
 
     cores_settled : (files : Files) (name : List ℕ) (workers : ℕ) (study : Question) → d.told ≡ Some files → request_of words ≡ Some (Cores name workers)
-        → GivesStudy files name study → fault_of study ≡ None → IsSearchedOrWanting status
+        → GivesStudy files name study → clauses_fault study ≡ None → IsSearchedOrWanting status
     cores_settled files name workers study told_files asked g none = elim (settled files (are_told told_files)) [
       | inl a ↦ let is = cores_exact words files status workers a.text name study a.lawful asked g none in by_sets is.map.ending is.map.sets.open status is.ends
       | inr seven ↦ inr (inr seven)
     ]
 
     look_settled : (files : Files) (name : List ℕ) (workers : ℕ) (study : Question) → d.told ≡ Some files → request_of words ≡ Some (Look name workers)
-        → GivesStudy files name study → fault_of study ≡ None → (status ≡ 0) ⊎ (status ≡ 7)
+        → GivesStudy files name study → clauses_fault study ≡ None → (status ≡ 0) ⊎ (status ≡ 7)
     look_settled files name workers study told_files asked g none = elim (settled files (are_told told_files)) [
       | inl a ↦ let is = (looks_exact words files status workers a.text name a.lawful asked).given study g none in inl is.ends
       | inr seven ↦ inr seven
     ]
 
     usage_settled : request_of words ≡ None → (status ≡ 2) ⊎ (status ≡ 7)
-    usage_settled asked = elim (settled (λ name. None) (none_read (subst (λ (r : Option Request). files_of r ≡ []) (sym asked) refl))) [
-      | inl a ↦ let row : IsAnswer None (λ name. None) status a.text = subst (λ (r : Option Request). IsAnswer r (λ name. None) status a.text) asked a.lawful in inl row.0
+    usage_settled asked = elim (settled (λ name. None) (none_read (subst (λ (r : Option ExplainRequest). explain_files r ≡ []) (sym asked) refl))) [
+      | inl a ↦ let row : IsExplanation None (λ name. None) status a.text = subst (λ (r : Option ExplainRequest). IsExplanation r (λ name. None) status a.text) asked a.lawful in inl row.0
       | inr seven ↦ inr seven
     ]
 
@@ -174,19 +172,19 @@ module _ (words : List (List ℕ)) (d : Devices) (status : ℕ) (call : IsCall w
   nowhere : Files
   nowhere name = None
 
-  no_files : request_of words ≡ None → files_of (request_of words) ≡ []
-  no_files asked = subst (λ (r : Option Request). files_of r ≡ []) (sym asked) refl
+  no_files : request_of words ≡ None → explain_files (request_of words) ≡ []
+  no_files asked = subst (λ (r : Option ExplainRequest). explain_files r ≡ []) (sym asked) refl
 
-  usage_row : (s : ℕ) (text : List ℕ) → request_of words ≡ None → IsAnswer (request_of words) nowhere s text → (s ≡ 2) × (text ≡ usage_line)
-  usage_row s text asked row = subst (λ (r : Option Request). IsAnswer r nowhere s text) asked row
+  usage_row : (s : ℕ) (text : List ℕ) → request_of words ≡ None → IsExplanation (request_of words) nowhere s text → (s ≡ 2) × (text ≡ explain_usage)
+  usage_row s text asked row = subst (λ (r : Option ExplainRequest). IsExplanation r nowhere s text) asked row
 
-  usage_written : request_of words ≡ None → status ≤ 4 → (status ≡ 2) × Appends d.taken_before d.taken_now usage_line
+  usage_written : request_of words ≡ None → status ≤ 4 → (status ≡ 2) × Appends d.taken_before d.taken_now explain_usage
   usage_written asked low =
       let a = call.lawful nowhere (none_read (no_files asked)) low in
       let row = usage_row status a.text asked a.lawful in
       (row.0, subst (λ (t : List ℕ). Appends d.taken_before d.taken_now t) row.1 a.written)
 
-  usage_front : request_of words ≡ None → status ≡ 6 → AppendsPrefix d.taken_before d.taken_now usage_line
+  usage_front : request_of words ≡ None → status ≡ 6 → AppendsPrefix d.taken_before d.taken_now explain_usage
   usage_front asked six =
       let a = call.cut_short nowhere (none_read (no_files asked)) six in
       subst (λ (t : List ℕ). AppendsPrefix d.taken_before d.taken_now t) (usage_row a.status a.text asked a.lawful).1 a.written
@@ -197,7 +195,7 @@ module _ (words : List (List ℕ)) (d : Devices) (status : ℕ) (call : IsCall w
       (call.untouched name free, call.uncounted (no_files asked) name)
 
 -- no command has status 2
-no_command : (request : Option Request) → list_any (λ s. s == 2) (statuses_of request) ≡ true → request ≡ None
+no_command : (request : Option ExplainRequest) → list_any (λ s. s == 2) (explain_statuses request) ≡ true → request ≡ None
 no_command None e = refl
 no_command (Some (Story study report workers)) e = absurd (true≢false (sym e))
 no_command (Some (Instance study axiom_name number)) e = absurd (true≢false (sym e))
@@ -205,13 +203,13 @@ no_command (Some (Rules study most workers)) e = absurd (true≢false (sym e))
 no_command (Some (Cores study workers)) e = absurd (true≢false (sym e))
 no_command (Some (Look study workers)) e = absurd (true≢false (sym e))
 
-usage_alone : (words : List (List ℕ)) (d : Devices) (status : ℕ) → IsCall words d status → status ≡ 2 → request_of words ≡ None
+usage_alone : (words : List (List ℕ)) (d : Devices) (status : ℕ) → IsExplainCall words d status → status ≡ 2 → request_of words ≡ None
 usage_alone words d status call two =
-    no_command (request_of words) (among_found (statuses_of (request_of words)) 2 (subst (λ (s : ℕ). Contains (statuses_of (request_of words)) s) two call.known))
+    no_command (request_of words) (among_found (explain_statuses (request_of words)) 2 (subst (λ (s : ℕ). Contains (explain_statuses (request_of words)) s) two call.known))
 
 -- ---- the laws
 
-pub calls_complete : CallsAreComplete
+pub calls_complete : ExplainCallsAreComplete
 calls_complete words d status call calm = record {
   row = settled words d status call calm;
   refused = λ files name text others told_files named refuses. refused_settled words d status call calm files name text others told_files named refuses;
@@ -225,7 +223,7 @@ calls_complete words d status call calm = record {
   no_write_fault = no_write_fault words d status call calm;
 }
 
-pub usage_exact : UsageIsExact
+pub usage_exact : ExplainUsageIsExact
 usage_exact words d status call = record {
   only = usage_alone words d status call;
   written = usage_written words d status call;

@@ -1,60 +1,49 @@
 -- Which files a call leaves alone.
-use Rattle.std.proofs.Common.{◌≡◌, ◌≢◌, ◌∙◌, refl, sym, ap₂, subst, ℕ, ◌≤◌, inl, inr, Bool, true, false, true≢false, eqb-true, List, [], ◌∷◌, Option, Some, arith}
-use Rattle.std.specs.Prelude.{◌==◌, IfSome}
+use Rattle.std.proofs.Common.{◌≡◌, ◌∙◌, refl, sym, subst, ℕ, ◌≤◌, inl, inr, false, List, [], ◌∷◌, Option, Some, arith}
+use Rattle.std.specs.Prelude.{IfSome}
 use Rattle.std.specs.List.{list_any}
 use Rattle.std.specs.Str.{bytes_eq}
-use Rattle.std.proofs.lemmas.Bool.{and_parts, cases_lt}
+use Rattle.std.proofs.lemmas.Bool.{cases_lt}
 use Rattle.edge.specs.Shelf.{Files, OthersStay}
 use Rattle.vocab.specs.Study.{Question}
-use Rattle.answers.specs.Call.{AreFiles, are_told, AreUntouched, touched_at}
+use Rattle.answers.specs.Call.{are_told, AreUntouched, touched_at}
 use Rattle.answers.specs.Devices.{Devices}
-use Rattle.answers.specs.Studies.{GivesStudy, OverStudy, study_refused, study_given}
-use Rattle.explain_words.specs.Words.{Request, Story, request_of}
+use Rattle.answers.specs.Studies.{GivesStudy, study_refused, study_given}
+use Rattle.answers.proofs.DeviceLaws.{other_name}
+use Rattle.explain_words.specs.Words.{ExplainRequest, Story, request_of}
 use Rattle.explain_answers.specs.Story.{IsStory}
-use Rattle.explain_answers.specs.Lawful.{IsAnswer}
-use Rattle.explain_answers.specs.Call.{HasReadCause, IsCall, at_study, at_report, files_of}
-use Rattle.explain_answers.specs.Completeness.{RefusedLeavesUnopened}
+use Rattle.explain_answers.specs.Lawful.{IsExplanation}
+use Rattle.explain_answers.specs.Call.{HasCauseAtFile, IsExplainCall, at_study, at_report, explain_files}
+use Rattle.explain_answers.specs.Completeness.{RefusedExplainLeavesUnopened}
 
 -- ---- names
-
-same_from_test : (name other : List ℕ) → bytes_eq name other ≡ true → name ≡ other
-same_from_test [] [] e = refl
-same_from_test [] (b ∷ other) e = absurd (true≢false (sym e))
-same_from_test (c ∷ name) [] e = absurd (true≢false (sym e))
-same_from_test (c ∷ name) (b ∷ other) e =
-    let p = and_parts (c == b) (bytes_eq name other) e in
-    ap₂ (λ (x : ℕ) (xs : List ℕ). x ∷ xs) (eqb-true c b p.0) (same_from_test name other p.1)
-
-other_name : (name other : List ℕ) (b : Bool) → bytes_eq name other ≡ b → name ≢ other → list_any (bytes_eq name) (other ∷ []) ≡ false
-other_name name other true e ne = absurd (ne (same_from_test name other e))
-other_name name other false e ne = rw e refl
 
 first_same : (name first : List ℕ) (names others : List (List ℕ)) → name ∷ names ≡ first ∷ others → name ≡ first
 first_same name first names others e = cc
 
 module _ (words : List (List ℕ)) (d : Devices) where
   -- at status 3 the first file alone may be touched
-  kept_at : (status : ℕ) (first : List ℕ) (others : List (List ℕ)) → status ≡ 3 → files_of (request_of words) ≡ first ∷ others
-      → AreUntouched status (files_of (request_of words)) d.left_before d.left_now → OthersStay d.left_before d.left_now first
+  kept_at : (status : ℕ) (first : List ℕ) (others : List (List ℕ)) → status ≡ 3 → explain_files (request_of words) ≡ first ∷ others
+      → AreUntouched status (explain_files (request_of words)) d.left_before d.left_now → OthersStay d.left_before d.left_now first
   kept_at status first others three named untouched other ne =
       untouched other
-      (subst (λ (n : ℕ). list_any (bytes_eq other) (touched_at n (files_of (request_of words))) ≡ false) (sym three)
+      (subst (λ (n : ℕ). list_any (bytes_eq other) (touched_at n (explain_files (request_of words))) ≡ false) (sym three)
       (subst (λ (names : List (List ℕ)). list_any (bytes_eq other) (touched_at 3 names) ≡ false) (sym named) (other_name other first _ refl ne)))
 
   -- `story` over a file that gives no study
   module _ (files : Files) (name report : List ℕ) (workers : ℕ) (told_files : d.told ≡ Some files) (asked : request_of words ≡ Some (Story name report workers))
       (none : ((study : Question) × GivesStudy files name study) → ⊥) where
-    named : files_of (request_of words) ≡ name ∷ report ∷ []
-    named = subst (λ (r : Option Request). files_of r ≡ name ∷ report ∷ []) (sym asked) refl
+    named : explain_files (request_of words) ≡ name ∷ report ∷ []
+    named = subst (λ (r : Option ExplainRequest). explain_files r ≡ name ∷ report ∷ []) (sym asked) refl
 
     ends_with_three : (status : ℕ) (text : List ℕ) → IsStory files name report status text → status ≡ 3
     ends_with_three status text (study_refused r bare) = bare.ends
     ends_with_three status text (study_given study g rest) = absurd (none (study, g))
 
-    three_at : (status : ℕ) (text : List ℕ) → IsAnswer (request_of words) files status text → status ≡ 3
-    three_at status text row = ends_with_three status text (subst (λ (r : Option Request). IsAnswer r files status text) asked row)
+    three_at : (status : ℕ) (text : List ℕ) → IsExplanation (request_of words) files status text → status ≡ 3
+    three_at status text row = ends_with_three status text (subst (λ (r : Option ExplainRequest). IsExplanation r files status text) asked row)
 
-    by_cause : (names : List (List ℕ)) → names ≡ name ∷ report ∷ [] → HasReadCause d.told d.left_before d.left_now d.faults_before d.faults_now names
+    by_cause : (names : List (List ℕ)) → names ≡ name ∷ report ∷ [] → HasCauseAtFile d.told d.left_before d.left_now d.faults_before d.faults_now names
         → OthersStay d.left_before d.left_now name
     by_cause names is (at_study first others first_is rose stay) =
         subst (λ (n : List ℕ). OthersStay d.left_before d.left_now n) (first_same first name others (report ∷ []) (sym first_is ∙ is)) stay
@@ -63,16 +52,16 @@ module _ (words : List (List ℕ)) (d : Devices) where
         let taken : (study : Question) × GivesStudy files first study = subst (λ (o : Option Files). IfSome o (λ f. (study : Question) × GivesStudy f first study)) told_files given in
         absurd (none (taken.0, subst (λ (n : List ℕ). GivesStudy files n taken.0) same taken.1))
 
-    left : (status : ℕ) → IsCall words d status → status ≤ 6 → OthersStay d.left_before d.left_now name
+    left : (status : ℕ) → IsExplainCall words d status → status ≤ 6 → OthersStay d.left_before d.left_now name
     left status call most = elim (cases_lt status 5) [
       | inl low ↦ let a = call.lawful files (are_told told_files) (omega (arith, low)) in kept_at status name (report ∷ []) (three_at status a.text a.lawful) named call.untouched
       | inr high ↦ elim (cases_lt status 6) [
-        | inl five ↦ by_cause (files_of (request_of words)) named (call.read_fault (omega (arith, five, high)))
+        | inl five ↦ by_cause (explain_files (request_of words)) named (call.read_fault (omega (arith, five, high)))
         | inr more ↦ let a = call.cut_short files (are_told told_files) (omega (arith, most, more)) in kept_at a.status name (report ∷ []) (three_at a.status a.text a.lawful) named a.untouched
       ]
     ]
 
-pub left_unopened : RefusedLeavesUnopened
+pub left_unopened : RefusedExplainLeavesUnopened
 left_unopened words d status call = record {
   at_three = λ three first others named. kept_at words d status first others three named call.untouched;
   at_story = λ files name report workers told_files asked none most. left words d files name report workers told_files asked none status call most;

@@ -10,22 +10,23 @@ use Rattle.study.specs.Reading.{IsStudyOf}
 use Rattle.clause_form.specs.declared.refusals.GroundFault.{GroundFault}
 use Rattle.study_help.specs.Help.{IsHelp}
 use Rattle.answers.specs.Call.{AreFiles, are_told}
-use Rattle.answers.specs.FileLimits.{most_study_bytes, Holds, HoldsTooMany}
-use Rattle.answers.specs.Grounding.{fault_of, refusal_line, OverClauses, clauses_refused, clauses_made}
+use Rattle.answers.specs.FileLimits.{most_study_bytes, HasFile, HoldsTooMany}
+use Rattle.answers.specs.Grounding.{clauses_fault, refusal_line, OverClauses, clauses_refused, clauses_made}
 use Rattle.answers.specs.StudyLines.{study_line}
 use Rattle.answers.specs.Studies.{GivesStudy, too_long, no_study}
-use Rattle.explain_words.specs.Words.{Request, request_of}
+use Rattle.answers.proofs.RowLemmas.{some_same}
+use Rattle.explain_words.specs.Words.{ExplainRequest, request_of}
 use Rattle.explain_answers.specs.Look.{IsLook, IsLooked, long, refused, told, within}
 use Rattle.explain_answers.specs.Story.{bare_run}
-use Rattle.explain_answers.specs.Lawful.{IsAnswer}
-use Rattle.explain_answers.specs.Call.{files_of}
+use Rattle.explain_answers.specs.Lawful.{IsExplanation}
+use Rattle.explain_answers.specs.Call.{explain_files}
 use Rattle.explain_answers.specs.Laws.{IsLookExact, LooksAreExact, LooksAreWritten}
 use Rattle.explain_answers.proofs.ClauseLaws.{made_of}
-use Rattle.explain_answers.proofs.PageLaws.{not_refused, one_study, some_same}
+use Rattle.explain_answers.proofs.PageLaws.{not_refused, one_study}
 
 -- ---- clauses that are refused
 
-refused_of : (study : Question) (status : ℕ) (text : List ℕ) (IsRest : Type 0) (fault : GroundFault) → fault_of study ≡ Some fault
+refused_of : (study : Question) (status : ℕ) (text : List ℕ) (IsRest : Type 0) (fault : GroundFault) → clauses_fault study ≡ Some fault
     → OverClauses study (bare_run status) text IsRest → (status ≡ 3) × (text ≡ refusal_line study fault)
 refused_of study status text IsRest fault e (clauses_refused other is line bare) =
     let both : Some other ≡ Some fault = sym is ∙ e in
@@ -36,7 +37,7 @@ refused_of study status text IsRest fault e (clauses_made none rest) = let no : 
 module _ (files : Files) (name : List ℕ) where
   -- ---- what the file holds
 
-  not_too_long : (h : HoldsTooMany files most_study_bytes name) (bytes : List ℕ) → Holds files most_study_bytes name bytes → ⊥
+  not_too_long : (h : HoldsTooMany files most_study_bytes name) (bytes : List ℕ) → HasFile files most_study_bytes name bytes → ⊥
   not_too_long h bytes holds =
       let same : length h.bytes ≡ length bytes = ap length (some_same (files name) h.bytes bytes h.held holds.held) in
       let long = h.long in
@@ -62,7 +63,7 @@ module _ (files : Files) (name : List ℕ) where
         subst (λ (q : Question). OverClauses q (bare_run status) text (IsLooked q status text))
         (one_study files name study g s (record { bytes = bytes; holds = holds; read = gives })) row
 
-    helped : (bytes : List ℕ) (fault : StudyFault) → Holds files most_study_bytes name bytes → IsStudyOf bytes (Err fault) → IsLook files name status text
+    helped : (bytes : List ℕ) (fault : StudyFault) → HasFile files most_study_bytes name bytes → IsStudyOf bytes (Err fault) → IsLook files name status text
         → (status ≡ 3) × (help : List ℕ) × IsHelp bytes fault help × (text ≡ study_line fault ++ help)
     helped bytes fault holds read (long h is ends) = absurd (not_too_long h bytes holds)
     helped bytes fault holds read (within bytes' holds' (refused fault' help bad helps is ends)) =
@@ -87,11 +88,11 @@ module _ (files : Files) (name : List ℕ) where
 
 pub looks_exact : LooksAreExact
 looks_exact words files status workers text name lawful asked =
-    exact files name status text (subst (λ (r : Option Request). IsAnswer r files status text) asked lawful)
+    exact files name status text (subst (λ (r : Option ExplainRequest). IsExplanation r files status text) asked lawful)
 
 pub looks_written : LooksAreWritten
 looks_written words d files status workers name call told_files asked low =
-    let names : AreFiles d.told (files_of (request_of words)) files = are_told told_files in
+    let names : AreFiles d.told (explain_files (request_of words)) files = are_told told_files in
     let a = call.lawful files names low in
     let row = looks_exact words files status workers a.text name a.lawful asked in
     record {

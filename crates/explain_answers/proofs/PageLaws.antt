@@ -20,15 +20,13 @@ use Rattle.answers.specs.FileLimits.{most_report_bytes}
 use Rattle.answers.specs.Studies.{GivesStudy, RefusesStudy, too_long, no_study, study_refused, study_given}
 use Rattle.answers.proofs.JudgedLaws.{report_answered, report_checked, sharp_answered, sharp_checked}
 use Rattle.answers.proofs.ReportLaws.{reportable, listed}
-use Rattle.explain_words.specs.Words.{Request, request_of}
-use Rattle.explain_answers.specs.Page.{IsPage, IsSharpPage}
+use Rattle.answers.proofs.RowLemmas.{some_same}
+use Rattle.explain_words.specs.Words.{ExplainRequest, request_of}
+use Rattle.explain_answers.specs.Page.{IsPageText, IsSharpPageText}
 use Rattle.explain_answers.specs.Story.{IsSaid, IsStory, IsToldOf, bare_run}
-use Rattle.explain_answers.specs.Lawful.{IsAnswer}
-use Rattle.explain_answers.specs.Call.{files_of}
+use Rattle.explain_answers.specs.Lawful.{IsExplanation}
+use Rattle.explain_answers.specs.Call.{explain_files}
 use Rattle.explain_answers.specs.Laws.{IsPageOf, IsPageExact, PagesAreExact, PagesAreWritten}
-
-pub some_same : {A : Type 0} (o : Option A) (x y : A) → o ≡ Some x → o ≡ Some y → x ≡ y
-some_same o x y h k = cc
 
 -- ---- a file gives one study
 
@@ -86,12 +84,12 @@ module _ (files : Files) (name report bytes : List ℕ) (study : Question) (g : 
     is : IsSaid study name report (judged study bytes) text
     is = subst (λ (b : List ℕ). IsSaid study name report (judged study b) text) same told.said
 
-    all_right : (verdict : Verdict) → IsReport study verdict bytes → length bytes ≤ most_report_bytes → (status ≡ 0) × IsPage study name report verdict text
+    all_right : (verdict : Verdict) → IsReport study verdict bytes → length bytes ≤ most_report_bytes → (status ≡ 0) × IsPageText study name report verdict text
     all_right verdict right fits =
         let e = report_checked study bytes verdict (reportable files name study g) (listed files name study g) right fits in
         (ends ∙ ap judged_status e, subst (λ (a : Judged). IsSaid study name report a text) e is)
 
-    all_sharp : (v : Pointed) → IsSharpText study v bytes → length bytes ≤ most_report_bytes → (status ≡ 0) × IsSharpPage study name report v text
+    all_sharp : (v : Pointed) → IsSharpText study v bytes → length bytes ≤ most_report_bytes → (status ≡ 0) × IsSharpPageText study name report v text
     all_sharp v right fits =
         let e = sharp_checked study bytes v (reportable files name study g) (listed files name study g) right fits in
         (ends ∙ ap judged_status e, subst (λ (a : Judged). IsSaid study name report a text) e is)
@@ -114,7 +112,7 @@ module _ (files : Files) (name report bytes : List ℕ) (study : Question) (g : 
 
 pub pages_exact : PagesAreExact
 pages_exact words files status workers text name report bytes study lawful asked g held =
-    let row : IsStory files name report status text = subst (λ (r : Option Request). IsAnswer r files status text) asked lawful in
+    let row : IsStory files name report status text = subst (λ (r : Option ExplainRequest). IsExplanation r files status text) asked lawful in
     exact files name report bytes study g held status text (told_of files name study g report text status row)
 
 pub pages_written : PagesAreWritten
@@ -122,20 +120,20 @@ pages_written words d files status workers name report bytes study call told ask
   where
     there : status ≤ 4 → (text : List ℕ) × IsPageExact files name report study bytes status text × Appends d.taken_before d.taken_now text
     there low =
-        let names : AreFiles d.told (files_of (request_of words)) files = are_told told in
+        let names : AreFiles d.told (explain_files (request_of words)) files = are_told told in
         let a = call.lawful files names low in
         (a.text, pages_exact words files status workers a.text name report bytes study a.lawful asked g held, a.written)
 
     right : status ≡ 0 → (text : List ℕ) × IsPageOf study name report bytes text × Appends d.taken_before d.taken_now text
     right zero = let t = there (omega (arith, zero)) in (t.0, t.1.right zero, t.2)
 
-    all : status ≤ 4 → (verdict : Verdict) → IsReport study verdict bytes → length bytes ≤ most_report_bytes → (status ≡ 0) × (text : List ℕ) × IsPage study name report verdict text × Appends d.taken_before d.taken_now text
+    all : status ≤ 4 → (verdict : Verdict) → IsReport study verdict bytes → length bytes ≤ most_report_bytes → (status ≡ 0) × (text : List ℕ) × IsPageText study name report verdict text × Appends d.taken_before d.taken_now text
     all low verdict report_is fits =
         let t = there low in
         let row = t.1.all verdict report_is fits in
         (row.0, t.0, row.1, t.2)
 
-    all_sharp : status ≤ 4 → (v : Pointed) → IsSharpText study v bytes → length bytes ≤ most_report_bytes → (status ≡ 0) × (text : List ℕ) × IsSharpPage study name report v text × Appends d.taken_before d.taken_now text
+    all_sharp : status ≤ 4 → (v : Pointed) → IsSharpText study v bytes → length bytes ≤ most_report_bytes → (status ≡ 0) × (text : List ℕ) × IsSharpPageText study name report v text × Appends d.taken_before d.taken_now text
     all_sharp low v text_is fits =
         let t = there low in
         let row = t.1.all_sharp v text_is fits in

@@ -4,8 +4,8 @@ use Rattle.std.specs.Prelude.{◌==◌, Contains}
 use Rattle.std.specs.List.{list_any, AllByRecursion}
 use Rattle.std.proofs.lemmas.List.Elements.{All-contains, All-from_recursion}
 use Rattle.std.proofs.lemmas.List.Folds.{Any-from_list_any, list_any_at}
-use Rattle.explain_words.specs.Words.{Request, Story, Instance, Rules, Cores, Look}
-use Rattle.explain_answers.specs.Call.{statuses_of}
+use Rattle.explain_words.specs.Words.{ExplainRequest, Story, Instance, Rules, Cores, Look}
+use Rattle.explain_answers.specs.Call.{explain_statuses}
 
 -- what the test finds is one of them
 pub found_among : (statuses : List ℕ) (n : ℕ) → list_any (λ s. s == n) statuses ≡ true → Contains statuses n
@@ -22,7 +22,7 @@ pub of_one : (P : ℕ → Type 0) (statuses : List ℕ) (n : ℕ) → AllByRecur
 of_one P statuses n each one = All-contains P statuses n (All-from_recursion P statuses each) one
 
 -- each status is at most 7
-few : (request : Option Request) → AllByRecursion (λ s. s ≤ 7) (statuses_of request)
+few : (request : Option ExplainRequest) → AllByRecursion (λ s. s ≤ 7) (explain_statuses request)
 few None = (omega arith, (omega arith, (omega arith, tt)))
 few (Some (Story study report workers)) = (omega arith, (omega arith, (omega arith, (omega arith, (omega arith, (omega arith, tt))))))
 few (Some (Instance study axiom_name number)) = (omega arith, (omega arith, (omega arith, (omega arith, (omega arith, tt)))))
@@ -30,5 +30,5 @@ few (Some (Rules study most workers)) = (omega arith, (omega arith, (omega arith
 few (Some (Cores study workers)) = (omega arith, (omega arith, (omega arith, (omega arith, (omega arith, (omega arith, tt))))))
 few (Some (Look study workers)) = (omega arith, (omega arith, (omega arith, (omega arith, (omega arith, tt)))))
 
-pub few_statuses : (request : Option Request) (n : ℕ) → Contains (statuses_of request) n → n ≤ 7
-few_statuses request n one = of_one (λ s. s ≤ 7) (statuses_of request) n (few request) one
+pub few_statuses : (request : Option ExplainRequest) (n : ℕ) → Contains (explain_statuses request) n → n ≤ 7
+few_statuses request n one = of_one (λ s. s ≤ 7) (explain_statuses request) n (few request) one

@@ -14,20 +14,20 @@ use Rattle.map_text.specs.MapText.{map_text}
 use Rattle.instance_text.specs.Said.{is_there}
 use Rattle.answers.specs.Check.{judged, judged_status}
 use Rattle.answers.specs.Devices.{Devices}
-use Rattle.answers.specs.Grounding.{fault_of}
+use Rattle.answers.specs.Grounding.{clauses_fault}
 use Rattle.answers.specs.Laws.{AreQuiet}
 use Rattle.answers.specs.Studies.{GivesStudy, RefusesStudy}
 use Rattle.answers.specs.Call.{AreFiles}
 use Rattle.explain_words.specs.Words.{Story, Instance, Rules, Cores, Look, request_of}
 use Rattle.explain_answers.specs.Instance.{instance_status}
-use Rattle.explain_answers.specs.Lawful.{Lawful, usage_line}
-use Rattle.explain_answers.specs.Call.{IsAnswered, IsCall, files_of}
+use Rattle.explain_answers.specs.Lawful.{ExplainsWords, explain_usage}
+use Rattle.explain_answers.specs.Call.{IsExplained, IsExplainCall, explain_files}
 
 -- ---- where no device fails
 
 -- no count of a file of the command rose, nor that of the sink
-pub record HasNoFault (words : List (List ℕ)) (d : Devices) : Type 0 where
-  pub files : AreQuiet d (files_of (request_of words))
+pub record NoCountRose (words : List (List ℕ)) (d : Devices) : Type 0 where
+  pub files : AreQuiet d (explain_files (request_of words))
   pub sink : ¬ Rose d.sink_faults_before d.sink_faults_now
 
 -- devices that never fail, of which the sink tells nothing
@@ -52,10 +52,10 @@ IsSearchedOrWanting status = (status ≡ 0) ⊎ ((status ≡ 4) ⊎ (status ≡ 
 -- that a file gives `story` ends as its report is judged, and `instance` by whether there is one; with clauses within the limits
 -- `rules` and `cores` end with 0, 4 or 7, and `study` with 0 or 7; words that are no command end with 2 or 7; and no call
 -- ends with 5 or 6
-pub record AreAnswered (words : List (List ℕ)) (d : Devices) (status : ℕ) : Type 0 where
-  pub row : (files : Files) → AreFiles d.told (files_of (request_of words)) files → IsAnswered words d files status ⊎ (status ≡ 7)
+pub record AreExplained (words : List (List ℕ)) (d : Devices) (status : ℕ) : Type 0 where
+  pub row : (files : Files) → AreFiles d.told (explain_files (request_of words)) files → IsExplained words d files status ⊎ (status ≡ 7)
   pub refused : (files : Files) (name text : List ℕ) (others : List (List ℕ)) → d.told ≡ Some files
-      → files_of (request_of words) ≡ name ∷ others → RefusesStudy files name text → (status ≡ 3) ⊎ (status ≡ 7)
+      → explain_files (request_of words) ≡ name ∷ others → RefusesStudy files name text → (status ≡ 3) ⊎ (status ≡ 7)
   pub story : (files : Files) (name report bytes : List ℕ) (workers : ℕ) (study : Question) → d.told ≡ Some files
       → request_of words ≡ Some (Story name report workers) → GivesStudy files name study → files report ≡ Some bytes
       → (status ≡ judged_status (judged study bytes)) ⊎ (status ≡ 7)
@@ -63,53 +63,53 @@ pub record AreAnswered (words : List (List ℕ)) (d : Devices) (status : ℕ) : 
       → request_of words ≡ Some (Instance name axiom_name number) → GivesStudy files name study
       → (status ≡ instance_status (is_there study axiom_name number)) ⊎ (status ≡ 7)
   pub rules : (files : Files) (name : List ℕ) (most workers : ℕ) (study : Question) → d.told ≡ Some files
-      → request_of words ≡ Some (Rules name most workers) → GivesStudy files name study → fault_of study ≡ None
+      → request_of words ≡ Some (Rules name most workers) → GivesStudy files name study → clauses_fault study ≡ None
       → IsSearchedOrWanting status
   pub cores : (files : Files) (name : List ℕ) (workers : ℕ) (study : Question) → d.told ≡ Some files
-      → request_of words ≡ Some (Cores name workers) → GivesStudy files name study → fault_of study ≡ None
+      → request_of words ≡ Some (Cores name workers) → GivesStudy files name study → clauses_fault study ≡ None
       → IsSearchedOrWanting status
   pub look : (files : Files) (name : List ℕ) (workers : ℕ) (study : Question) → d.told ≡ Some files
-      → request_of words ≡ Some (Look name workers) → GivesStudy files name study → fault_of study ≡ None
+      → request_of words ≡ Some (Look name workers) → GivesStudy files name study → clauses_fault study ≡ None
       → (status ≡ 0) ⊎ (status ≡ 7)
   pub usage : request_of words ≡ None → (status ≡ 2) ⊎ (status ≡ 7)
   pub no_read_fault : status ≢ 5
   pub no_write_fault : status ≢ 6
 
-abbrev pub CallsAreComplete : Type 0
-CallsAreComplete =
-    (words : List (List ℕ)) (d : Devices) (status : ℕ) → IsCall words d status → HasNoFault words d →
-    AreAnswered words d status
+abbrev pub ExplainCallsAreComplete : Type 0
+ExplainCallsAreComplete =
+    (words : List (List ℕ)) (d : Devices) (status : ℕ) → IsExplainCall words d status → NoCountRose words d →
+    AreExplained words d status
 
 -- ---- words that are no command
 
 -- status 2 comes only where the words are no command; there, faults and want of memory aside, it comes and the usage line is
 -- written, and at a fault of the sink the front of that line; and no file is touched
-pub record IsUsageExact (words : List (List ℕ)) (d : Devices) (status : ℕ) : Type 0 where
+pub record IsExplainUsageExact (words : List (List ℕ)) (d : Devices) (status : ℕ) : Type 0 where
   pub only : status ≡ 2 → request_of words ≡ None
-  pub written : request_of words ≡ None → status ≤ 4 → (status ≡ 2) × Appends d.taken_before d.taken_now usage_line
-  pub cut_short : request_of words ≡ None → status ≡ 6 → AppendsPrefix d.taken_before d.taken_now usage_line
+  pub written : request_of words ≡ None → status ≤ 4 → (status ≡ 2) × Appends d.taken_before d.taken_now explain_usage
+  pub cut_short : request_of words ≡ None → status ≡ 6 → AppendsPrefix d.taken_before d.taken_now explain_usage
   pub untouched : request_of words ≡ None → (name : List ℕ)
       → (d.left_now name ≡ d.left_before name) × (d.faults_now name ≡ d.faults_before name)
 
-abbrev pub UsageIsExact : Type 0
-UsageIsExact =
-    (words : List (List ℕ)) (d : Devices) (status : ℕ) → IsCall words d status → IsUsageExact words d status
+abbrev pub ExplainUsageIsExact : Type 0
+ExplainUsageIsExact =
+    (words : List (List ℕ)) (d : Devices) (status : ℕ) → IsExplainCall words d status → IsExplainUsageExact words d status
 
 -- ---- what is left alone
 
 -- of the files of a command none but the first was touched where the call ends with status 3; and `story` leaves the report
 -- alone where the shelf tells that no study is given, even if that file could not be read or its line could not be written,
 -- want of memory aside
-pub record LeavesUnopened (words : List (List ℕ)) (d : Devices) (status : ℕ) : Type 0 where
-  pub at_three : status ≡ 3 → (first : List ℕ) (others : List (List ℕ)) → files_of (request_of words) ≡ first ∷ others
+pub record ExplainLeavesUnopened (words : List (List ℕ)) (d : Devices) (status : ℕ) : Type 0 where
+  pub at_three : status ≡ 3 → (first : List ℕ) (others : List (List ℕ)) → explain_files (request_of words) ≡ first ∷ others
       → OthersStay d.left_before d.left_now first
   pub at_story : (files : Files) (name report : List ℕ) (workers : ℕ) → d.told ≡ Some files
       → request_of words ≡ Some (Story name report workers) → ¬ ((study : Question) × GivesStudy files name study)
       → status ≤ 6 → OthersStay d.left_before d.left_now name
 
-abbrev pub RefusedLeavesUnopened : Type 0
-RefusedLeavesUnopened =
-    (words : List (List ℕ)) (d : Devices) (status : ℕ) → IsCall words d status → LeavesUnopened words d status
+abbrev pub RefusedExplainLeavesUnopened : Type 0
+RefusedExplainLeavesUnopened =
+    (words : List (List ℕ)) (d : Devices) (status : ℕ) → IsExplainCall words d status → ExplainLeavesUnopened words d status
 
 -- ---- a large limit
 
@@ -118,6 +118,6 @@ RefusedLeavesUnopened =
 abbrev pub EnoughMaps : Type 0
 EnoughMaps =
     (words : List (List ℕ)) (files : Files) (status workers : ℕ) (text name : List ℕ) (study : Question) →
-    Lawful words files status text → request_of words ≡ Some (Cores name workers) →
-    GivesStudy files name study → fault_of study ≡ None → 3 ^ variable_count study.size ≤ study.conflicts →
+    ExplainsWords words files status text → request_of words ≡ Some (Cores name workers) →
+    GivesStudy files name study → clauses_fault study ≡ None → 3 ^ variable_count study.size ≤ study.conflicts →
     (map : CoreMap) × IsMapping study map × (text ≡ map_text study map) × (map.sets.open ≡ []) × (status ≡ 4 → map.ending ≡ Cut)

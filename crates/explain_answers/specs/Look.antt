@@ -2,7 +2,7 @@
 use Rattle.std.specs.Prelude.{◌≡◌, ℕ, List, ◌++◌, codes, Ok, Err}
 use Rattle.edge.specs.Shelf.{Files}
 use Rattle.vocab.specs.Study.{Question}
-use Rattle.answers.specs.FileLimits.{most_study_bytes, Holds, HoldsTooMany}
+use Rattle.answers.specs.FileLimits.{most_study_bytes, HasFile, HoldsTooMany}
 use Rattle.answers.specs.Grounding.{OverClauses}
 use Rattle.answers.specs.StudyLines.{study_line}
 use Rattle.study.specs.declared.faults.StudyFault.{StudyFault}
@@ -27,4 +27,4 @@ pub data IsLookAt (bytes : List ℕ) (status : ℕ) (text : List ℕ) : Type 0 w
 -- the file of the study is too long, or this is said of its bytes
 pub data IsLook (files : Files) (name : List ℕ) (status : ℕ) (text : List ℕ) : Type 0 where
   long : HoldsTooMany files most_study_bytes name → text ≡ codes "study: too long\n" → status ≡ 3 → IsLook files name status text
-  within : (bytes : List ℕ) → Holds files most_study_bytes name bytes → IsLookAt bytes status text → IsLook files name status text
+  within : (bytes : List ℕ) → HasFile files most_study_bytes name bytes → IsLookAt bytes status text → IsLook files name status text

@@ -18,7 +18,7 @@ rules_status More = 0
 rules_status Open = 4
 
 -- a right list of rules is written
-pub record IsListed (study : Question) (most status : ℕ) (text : List ℕ) : Type 0 where
+pub record IsRuleListWritten (study : Question) (most status : ℕ) (text : List ℕ) : Type 0 where
   pub list : RuleList
   pub right : IsRuleList study most list
   pub ends : status ≡ rules_status list.ending
@@ -27,4 +27,4 @@ pub record IsListed (study : Question) (most status : ℕ) (text : List ℕ) : T
 -- the file of the study is refused, or the clauses of its axioms are, as `decide` refuses them; or the rules are listed
 abbrev pub AreRules : Files → (name : List ℕ) → (most status : ℕ) → (text : List ℕ) → Type 0
 AreRules files name most status text =
-    OverStudy files name (bare_run status) text (λ study. OverClauses study (bare_run status) text (IsListed study most status text))
+    OverStudy files name (bare_run status) text (λ study. OverClauses study (bare_run status) text (IsRuleListWritten study most status text))

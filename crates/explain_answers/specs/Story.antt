@@ -8,14 +8,14 @@ use Rattle.sharp_verdicts.specs.SharpJudge.{SharpConfirmed, SharpFaulty, SharpTo
 use Rattle.answers.specs.Check.{judged, judged_status}
 use Rattle.answers.specs.declared.runs.Run.{Run}
 use Rattle.answers.specs.Studies.{OverStudy}
-use Rattle.explain_answers.specs.Page.{IsPage, IsSharpPage}
+use Rattle.explain_answers.specs.Page.{IsPageText, IsSharpPageText}
 
 -- what is written of a report or a sharp text: a page of the verdict that it confirms, and where it is refused what `check` says
 abbrev pub IsSaid : Question → (name report : List ℕ) → Judged → (text : List ℕ) → Type 0
-IsSaid study name report (AsReport (Confirmed verdict)) text = IsPage study name report verdict text
+IsSaid study name report (AsReport (Confirmed verdict)) text = IsPageText study name report verdict text
 IsSaid study name report (AsReport (Faulty line word)) text = text ≡ judged_text (AsReport (Faulty line word))
 IsSaid study name report (AsReport TooLong) text = text ≡ judged_text (AsReport TooLong)
-IsSaid study name report (AsSharp (SharpConfirmed v)) text = IsSharpPage study name report v text
+IsSaid study name report (AsSharp (SharpConfirmed v)) text = IsSharpPageText study name report v text
 IsSaid study name report (AsSharp (SharpFaulty line word)) text = text ≡ judged_text (AsSharp (SharpFaulty line word))
 IsSaid study name report (AsSharp SharpTooLong) text = text ≡ judged_text (AsSharp SharpTooLong)
 

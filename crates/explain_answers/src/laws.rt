@@ -1,6 +1,6 @@
 //! What holds of calls. Each law is the contract of a function that does nothing.
 
-ghost use Rattle.explain_answers.specs.Completeness.{CallsAreComplete, EnoughMaps, RefusedLeavesUnopened, UsageIsExact};
+ghost use Rattle.explain_answers.specs.Completeness.{ExplainCallsAreComplete, EnoughMaps, RefusedExplainLeavesUnopened, ExplainUsageIsExact};
 ghost use Rattle.explain_answers.specs.Laws.{PagesAreExact, PagesAreWritten, InstancesAreExact, InstancesAreWritten, RulesAreExact, RulesAreWritten, CoresAreExact, CoresAreWritten, LooksAreExact, LooksAreWritten};
 
 /// A page is written exactly where the file is the report of a right verdict or the text of a right sharp
@@ -61,18 +61,18 @@ pub fn looks_are_written()
 /// Where no device fails, the text of the row is written, or memory is wanting: which statuses that leaves,
 /// command by command.
 pub fn calls_are_complete()
-    ensures { CallsAreComplete }
+    ensures { ExplainCallsAreComplete }
 {}
 
 /// Status 2 comes exactly where the words are no command, with the usage line, and touches no file.
 pub fn usage_is_exact()
-    ensures { UsageIsExact }
+    ensures { ExplainUsageIsExact }
 {}
 
 /// At status 3 none but the first file of a command was touched, and `story` leaves the report alone where no
 /// study is given.
 pub fn refused_leaves_unopened()
-    ensures { RefusedLeavesUnopened }
+    ensures { RefusedExplainLeavesUnopened }
 {}
 
 /// With a limit of at least 3 to the number of variables, a map has no open set.

@@ -1,5 +1,5 @@
 -- From the reply of a command to the promises of a call.
-use Rattle.std.proofs.Common.{◌≡◌, ◌≢◌, sym, refl, subst, ℕ, ◌≤◌, inl, inr, cond, Bool, true, false, ◌||◌, List, [], ◌∷◌, take, Option, None, Some, Result, Ok, Err, arith}
+use Rattle.std.proofs.Common.{◌≡◌, ◌≢◌, sym, refl, subst, ℕ, ◌≤◌, inl, inr, true, List, [], Option, None, Some, Result, Ok, Err, arith}
 use Rattle.std.specs.Prelude.{◌==◌, Contains, IsFalse}
 use Rattle.std.specs.List.{list_any}
 use Rattle.std.specs.Str.{bytes_eq}
@@ -7,21 +7,23 @@ use Rattle.std.specs.Io.KnownBytes.{Appends, Keeps}
 use Rattle.edge.specs.Shelf.{Files}
 use Rattle.edge.specs.Faults.{Rose}
 use Rattle.edge.specs.Told.{AppendsPrefix}
+use Rattle.texts.proofs.PageLemmas.{keeps_same}
 use Rattle.answers.specs.Call.{touched_at}
 use Rattle.answers.specs.Devices.{Devices}
 use Rattle.command_parts.specs.declared.answer.Stop.{Stop}
 use Rattle.command_parts.specs.declared.answer.Stop.TheVariants as stop
-use Rattle.explain_words.specs.Words.{Request, Story, Instance, Rules, Cores, Look, request_of}
-use Rattle.explain_answers.specs.Call.{IsCall, HasReadCause, files_of, statuses_of}
+use Rattle.command_parts.proofs.PairLemmas.{not_in_front}
+use Rattle.explain_words.specs.Words.{ExplainRequest, Story, Instance, Rules, Cores, Look, request_of}
+use Rattle.explain_answers.specs.Call.{IsExplainCall, HasCauseAtFile, explain_files, explain_statuses}
 use Rattle.explain_answers.proofs.StatusLemmas.{found_among}
 use Rattle.explain_parts.specs.declared.reply.Reply.{Reply}
 use Rattle.explain_parts.specs.declared.reply.Reply.TheVariants as reply
-use Rattle.explain_parts.specs.Replies.{Replies, status_of, text_of}
+use Rattle.explain_parts.specs.Replies.{Replies, status_of, reply_text}
 use Rattle.explain_parts.proofs.StudyReplies.{may_want_memory}
 
 -- ---- commands
 
-cuts_short : (request : Option Request) → list_any (λ n. n == 6) (statuses_of request) ≡ true
+cuts_short : (request : Option ExplainRequest) → list_any (λ n. n == 6) (explain_statuses request) ≡ true
 cuts_short None = refl
 cuts_short (Some (Story study report workers)) = refl
 cuts_short (Some (Instance study axiom_name number)) = refl
@@ -30,15 +32,15 @@ cuts_short (Some (Cores study workers)) = refl
 cuts_short (Some (Look study workers)) = refl
 
 -- the text of each command may be cut short
-may_be_cut : (request : Option Request) → Contains (statuses_of request) 6
-may_be_cut request = found_among (statuses_of request) 6 (cuts_short request)
+may_be_cut : (request : Option ExplainRequest) → Contains (explain_statuses request) 6
+may_be_cut request = found_among (explain_statuses request) 6 (cuts_short request)
 
-module _ (request : Option Request) (told : Option Files) (left : Files) (faults : List ℕ → ℕ) where
+module _ (request : Option ExplainRequest) (told : Option Files) (left : Files) (faults : List ℕ → ℕ) where
   -- the usage line, for words that are no command
   pub usage_reply : request ≡ None → Replies request told left left faults faults (Ok reply.Usage)
-  usage_reply asked = subst (λ (r : Option Request). Replies r told left left faults faults (Ok reply.Usage)) (sym asked) (record {
+  usage_reply asked = subst (λ (r : Option ExplainRequest). Replies r told left left faults faults (Ok reply.Usage)) (sym asked) (record {
     lawful = λ files h. (refl, refl);
-    known = found_among (statuses_of None) 2 refl;
+    known = found_among (explain_statuses None) 2 refl;
     low = omega arith;
     has_text = tt;
     read_fault = λ e. absurd (cc);
@@ -59,42 +61,23 @@ module _ (request : Option Request) (told : Option Files) (left : Files) (faults
   }
 
 -- what a command promises of its reply is promised of the words that are that command
-pub asked_reply : (request asked : Option Request) (told : Option Files) (left_before left_now : Files) (faults_before faults_now : List ℕ → ℕ) (result : Result Reply Stop)
+pub asked_reply : (request asked : Option ExplainRequest) (told : Option Files) (left_before left_now : Files) (faults_before faults_now : List ℕ → ℕ) (result : Result Reply Stop)
     → asked ≡ request → Replies asked told left_before left_now faults_before faults_now result
     → Replies request told left_before left_now faults_before faults_now result
 asked_reply request asked told left_before left_now faults_before faults_now result e a =
-    subst (λ (r : Option Request). Replies r told left_before left_now faults_before faults_now result) e a
+    subst (λ (r : Option ExplainRequest). Replies r told left_before left_now faults_before faults_now result) e a
 
 -- ---- calls
-
-not_in_front : (test : List ℕ → Bool) (s : ℕ) (names : List (List ℕ)) → list_any test names ≡ false → list_any test (touched_at s names) ≡ false
-not_in_front test s names free = by_status (s == 3) names free
-  where
-    first_alone : (names : List (List ℕ)) → list_any test names ≡ false → list_any test (take 1 names) ≡ false
-    first_alone [] free = refl
-    first_alone (name ∷ names) free = one (test name) (list_any test names) free
-      where
-        one : (a b : Bool) → (a || b) ≡ false → (a || false) ≡ false
-        one true b e = e
-        one false b e = refl
-
-    by_status : (b : Bool) (names : List (List ℕ)) → list_any test names ≡ false → list_any test (cond b (take 1 names) names) ≡ false
-    by_status true names free = first_alone names free
-    by_status false names free = free
-
-keeps : (o : Option (List ℕ)) → Keeps o o
-keeps None = tt
-keeps (Some xs) = refl
 
 module _ (words : List (List ℕ)) (d : Devices) where
   abbrev Promised : Result Reply Stop → Type 0
   Promised result = Replies (request_of words) d.told d.left_before d.left_now d.faults_before d.faults_now result
 
   -- the text was written
-  pub written : (r : Reply) → Promised (Ok r) → Appends d.taken_before d.taken_now (text_of r) → IsCall words d (status_of r)
+  pub written : (r : Reply) → Promised (Ok r) → Appends d.taken_before d.taken_now (reply_text r) → IsExplainCall words d (status_of r)
   written r a bytes = record {
     known = a.known;
-    lawful = λ files h low. record { text = text_of r; lawful = a.lawful files h; written = bytes };
+    lawful = λ files h low. record { text = reply_text r; lawful = a.lawful files h; written = bytes };
     cut_short = λ files h six. absurd (omega (arith, six, a.low));
     silent = λ e. elim e [ inl five ↦ absurd (omega (arith, five, a.low)) | inr seven ↦ absurd (omega (arith, seven, a.low)) ];
     read_fault = λ five. absurd (omega (arith, five, a.low));
@@ -104,28 +87,28 @@ module _ (words : List (List ℕ)) (d : Devices) where
   }
 
   -- the front of it was
-  pub cut : (r : Reply) → Promised (Ok r) → AppendsPrefix d.taken_before d.taken_now (text_of r) → Rose d.sink_faults_before d.sink_faults_now → IsCall words d 6
+  pub cut : (r : Reply) → Promised (Ok r) → AppendsPrefix d.taken_before d.taken_now (reply_text r) → Rose d.sink_faults_before d.sink_faults_now → IsExplainCall words d 6
   cut r a bytes rose = record {
     known = may_be_cut (request_of words);
     lawful = λ files h low. absurd (omega (arith, low));
-    cut_short = λ files h six. record { status = status_of r; text = text_of r; lawful = a.lawful files h; written = bytes; untouched = a.untouched };
+    cut_short = λ files h six. record { status = status_of r; text = reply_text r; lawful = a.lawful files h; written = bytes; untouched = a.untouched };
     silent = λ e. elim e [ inl five ↦ absurd (omega (arith, five)) | inr seven ↦ absurd (omega (arith, seven)) ];
     read_fault = λ five. absurd (omega (arith, five));
     write_fault = λ six. rose;
-    untouched = λ name free. a.untouched name (not_in_front (bytes_eq name) (status_of r) (files_of (request_of words)) free);
+    untouched = λ name free. a.untouched name (not_in_front (bytes_eq name) (status_of r) (explain_files (request_of words)) free);
     uncounted = a.uncounted;
   }
 
   -- nothing was
-  silent_call : (s : ℕ) → 5 ≤ s → s ≢ 6 → d.taken_now ≡ d.taken_before → Contains (statuses_of (request_of words)) s
-      → (s ≡ 5 → HasReadCause d.told d.left_before d.left_now d.faults_before d.faults_now (files_of (request_of words)))
-      → ((name : List ℕ) → IsFalse (list_any (bytes_eq name) (touched_at s (files_of (request_of words)))) → d.left_now name ≡ d.left_before name)
-      → (files_of (request_of words) ≡ [] → (name : List ℕ) → d.faults_now name ≡ d.faults_before name) → IsCall words d s
+  silent_call : (s : ℕ) → 5 ≤ s → s ≢ 6 → d.taken_now ≡ d.taken_before → Contains (explain_statuses (request_of words)) s
+      → (s ≡ 5 → HasCauseAtFile d.told d.left_before d.left_now d.faults_before d.faults_now (explain_files (request_of words)))
+      → ((name : List ℕ) → IsFalse (list_any (bytes_eq name) (touched_at s (explain_files (request_of words)))) → d.left_now name ≡ d.left_before name)
+      → (explain_files (request_of words) ≡ [] → (name : List ℕ) → d.faults_now name ≡ d.faults_before name) → IsExplainCall words d s
   silent_call s high other same one cause untouched uncounted = record {
     known = one;
     lawful = λ files h low. absurd (omega (arith, low, high));
     cut_short = λ files h six. absurd (other six);
-    silent = λ e. subst (λ (o : Option (List ℕ)). Keeps d.taken_before o) (sym same) (keeps d.taken_before);
+    silent = λ e. subst (λ (o : Option (List ℕ)). Keeps d.taken_before o) (sym same) (keeps_same d.taken_before);
     read_fault = cause;
     write_fault = λ six. absurd (other six);
     untouched = untouched;
@@ -133,9 +116,9 @@ module _ (words : List (List ℕ)) (d : Devices) where
   }
 
   -- a file could not be read
-  pub unread : d.taken_now ≡ d.taken_before → Promised (Err stop.ReadFault) → IsCall words d 5
+  pub unread : d.taken_now ≡ d.taken_before → Promised (Err stop.ReadFault) → IsExplainCall words d 5
   unread same a = silent_call 5 (omega arith) (λ e. absurd (omega (arith, e))) same a.known (λ e. a.read_fault refl) a.untouched a.uncounted
 
   -- there was no memory for the reply
-  pub wanted : d.taken_now ≡ d.taken_before → Promised (Err stop.NoMemory) → IsCall words d 7
+  pub wanted : d.taken_now ≡ d.taken_before → Promised (Err stop.NoMemory) → IsExplainCall words d 7
   wanted same a = silent_call 7 (omega arith) (λ e. absurd (omega (arith, e))) same a.known (λ e. absurd (omega (arith, e))) a.untouched a.uncounted

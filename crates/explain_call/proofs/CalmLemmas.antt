@@ -4,16 +4,16 @@ use Rattle.edge.specs.Faults.{Rose}
 use Rattle.answers.specs.Devices.{Devices}
 use Rattle.answers.proofs.CallLaws.{all_quiet}
 use Rattle.explain_words.specs.Words.{request_of}
-use Rattle.explain_answers.specs.Call.{IsCall, files_of}
-use Rattle.explain_answers.specs.Completeness.{AreAnswered, CallsAreComplete}
+use Rattle.explain_answers.specs.Call.{IsExplainCall, explain_files}
+use Rattle.explain_answers.specs.Completeness.{AreExplained, ExplainCallsAreComplete}
 
 not_rose : (before now : ℕ) → before ≡ 0 → now ≡ 0 → ¬ Rose before now
 not_rose before now e f rose = let none : Rose 0 0 = subst (λ (b : ℕ). Rose b 0) e (subst (λ (n : ℕ). Rose before n) f rose) in omega (arith, none)
 
-pub calm_call : (words : List (List ℕ)) (d : Devices) (status : ℕ) → CallsAreComplete → IsCall words d status
+pub calm_call : (words : List (List ℕ)) (d : Devices) (status : ℕ) → ExplainCallsAreComplete → IsExplainCall words d status
     → ((name : List ℕ) → d.faults_before name ≡ 0) → ((name : List ℕ) → d.faults_now name ≡ 0)
-    → d.sink_faults_before ≡ 0 → d.sink_faults_now ≡ 0 → AreAnswered words d status
+    → d.sink_faults_before ≡ 0 → d.sink_faults_now ≡ 0 → AreExplained words d status
 calm_call words d status complete call before now out_before out_now = complete words d status call (record {
-  files = all_quiet d (λ name. not_rose (d.faults_before name) (d.faults_now name) (before name) (now name)) (files_of (request_of words));
+  files = all_quiet d (λ name. not_rose (d.faults_before name) (d.faults_now name) (before name) (now name)) (explain_files (request_of words));
   sink = not_rose d.sink_faults_before d.sink_faults_now out_before out_now;
 })

@@ -2,8 +2,8 @@
 
 ghost use Rattle.words.specs.Words.{texts};
 ghost use Rattle.explain_words.specs.Words.{request_of};
-ghost use Rattle.explain_answers.specs.Call.{IsCall};
-ghost use Rattle.explain_answers.specs.Completeness.{AreAnswered, calm_devices};
+ghost use Rattle.explain_answers.specs.Call.{IsExplainCall};
+ghost use Rattle.explain_answers.specs.Completeness.{AreExplained, calm_devices};
 ghost use Rattle.explain_parts.specs.Replies.{Replies};
 
 use command_parts::Stop;
@@ -80,7 +80,7 @@ pub fn explain<R: Threads + Sync, S: Shelf, K: Sink, G: Gate>(
     out: &mut K,
     gate: &G,
 ) -> u8
-    ensures { IsCall (texts words.now) (record {
+    ensures { IsExplainCall (texts words.now) (record {
       told = S.files shelf.old;
       left_before = S.left shelf.old;
       left_now = S.left shelf.new;
@@ -111,9 +111,9 @@ pub fn explain_calmly<R: Threads + Sync, G: Gate>(
     shelf: &mut CalmShelf,
     gate: &G,
 ) -> u8
-    ensures call { IsCall (texts words.now) (calm_devices (⟦<CalmShelf as Shelf>⟧.files shelf.old)
+    ensures call { IsExplainCall (texts words.now) (calm_devices (⟦<CalmShelf as Shelf>⟧.files shelf.old)
         (⟦<CalmShelf as Shelf>⟧.left shelf.old) (⟦<CalmShelf as Shelf>⟧.left shelf.new)) result }
-    ensures answered { AreAnswered (texts words.now) (calm_devices (⟦<CalmShelf as Shelf>⟧.files shelf.old)
+    ensures answered { AreExplained (texts words.now) (calm_devices (⟦<CalmShelf as Shelf>⟧.files shelf.old)
         (⟦<CalmShelf as Shelf>⟧.left shelf.old) (⟦<CalmShelf as Shelf>⟧.left shelf.new)) result }
 {
     let status = explain(rt, alloc, words, shelf, &mut CalmSink::new(), gate);

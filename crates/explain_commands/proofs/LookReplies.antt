@@ -10,22 +10,22 @@ use Rattle.command_parts.specs.declared.answer.Answer.TheVariants.{LongStudy}
 use Rattle.command_parts.specs.declared.answer.Stop.{Stop}
 use Rattle.command_parts.specs.declared.answer.Stop.TheVariants as stop
 use Rattle.command_parts.proofs.OpenLemmas.{if_some}
-use Rattle.explain_words.specs.Words.{Request, Look}
+use Rattle.explain_words.specs.Words.{ExplainRequest, Look}
 use Rattle.explain_answers.specs.Look.{IsLookAt, IsLooked, long, refused, told, within}
 use Rattle.explain_answers.specs.Story.{bare_run}
-use Rattle.explain_answers.specs.Call.{statuses_of}
+use Rattle.explain_answers.specs.Call.{explain_statuses}
 use Rattle.explain_answers.proofs.StatusLemmas.{found_among}
 use Rattle.explain_parts.specs.declared.reply.Reply.{Reply}
 use Rattle.explain_parts.specs.declared.reply.Reply.TheVariants as reply
-use Rattle.explain_parts.specs.Replies.{HasText, Replies, status_of, text_of}
+use Rattle.explain_parts.specs.Replies.{HasReplyText, Replies, status_of, reply_text}
 use Rattle.explain_parts.proofs.StudyReplies.{IsLow, ReadsOne, ended, low_at, over_clauses, wanting}
 
 module _ (name : List ℕ) (workers : ℕ) where
-  abbrev asked_look : Option Request
+  abbrev asked_look : Option ExplainRequest
   asked_look = Some (Look name workers)
 
   pub reads_look : ReadsOne asked_look name
-  reads_look = record { one = refl; can_fail = found_among (statuses_of asked_look) 5 refl }
+  reads_look = record { one = refl; can_fail = found_among (explain_statuses asked_look) 5 refl }
 
   three : (status : ℕ) → status ≡ 3 → IsLow asked_look status
   three status e = subst (IsLow asked_look) (sym e) (low_at asked_look 3 refl (omega arith))
@@ -44,10 +44,10 @@ module _ (name : List ℕ) (workers : ℕ) where
 
     -- the file was read, and this is said of its bytes
     pub look_reply : (bytes : List ℕ) (result : Result Reply Stop) → IfSome told_files (λ files. files name ≡ Some bytes) → length bytes ≤ most_study_bytes
-        → IfOk result (λ r. IsLookAt bytes (status_of r) (text_of r)) → IfOk result HasText → result ≢ Err stop.ReadFault → Replied result
+        → IfOk result (λ r. IsLookAt bytes (status_of r) (reply_text r)) → IfOk result HasReplyText → result ≢ Err stop.ReadFault → Replied result
     look_reply bytes (Ok r) held fits said has_text none =
         ended asked_look name reads_look told_files left_before left_now faults_before faults_now others r
-        (look_low bytes (status_of r) (text_of r) said) has_text
+        (look_low bytes (status_of r) (reply_text r) said) has_text
         (λ files e. within bytes (record { held = if_some told_files (λ files. files name ≡ Some bytes) files held e; fits = fits }) said)
     look_reply bytes (Err stop.ReadFault) held fits said has_text none = absurd (none refl)
     look_reply bytes (Err stop.NoMemory) held fits said has_text none =
@@ -67,7 +67,7 @@ module _ (name : List ℕ) (workers : ℕ) where
 
 -- the row over the clauses of a study that bytes give is what is said of these
 pub told_look : (bytes : List ℕ) (study : Question) (result : Result Reply Stop) → IsStudyOf bytes (Ok study)
-    → IfOk result (λ r. OverClauses study (bare_run (status_of r)) (text_of r) (IsLooked study (status_of r) (text_of r)))
-    → IfOk result (λ r. IsLookAt bytes (status_of r) (text_of r))
+    → IfOk result (λ r. OverClauses study (bare_run (status_of r)) (reply_text r) (IsLooked study (status_of r) (reply_text r)))
+    → IfOk result (λ r. IsLookAt bytes (status_of r) (reply_text r))
 told_look bytes study (Ok r) gives row = told study gives row
 told_look bytes study (Err e) gives row = tt

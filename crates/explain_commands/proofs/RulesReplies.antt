@@ -10,17 +10,17 @@ use Rattle.rule_lists.specs.declared.answers.RuleList.{RuleList}
 use Rattle.rule_lists.specs.RuleLists.{IsRuleOf, IsRuleList}
 use Rattle.rule_lists.proofs.LeavingLaws.{rule_of}
 use Rattle.rules_text.specs.RulesText.{are_rules, rules_text}
-use Rattle.answers.specs.Grounding.{fault_of, OverClauses, clauses_made}
-use Rattle.explain_words.specs.Words.{Request, Rules}
-use Rattle.explain_answers.specs.Rules.{IsListed, rules_status}
+use Rattle.answers.specs.Grounding.{clauses_fault, OverClauses, clauses_made}
+use Rattle.explain_words.specs.Words.{ExplainRequest, Rules}
+use Rattle.explain_answers.specs.Rules.{IsRuleListWritten, rules_status}
 use Rattle.explain_answers.specs.Story.{bare_run}
-use Rattle.explain_answers.specs.Call.{statuses_of}
+use Rattle.explain_answers.specs.Call.{explain_statuses}
 use Rattle.explain_answers.proofs.StatusLemmas.{found_among}
 use Rattle.explain_parts.proofs.StudyReplies.{IsLow, IsStudyCommand, low_at, over_clauses}
 
 -- `rules` is such a command
 module _ (name : List ℕ) (most workers : ℕ) where
-  abbrev listing : Option Request
+  abbrev listing : Option ExplainRequest
   listing = Some (Rules name most workers)
 
   listed_low : (ending : Ending) (status : ℕ) → status ≡ rules_status ending → IsLow listing status
@@ -28,12 +28,12 @@ module _ (name : List ℕ) (most workers : ℕ) where
   listed_low More status e = subst (IsLow listing) (sym e) (low_at listing 0 refl (omega arith))
   listed_low Open status e = subst (IsLow listing) (sym e) (low_at listing 4 refl (omega arith))
 
-  pub rules_command : IsStudyCommand listing name (λ study status text. OverClauses study (bare_run status) text (IsListed study most status text))
+  pub rules_command : IsStudyCommand listing name (λ study status text. OverClauses study (bare_run status) text (IsRuleListWritten study most status text))
   rules_command = record {
-    reads = record { one = refl; can_fail = found_among (statuses_of listing) 5 refl };
+    reads = record { one = refl; can_fail = found_among (explain_statuses listing) 5 refl };
     into = λ files status text row. row;
     can_refuse = low_at listing 3 refl (omega arith);
-    ends = λ study status text. over_clauses listing study status text (IsListed study most status text) (low_at listing 3 refl (omega arith)) (λ is. listed_low is.list.ending status is.ends);
+    ends = λ study status text. over_clauses listing study status text (IsRuleListWritten study most status text) (low_at listing 3 refl (omega arith)) (λ is. listed_low is.list.ending status is.ends);
   }
 
 -- the rules that satisfy the axioms are rules of the size
@@ -42,6 +42,6 @@ are_rules_of study [] h = refl
 are_rules_of study (table ∷ tables) h = and_from (is_rule study.size table) (list_all (is_rule study.size) tables) (rule_of study table h.0) (are_rules_of study tables h.1)
 
 -- a right list of rules is what is said
-pub listed : (study : Question) (most : ℕ) (list : RuleList) → fault_of study ≡ None → IsRuleList study most list
-    → OverClauses study (bare_run (rules_status list.ending)) (rules_text study list) (IsListed study most (rules_status list.ending) (rules_text study list))
+pub listed : (study : Question) (most : ℕ) (list : RuleList) → clauses_fault study ≡ None → IsRuleList study most list
+    → OverClauses study (bare_run (rules_status list.ending)) (rules_text study list) (IsRuleListWritten study most (rules_status list.ending) (rules_text study list))
 listed study most list none right = clauses_made none (record { list = list; right = right; ends = refl; lines = refl })

@@ -5,7 +5,7 @@ ghost use Rattle.answers.specs.Grounding.{OverClauses};
 ghost use Rattle.explain_words.specs.Words.{Cores};
 ghost use Rattle.explain_answers.specs.Cores.{IsMapped};
 ghost use Rattle.explain_answers.specs.Story.{bare_run};
-ghost use Rattle.explain_parts.specs.Replies.{HasText, Replies, status_of, text_of};
+ghost use Rattle.explain_parts.specs.Replies.{HasReplyText, Replies, status_of, reply_text};
 
 use clause_form::GroundFault;
 use command_parts::{Answer, Opened, Stop, ground_all, open_study};
@@ -27,9 +27,9 @@ fn map_over<R: Threads + Sync, K: OutcomeKind, G: Gate>(
     study: Study,
 ) -> Result<Reply, Stop>
     requires size { study.size ≡ K.size kind.now }
-    ensures row { IfOk result (λ reply. OverClauses study (bare_run (status_of reply)) (text_of reply)
-        (IsMapped study (status_of reply) (text_of reply))) }
-    ensures has_text { IfOk result HasText }
+    ensures row { IfOk result (λ reply. OverClauses study (bare_run (status_of reply)) (reply_text reply)
+        (IsMapped study (status_of reply) (reply_text reply))) }
+    ensures has_text { IfOk result HasReplyText }
     ensures read { result ≢ Err Stop.ReadFault }
 {
     let clauses = match ground_all(alloc, crew, kind, &study) {
@@ -47,9 +47,9 @@ fn map_study<R: Threads + Sync, G: Gate>(
     crew: &Crew<R, G>,
     study: Study,
 ) -> Result<Reply, Stop>
-    ensures row { IfOk result (λ reply. OverClauses study (bare_run (status_of reply)) (text_of reply)
-        (IsMapped study (status_of reply) (text_of reply))) }
-    ensures has_text { IfOk result HasText }
+    ensures row { IfOk result (λ reply. OverClauses study (bare_run (status_of reply)) (reply_text reply)
+        (IsMapped study (status_of reply) (reply_text reply))) }
+    ensures has_text { IfOk result HasReplyText }
     ensures read { result ≢ Err Stop.ReadFault }
 {
     over_kind!(study.size(), kind, map_over(alloc, crew, &kind, study))

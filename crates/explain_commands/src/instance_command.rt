@@ -3,7 +3,7 @@
 ghost use Rattle.std.specs.Prelude.{◌≡◌, ◌≢◌, Some, Err, IfOk};
 ghost use Rattle.explain_words.specs.Words.{Instance};
 ghost use Rattle.explain_answers.specs.Instance.{IsInstanceSaid};
-ghost use Rattle.explain_parts.specs.Replies.{HasText, Replies, status_of, text_of};
+ghost use Rattle.explain_parts.specs.Replies.{HasReplyText, Replies, status_of, reply_text};
 
 use command_parts::{Opened, Stop, open_study};
 use edge::Shelf;
@@ -25,8 +25,8 @@ fn say_over<K: OutcomeKind>(
 ) -> Result<Reply, NoMemory>
     requires { study.now.size ≡ K.size kind.now }
     ensures said { IfOk result (λ reply.
-        IsInstanceSaid study.now axiom_name.now number (status_of reply) (text_of reply)) }
-    ensures has_text { IfOk result HasText }
+        IsInstanceSaid study.now axiom_name.now number (status_of reply) (reply_text reply)) }
+    ensures has_text { IfOk result HasReplyText }
 {
     let said = say_instance(alloc, kind, study, axiom_name, number)?;
     Ok(Reply::Instance(said))
@@ -40,8 +40,8 @@ fn say_by_kind(
     number: u32,
 ) -> Result<Reply, NoMemory>
     ensures said { IfOk result (λ reply.
-        IsInstanceSaid study.now axiom_name.now number (status_of reply) (text_of reply)) }
-    ensures has_text { IfOk result HasText }
+        IsInstanceSaid study.now axiom_name.now number (status_of reply) (reply_text reply)) }
+    ensures has_text { IfOk result HasReplyText }
 {
     over_kind!(
         study.size(),
@@ -53,8 +53,8 @@ fn say_by_kind(
 /// What is said of an instance. Error: `Stop::NoMemory`.
 fn say(alloc: Global, study: &Study, axiom_name: &str, number: u32) -> Result<Reply, Stop>
     ensures said { IfOk result (λ reply.
-        IsInstanceSaid study.now axiom_name.now number (status_of reply) (text_of reply)) }
-    ensures has_text { IfOk result HasText }
+        IsInstanceSaid study.now axiom_name.now number (status_of reply) (reply_text reply)) }
+    ensures has_text { IfOk result HasReplyText }
     ensures read { result ≢ Err Stop.ReadFault }
 {
     match say_by_kind(alloc, study, axiom_name, number) {

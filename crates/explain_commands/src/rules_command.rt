@@ -3,9 +3,9 @@
 ghost use Rattle.std.specs.Prelude.{◌≡◌, ◌≢◌, ◌≤◌, Some, Err, IfOk};
 ghost use Rattle.answers.specs.Grounding.{OverClauses};
 ghost use Rattle.explain_words.specs.Words.{Rules};
-ghost use Rattle.explain_answers.specs.Rules.{IsListed};
+ghost use Rattle.explain_answers.specs.Rules.{IsRuleListWritten};
 ghost use Rattle.explain_answers.specs.Story.{bare_run};
-ghost use Rattle.explain_parts.specs.Replies.{HasText, Replies, status_of, text_of};
+ghost use Rattle.explain_parts.specs.Replies.{HasReplyText, Replies, status_of, reply_text};
 
 use clause_form::GroundFault;
 use command_parts::{Answer, Opened, Stop, ground_all, open_study};
@@ -28,9 +28,9 @@ fn list_over<R: Threads + Sync, K: OutcomeKind, G: Gate>(
     most: u32,
 ) -> Result<Reply, Stop>
     requires size { study.size ≡ K.size kind.now }
-    ensures row { IfOk result (λ reply. OverClauses study (bare_run (status_of reply)) (text_of reply)
-        (IsListed study most (status_of reply) (text_of reply))) }
-    ensures has_text { IfOk result HasText }
+    ensures row { IfOk result (λ reply. OverClauses study (bare_run (status_of reply)) (reply_text reply)
+        (IsRuleListWritten study most (status_of reply) (reply_text reply))) }
+    ensures has_text { IfOk result HasReplyText }
     ensures read { result ≢ Err Stop.ReadFault }
 {
     let clauses = match ground_all(alloc, crew, kind, &study) {
@@ -49,9 +49,9 @@ fn list_study<R: Threads + Sync, G: Gate>(
     study: Study,
     most: u32,
 ) -> Result<Reply, Stop>
-    ensures row { IfOk result (λ reply. OverClauses study (bare_run (status_of reply)) (text_of reply)
-        (IsListed study most (status_of reply) (text_of reply))) }
-    ensures has_text { IfOk result HasText }
+    ensures row { IfOk result (λ reply. OverClauses study (bare_run (status_of reply)) (reply_text reply)
+        (IsRuleListWritten study most (status_of reply) (reply_text reply))) }
+    ensures has_text { IfOk result HasReplyText }
     ensures read { result ≢ Err Stop.ReadFault }
 {
     over_kind!(

@@ -6,7 +6,7 @@ ghost use Rattle.study.specs.Reading.{IsStudyOf};
 ghost use Rattle.explain_words.specs.Words.{Look};
 ghost use Rattle.explain_answers.specs.Look.{IsLookAt, IsLooked};
 ghost use Rattle.explain_answers.specs.Story.{bare_run};
-ghost use Rattle.explain_parts.specs.Replies.{HasText, Replies, status_of, text_of};
+ghost use Rattle.explain_parts.specs.Replies.{HasReplyText, Replies, status_of, reply_text};
 
 use clause_form::GroundFault;
 use command_parts::{Answer, Stop, ground_all};
@@ -33,9 +33,9 @@ fn look_over<R: Threads + Sync, K: OutcomeKind, G: Gate>(
     study: Study,
 ) -> Result<Reply, Stop>
     requires size { study.size ≡ K.size kind.now }
-    ensures row { IfOk result (λ reply. OverClauses study (bare_run (status_of reply)) (text_of reply)
-        (IsLooked study (status_of reply) (text_of reply))) }
-    ensures has_text { IfOk result HasText }
+    ensures row { IfOk result (λ reply. OverClauses study (bare_run (status_of reply)) (reply_text reply)
+        (IsLooked study (status_of reply) (reply_text reply))) }
+    ensures has_text { IfOk result HasReplyText }
     ensures read { result ≢ Err Stop.ReadFault }
 {
     let clauses = match ground_all(alloc, crew, kind, &study) {
@@ -53,9 +53,9 @@ fn look_study<R: Threads + Sync, G: Gate>(
     crew: &Crew<R, G>,
     study: Study,
 ) -> Result<Reply, Stop>
-    ensures row { IfOk result (λ reply. OverClauses study (bare_run (status_of reply)) (text_of reply)
-        (IsLooked study (status_of reply) (text_of reply))) }
-    ensures has_text { IfOk result HasText }
+    ensures row { IfOk result (λ reply. OverClauses study (bare_run (status_of reply)) (reply_text reply)
+        (IsLooked study (status_of reply) (reply_text reply))) }
+    ensures has_text { IfOk result HasReplyText }
     ensures read { result ≢ Err Stop.ReadFault }
 {
     over_kind!(study.size(), kind, look_over(alloc, crew, &kind, study))
@@ -64,8 +64,8 @@ fn look_study<R: Threads + Sync, G: Gate>(
 /// Refuses bytes that give no study, and says what helps.
 fn help_study(alloc: Global, bytes: &[u8], fault: StudyFault) -> Result<Reply, Stop>
     requires { IsStudyOf bytes.now (Err fault) }
-    ensures said { IfOk result (λ reply. IsLookAt bytes.now (status_of reply) (text_of reply)) }
-    ensures has_text { IfOk result HasText }
+    ensures said { IfOk result (λ reply. IsLookAt bytes.now (status_of reply) (reply_text reply)) }
+    ensures has_text { IfOk result HasReplyText }
     ensures read { result ≢ Err Stop.ReadFault }
 {
     let help = help_with(alloc, bytes, &fault)?;
@@ -79,8 +79,8 @@ fn look_bytes<R: Threads + Sync, G: Gate>(
     crew: &Crew<R, G>,
     bytes: &[u8],
 ) -> Result<Reply, Stop>
-    ensures said { IfOk result (λ reply. IsLookAt bytes.now (status_of reply) (text_of reply)) }
-    ensures has_text { IfOk result HasText }
+    ensures said { IfOk result (λ reply. IsLookAt bytes.now (status_of reply) (reply_text reply)) }
+    ensures has_text { IfOk result HasReplyText }
     ensures read { result ≢ Err Stop.ReadFault }
 {
     match read_study(alloc, bytes) {

@@ -2,7 +2,7 @@
 
 ghost use Rattle.std.specs.Prelude.{◌≡◌, ◌++◌};
 ghost use Rattle.texts.specs.Page.{Pours};
-ghost use Rattle.command_parts.specs.Answers.{HasText, status_of, text_of};
+ghost use Rattle.command_parts.specs.Answers.{HasText, answer_status, text_of};
 
 use command_parts::Answer;
 use edge::{Bytes, Failed, Sink};
@@ -13,8 +13,8 @@ use texts::{Page, Text};
 pub(crate) fn let_go(_answer: Answer) {}
 
 /// The status of an answer.
-pub(crate) fn status_of(answer: Answer, alloc: Global) -> u8
-    ensures { result ≡ status_of answer }
+pub(crate) fn answer_status(answer: Answer, alloc: Global) -> u8
+    ensures { result ≡ answer_status answer }
 {
     answer.into_run(alloc).status
 }
@@ -35,10 +35,10 @@ impl Drop for Helped {
 impl Helped {
     /// The status of the answer.
     pub fn into_status(self, alloc: Global) -> u8
-        ensures { result ≡ status_of self.refusal }
+        ensures { result ≡ answer_status self.refusal }
     {
         let Helped { refusal, help: _ } = self;
-        status_of(refusal, alloc)
+        answer_status(refusal, alloc)
     }
 }
 

@@ -8,9 +8,9 @@ ghost use Rattle.study_text.specs.LookText.{made_text};
 ghost use Rattle.explain_answers.specs.Cores.{cores_status};
 ghost use Rattle.explain_answers.specs.Instance.{instance_status};
 ghost use Rattle.explain_answers.specs.Rules.{rules_status};
-ghost use Rattle.explain_parts.specs.Replies.{HasText, status_of, text_of};
+ghost use Rattle.explain_parts.specs.Replies.{HasReplyText, status_of, reply_text};
 
-use crate::helped::{Helped, let_go, status_of};
+use crate::helped::{Helped, answer_status, let_go};
 use command_parts::Answer;
 use core_maps::{CoreMap, Ending as MapEnding};
 use edge::{Bytes, Failed, Sink};
@@ -202,7 +202,7 @@ impl Reply {
     {
         match self {
             Reply::Usage => 2,
-            Reply::Refused(answer) => status_of(answer, alloc),
+            Reply::Refused(answer) => answer_status(answer, alloc),
             Reply::Page(_) => 0,
             Reply::Instance(said) => instance_status(said.there),
             Reply::Rules(_, list) => rules_status(list.ending),
@@ -214,9 +214,9 @@ impl Reply {
 }
 
 impl Text for Reply {
-    ghost can = { λ reply. HasText reply };
+    ghost can = { λ reply. HasReplyText reply };
 
-    ghost text = { λ reply. text_of reply };
+    ghost text = { λ reply. reply_text reply };
 
     fn pour<O: Sink>(&self, page: &mut Page, out: &mut O) -> Result<(), Failed> {
         match self {

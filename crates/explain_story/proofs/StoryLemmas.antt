@@ -16,26 +16,27 @@ use Rattle.answers.specs.Call.{AreFiles, are_told, none_read, touched_at}
 use Rattle.command_parts.specs.declared.answer.Answer.{Answer}
 use Rattle.command_parts.specs.declared.answer.Stop.{Stop}
 use Rattle.command_parts.specs.declared.answer.Stop.TheVariants as stop
-use Rattle.command_parts.specs.Opened.{IsRead, Refuses}
+use Rattle.command_parts.specs.Opened.{IsStudyRead, Refuses}
 use Rattle.command_parts.proofs.OpenLemmas.{given, if_some}
 use Rattle.command_parts.proofs.StudyLemmas.{not_first}
 use Rattle.verdict_reading.specs.declared.reading.Reading.{Reading}
 use Rattle.verdict_reading.specs.declared.reading.Reading.TheVariants as reading
 use Rattle.verdict_reading.specs.Readings.{reading_of, IsReadOf}
-use Rattle.explain_words.specs.Words.{Request, Story}
+use Rattle.command_parts.proofs.PairLemmas.{both_touched, rose_since}
+use Rattle.explain_words.specs.Words.{ExplainRequest, Story}
 use Rattle.explain_answers.specs.Story.{IsSaid, IsStory, IsToldOf}
 use Rattle.explain_answers.specs.Call.{at_study, at_report}
 use Rattle.explain_answers.proofs.StatusLemmas.{found_among}
 use Rattle.explain_parts.specs.declared.reply.Reply.{Reply}
 use Rattle.explain_parts.specs.declared.reply.Reply.TheVariants as reply
-use Rattle.explain_parts.specs.Replies.{HasText, Replies, status_of, text_of}
+use Rattle.explain_parts.specs.Replies.{HasReplyText, Replies, status_of, reply_text}
 use Rattle.explain_story.specs.Replied.{IsReplyTo}
 
 -- ---- what is replied to what was read
 
 module _ (study : Question) (name report : List ℕ) where
   abbrev RepliesAs : Judged → Reply → Type 0
-  RepliesAs a r = (status_of r ≡ judged_status a) × IsSaid study name report a (text_of r)
+  RepliesAs a r = (status_of r ≡ judged_status a) × IsSaid study name report a (reply_text r)
 
   by_judgement : (a : Judged) (r : Reply) → IsReplyTo study name report (reading_of a) r → RepliesAs a r
   by_judgement (AsReport (Confirmed verdict)) (reply.Page page) h = (refl, h)
@@ -60,7 +61,7 @@ module _ (study : Question) (name report : List ℕ) where
   by_judgement (AsSharp SharpTooLong) r h = subst (λ (x : Reply). RepliesAs (AsSharp SharpTooLong) x) (sym h) (refl, refl)
 
   pub told_reply : (told : Option Files) (read : Reading) (r : Reply) → IfSome told (λ files. IsReadOf study files report read) → IsReplyTo study name report read r
-      → (files : Files) → told ≡ Some files → IsToldOf files name report study (status_of r) (text_of r)
+      → (files : Files) → told ≡ Some files → IsToldOf files name report study (status_of r) (reply_text r)
   told_reply told read r is h files e =
       let i = if_some told (λ files. IsReadOf study files report read) files is e in
       let said = by_judgement (judged study i.bytes) r (subst (λ (x : Reading). IsReplyTo study name report x r) i.is h) in
@@ -68,7 +69,7 @@ module _ (study : Question) (name report : List ℕ) where
 
   -- its status is at most 1, and it has a text
   abbrev IsLowReply : Reply → Type 0
-  IsLowReply r = (status_of r ≤ 1) × HasText r
+  IsLowReply r = (status_of r ≤ 1) × HasReplyText r
 
   reply_is_low : (read : Reading) (r : Reply) → IsReplyTo study name report read r → IsLowReply r
   reply_is_low (reading.Confirmed verdict) (reply.Page page) h = (omega arith, tt)
@@ -95,7 +96,7 @@ module _ (study : Question) (name report : List ℕ) where
   pub reply_low : (read : Reading) (r : Reply) → IsReplyTo study name report read r → status_of r ≤ 1
   reply_low read r h = (reply_is_low read r h).0
 
-  pub reply_has_text : (read : Reading) (r : Reply) → IsReplyTo study name report read r → HasText r
+  pub reply_has_text : (read : Reading) (r : Reply) → IsReplyTo study name report read r → HasReplyText r
   reply_has_text read r h = (reply_is_low read r h).1
 
 -- ---- statuses
@@ -108,23 +109,14 @@ low_status zero low = refl
 low_status (suc zero) low = refl
 low_status (suc (suc s)) low = absurd (omega (arith, low))
 
--- with a status of at most 1 both files may be touched
-both_touched : (s : ℕ) (names : List (List ℕ)) → s ≤ 1 → touched_at s names ≡ names
-both_touched zero names low = refl
-both_touched (suc zero) names low = refl
-both_touched (suc (suc s)) names low = absurd (omega (arith, low))
-
-rose_since : (a b c : ℕ) → a ≤ b → Rose b c → Rose a c
-rose_since a b c h k = omega arith
-
 -- ---- the command
 
 module _ (name report : List ℕ) (workers : ℕ) (told : Option Files) where
-  abbrev asked : Option Request
+  abbrev asked : Option ExplainRequest
   asked = Some (Story name report workers)
 
   -- a study that was read is given
-  pub study_taken : (study : Question) → IsRead told name study → IfSome told (λ files. (study : Question) × GivesStudy files name study)
+  pub study_taken : (study : Question) → IsStudyRead told name study → IfSome told (λ files. (study : Question) × GivesStudy files name study)
   study_taken study read = go told refl
     where
       go : (o : Option Files) → told ≡ o → IfSome o (λ files. (study : Question) × GivesStudy files name study)
@@ -132,16 +124,16 @@ module _ (name report : List ℕ) (workers : ℕ) (told : Option Files) where
       go (Some files) e = (study, given told name study files read e)
 
   -- the report is judged over it
-  pub story_rows : (study : Question) (result : Result Reply Stop) → IsRead told name study
-      → IfOk result (λ reply. (files : Files) → told ≡ Some files → IsToldOf files name report study (status_of reply) (text_of reply))
-      → (files : Files) → AreFiles told (name ∷ report ∷ []) files → IfOk result (λ reply. IsStory files name report (status_of reply) (text_of reply))
+  pub story_rows : (study : Question) (result : Result Reply Stop) → IsStudyRead told name study
+      → IfOk result (λ reply. (files : Files) → told ≡ Some files → IsToldOf files name report study (status_of reply) (reply_text reply))
+      → (files : Files) → AreFiles told (name ∷ report ∷ []) files → IfOk result (λ reply. IsStory files name report (status_of reply) (reply_text reply))
   story_rows study (Ok r) read judged files (are_told e) = study_given study (given told name study files read e) (judged files e)
   story_rows study (Ok r) read judged files (none_read e) = absurd (cc)
   story_rows study (Err s) read judged files h = tt
 
   -- the study is refused
   refused_row : (answer : Answer) → Refuses told name answer → (files : Files) → AreFiles told (name ∷ report ∷ []) files
-      → IsStory files name report (status_of (reply.Refused answer)) (text_of (reply.Refused answer))
+      → IsStory files name report (status_of (reply.Refused answer)) (reply_text (reply.Refused answer))
   refused_row answer refuses files (are_told e) = study_refused (refuses.line files e) (record { ends = refuses.bare.ends; no_verdict = refl; no_logs = refl; no_sharp = refl })
   refused_row answer refuses files (none_read e) = absurd (cc)
 
@@ -156,8 +148,8 @@ module _ (name report : List ℕ) (workers : ℕ) (told : Option Files) where
 
       -- the study is given, and the report was read
       pub report_read : (result : Result Reply Stop) → IfSome told (λ files. (study : Question) × GivesStudy files name study) → NoneFell faults_before faults_middle
-          → ((files : Files) → AreFiles told (name ∷ report ∷ []) files → IfOk result (λ reply. IsStory files name report (status_of reply) (text_of reply)))
-          → IfOk result (λ reply. status_of reply ≤ 1) → IfOk result HasText
+          → ((files : Files) → AreFiles told (name ∷ report ∷ []) files → IfOk result (λ reply. IsStory files name report (status_of reply) (reply_text reply)))
+          → IfOk result (λ reply. status_of reply ≤ 1) → IfOk result HasReplyText
           → (IsErrOf result stop.ReadFault → Rose (faults_middle report) (faults_now report)) → OthersStay left_middle left_now report → Promised result
       report_read (Ok r) taken fell row low has_text rose more = record {
         lawful = λ files h. row files h;

@@ -4,7 +4,7 @@ ghost use Rattle.std.specs.Prelude.{◌≡◌, List, ℕ, IfOk, IsTrue};
 ghost use Rattle.verdicts.specs.Report.{is_right};
 ghost use Rattle.sharp_verdicts.specs.Right.{IsSharpRight};
 ghost use Rattle.verdict_reading.specs.SharpCollected.{as_said};
-ghost use Rattle.explain_answers.specs.Page.{IsPage, IsSharpPage};
+ghost use Rattle.explain_answers.specs.Page.{IsPageText, IsSharpPageText};
 
 use edge::Bytes;
 use kinds::over_kind;
@@ -31,7 +31,7 @@ fn page_over<K: OutcomeKind>(
 ) -> Result<Bytes, NoMemory>
     requires size { study.now.size ≡ K.size kind.now }
     requires right { IsTrue (is_right study.now verdict.now) }
-    ensures { IfOk result (IsPage study.now name.now report.now verdict.now) }
+    ensures { IfOk result (IsPageText study.now name.now report.now verdict.now) }
 {
     let source = Source {
         study: name.as_bytes(),
@@ -50,7 +50,7 @@ pub(crate) fn make_page(
     verdict: &Verdict,
 ) -> Result<Bytes, NoMemory>
     requires right { IsTrue (is_right study.now verdict.now) }
-    ensures { IfOk result (IsPage study.now name.now report.now verdict.now) }
+    ensures { IfOk result (IsPageText study.now name.now report.now verdict.now) }
 {
     over_kind!(
         study.size(),
@@ -70,7 +70,7 @@ fn sharp_page_over<K: OutcomeKind>(
 ) -> Result<Bytes, NoMemory>
     requires size { study.now.size ≡ K.size kind.now }
     requires right { IsSharpRight study.now (as_said sharp.now) }
-    ensures { IfOk result (IsSharpPage study.now name.now report.now (as_said sharp.now)) }
+    ensures { IfOk result (IsSharpPageText study.now name.now report.now (as_said sharp.now)) }
 {
     let source = Source {
         study: name.as_bytes(),
@@ -98,7 +98,7 @@ pub(crate) fn make_sharp_page(
     sharp: &SharpVerdict,
 ) -> Result<Bytes, NoMemory>
     requires right { IsSharpRight study.now (as_said sharp.now) }
-    ensures { IfOk result (IsSharpPage study.now name.now report.now (as_said sharp.now)) }
+    ensures { IfOk result (IsSharpPageText study.now name.now report.now (as_said sharp.now)) }
 {
     over_kind!(
         study.size(),

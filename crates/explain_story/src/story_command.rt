@@ -7,7 +7,7 @@ ghost use Rattle.vocab.specs.Study.{HasFewAxioms};
 ghost use Rattle.verdict_reading.specs.Readings.{IsReadOf, ReadingHolds};
 ghost use Rattle.explain_words.specs.Words.{Story};
 ghost use Rattle.explain_answers.specs.Story.{IsToldOf};
-ghost use Rattle.explain_parts.specs.Replies.{HasText, Replies, status_of, text_of};
+ghost use Rattle.explain_parts.specs.Replies.{HasReplyText, Replies, status_of, reply_text};
 ghost use Rattle.explain_story.specs.Replied.{IsReplyTo};
 
 use crate::page::{make_page, make_sharp_page};
@@ -128,9 +128,9 @@ fn read_story<R: Threads + Sync, S: Shelf, G: Gate>(
 ) -> Result<Reply, Stop>
     requires listed { HasFewAxioms study.now }
     ensures told { IfOk result (λ reply. (files : Files) → S.files shelf.old ≡ Some files →
-        IsToldOf files name.now report.now study.now (status_of reply) (text_of reply)) }
+        IsToldOf files name.now report.now study.now (status_of reply) (reply_text reply)) }
     ensures status { IfOk result (λ reply. status_of reply ≤ 1) }
-    ensures has_text { IfOk result HasText }
+    ensures has_text { IfOk result HasReplyText }
     ensures fault { IsErrOf result Stop.ReadFault →
         Rose (S.faults shelf.old report.now) (S.faults shelf.new report.now) }
     ensures others { OthersStay (S.left shelf.old) (S.left shelf.new) report.now }

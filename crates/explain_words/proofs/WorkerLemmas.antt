@@ -1,35 +1,19 @@
 -- A request has from 1 to 16 workers.
-use Rattle.std.proofs.Common.{◌≡◌, sym, refl, subst, ℕ, ◌≤◌, Bool, true, false, ◌&&◌, cond, List, Option, None, Some, IfSome, option_map}
-use Rattle.std.specs.Prelude.{nat_le, option_and_then, codes}
+use Rattle.std.proofs.Common.{◌≡◌, sym, subst, ℕ, Bool, true, false, cond, List, Option, None, Some, IfSome, option_map}
+use Rattle.std.specs.Prelude.{option_and_then, codes}
 use Rattle.std.specs.Str.{bytes_eq}
-use Rattle.std.proofs.lemmas.Bool.{and_parts, leb-true}
-use Rattle.verdicts.specs.Numbers.{read_number}
 use Rattle.clap.specs.Words.{Row, Text, first_of}
-use Rattle.words.specs.Values.{number_in, number_within, workers_in}
+use Rattle.words.specs.Values.{number_in, workers_in}
+use Rattle.words.proofs.FewWorkers.{IsFew, few_in}
 use Rattle.explain_words.specs.declared.commands.Command.{Command}
-use Rattle.explain_words.specs.Words.{Request, Story, Instance, Rules, Cores, Look, HasWorkers, asked, most_in, request_under}
+use Rattle.explain_words.specs.Words.{ExplainRequest, Story, Instance, Rules, Cores, Look, HasExplainWorkers, command_request, most_in, explain_request_under}
 
-abbrev Good : Option Request → Type 0
-Good o = IfSome o HasWorkers
+abbrev Good : Option ExplainRequest → Type 0
+Good o = IfSome o HasExplainWorkers
 
-abbrev IsFew : ℕ → Type 0
-IsFew n = (1 ≤ n) × (n ≤ 16)
-
-either : (b : Bool) (x y : Option Request) → Good x → Good y → Good (cond b x y)
+either : (b : Bool) (x y : Option ExplainRequest) → Good x → Good y → Good (cond b x y)
 either true x y g h = g
 either false x y g h = h
-
-few_if : (n : ℕ) (b : Bool) → (nat_le 1 n && nat_le n 16) ≡ b → IfSome (cond b (Some n) None) IsFew
-few_if n true e = let p = and_parts (nat_le 1 n) (nat_le n 16) e in (leb-true 1 n p.0, leb-true n 16 p.1)
-few_if n false e = tt
-
-few_within : (o : Option ℕ) → IfSome (option_and_then (λ n. cond (nat_le 1 n && nat_le n 16) (Some n) None) o) IsFew
-few_within None = tt
-few_within (Some n) = few_if n _ refl
-
-few_in : (o : Option Text) → IfSome (option_and_then (number_within 1 16) o) IsFew
-few_in None = tt
-few_in (Some text) = few_within (read_number text)
 
 -- a request that is made of two names and such a number
 made : (report study : Option Text) (w : Option ℕ) → IfSome w IsFew → Good (option_and_then (λ r. option_and_then (λ s. option_map (Story s r) w) study) report)
@@ -64,7 +48,7 @@ looked None w few = tt
 looked (Some s) None few = tt
 looked (Some s) (Some k) few = few
 
-under : (rows : List Row) (name : Text) → Good (request_under name rows)
+under : (rows : List Row) (name : Text) → Good (explain_request_under name rows)
 under rows name =
     either (bytes_eq name (codes "story")) _ _
     (made (first_of (codes "report") rows) (first_of (codes "study") rows) (workers_in rows) (few_in (first_of (codes "workers") rows)))
@@ -74,6 +58,6 @@ under rows name =
     (either (bytes_eq name (codes "study")) _ _ (looked (first_of (codes "study") rows) (workers_in rows) (few_in (first_of (codes "workers") rows))) tt))))
 
 -- so has each command that was found
-pub found : (command : Option Command) (name : Text) (rows : List Row) → option_map asked command ≡ request_under name rows → IfSome command (λ it. HasWorkers (asked it))
+pub found : (command : Option Command) (name : Text) (rows : List Row) → option_map command_request command ≡ explain_request_under name rows → IfSome command (λ it. HasExplainWorkers (command_request it))
 found None name rows e = tt
 found (Some command) name rows e = subst Good (sym e) (under rows name)

@@ -2,15 +2,15 @@
 
 ghost use Rattle.std.specs.Prelude.{◌≡◌, IfOk, false};
 ghost use Rattle.clap.specs.Words.{App, Shape, app_of, rule_of, with_subcommand};
-ghost use Rattle.words.specs.Words.{place, workers_option, IsLeaf};
-ghost use Rattle.explain_words.specs.Words.{story_shape, instance_shape, most_option, rules_shape, cores_shape, look_shape, top_shape, explain_app};
+ghost use Rattle.words.specs.Words.{required_word, workers_option, IsLeaf};
+ghost use Rattle.explain_words.specs.Words.{story_shape, instance_shape, most_option, rules_shape, cores_shape, look_shape, explain_shape, explain_app};
 
 use clap::{Arg, Command};
 use std::alloc::{AllocError, Global};
 
 /// A word that has to stand at its place.
-fn place<'a>(alloc: Global, id: &'a str) -> Arg<'a>
-    ensures rule { rule_of result ≡ place id.now }
+fn required_word<'a>(alloc: Global, id: &'a str) -> Arg<'a>
+    ensures rule { rule_of result ≡ required_word id.now }
     ensures local { result.global ≡ false }
 {
     Arg::new(alloc, id).required(true)
@@ -38,8 +38,8 @@ fn most_option<'a>(alloc: Global) -> Arg<'a>
 fn story_command<'a>(alloc: Global) -> Result<Command<'a>, AllocError>
     ensures { IfOk result (IsLeaf story_shape) }
 {
-    let command = Command::new(alloc, "story").arg(place(alloc, "study"))?;
-    let command = command.arg(place(alloc, "report"))?;
+    let command = Command::new(alloc, "story").arg(required_word(alloc, "study"))?;
+    let command = command.arg(required_word(alloc, "report"))?;
     command.arg(workers_option(alloc))
 }
 
@@ -47,16 +47,16 @@ fn story_command<'a>(alloc: Global) -> Result<Command<'a>, AllocError>
 fn instance_command<'a>(alloc: Global) -> Result<Command<'a>, AllocError>
     ensures { IfOk result (IsLeaf instance_shape) }
 {
-    let command = Command::new(alloc, "instance").arg(place(alloc, "study"))?;
-    let command = command.arg(place(alloc, "axiom"))?;
-    command.arg(place(alloc, "number"))
+    let command = Command::new(alloc, "instance").arg(required_word(alloc, "study"))?;
+    let command = command.arg(required_word(alloc, "axiom"))?;
+    command.arg(required_word(alloc, "number"))
 }
 
 /// `rules STUDY`.
 fn rules_command<'a>(alloc: Global) -> Result<Command<'a>, AllocError>
     ensures { IfOk result (IsLeaf rules_shape) }
 {
-    let command = Command::new(alloc, "rules").arg(place(alloc, "study"))?;
+    let command = Command::new(alloc, "rules").arg(required_word(alloc, "study"))?;
     let command = command.arg(most_option(alloc))?;
     command.arg(workers_option(alloc))
 }
@@ -65,7 +65,7 @@ fn rules_command<'a>(alloc: Global) -> Result<Command<'a>, AllocError>
 fn cores_command<'a>(alloc: Global) -> Result<Command<'a>, AllocError>
     ensures { IfOk result (IsLeaf cores_shape) }
 {
-    let command = Command::new(alloc, "cores").arg(place(alloc, "study"))?;
+    let command = Command::new(alloc, "cores").arg(required_word(alloc, "study"))?;
     command.arg(workers_option(alloc))
 }
 
@@ -73,13 +73,13 @@ fn cores_command<'a>(alloc: Global) -> Result<Command<'a>, AllocError>
 fn look_command<'a>(alloc: Global) -> Result<Command<'a>, AllocError>
     ensures { IfOk result (IsLeaf look_shape) }
 {
-    let command = Command::new(alloc, "study").arg(place(alloc, "study"))?;
+    let command = Command::new(alloc, "study").arg(required_word(alloc, "study"))?;
     command.arg(workers_option(alloc))
 }
 
 /// The program before its commands: one of them is wanted.
 fn top_command<'a>(alloc: Global) -> Command<'a>
-    ensures { IsLeaf top_shape result }
+    ensures { IsLeaf explain_shape result }
 {
     Command::new(alloc, "explain")
         .no_binary_name(true)

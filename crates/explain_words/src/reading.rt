@@ -4,7 +4,7 @@ ghost use Rattle.std.specs.Prelude.{◌≡◌, IfOk, IfSome, option_map};
 ghost use Rattle.clap.specs.Words.{first_of, found_of, rows_of, subcommand_rows_of};
 ghost use Rattle.words.specs.Values.{number_within, number_in, workers_in};
 ghost use Rattle.words.specs.Words.{texts};
-ghost use Rattle.explain_words.specs.Words.{HasWorkers, asked, story_in, instance_in, most_in, rules_in, cores_in, look_in, request_under, request_in, request_of};
+ghost use Rattle.explain_words.specs.Words.{HasExplainWorkers, command_request, story_in, instance_in, most_in, rules_in, cores_in, look_in, explain_request_under, explain_request_in, request_of};
 
 use crate::commands::Command;
 use crate::grammar::explain_command;
@@ -42,7 +42,7 @@ fn workers_in(matches: &ArgMatches<'_>) -> Option<u8>
 
 /// `story STUDY REPORT`.
 fn story_in<'a>(matches: &ArgMatches<'a>) -> Option<Command<'a>>
-    ensures { option_map asked result ≡ story_in (rows_of (found_of matches.now)) }
+    ensures { option_map command_request result ≡ story_in (rows_of (found_of matches.now)) }
 {
     let report = value_at(matches, "report")?;
     let study = value_at(matches, "study")?;
@@ -75,7 +75,7 @@ fn number_in(matches: &ArgMatches<'_>) -> Option<u32>
 
 /// `instance STUDY AXIOM NUMBER`.
 fn instance_in<'a>(matches: &ArgMatches<'a>) -> Option<Command<'a>>
-    ensures { option_map asked result ≡ instance_in (rows_of (found_of matches.now)) }
+    ensures { option_map command_request result ≡ instance_in (rows_of (found_of matches.now)) }
 {
     let axiom_name = value_at(matches, "axiom")?;
     let study = value_at(matches, "study")?;
@@ -108,7 +108,7 @@ fn most_in(matches: &ArgMatches<'_>) -> Option<u32>
 
 /// `rules STUDY`.
 fn rules_in<'a>(matches: &ArgMatches<'a>) -> Option<Command<'a>>
-    ensures { option_map asked result ≡ rules_in (rows_of (found_of matches.now)) }
+    ensures { option_map command_request result ≡ rules_in (rows_of (found_of matches.now)) }
 {
     let study = value_at(matches, "study")?;
     let most = most_in(matches)?;
@@ -122,7 +122,7 @@ fn rules_in<'a>(matches: &ArgMatches<'a>) -> Option<Command<'a>>
 
 /// `cores STUDY`.
 fn cores_in<'a>(matches: &ArgMatches<'a>) -> Option<Command<'a>>
-    ensures { option_map asked result ≡ cores_in (rows_of (found_of matches.now)) }
+    ensures { option_map command_request result ≡ cores_in (rows_of (found_of matches.now)) }
 {
     let study = value_at(matches, "study")?;
     let workers = workers_in(matches)?;
@@ -131,7 +131,7 @@ fn cores_in<'a>(matches: &ArgMatches<'a>) -> Option<Command<'a>>
 
 /// `study STUDY`.
 fn look_in<'a>(matches: &ArgMatches<'a>) -> Option<Command<'a>>
-    ensures { option_map asked result ≡ look_in (rows_of (found_of matches.now)) }
+    ensures { option_map command_request result ≡ look_in (rows_of (found_of matches.now)) }
 {
     let study = value_at(matches, "study")?;
     let workers = workers_in(matches)?;
@@ -140,7 +140,8 @@ fn look_in<'a>(matches: &ArgMatches<'a>) -> Option<Command<'a>>
 
 /// The command of a name, with the values that were found.
 fn command_under<'a>(name: &str, matches: &ArgMatches<'a>) -> Option<Command<'a>>
-    ensures { option_map asked result ≡ request_under name.now (rows_of (found_of matches.now)) }
+    ensures { option_map command_request result ≡
+        explain_request_under name.now (rows_of (found_of matches.now)) }
 {
     match name {
         "story" => story_in(matches),
@@ -154,8 +155,9 @@ fn command_under<'a>(name: &str, matches: &ArgMatches<'a>) -> Option<Command<'a>
 
 /// The command that was found.
 fn command_in<'a>(matches: &ArgMatches<'a>) -> Option<Command<'a>>
-    ensures workers { IfSome result (λ it. HasWorkers (asked it)) }
-    ensures command { option_map asked result ≡ request_in (subcommand_rows_of matches.now) }
+    ensures workers { IfSome result (λ it. HasExplainWorkers (command_request it)) }
+    ensures command { option_map command_request result ≡
+        explain_request_in (subcommand_rows_of matches.now) }
 {
     let (name, inner) = matches.subcommand()?;
     command_under(name, inner)
@@ -163,8 +165,9 @@ fn command_in<'a>(matches: &ArgMatches<'a>) -> Option<Command<'a>>
 
 /// The command that the words are. A request for help is none.
 pub fn command_of<'a>(alloc: Global, words: &'a [String]) -> Result<Option<Command<'a>>, NoMemory>
-    ensures command { IfOk result (λ command. option_map asked command ≡ request_of (texts words.now)) }
-    ensures workers { IfOk result (λ command. IfSome command (λ it. HasWorkers (asked it))) }
+    ensures command { IfOk result
+        (λ command. option_map command_request command ≡ request_of (texts words.now)) }
+    ensures workers { IfOk result (λ command. IfSome command (λ it. HasExplainWorkers (command_request it))) }
 {
     let explain = explain_command(alloc)?;
     match explain.try_get_matches_from(words) {

@@ -1,11 +1,12 @@
 -- Axiom after axiom: the first too wide instance, and the first axiom at which the list is full.
 use Rattle.std.proofs.Common.{◌≡◌, ◌<◌, ◌≤◌, ◌+◌, ◌&&◌, ℕ, zero, suc, Bool, true, false, cond, not, List, [], ◌∷◌, ◌++◌, length, take, drop, find, refl, sym, ap, ap₂, ◌∙◌, subst, if◌then◌else◌, arith, inl, inr, append_assoc, append-nil, add-one, drop-cons, Option, Some, None, slice_get, slice_index_or, leb-true, ltb-true, eq-or-lt_of_le}
 use Rattle.std.specs.Prelude.{nat_le, nat_lt, option_and_then, option_map}
-use Rattle.std.specs.List.{flat_map, list_all}
+use Rattle.std.specs.List.{flat_map}
 use Rattle.std.specs.Option.{option_or}
 use Rattle.std.proofs.lemmas.Bool.{and_parts}
 use Rattle.std.proofs.lemmas.Grind.{flat_map-append}
 use Rattle.std.proofs.lemmas.List.{take_more}
+use Rattle.lists.proofs.TestLaws.{all_get}
 use Rattle.vocab.specs.declared.kinds.Sort.TheVariants.{Profile}
 use Rattle.vocab.specs.Formula.{body_of}
 use Rattle.vocab.specs.Limits.{depth, instance_count, atom_count, is_within_limits}
@@ -62,19 +63,13 @@ place_below from end (k ∷ chosen) (suc i) h l =
 pub chosen_below : (end : ℕ) (chosen : List ℕ) (i : ℕ) → is_core_from 0 end chosen ≡ true → i < length chosen → slice_index_or chosen i 0 < end
 chosen_below end chosen i h l = place_below 0 end chosen i h l
 
--- what holds of each item of a list holds of the item at a place
-in_list : {A : Type 0} (P : A → Bool) (xs : List A) (i : ℕ) (a : A) → list_all P xs ≡ true → slice_get xs i ≡ Some a → P a ≡ true
-in_list P [] i a h at = cc
-in_list P (x ∷ xs) zero a h at = let same : x ≡ a = cc in subst (λ y. P y ≡ true) same (and_parts (P x) (list_all P xs) h).0
-in_list P (x ∷ xs) (suc i) a h at = in_list P xs i a (and_parts (P x) (list_all P xs) h).1 at
-
 module _ (study : Question) (place : ℕ) (a : Titled) where
   pub sentence_at : IsStudy study → slice_get study.axioms place ≡ Some a → is_sentence study.size a ≡ true
-  sentence_at is at = in_list (is_sentence study.size) study.axioms place a is.sentences at
+  sentence_at is at = all_get (is_sentence study.size) study.axioms place a is.sentences at
 
   pub few_at : IsStudy study → slice_get study.axioms place ≡ Some a → instance_count study.size a.sentence ≤ 40000000
   few_at is at =
-      let within = in_list (λ (x : Titled). is_within_limits study.size x.sentence) study.axioms place a is.limits at in
+      let within = all_get (λ (x : Titled). is_within_limits study.size x.sentence) study.axioms place a is.limits at in
       let one = and_parts _ (nat_le (atom_count study.size a.sentence) 200000000) within in
       let two = and_parts _ (nat_le (atom_count study.size (body_of a.sentence)) 1000000) one.0 in
       let three = and_parts (nat_le (depth a.sentence) 64) (nat_le (instance_count study.size a.sentence) 40000000) two.0 in

@@ -9,7 +9,7 @@ use Rattle.cnf.specs.Signed.{Signed}
 use Rattle.cnf.specs.Sat.{Clause, same_lit}
 use Rattle.meaning.specs.StudyClauses.{Sourced, firsts}
 use Rattle.meaning.proofs.TestLaws.{or-false}
-use Rattle.grounding.specs.Distinct.{code_of, is_seen, kept_with, same_clause}
+use Rattle.grounding.specs.Distinct.{literal_code, is_seen, kept_with, same_clause}
 
 or_swap : (a b : Bool) → (a || b) ≡ (b || a)
 or_swap true true = refl
@@ -42,7 +42,7 @@ kept_are_firsts kept seen (x ∷ xs) h = by (is_seen (map (λ k. k.clause) kept)
 -- ---- keys of codes
 
 abbrev pub same_code : Signed → Signed → Bool
-same_code a b = code_of a == code_of b
+same_code a b = literal_code a == literal_code b
 
 pub same_codes : (a b : Signed) → same_code a b ≡ same_lit a b
 same_codes a b = by a.variable b.variable a.positive b.positive
@@ -53,19 +53,19 @@ same_codes a b = by a.variable b.variable a.positive b.positive
     by v w false true = grind arith
     by v w false false = grind arith
 
-pub pointwise_codes : (c d : Clause) → pointwise (λ (m n : ℕ). m == n) (map code_of c) (map code_of d) ≡ same_clause c d
+pub pointwise_codes : (c d : Clause) → pointwise (λ (m n : ℕ). m == n) (map literal_code c) (map literal_code d) ≡ same_clause c d
 pointwise_codes [] [] = refl
 pointwise_codes [] (y ∷ d) = refl
 pointwise_codes (x ∷ c) [] = refl
 pointwise_codes (x ∷ c) (y ∷ d) = ap₂ (λ u v. u && v) (same_codes x y) (pointwise_codes c d)
 
 -- a look-up among keys is a look-up among the clauses whose codes they are
-pub keys_seen : {X : Type 0} (h : X → List ℕ) (v : X) (clause : Clause) → h v ≡ map code_of clause → (ks : List X) (seen : List Clause) → map h ks ≡ map (λ c. map code_of c) seen →
+pub keys_seen : {X : Type 0} (h : X → List ℕ) (v : X) (clause : Clause) → h v ≡ map literal_code clause → (ks : List X) (seen : List Clause) → map h ks ≡ map (λ c. map literal_code c) seen →
     list_any (λ k. pointwise (λ (m n : ℕ). m == n) (h v) (h k)) ks ≡ is_seen seen clause
 keys_seen h v clause e [] [] s = refl
 keys_seen h v clause e [] (c ∷ seen) s = absurd (let k : ⊥ = cc in k)
 keys_seen h v clause e (k ∷ ks) [] s = absurd (let l : ⊥ = cc in l)
 keys_seen h v clause e (k ∷ ks) (c ∷ seen) s =
-    let first : h k ≡ map code_of c = cc in
-    let rest : map h ks ≡ map (λ d. map code_of d) seen = cc in
+    let first : h k ≡ map literal_code c = cc in
+    let rest : map h ks ≡ map (λ d. map literal_code d) seen = cc in
     ap₂ (λ a b. a || b) (ap₂ (λ (m n : List ℕ). pointwise (λ (i j : ℕ). i == j) m n) e first ∙ pointwise_codes clause c) (keys_seen h v clause e ks seen rest)

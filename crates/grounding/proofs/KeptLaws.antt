@@ -11,7 +11,7 @@ use Rattle.clause_form.specs.Refusals.{is_over_limits}
 use Rattle.clause_form.specs.Sources.{clauses_in, sourced}
 use Rattle.clause_form.proofs.SourceLaws.{clauses-sourced, sourced-append}
 use Rattle.grounding.specs.Distinct.{Codes, HasSeen, is_seen, kept_with, seen_with}
-use Rattle.grounding.specs.Kept.{IsKept}
+use Rattle.grounding.specs.Kept.{AreKeptClauses}
 use Rattle.grounding.specs.Parts.{with_origin}
 
 -- ---- limits
@@ -58,15 +58,15 @@ over-grows before kept (s ∷ more) h = over-grows before (kept_with kept s) mor
     by false = subst (λ (cs : List Clause). is_over_limits cs ≡ true) (sym (clauses-push before kept s)) (over-append (clauses_in (before ++ kept)) (s.clause ∷ []) h)
 
 module _ (seen : Codes) (out : ClauseList) (before kept : List Sourced) (clause : Clause) (origin : ℕ) where
-  pub kept-step : IsKept seen out before kept → (seen_after : Codes) (out_after : ClauseList)
+  pub kept-step : AreKeptClauses seen out before kept → (seen_after : Codes) (out_after : ClauseList)
       → out_after ≡ (if is_seen (clauses_in kept) clause then out else with_clause out clause origin)
       → HasSeen seen_after (seen_with (clauses_in kept) clause)
-      → IsKept seen_after out_after before (kept_with kept (with_origin clause origin))
+      → AreKeptClauses seen_after out_after before (kept_with kept (with_origin clause origin))
   kept-step is seen_after out_after = by (is_seen (clauses_in kept) clause)
     where
       by : (b : Bool) → out_after ≡ (if b then out else with_clause out clause origin)
           → HasSeen seen_after (if b then clauses_in kept else clauses_in kept ++ clause ∷ [])
-          → IsKept seen_after out_after before (if b then kept else kept ++ with_origin clause origin ∷ [])
+          → AreKeptClauses seen_after out_after before (if b then kept else kept ++ with_origin clause origin ∷ [])
       by true e f = record {
         codes = f;
         pairs = ap (λ (o : ClauseList). length o.origins) e ∙ is.pairs ∙ sym (ap (λ (o : ClauseList). length o.clauses) e);
@@ -86,7 +86,7 @@ module _ (seen : Codes) (out : ClauseList) (before kept : List Sourced) (clause 
           }
 
   -- a new clause for which the list is full makes it pass a limit
-  pub full-step : IsKept seen out before kept → is_seen (clauses_in kept) clause ≡ false → IsFullFor out (length clause)
+  pub full-step : AreKeptClauses seen out before kept → is_seen (clauses_in kept) clause ≡ false → IsFullFor out (length clause)
       → is_over_limits (clauses_in (before ++ kept_with kept (with_origin clause origin))) ≡ true
   full-step is new full =
       let all : clauses_in (before ++ kept) ≡ out.clauses = ap clauses_in (sym is.sources) ∙ clauses-sourced out.clauses out.origins is.pairs in
@@ -101,8 +101,8 @@ module _ (seen : Codes) (out : ClauseList) (before kept : List Sourced) (clause 
       by (inr h) = inr (omega (arith, h, sum_by-append length out.clauses (clause ∷ [])))
 
 -- what is kept, written another way
-pub kept-as : {seen : Codes} {out : ClauseList} {before ss ts : List Sourced} → ss ≡ ts → IsKept seen out before ss → IsKept seen out before ts
-kept-as {seen} {out} {before} e is = subst (IsKept seen out before) e is
+pub kept-as : {seen : Codes} {out : ClauseList} {before ss ts : List Sourced} → ss ≡ ts → AreKeptClauses seen out before ss → AreKeptClauses seen out before ts
+kept-as {seen} {out} {before} e is = subst (AreKeptClauses seen out before) e is
 
 pub over-as : (before : List Sourced) {ss ts : List Sourced} → ss ≡ ts → is_over_limits (clauses_in (before ++ ss)) ≡ true → is_over_limits (clauses_in (before ++ ts)) ≡ true
 over-as before e over = subst (λ (ss : List Sourced). is_over_limits (clauses_in (before ++ ss)) ≡ true) e over

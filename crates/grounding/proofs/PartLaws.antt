@@ -6,14 +6,14 @@ use Rattle.std.proofs.lemmas.List.{get_or-drop, length-drop, map-append, take_mo
 use Rattle.std.proofs.lemmas.List.Elements.{filter-append}
 use Rattle.std.proofs.lemmas.List.Folds.{list_any-append}
 use Rattle.std.proofs.lemmas.List.Sums.{fold-append}
-use Rattle.std.proofs.lemmas.Option.{slice_get-get_or}
+use Rattle.std.proofs.lemmas.Option.{slice_get-get_or, same_Some}
 use Rattle.cnf.specs.Signed.{Signed}
 use Rattle.cnf.specs.Sat.{Clause, is_tautology, same_lit}
 use Rattle.cnf.proofs.LitLaws.{same_lit-equal}
 use Rattle.meaning.specs.StudyClauses.{Sourced, sorted}
 use Rattle.clause_form.specs.Sources.{clauses_in, origin_of_number, origins_in, sourced}
 use Rattle.clause_form.proofs.SourceLaws.{clauses-sourced}
-use Rattle.grounding.specs.Distinct.{Codes, HasSeen, code_of, is_seen, kept_with, plain_rows, same_clause}
+use Rattle.grounding.specs.Distinct.{Codes, HasSeen, literal_code, is_seen, kept_with, plain_rows, same_clause}
 use Rattle.grounding.specs.Parts.{Holds, IsThere, KeepSame, KeepSameAfter, from_rows, with_origin}
 use Rattle.grounding.proofs.FirstsLaws.{same_codes}
 
@@ -151,18 +151,15 @@ module _ (seen : Codes) where
 
 -- ---- codes that are remembered
 
-option_some : {X : Type 0} {x y : X} → Some x ≡ Some y → x ≡ y
-option_some {X} {x} {y} e = cc
-
 pub there-more : (clauses : List Clause) (c : Clause) (pair : ℕ × ℕ) → IsThere clauses pair → IsThere (clauses ++ c ∷ []) pair
 there-more clauses c pair h some a b e f =
     list_any-append (same_clause (a ∷ b ∷ [])) clauses (c ∷ [])
     ∙ or_left (is_seen clauses (a ∷ b ∷ [])) (is_seen (c ∷ []) (a ∷ b ∷ [])) (h some a b e f)
 
-pub there-last : (clauses : List Clause) (first second : Signed) → IsThere (clauses ++ (first ∷ second ∷ []) ∷ []) (code_of first, code_of second)
+pub there-last : (clauses : List Clause) (first second : Signed) → IsThere (clauses ++ (first ∷ second ∷ []) ∷ []) (literal_code first, literal_code second)
 there-last clauses first second some a b e f =
-    let x : same_lit a first ≡ true = sym (same_codes a first) ∙ (let t : (code_of a == code_of first) ≡ true = grind (arith, e) in t) in
-    let y : same_lit b second ≡ true = sym (same_codes b second) ∙ (let t : (code_of b == code_of second) ≡ true = grind (arith, f) in t) in
+    let x : same_lit a first ≡ true = sym (same_codes a first) ∙ (let t : (literal_code a == literal_code first) ≡ true = grind (arith, e) in t) in
+    let y : same_lit b second ≡ true = sym (same_codes b second) ∙ (let t : (literal_code b == literal_code second) ≡ true = grind (arith, f) in t) in
     list_any-append (same_clause (a ∷ b ∷ [])) clauses ((first ∷ second ∷ []) ∷ [])
     ∙ or_right (is_seen clauses (a ∷ b ∷ [])) (is_seen ((first ∷ second ∷ []) ∷ []) (a ∷ b ∷ []))
     (or_left (same_clause (a ∷ b ∷ []) (first ∷ second ∷ [])) false
@@ -173,11 +170,11 @@ there-none clauses some a b e f = absurd (let z : ⊥ = omega (arith, some) in z
 
 pub recent-there : (clauses : List Clause) (recent : List (ℕ × ℕ)) (k : ℕ) (pair : ℕ × ℕ) → All (IsThere clauses) recent → k < length recent → slice_get recent k ≡ Some pair → IsThere clauses pair
 recent-there clauses recent k pair all within at =
-    let here : get_or recent k pair ≡ pair = option_some (sym (slice_get-get_or recent k pair within) ∙ at) in
+    let here : get_or recent k pair ≡ pair = same_Some _ _ (sym (slice_get-get_or recent k pair within) ∙ at) in
     subst (IsThere clauses) here (all k pair within)
 
 pub pushed-there : (clauses : List Clause) (origins : List ℕ) (before : List Sourced) (first second : Signed) (origin : ℕ) (pair : ℕ × ℕ) → length origins ≡ length clauses
-    → sourced clauses origins ≡ before ++ with_origin (first ∷ second ∷ []) origin ∷ [] → pair ≡ (code_of first, code_of second) → IsThere clauses pair
+    → sourced clauses origins ≡ before ++ with_origin (first ∷ second ∷ []) origin ∷ [] → pair ≡ (literal_code first, literal_code second) → IsThere clauses pair
 pushed-there clauses origins before first second origin pair pairs e f =
     let all : clauses ≡ clauses_in before ++ (first ∷ second ∷ []) ∷ [] =
     sym (clauses-sourced clauses origins pairs) ∙ ap clauses_in e ∙ map-append (λ (k : Sourced). k.clause) before (with_origin (first ∷ second ∷ []) origin ∷ []) in

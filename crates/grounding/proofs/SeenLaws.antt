@@ -9,7 +9,7 @@ use Rattle.std.specs.Cmp.Lexicographic.{pointwise}
 use Rattle.cnf.specs.Signed.{Signed}
 use Rattle.cnf.specs.Sat.{Clause, same_lit}
 use Rattle.meaning.proofs.TestLaws.{and-true, list_any-map, or-false}
-use Rattle.grounding.specs.Distinct.{Codes, HasSeen, code_of, codes_of, has_codes, has_pair_code, is_seen, same_clause, seen_with}
+use Rattle.grounding.specs.Distinct.{Codes, HasSeen, literal_code, codes_of, has_codes, has_pair_code, is_seen, same_clause, seen_with}
 use Rattle.grounding.proofs.FirstsLaws.{pointwise_codes, same_codes}
 
 -- ---- clauses of different lengths
@@ -52,7 +52,7 @@ codes-more others c d =
     list_any-append (pointwise (λ (m n : ℕ). m == n) (codes_of d)) others (codes_of c ∷ [])
     ∙ ap (λ b. has_codes others (codes_of d) || b) (or-false (pointwise (λ (m n : ℕ). m == n) (codes_of d) (codes_of c)) ∙ pointwise_codes d c)
 
-pair_codes : (a b x y : Signed) → ((code_of x == code_of a) && (code_of y == code_of b)) ≡ same_clause (x ∷ y ∷ []) (a ∷ b ∷ [])
+pair_codes : (a b x y : Signed) → ((literal_code x == literal_code a) && (literal_code y == literal_code b)) ≡ same_clause (x ∷ y ∷ []) (a ∷ b ∷ [])
 pair_codes a b x y = ap₂ (λ u v. u && v) (same_codes x a) (same_codes y b ∙ sym (and-true (same_lit y b)))
 
 -- a clause of two literals has those that stand at its two places
@@ -67,15 +67,15 @@ other_stays : (seen : List Clause) (c d : Clause) → (length d ≡ length c →
 other_stays seen c d h = sym (seen-more seen c d ∙ ap (λ b. is_seen seen d || b) (apart d c h) ∙ or-false (is_seen seen d))
 
 module _ (seen : Codes) (before : List Clause) (is : HasSeen seen before) where
-  pub seen-pair : (a b : Signed) → HasSeen ((if has_pair_code seen.0 (code_of a, code_of b) then seen.0 else seen.0 ++ (code_of a, code_of b) ∷ []), seen.1) (seen_with before (a ∷ b ∷ []))
-  seen-pair a b = by (has_pair_code seen.0 (code_of a, code_of b)) (is_seen before (a ∷ b ∷ [])) (is.pairs a b)
+  pub seen-pair : (a b : Signed) → HasSeen ((if has_pair_code seen.0 (literal_code a, literal_code b) then seen.0 else seen.0 ++ (literal_code a, literal_code b) ∷ []), seen.1) (seen_with before (a ∷ b ∷ []))
+  seen-pair a b = by (has_pair_code seen.0 (literal_code a, literal_code b)) (is_seen before (a ∷ b ∷ [])) (is.pairs a b)
     where
-      by : (u v : Bool) → u ≡ v → HasSeen ((if u then seen.0 else seen.0 ++ (code_of a, code_of b) ∷ []), seen.1) (if v then before else before ++ (a ∷ b ∷ []) ∷ [])
+      by : (u v : Bool) → u ≡ v → HasSeen ((if u then seen.0 else seen.0 ++ (literal_code a, literal_code b) ∷ []), seen.1) (if v then before else before ++ (a ∷ b ∷ []) ∷ [])
       by true true e = record { pairs = is.pairs; others = is.others }
       by true false e = absurd (true≢false e)
       by false true e = absurd (true≢false (sym e))
       by false false e = record {
-        pairs = λ x y. pair-more seen.0 (code_of a, code_of b) (code_of x, code_of y) ∙ ap₂ (λ u v. u || v) (is.pairs x y) (pair_codes a b x y) ∙ sym (seen-more before (a ∷ b ∷ []) (x ∷ y ∷ []));
+        pairs = λ x y. pair-more seen.0 (literal_code a, literal_code b) (literal_code x, literal_code y) ∙ ap₂ (λ u v. u || v) (is.pairs x y) (pair_codes a b x y) ∙ sym (seen-more before (a ∷ b ∷ []) (x ∷ y ∷ []));
         others = λ c h. is.others c h ∙ other_stays before (a ∷ b ∷ []) c (two_apart c h);
       }
 
@@ -92,10 +92,10 @@ module _ (seen : Codes) (before : List Clause) (is : HasSeen seen before) where
       }
 
 -- where the codes of a clause of two literals were added
-pub with-pair : (seen : Codes) (before : List Clause) → HasSeen seen before → (a b : Signed) (m n : ℕ) → m ≡ code_of a → n ≡ code_of b → (clause : Clause) → clause ≡ a ∷ b ∷ [] → (pairs : List (ℕ × ℕ))
+pub with-pair : (seen : Codes) (before : List Clause) → HasSeen seen before → (a b : Signed) (m n : ℕ) → m ≡ literal_code a → n ≡ literal_code b → (clause : Clause) → clause ≡ a ∷ b ∷ [] → (pairs : List (ℕ × ℕ))
     → pairs ≡ (if has_pair_code seen.0 (m, n) then seen.0 else seen.0 ++ (m, n) ∷ []) → HasSeen (pairs, seen.1) (seen_with before clause)
 with-pair seen before is a b m n e f clause c pairs p =
-    let made : pairs ≡ (if has_pair_code seen.0 (code_of a, code_of b) then seen.0 else seen.0 ++ (code_of a, code_of b) ∷ []) =
+    let made : pairs ≡ (if has_pair_code seen.0 (literal_code a, literal_code b) then seen.0 else seen.0 ++ (literal_code a, literal_code b) ∷ []) =
     p ∙ ap₂ (λ x y. if has_pair_code seen.0 (x, y) then seen.0 else seen.0 ++ (x, y) ∷ []) e f in
     subst (λ d. HasSeen (pairs, seen.1) (seen_with before d)) (sym c)
     (subst (λ ps. HasSeen (ps, seen.1) (seen_with before (a ∷ b ∷ []))) (sym made) (seen-pair seen before is a b))

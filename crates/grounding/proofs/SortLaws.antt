@@ -7,16 +7,11 @@ use Rattle.std.proofs.lemmas.List.Elements.{All-head, All-tail}
 use Rattle.cnf.specs.Signed.{Signed}
 use Rattle.cnf.specs.Sat.{Clause, has_lit, is_tautology, opposite_lit, same_lit}
 use Rattle.meaning.specs.StudyClauses.{sorted, sorted_in}
-use Rattle.grounding.specs.Distinct.{code_of, codes_of}
-use Rattle.grounding.specs.Rising.{ArePositive, IsAbove, has, literal_of_code}
+use Rattle.meaning.proofs.TestLaws.{or_swap}
+use Rattle.grounding.specs.Distinct.{literal_code, codes_of}
+use Rattle.grounding.specs.Rising.{ArePositive, RisesFrom, includes, literal_of_code}
 use Rattle.grounding.proofs.FirstsLaws.{same_codes}
 use Rattle.grounding.proofs.RisingLaws.{rising_same}
-
-or_swap : (a b c : Bool) → (a || (b || c)) ≡ (b || (a || c))
-or_swap true true c = refl
-or_swap true false c = refl
-or_swap false true c = refl
-or_swap false false c = refl
 
 or_twice : (a c : Bool) → (a || c) ≡ (a || (a || c))
 or_twice true c = refl
@@ -32,25 +27,25 @@ none_right false b e = e
 
 -- ---- codes
 
-code_low : (l : Signed) → 2 * l.variable ≤ code_of l
+code_low : (l : Signed) → 2 * l.variable ≤ literal_code l
 code_low l = by l.positive
   where
     by : (p : Bool) → 2 * l.variable ≤ 2 * l.variable + (if p then 1 else 0)
     by true = omega arith
     by false = omega arith
 
-code_high : (l : Signed) → code_of l ≤ 2 * l.variable + 1
+code_high : (l : Signed) → literal_code l ≤ 2 * l.variable + 1
 code_high l = by l.positive
   where
     by : (p : Bool) → 2 * l.variable + (if p then 1 else 0) ≤ 2 * l.variable + 1
     by true = omega arith
     by false = omega arith
 
-code_same : (l x : Signed) → same_lit l x ≡ true → code_of l ≡ code_of x
-code_same l x e = let s : (code_of l == code_of x) ≡ true = same_codes l x ∙ e in grind (arith, s)
+code_same : (l x : Signed) → same_lit l x ≡ true → literal_code l ≡ literal_code x
+code_same l x e = let s : (literal_code l == literal_code x) ≡ true = same_codes l x ∙ e in grind (arith, s)
 
 -- the other sign of a variable
-code_other : (l x : Signed) → l.variable ≡ x.variable → same_lit l x ≡ false → code_of x ≡ code_of (opposite_lit l)
+code_other : (l x : Signed) → l.variable ≡ x.variable → same_lit l x ≡ false → literal_code x ≡ literal_code (opposite_lit l)
 code_other l x v e = by l.variable x.variable l.positive x.positive v e
   where
     by : (v w : ℕ) (p q : Bool) → v ≡ w → (v == w && beq p q) ≡ false → 2 * w + (if q then 1 else 0) ≡ 2 * v + (if not p then 1 else 0)
@@ -61,46 +56,46 @@ code_other l x v e = by l.variable x.variable l.positive x.positive v e
 
 -- ---- what a sorted clause has
 
-sorted_in_has : (l : Signed) (ks : Clause) (k : ℕ) → has (codes_of (sorted_in l ks)) k ≡ (nat_eq k (code_of l) || has (codes_of ks) k)
+sorted_in_has : (l : Signed) (ks : Clause) (k : ℕ) → includes (codes_of (sorted_in l ks)) k ≡ (nat_eq k (literal_code l) || includes (codes_of ks) k)
 sorted_in_has l [] k = refl
 sorted_in_has l (x ∷ xs) k = by (nat_lt l.variable x.variable) (same_lit l x) refl (sorted_in_has l xs k)
   where
-    by : (b c : Bool) → same_lit l x ≡ c → has (codes_of (sorted_in l xs)) k ≡ (nat_eq k (code_of l) || has (codes_of xs) k)
-        → has (codes_of (if b then l ∷ x ∷ xs else (if c then x ∷ xs else x ∷ sorted_in l xs))) k ≡ (nat_eq k (code_of l) || (nat_eq k (code_of x) || has (codes_of xs) k))
+    by : (b c : Bool) → same_lit l x ≡ c → includes (codes_of (sorted_in l xs)) k ≡ (nat_eq k (literal_code l) || includes (codes_of xs) k)
+        → includes (codes_of (if b then l ∷ x ∷ xs else (if c then x ∷ xs else x ∷ sorted_in l xs))) k ≡ (nat_eq k (literal_code l) || (nat_eq k (literal_code x) || includes (codes_of xs) k))
     by true c e ih = refl
     by false true e ih =
-        or_twice (nat_eq k (code_of x)) (has (codes_of xs) k) ∙ ap (λ (n : ℕ). nat_eq k n || (nat_eq k (code_of x) || has (codes_of xs) k)) (sym (code_same l x e))
-    by false false e ih = ap (λ b. nat_eq k (code_of x) || b) ih ∙ or_swap (nat_eq k (code_of x)) (nat_eq k (code_of l)) (has (codes_of xs) k)
+        or_twice (nat_eq k (literal_code x)) (includes (codes_of xs) k) ∙ ap (λ (n : ℕ). nat_eq k n || (nat_eq k (literal_code x) || includes (codes_of xs) k)) (sym (code_same l x e))
+    by false false e ih = ap (λ b. nat_eq k (literal_code x) || b) ih ∙ or_swap (nat_eq k (literal_code x)) (nat_eq k (literal_code l)) (includes (codes_of xs) k)
 
-pub sorted_has : (row : Clause) (k : ℕ) → has (codes_of (sorted row)) k ≡ has (codes_of row) k
+pub sorted_has : (row : Clause) (k : ℕ) → includes (codes_of (sorted row)) k ≡ includes (codes_of row) k
 sorted_has [] k = refl
-sorted_has (l ∷ ls) k = sorted_in_has l (sorted ls) k ∙ ap (λ b. nat_eq k (code_of l) || b) (sorted_has ls k)
+sorted_has (l ∷ ls) k = sorted_in_has l (sorted ls) k ∙ ap (λ b. nat_eq k (literal_code l) || b) (sorted_has ls k)
 
 -- ---- how it rises
 
-sorted_in_above : (n : ℕ) (l : Signed) (ks : Clause) → IsAbove n (codes_of ks) → n < code_of l → has (codes_of ks) (code_of (opposite_lit l)) ≡ false → IsAbove n (codes_of (sorted_in l ks))
+sorted_in_above : (n : ℕ) (l : Signed) (ks : Clause) → RisesFrom n (codes_of ks) → n < literal_code l → includes (codes_of ks) (literal_code (opposite_lit l)) ≡ false → RisesFrom n (codes_of (sorted_in l ks))
 sorted_in_above n l [] h e o = (e, record {})
 sorted_in_above n l (x ∷ xs) h e o =
-    by (nat_lt l.variable x.variable) (same_lit l x) refl refl (λ m g f. sorted_in_above m l xs g f (none_right (nat_eq (code_of (opposite_lit l)) (code_of x)) (has (codes_of xs) (code_of (opposite_lit l))) o))
+    by (nat_lt l.variable x.variable) (same_lit l x) refl refl (λ m g f. sorted_in_above m l xs g f (none_right (nat_eq (literal_code (opposite_lit l)) (literal_code x)) (includes (codes_of xs) (literal_code (opposite_lit l))) o))
   where
-    not_other : code_of x ≡ code_of (opposite_lit l) → ⊥
-    not_other s = (let t : nat_eq (code_of (opposite_lit l)) (code_of x) ≡ true = grind (arith, s) in
-        true≢false (sym t ∙ none_left (nat_eq (code_of (opposite_lit l)) (code_of x)) (has (codes_of xs) (code_of (opposite_lit l))) o))
+    not_other : literal_code x ≡ literal_code (opposite_lit l) → ⊥
+    not_other s = (let t : nat_eq (literal_code (opposite_lit l)) (literal_code x) ≡ true = grind (arith, s) in
+        true≢false (sym t ∙ none_left (nat_eq (literal_code (opposite_lit l)) (literal_code x)) (includes (codes_of xs) (literal_code (opposite_lit l))) o))
 
     by : (b c : Bool) → nat_lt l.variable x.variable ≡ b → same_lit l x ≡ c
-        → ((m : ℕ) → IsAbove m (codes_of xs) → m < code_of l → IsAbove m (codes_of (sorted_in l xs)))
-        → IsAbove n (codes_of (if b then l ∷ x ∷ xs else (if c then x ∷ xs else x ∷ sorted_in l xs)))
+        → ((m : ℕ) → RisesFrom m (codes_of xs) → m < literal_code l → RisesFrom m (codes_of (sorted_in l xs)))
+        → RisesFrom n (codes_of (if b then l ∷ x ∷ xs else (if c then x ∷ xs else x ∷ sorted_in l xs)))
     by true c lower same ih = (let v : l.variable < x.variable = grind (arith, lower) in (e, (omega (arith, v, code_high l, code_low x), h.1)))
     by false true lower same ih = h
     by false false lower same ih =
         let v : x.variable ≤ l.variable = grind (arith, lower) in
         let d : l.variable ≡ x.variable → ⊥ = (λ s. not_other (code_other l x s same)) in
-        (h.0, ih (code_of x) h.1 (omega (arith, v, d, code_high x, code_low l)))
+        (h.0, ih (literal_code x) h.1 (omega (arith, v, d, code_high x, code_low l)))
 
 -- ---- rows with no variable of both signs
 
 -- a literal stands in a row where its code does
-pub has_codes : (row : Clause) (l : Signed) → has (codes_of row) (code_of l) ≡ has_lit row l
+pub has_codes : (row : Clause) (l : Signed) → includes (codes_of row) (literal_code l) ≡ has_lit row l
 has_codes [] l = refl
 has_codes (x ∷ xs) l = ap₂ (λ a b. a || b) (same_codes l x) (has_codes xs l)
 
@@ -112,20 +107,20 @@ later_pair l row (k ∷ part) e =
     (none_right (same_lit (opposite_lit k) l) (has_lit row (opposite_lit k)) (none_left (has_lit (l ∷ row) (opposite_lit k)) (list_any (λ j. has_lit (l ∷ row) (opposite_lit j)) part) e))
     (later_pair l row part (none_right (has_lit (l ∷ row) (opposite_lit k)) (list_any (λ j. has_lit (l ∷ row) (opposite_lit j)) part) e))
 
-pub sorted_above : (row : Clause) → ArePositive row → is_tautology row ≡ false → IsAbove 0 (codes_of (sorted row))
+pub sorted_above : (row : Clause) → ArePositive row → is_tautology row ≡ false → RisesFrom 0 (codes_of (sorted row))
 sorted_above [] p e = record {}
 sorted_above (l ∷ ls) p e =
     let first : has_lit (l ∷ ls) (opposite_lit l) ≡ false = none_left (has_lit (l ∷ ls) (opposite_lit l)) (list_any (λ k. has_lit (l ∷ ls) (opposite_lit k)) ls) e in
     let rest : is_tautology ls ≡ false = later_pair l ls ls (none_right (has_lit (l ∷ ls) (opposite_lit l)) (list_any (λ k. has_lit (l ∷ ls) (opposite_lit k)) ls) e) in
     sorted_in_above 0 l (sorted ls) (sorted_above ls p.1 rest) p.0
-    (sorted_has ls (code_of (opposite_lit l)) ∙ has_codes ls (opposite_lit l) ∙ none_right (same_lit (opposite_lit l) l) (has_lit ls (opposite_lit l)) first)
+    (sorted_has ls (literal_code (opposite_lit l)) ∙ has_codes ls (opposite_lit l) ∙ none_right (same_lit (opposite_lit l) l) (has_lit ls (opposite_lit l)) first)
 
 -- the one rising list that has the codes of a row is its sorted clause
-pub sorted_same : (row : Clause) (merged : List ℕ) → ArePositive row → is_tautology row ≡ false → IsAbove 0 merged → ((k : ℕ) → has merged k ≡ has (codes_of row) k) → merged ≡ codes_of (sorted row)
+pub sorted_same : (row : Clause) (merged : List ℕ) → ArePositive row → is_tautology row ≡ false → RisesFrom 0 merged → ((k : ℕ) → includes merged k ≡ includes (codes_of row) k) → merged ≡ codes_of (sorted row)
 sorted_same row merged p e h same = rising_same 0 merged (codes_of (sorted row)) h (sorted_above row p e) (λ k. same k ∙ sym (sorted_has row k))
 
 -- codes and literals are one to one
-coded : (l : Signed) → literal_of_code (code_of l) ≡ l
+coded : (l : Signed) → literal_of_code (literal_code l) ≡ l
 coded l = by l.variable l.positive
   where
     by : (v : ℕ) (p : Bool) → literal_of_code (2 * v + (if p then 1 else 0)) ≡ record { variable = v; positive = p }
@@ -140,5 +135,5 @@ pub positive : (row : Clause) (ns : List ℕ) → ns ≡ codes_of row → All (�
 positive [] ns e h = record {}
 positive (l ∷ ls) ns e h =
     let g : All (λ n. 1 < n) (codes_of (l ∷ ls)) = subst (λ ms. All (λ n. 1 < n) ms) e h in
-    let first : 1 < code_of l = All-head (λ n. 1 < n) (code_of l) (codes_of ls) g in
-    (omega (arith, first), positive ls (codes_of ls) refl (All-tail (λ n. 1 < n) (code_of l) (codes_of ls) g))
+    let first : 1 < literal_code l = All-head (λ n. 1 < n) (literal_code l) (codes_of ls) g in
+    (omega (arith, first), positive ls (codes_of ls) refl (All-tail (λ n. 1 < n) (literal_code l) (codes_of ls) g))

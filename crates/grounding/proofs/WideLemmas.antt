@@ -1,5 +1,5 @@
 -- Piece after piece, up to the first in which an instance is too wide.
-use Rattle.std.proofs.Common.{◌≡◌, ℕ, ◌+◌, ◌-◌, ◌^◌, ◌<◌, ◌≤◌, min, Some, None, inl, inr, arith}
+use Rattle.std.proofs.Common.{ℕ, ◌+◌, ◌<◌, ◌≤◌, Some, None, inl, inr, arith}
 use Rattle.std.specs.Prelude.{IsFalse}
 use Rattle.std.proofs.lemmas.Bool.{cases_lt}
 use Rattle.vocab.specs.Size.{Extent}
@@ -7,13 +7,6 @@ use Rattle.vocab.specs.Tree.{Tree}
 use Rattle.clause_form.specs.Wide.{is_wide}
 use Rattle.grounding.specs.declared.parts.WideInstance.{WideInstance}
 use Rattle.grounding.specs.Pieces.{AreNarrow, IsFirstWide, IsLeastWide, end_of, measure_at, start_of}
-
-pub zero_more : (n : ℕ) → 0 + n ≡ n
-zero_more n = omega arith
-
--- few instances are counted whole
-pub counted_whole : (count instances : ℕ) → count ≡ min instances (2 ^ 64 - 1) → instances ≤ 40000000 → count ≡ instances
-counted_whole count instances cut few = omega (arith, cut, few)
 
 module _ (size : Extent) (sentence : Tree) where
   -- where all instances up to a number are narrow, those from there on go on

@@ -4,7 +4,7 @@ use Rattle.cnf.specs.Signed.{Signed}
 use Rattle.cnf.specs.Sat.{Clause}
 use Rattle.meaning.specs.StudyClauses.{Sourced}
 use Rattle.clause_form.specs.Sources.{clauses_in, origin_of_number}
-use Rattle.grounding.specs.Distinct.{Codes, code_of, has_pair_code, is_seen, kept_with, plain_rows}
+use Rattle.grounding.specs.Distinct.{Codes, literal_code, has_pair_code, is_seen, kept_with, plain_rows}
 
 -- a clause with the origin that a number says
 abbrev pub with_origin : Clause → ℕ → Sourced
@@ -20,11 +20,11 @@ KeepSame xs ys = (kept : List Sourced) → fold kept_with kept xs ≡ fold kept_
 
 -- two codes are those of a clause that stands among some; no literal has a code below 2
 abbrev pub IsThere : List Clause → ℕ × ℕ → Type 0
-IsThere clauses pair = 1 < pair.0 → (a b : Signed) → code_of a ≡ pair.0 → code_of b ≡ pair.1 → IsTrue (is_seen clauses (a ∷ b ∷ []))
+IsThere clauses pair = 1 < pair.0 → (a b : Signed) → literal_code a ≡ pair.0 → literal_code b ≡ pair.1 → IsTrue (is_seen clauses (a ∷ b ∷ []))
 
 -- each clause of two literals that was seen is among some clauses
 abbrev pub Holds : Codes → List Clause → Type 0
-Holds seen clauses = (a b : Signed) → IsTrue (has_pair_code seen.0 (code_of a, code_of b)) → IsTrue (is_seen clauses (a ∷ b ∷ []))
+Holds seen clauses = (a b : Signed) → IsTrue (has_pair_code seen.0 (literal_code a, literal_code b)) → IsTrue (is_seen clauses (a ∷ b ∷ []))
 
 -- of both the same is kept, whatever was kept before that has what was seen
 abbrev pub KeepSameAfter : Codes → List Sourced → List Sourced → Type 0

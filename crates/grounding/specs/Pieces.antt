@@ -48,8 +48,8 @@ module _ (size : Extent) (sentence : Tree) where
   sources_of base from to = rows_from (sources_at base) from (to - from)
 
   -- of a part the same is kept as of the clauses of the instances from one number up to another
-  abbrev pub IsPart : ℕ → ℕ → ℕ → List Sourced → Type 0
-  IsPart base from to part = KeepSame part (sources_of base from to)
+  abbrev pub IsKeptPart : ℕ → ℕ → ℕ → List Sourced → Type 0
+  IsKeptPart base from to part = KeepSame part (sources_of base from to)
 
   -- the same after what was seen
   abbrev pub IsLaterPart : Codes → ℕ → ℕ → ℕ → List Sourced → Type 0

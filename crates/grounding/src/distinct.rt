@@ -6,7 +6,7 @@ ghost use Rattle.cnf.specs.Sat.{Clause};
 ghost use Rattle.grounding.specs.Distinct.{HasSeen, codes_of, has_codes, has_pair_code, is_seen, items_of, seen_with};
 ghost use Rattle.grounding.specs.Parts.{Holds};
 
-use crate::sorting::code_of;
+use crate::sorting::literal_code;
 use cnf::{Clauses, Lit, PushFault};
 use indexmap::IndexSet;
 use lists::NoMemory;
@@ -56,7 +56,7 @@ fn key_of(alloc: Global, clause: &[Lit]) -> Result<SmallVec<u32, 4>, NoMemory>
 {
     let mut key = SmallVec::new(alloc);
     for lit in clause {
-        key.push(code_of(*lit))?;
+        key.push(literal_code(*lit))?;
     }
     Ok(key)
 }
@@ -98,7 +98,7 @@ impl Seen {
             IsTrue (is_seen clauses clause.now) }
     {
         if clause.len() == 2 {
-            let pair = (code_of(clause[0]), code_of(clause[1]));
+            let pair = (literal_code(clause[0]), literal_code(clause[1]));
             return has_pair(&self.pairs, pair);
         }
         false
@@ -114,7 +114,7 @@ impl Seen {
             HasSeen self.new (seen_with before clause.now)) }
     {
         if clause.len() == 2 {
-            let pair = (code_of(clause[0]), code_of(clause[1]));
+            let pair = (literal_code(clause[0]), literal_code(clause[1]));
             return is_new_pair(&mut self.pairs, pair);
         }
         is_new_key(alloc, &mut self.others, clause)

@@ -5,7 +5,7 @@ ghost use Rattle.cnf.specs.Sat.{Clause};
 ghost use Rattle.clause_form.specs.Sources.{clauses_in, origin_of_number, origins_in};
 ghost use Rattle.grounding.specs.Parts.{IsThere, KeepSame, with_origin};
 
-use crate::sorting::code_of;
+use crate::sorting::literal_code;
 use cnf::{Lit, Store};
 use lists::NoMemory;
 use std::alloc::Global;
@@ -110,7 +110,7 @@ impl Part {
         ensures { OnOk result
             (KeepSame self.new (self.old ++ with_origin (first ∷ second ∷ []) origin ∷ [])) }
     {
-        let pair = (code_of(first), code_of(second));
+        let pair = (literal_code(first), literal_code(second));
         if is_recent(self.recent.as_slice(), pair) {
             return Ok(());
         }

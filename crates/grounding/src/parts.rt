@@ -13,7 +13,7 @@ ghost use Rattle.worlds.specs.Conditions.{IsFormulaAt};
 ghost use Rattle.clause_form.specs.Wide.{is_wide, numbered};
 ghost use Rattle.lanes.specs.Lanes.{HasKnownPremise, IsPlan, IsPremiseToldFrom, IsToldFrom};
 ghost use Rattle.grounding.specs.Parts.{KeepSame, from_rows};
-ghost use Rattle.grounding.specs.Pieces.{AreNarrow, IsFirstWide, IsPart, measure_at, sources_at};
+ghost use Rattle.grounding.specs.Pieces.{AreNarrow, IsFirstWide, IsKeptPart, measure_at, sources_at};
 
 use crate::literals::pair_of;
 use crate::part::Part;
@@ -247,7 +247,7 @@ pub(crate) fn clauses_of_all<K: OutcomeKind>(
     requires rising { from ≤ to }
     requires base { base ≤ 2 ^ 60 }
     requires narrow { AreNarrow (K.size kind.now) named.now.sentence from to }
-    ensures { IfOk result (IsPart (K.size kind.now) named.now.sentence base from to) }
+    ensures { IfOk result (IsKeptPart (K.size kind.now) named.now.sentence base from to) }
 {
     let known = told_sides(kind, named, plan, from);
     let mut part = Part::new(alloc);

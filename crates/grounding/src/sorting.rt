@@ -4,8 +4,8 @@ ghost use Rattle.std.specs.Prelude.{◌≡◌, ◌<◌, ◌≤◌, [], ◌∷◌
 ghost use Rattle.std.specs.List.Sorted.{IsNonDecreasing};
 ghost use Rattle.cnf.specs.Sat.{is_tautology, opposite_lit};
 ghost use Rattle.meaning.specs.StudyClauses.{sorted};
-ghost use Rattle.grounding.specs.Rising.{IsAbove, ArePositive, has, literal_of_code, pair_after};
-ghost use Rattle.grounding.specs.Distinct.{code_of};
+ghost use Rattle.grounding.specs.Rising.{RisesFrom, ArePositive, includes, literal_of_code, pair_after};
+ghost use Rattle.grounding.specs.Distinct.{literal_code};
 ghost use Rattle.grounding.specs.Parts.{KeepSame, from_rows};
 
 use crate::part::Part;
@@ -14,8 +14,8 @@ use lists::NoMemory;
 use std::alloc::Global;
 
 /// Twice the variable of a literal, and one more where it stands without negation.
-pub(crate) fn code_of(lit: Lit) -> u32
-    ensures code { result ≡ code_of lit }
+pub(crate) fn literal_code(lit: Lit) -> u32
+    ensures code { result ≡ literal_code lit }
     ensures some { 1 < result }
 {
     if lit.positive() {
@@ -29,8 +29,8 @@ pub(crate) fn code_of(lit: Lit) -> u32
 fn merge_codes(codes: &[u32], out: &mut Vec<u32>) -> Result<(), NoMemory>
     requires rising { IsNonDecreasing codes.now }
     requires some { All (λ n. 1 < n) codes.now }
-    ensures above { OnOk result (IsAbove 0 out.new.items) }
-    ensures has { OnOk result ((k : ℕ) → has out.new.items k ≡ has codes.now k) }
+    ensures above { OnOk result (RisesFrom 0 out.new.items) }
+    ensures has { OnOk result ((k : ℕ) → includes out.new.items k ≡ includes codes.now k) }
     ensures some { OnOk result (All (λ n. 1 < n) out.new.items) }
 {
     out.clear();
@@ -47,20 +47,21 @@ fn merge_codes(codes: &[u32], out: &mut Vec<u32>) -> Result<(), NoMemory>
 
 /// The codes of a row.
 fn codes_into(row: &[Lit], codes: &mut Vec<u32>) -> Result<(), NoMemory>
-    ensures codes { OnOk result (codes.new.items ≡ map code_of row.now) }
+    ensures codes { OnOk result (codes.new.items ≡ map literal_code row.now) }
     ensures some { OnOk result (All (λ n. 1 < n) codes.new.items) }
 {
     codes.clear();
     for lit in row {
-        codes.push(code_of(*lit))?;
+        codes.push(literal_code(*lit))?;
     }
     Ok(())
 }
 
 /// The codes of a row, sorted, equal ones once: the one rising list that has them.
 fn sorted_codes(row: &[Lit], codes: &mut Vec<u32>, merged: &mut Vec<u32>) -> Result<(), NoMemory>
-    ensures above { OnOk result (IsAbove 0 merged.new.items) }
-    ensures has { OnOk result ((k : ℕ) → has merged.new.items k ≡ has (map code_of row.now) k) }
+    ensures above { OnOk result (RisesFrom 0 merged.new.items) }
+    ensures has { OnOk result
+        ((k : ℕ) → includes merged.new.items k ≡ includes (map literal_code row.now) k) }
     ensures some { OnOk result (All (λ n. 1 < n) merged.new.items) }
     ensures positive { OnOk result (ArePositive row.now) }
 {

@@ -1,3 +1,1 @@
-pub mod JoinLemmas
-pub mod RangeLemmas
 pub mod ReadingLemmas

@@ -16,15 +16,15 @@ use Rattle.meaning.specs.declared.clauses.Origin.TheVariants.{Frame, Instance}
 use Rattle.meaning.specs.Laws.{IfAxiom}
 use Rattle.meaning.specs.StudyClauses.{Sourced}
 use Rattle.clause_form.specs.Sources.{origins_in}
-use Rattle.grounding.specs.Rising.{has}
+use Rattle.grounding.specs.Rising.{includes}
 use Rattle.retell.specs.Cited.{HaveInstances}
 use Rattle.retell.proofs.CitedLaws.{instance_at}
 use Rattle.renumbering.specs.Renumbered.{AreFlags}
 use Rattle.sharp_verdicts.specs.declared.instances.Cited.{Cited}
 use Rattle.sharp_verdicts.specs.Instances.{is_present, count_at}
-use Rattle.instance_stories.specs.Codes.{code_of, AreRising, AreSmall}
+use Rattle.instance_stories.specs.Codes.{code_of, AreRisingInstances, HaveAxiomRoom}
 use Rattle.instance_stories.proofs.AllInstances.{cited_of, decoded, has-append, counts_within}
-use Rattle.instance_grounds.specs.Laws.{IsCovered}
+use Rattle.instance_grounds.specs.Laws.{IsFrameOrCited}
 use Rattle.instance_cores.specs.Cores.{HasPresent, AreCodes, AreInstancesCited}
 
 -- ---- the instance of an origin
@@ -58,24 +58,24 @@ or_right_only : (a : Bool) → (a || false) ≡ true → a ≡ true
 or_right_only true h = refl
 or_right_only false h = h
 
-split_has : (xs : List ℕ) (x k : ℕ) → has (xs ++ x ∷ []) k ≡ true → (has xs k ≡ true) ⊎ (k ≡ x)
-split_has xs x k h = elim (or_cases (has xs k) (nat_eq k x || false) (sym (has-append xs (x ∷ []) k) ∙ h)) [
+split_has : (xs : List ℕ) (x k : ℕ) → includes (xs ++ x ∷ []) k ≡ true → (includes xs k ≡ true) ⊎ (k ≡ x)
+split_has xs x k h = elim (or_cases (includes xs k) (nat_eq k x || false) (sym (has-append xs (x ∷ []) k) ∙ h)) [
   | inl e ↦ inl e
   | inr e ↦ inr (eqb-true k x (or_right_only (nat_eq k x) e))
 ]
 
-has_old : (xs : List ℕ) (x k : ℕ) → has xs k ≡ true → has (xs ++ x ∷ []) k ≡ true
-has_old xs x k h = has-append xs (x ∷ []) k ∙ or_left (has xs k) (nat_eq k x || false) h
+has_old : (xs : List ℕ) (x k : ℕ) → includes xs k ≡ true → includes (xs ++ x ∷ []) k ≡ true
+has_old xs x k h = has-append xs (x ∷ []) k ∙ or_left (includes xs k) (nat_eq k x || false) h
 
-has_new : (xs : List ℕ) (x : ℕ) → has (xs ++ x ∷ []) x ≡ true
-has_new xs x = has-append xs (x ∷ []) x ∙ or_right (has xs x) (nat_eq x x || false) (or_left (nat_eq x x) false (eq-eqb x x refl))
+has_new : (xs : List ℕ) (x : ℕ) → includes (xs ++ x ∷ []) x ≡ true
+has_new xs x = has-append xs (x ∷ []) x ∙ or_right (includes xs x) (nat_eq x x || false) (or_left (nat_eq x x) false (eq-eqb x x refl))
 
 module _ (study : Question) (sources : List Sourced) (flags : List Bool) where
   pub kept_same : (k : ℕ) (codes new : List ℕ) → AreCodes study sources flags k codes → new ≡ codes
       → ((s : Sourced) (a n : ℕ) → slice_get sources k ≡ Some s → s.origin ≡ Instance a n → slice_index_or flags k false ≡ true → ⊥) → AreCodes study sources flags (k + 1) new
   kept_same k codes new kept same never = subst (AreCodes study sources flags (k + 1)) (sym same) (record { few = (let f = kept.few in omega (arith, f)); high = kept.high; present = kept.present; named = named })
     where
-      named : (j : ℕ) (s : Sourced) (a n : ℕ) → j < k + 1 → slice_get sources j ≡ Some s → s.origin ≡ Instance a n → slice_index_or flags j false ≡ true → has codes (code_of (record { «axiom» = a; number = n })) ≡ true
+      named : (j : ℕ) (s : Sourced) (a n : ℕ) → j < k + 1 → slice_get sources j ≡ Some s → s.origin ≡ Instance a n → slice_index_or flags j false ≡ true → includes codes (code_of (record { «axiom» = a; number = n })) ≡ true
       named j s a n lt e o f = elim (cases_lt j k) [
         | inl l ↦ kept.named j s a n l e o f
         | inr m ↦
@@ -99,7 +99,7 @@ module _ (study : Question) (sources : List Sourced) (flags : List Bool) where
       origin_here s a n e o = let both : Some s.origin ≡ Some (Instance c.«axiom» c.number) = sym (origin_get sources k s e) ∙ at in let same : s.origin ≡ Instance c.«axiom» c.number = cc in sym o ∙ same
 
       named : (j : ℕ) (s : Sourced) (a n : ℕ) → j < k + 1 → slice_get sources j ≡ Some s → s.origin ≡ Instance a n → slice_index_or flags j false ≡ true
-          → has (codes ++ code_of c ∷ []) (code_of (record { «axiom» = a; number = n })) ≡ true
+          → includes (codes ++ code_of c ∷ []) (code_of (record { «axiom» = a; number = n })) ≡ true
       named j s a n lt e o f = elim (cases_lt j k) [
         | inl l ↦ has_old codes (code_of c) (code_of (record { «axiom» = a; number = n })) (kept.named j s a n l e o f)
         | inr m ↦
@@ -108,7 +108,7 @@ module _ (study : Question) (sources : List Sourced) (flags : List Bool) where
             let first : a ≡ c.«axiom» = cc in
             let second : n ≡ c.number = cc in
             let code : code_of (record { «axiom» = a; number = n }) ≡ code_of c = ap₂ (λ (x y : ℕ). (x + 1) * 4294967296 + y) first second in
-            subst (λ (m : ℕ). has (codes ++ code_of c ∷ []) m ≡ true) (sym code) (has_new codes (code_of c))
+            subst (λ (m : ℕ). includes (codes ++ code_of c ∷ []) m ≡ true) (sym code) (has_new codes (code_of c))
       ]
 
 -- a clause whose origin is no instance
@@ -120,9 +120,9 @@ not_here sources k o s a n at e is never = let both : Some s.origin ≡ Some o =
 same_instance : (c d : Cited) → c.number < 4294967296 → d.number < 4294967296 → code_of c ≡ code_of d → c ≡ d
 same_instance c d lc ld e = sym (decoded c lc) ∙ ap cited_of e ∙ decoded d ld
 
-has_place : (cs : List Cited) (c : Cited) → AreSmall cs → c.number < 4294967296 → has (map code_of cs) (code_of c) ≡ true → (i : ℕ) × (slice_get cs i ≡ Some c)
+has_place : (cs : List Cited) (c : Cited) → HaveAxiomRoom cs → c.number < 4294967296 → includes (map code_of cs) (code_of c) ≡ true → (i : ℕ) × (slice_get cs i ≡ Some c)
 has_place [] c small lt h = absurd (true≢false (sym h))
-has_place (d ∷ cs) c small lt h = elim (or_cases (nat_eq (code_of c) (code_of d)) (has (map code_of cs) (code_of c)) h) [
+has_place (d ∷ cs) c small lt h = elim (or_cases (nat_eq (code_of c) (code_of d)) (includes (map code_of cs) (code_of c)) h) [
   | inl e ↦ (zero, ap (λ (x : Cited). Some x) (same_instance d c small.0 lt (sym (eqb-true (code_of c) (code_of d) e))))
   | inr e ↦ let r = has_place cs c small.1 lt e in (suc r.0, r.1)
 ]
@@ -131,17 +131,17 @@ module _ (study : Question) (taken : IsStudy study) where
   small_of : (c : Cited) → is_present study c ≡ true → c.number < 4294967296
   small_of c h = let few = present_few study taken c h in omega (arith, few.1)
 
-  all_present : (cs : List Cited) → AreSmall cs → ((k : ℕ) → has (map code_of cs) k ≡ true → HasPresent study k) → list_all (is_present study) cs ≡ true
+  all_present : (cs : List Cited) → HaveAxiomRoom cs → ((k : ℕ) → includes (map code_of cs) k ≡ true → HasPresent study k) → list_all (is_present study) cs ≡ true
   all_present [] small h = refl
   all_present (c ∷ cs) small h =
-      let p = h (code_of c) (or_left (nat_eq (code_of c) (code_of c)) (has (map code_of cs) (code_of c)) (eq-eqb (code_of c) (code_of c) refl)) in
+      let p = h (code_of c) (or_left (nat_eq (code_of c) (code_of c)) (includes (map code_of cs) (code_of c)) (eq-eqb (code_of c) (code_of c) refl)) in
       let same = same_instance p.0 c (small_of p.0 p.1) small.0 p.2 in
       and_from _ _ (subst (λ (x : Cited). is_present study x ≡ true) same p.1)
-      (all_present cs small.1 (λ k e. h k (or_right (nat_eq k (code_of c)) (has (map code_of cs) k) e)))
+      (all_present cs small.1 (λ k e. h k (or_right (nat_eq k (code_of c)) (includes (map code_of cs) k) e)))
 
   pub cited_made : (sources : List Sourced) (lines : List Line) (flags : List Bool) (codes : List ℕ) (instances : List Cited) → length sources ≤ 4000000 → length instances ≤ length codes → HaveInstances study.size study.axioms sources
-      → AreFlags (length sources) lines flags → AreCodes study sources flags (length sources) codes → AreRising instances → AreSmall instances
-      → ((k : ℕ) → has (map code_of instances) k ≡ has codes k) → AreInstancesCited study sources lines instances
+      → AreFlags (length sources) lines flags → AreCodes study sources flags (length sources) codes → AreRisingInstances instances → HaveAxiomRoom instances
+      → ((k : ℕ) → includes (map code_of instances) k ≡ includes codes k) → AreInstancesCited study sources lines instances
   cited_made sources lines flags codes instances few fewer have flagged named rising small same = record {
     few = (let f = named.few in omega (arith, few, fewer, f));
     rising = rising;
@@ -150,7 +150,7 @@ module _ (study : Question) (taken : IsStudy study) where
     cover = λ j s e h. covered j s e h s.origin refl;
   }
     where
-      covered : (j : ℕ) (s : Sourced) → slice_get sources j ≡ Some s → is_cited_in lines (suc j) ≡ true → (o : Origin) → s.origin ≡ o → IsCovered instances o
+      covered : (j : ℕ) (s : Sourced) → slice_get sources j ≡ Some s → is_cited_in lines (suc j) ≡ true → (o : Origin) → s.origin ≡ o → IsFrameOrCited instances o
       covered j s e h (Frame p) o = tt
       covered j s e h (Instance a k) o =
           let lt = slice_get_within sources j s e in

@@ -10,12 +10,15 @@ use Rattle.std.proofs.lemmas.List.{length-map}
 use Rattle.std.proofs.lemmas.List.Concat.{flat_map-append}
 use Rattle.std.proofs.lemmas.List.Sums.{sum_by-cons, sum_by-append, sum_by_push}
 use Rattle.std.proofs.lemmas.Option.{slice_get-get_or}
+use Rattle.lists.proofs.TestLaws.{all_get}
+use Rattle.lists.proofs.OptionLaws.{none_of_map, none_of_either}
 use Rattle.vocab.specs.declared.kinds.Sort.TheVariants.{Profile}
 use Rattle.vocab.specs.Limits.{instance_count}
 use Rattle.vocab.specs.Size.{Extent, sort_count}
 use Rattle.vocab.specs.Study.{Question, IsStudy}
 use Rattle.vocab.specs.Titled.{Titled}
 use Rattle.vocab.specs.Tree.{Tree}
+use Rattle.vocab.proofs.Ranges.{below_more}
 use Rattle.cnf.specs.Signed.{Signed}
 use Rattle.cnf.specs.Sat.{Clause, same_lit, is_tautology}
 use Rattle.meaning.specs.declared.clauses.Counts.{Counts}
@@ -34,33 +37,23 @@ use Rattle.clause_form.specs.Wide.{is_wide}
 use Rattle.closing.specs.Closed.{closed_body}
 use Rattle.closing.proofs.SentenceLaws.{is_instance}
 use Rattle.search_logs.specs.Spent.{all_places}
-use Rattle.search_logs.proofs.PlaceLaws.{below_more}
-use Rattle.verdicts.proofs.WordLaws.{IsIn}
+use Rattle.verdicts.proofs.WordLaws.{IsIn, in_below}
 use Rattle.sharp_verdicts.specs.declared.instances.Cited.{Cited}
 use Rattle.sharp_verdicts.specs.Derived.{axiom_of, axioms_from, derived_study}
 use Rattle.sharp_verdicts.specs.Instances.{count_at, is_present, all_instances}
-use Rattle.instance_studies.proofs.StudyLaws.{all_get, length_from}
-use Rattle.instance_stories.specs.Codes.{code_of, AreRising, AreSmall}
+use Rattle.instance_studies.proofs.StudyLaws.{length_from}
+use Rattle.instance_stories.specs.Codes.{code_of, AreRisingInstances, HaveAxiomRoom}
 use Rattle.instance_stories.proofs.AllInstances.{cited_of, decoded, all_rise, all_small, all_have, counts_few, present_small, sum_within}
-use Rattle.sharp_verdicts.proofs.Members.{in_below}
 use Rattle.instance_grounds.proofs.StandLaws.{closed_is}
 use Rattle.sharp_verdicts.proofs.DerivedLaws.{derived_get}
 use Rattle.sharp_verdicts.specs.Totals.{counts_of_instance, IsWithinTotal}
-use Rattle.grounding.specs.Rising.{has}
+use Rattle.grounding.specs.Rising.{includes}
 
 -- ---- nothing found
-
-or_none : {A : Type 0} (o p : Option A) → option_or o p ≡ None → (o ≡ None) × (p ≡ None)
-or_none None p h = (refl, h)
-or_none (Some a) p h = absurd cc
 
 none_or : {A : Type 0} (o p : Option A) → o ≡ None → p ≡ None → option_or o p ≡ None
 none_or None p e f = f
 none_or (Some a) p e f = absurd cc
-
-map_none : {A B : Type 0} (g : A → B) (o : Option A) → option_map g o ≡ None → o ≡ None
-map_none g None h = refl
-map_none g (Some a) h = absurd cc
 
 found_none : (t : ℕ → Bool) (xs : List ℕ) (k : ℕ) → find t xs ≡ None → IsIn xs k → t k ≡ false
 found_none t [] k h i = absurd i
@@ -190,17 +183,17 @@ module _ (study : Question) (taken : IsStudy study) (total : IsWithinTotal study
   none_each : (chosen : List ℕ) → first_wide study.size study.axioms chosen ≡ None → (p : ℕ) → IsIn chosen p → option_and_then (wide_instance study.size study.axioms p) (slice_get study.axioms p) ≡ None
   none_each [] h p i = absurd i
   none_each (q ∷ chosen) h p (inl e) =
-      let both = or_none (option_and_then (wide_instance study.size study.axioms q) (slice_get study.axioms q)) (first_wide study.size study.axioms chosen) h in
+      let both = none_of_either (option_and_then (wide_instance study.size study.axioms q) (slice_get study.axioms q)) (first_wide study.size study.axioms chosen) h in
       subst (λ (r : ℕ). option_and_then (wide_instance study.size study.axioms r) (slice_get study.axioms r) ≡ None) e both.0
   none_each (q ∷ chosen) h p (inr i) =
-      let both = or_none (option_and_then (wide_instance study.size study.axioms q) (slice_get study.axioms q)) (first_wide study.size study.axioms chosen) h in
+      let both = none_of_either (option_and_then (wide_instance study.size study.axioms q) (slice_get study.axioms q)) (first_wide study.size study.axioms chosen) h in
       none_each chosen both.1 p i
 
   narrow_at : (p k : ℕ) (a : Titled) → p < length study.axioms → slice_get study.axioms p ≡ Some a → k < instance_count study.size a.sentence → is_wide (measure_of (instance_of study.size a.sentence k)) ≡ false
   narrow_at p k a lt e in_k =
       let none = none_each (all_places study) total.narrow p (in_below (length study.axioms) p lt) in
       let here : wide_instance study.size study.axioms p a ≡ None = subst (λ o. option_and_then (wide_instance study.size study.axioms p) o ≡ None) e none in
-      found_none (λ j. is_wide (counts_at study.size study.axioms a.sentence j)) (below (instance_count study.size a.sentence)) k (map_none _ (find (λ j. is_wide (counts_at study.size study.axioms a.sentence j)) (below (instance_count study.size a.sentence))) here) (in_below (instance_count study.size a.sentence) k in_k)
+      found_none (λ j. is_wide (counts_at study.size study.axioms a.sentence j)) (below (instance_count study.size a.sentence)) k (none_of_map _ (find (λ j. is_wide (counts_at study.size study.axioms a.sentence j)) (below (instance_count study.size a.sentence))) here) (in_below (instance_count study.size a.sentence) k in_k)
 
   abbrev cl : Cited → ℕ
   cl c = (counts_of_instance study c).clauses
@@ -242,7 +235,7 @@ module _ (study : Question) (taken : IsStudy study) (total : IsWithinTotal study
         small = omega (arith, small, sum, nl, literals);
       }
 
-  module _ (derived : List Cited) (present : list_all (is_present study) derived ≡ true) (rising : AreRising derived) where
+  module _ (derived : List Cited) (present : list_all (is_present study) derived ≡ true) (rising : AreRisingInstances derived) where
     abbrev daxioms : List Titled
     daxioms = axioms_from study 0 derived
 
@@ -313,17 +306,17 @@ module _ (study : Question) (taken : IsStudy study) (total : IsWithinTotal study
         let parts = sum_by-append f (take m derived) (drop m derived) in
         omega (arith, whole, parts)
 
-    by_codes : (f : Cited → ℕ) (cs : List Cited) → AreSmall cs → sum_by f cs ≡ sum_by (λ (n : ℕ). f (cited_of n)) (map code_of cs)
+    by_codes : (f : Cited → ℕ) (cs : List Cited) → HaveAxiomRoom cs → sum_by f cs ≡ sum_by (λ (n : ℕ). f (cited_of n)) (map code_of cs)
     by_codes f [] h = refl
     by_codes f (c ∷ cs) h =
         sum_by-cons f c cs ∙ ap₂ (λ (a b : ℕ). a + b) (ap f (sym (decoded c h.0))) (by_codes f cs h.1) ∙ sym (sum_by-cons (λ (n : ℕ). f (cited_of n)) (code_of c) (map code_of cs))
 
-    stands_among : (cs : List Cited) → list_all (is_present study) cs ≡ true → (k : ℕ) → has (map code_of cs) k ≡ true → has (map code_of (all_instances study)) k ≡ true
+    stands_among : (cs : List Cited) → list_all (is_present study) cs ≡ true → (k : ℕ) → includes (map code_of cs) k ≡ true → includes (map code_of (all_instances study)) k ≡ true
     stands_among [] h k e = absurd cc
     stands_among (c ∷ cs) h k e =
         let p = and_parts (is_present study c) (list_all (is_present study) cs) h in
-        elim (or_cases (nat_eq k (code_of c)) (has (map code_of cs) k) e) [
-          | inl t ↦ subst (λ (n : ℕ). has (map code_of (all_instances study)) n ≡ true) (sym (eqb-true k (code_of c) t)) (all_have study (counts_few study taken) c p.0)
+        elim (or_cases (nat_eq k (code_of c)) (includes (map code_of cs) k) e) [
+          | inl t ↦ subst (λ (n : ℕ). includes (map code_of (all_instances study)) n ≡ true) (sym (eqb-true k (code_of c) t)) (all_have study (counts_few study taken) c p.0)
           | inr t ↦ stands_among cs p.1 k t
         ]
 
@@ -374,12 +367,12 @@ module _ (study : Question) (taken : IsStudy study) (total : IsWithinTotal study
         let rest : first_full study.size daxioms (below m ++ m ∷ []) (up_from (suc m) n) ≡ None = ap (λ (ps : List ℕ). first_full study.size daxioms ps (up_from (suc m) n)) (more ∙ ap below up) ∙ none_full n (suc m) (omega (arith, e)) in
         ap (λ b. if b then Some (Full m) else first_full study.size daxioms (below m ++ m ∷ []) (up_from (suc m) n)) over ∙ rest
 
-pub clauses_fit : (study : Question) (derived : List Cited) → IsStudy study → IsWithinTotal study → list_all (is_present study) derived ≡ true → AreRising derived → ground_fault study.size (axioms_from study 0 derived) (below (length derived)) ≡ None
+pub clauses_fit : (study : Question) (derived : List Cited) → IsStudy study → IsWithinTotal study → list_all (is_present study) derived ≡ true → AreRisingInstances derived → ground_fault study.size (axioms_from study 0 derived) (below (length derived)) ≡ None
 clauses_fit study derived taken total present rising =
     none_or _ _ (none_wide study taken total derived present rising 0 (length derived) (omega arith)) (none_full study taken total derived present rising (length derived) 0 (omega arith))
 
 -- the same of the study that was made, and of all its places
-pub fits_made : (study : Question) (instances : List Cited) (derived : Question) (all : List ℕ) → IsStudy study → IsWithinTotal study → list_all (is_present study) instances ≡ true → AreRising instances
+pub fits_made : (study : Question) (instances : List Cited) (derived : Question) (all : List ℕ) → IsStudy study → IsWithinTotal study → list_all (is_present study) instances ≡ true → AreRisingInstances instances
     → derived ≡ derived_study study instances → all ≡ all_places derived → ground_fault derived.size derived.axioms all ≡ None
 fits_made study instances derived all taken total present rising made places =
     let count : all ≡ below (length instances) = places ∙ ap all_places made ∙ ap below (length_from study 0 instances) in

@@ -22,13 +22,13 @@ use Rattle.meaning.specs.Space.{below}
 use Rattle.meaning.specs.StudyClauses.{Sourced, firsts, clauses_of, instance_of, from_frame, from_instance, from_axiom, study_clauses}
 use Rattle.closing.specs.Closed.{closed_body}
 use Rattle.closing.proofs.SentenceLaws.{is_instance}
-use Rattle.verdicts.proofs.WordLaws.{IsIn}
+use Rattle.verdicts.proofs.WordLaws.{IsIn, in_below}
+use Rattle.verdicts.proofs.Members.{in_append, in_left, in_right, in_flat_map, flat_map_in, in_map, map_in, in_at, at_in}
 use Rattle.sharp_verdicts.specs.declared.instances.Cited.{Cited}
 use Rattle.sharp_verdicts.specs.Derived.{closed_at, axiom_of, axioms_from, instance_name}
 use Rattle.sharp_verdicts.proofs.DerivedLaws.{derived_get}
 use Rattle.sharp_verdicts.specs.Instances.{values_at}
-use Rattle.sharp_verdicts.proofs.Members.{in_append, in_left, in_right, in_flat_map, flat_map_in, in_map, map_in, in_below, in_at, at_in}
-use Rattle.instance_grounds.specs.Laws.{IsCovered, derived_clauses}
+use Rattle.instance_grounds.specs.Laws.{IsFrameOrCited, derived_clauses}
 
 -- ---- of equal clauses the first
 
@@ -119,11 +119,11 @@ module _ (study : Question) where
         kept_first (flat_map (from_instance study.size i closed) (below (instance_count study.size closed))) (record { clause = c; origin = Instance i 0 })
         (flat_map_in (from_instance study.size i closed) (below (instance_count study.size closed)) 0 (record { clause = c; origin = Instance i 0 }) (in_below (instance_count study.size closed) 0 (omega (arith, count))) there)
 
-    instance_stands : (s : Sourced) (place : ℕ) (a : Titled) (k : ℕ) → slice_get study.axioms place ≡ Some a → IsOfInstance s place a k → IsCovered derived s.origin
+    instance_stands : (s : Sourced) (place : ℕ) (a : Titled) (k : ℕ) → slice_get study.axioms place ≡ Some a → IsOfInstance s place a k → IsFrameOrCited derived s.origin
         → HasClause (study_clauses study.size daxioms (below (length derived))) s.clause
     instance_stands s place a k e of covered =
         let c : Cited = record { «axiom» = place; number = k } in
-        let at = subst (IsCovered derived) of.0 covered in
+        let at = subst (IsFrameOrCited derived) of.0 covered in
         let kept = has_closed at.0 k a (axiom_of study at.0 c).sentence (instance_name at.0) s.clause (closed_is place k a e) of.1 in
         let here : IsIn (from_axiom study.size at.0 (slice_get daxioms at.0)) kept.0 = subst (λ (o : Option Titled). IsIn (from_axiom study.size at.0 o) kept.0) (sym (derived_get study derived at.0 c at.1)) kept.1 in (
           kept.0,
@@ -131,7 +131,7 @@ module _ (study : Question) where
           kept.2,
         )
 
-    source_stands : (core : List ℕ) (s : Sourced) → IsIn (study_clauses study.size study.axioms core) s → IsCovered derived s.origin → HasClause (study_clauses study.size daxioms (below (length derived))) s.clause
+    source_stands : (core : List ℕ) (s : Sourced) → IsIn (study_clauses study.size study.axioms core) s → IsFrameOrCited derived s.origin → HasClause (study_clauses study.size daxioms (below (length derived))) s.clause
     source_stands core s i covered = elim (in_append frames (flat_map (λ p. from_axiom study.size p (slice_get study.axioms p)) core) s i) [
       | inl h ↦ (s, in_left frames _ s h, refl)
       | inr h ↦
@@ -140,7 +140,7 @@ module _ (study : Question) where
           instance_stands s r.0 o.0 o.1 o.2 o.3 covered
     ]
 
-pub clauses_stand : (study : Question) (core : List ℕ) (derived : List Cited) (j : ℕ) (s : Sourced) → slice_get (study_clauses study.size study.axioms core) j ≡ Some s → IsCovered derived s.origin
+pub clauses_stand : (study : Question) (core : List ℕ) (derived : List Cited) (j : ℕ) (s : Sourced) → slice_get (study_clauses study.size study.axioms core) j ≡ Some s → IsFrameOrCited derived s.origin
     → (place : ℕ) × (slice_get (derived_clauses study derived) place ≡ Some s.clause)
 clauses_stand study core derived j s e covered =
     let has = source_stands study derived core s (in_at (study_clauses study.size study.axioms core) j s e) covered in

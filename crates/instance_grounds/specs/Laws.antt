@@ -13,12 +13,12 @@ use Rattle.clause_form.specs.Refusals.{ground_fault}
 use Rattle.sharp_verdicts.specs.Derived.{axioms_from}
 use Rattle.sharp_verdicts.specs.Instances.{is_present}
 use Rattle.sharp_verdicts.specs.Totals.{IsWithinTotal}
-use Rattle.instance_stories.specs.Codes.{AreRising}
+use Rattle.instance_stories.specs.Codes.{AreRisingInstances}
 
 -- an origin is a frame, or one of some instances
-abbrev pub IsCovered : List Cited → Origin → Type 0
-IsCovered derived (Frame p) = Unit {0}
-IsCovered derived (Instance a k) = (i : ℕ) × (slice_get derived i ≡ Some (record { «axiom» = a; number = k }))
+abbrev pub IsFrameOrCited : List Cited → Origin → Type 0
+IsFrameOrCited derived (Frame p) = Unit {0}
+IsFrameOrCited derived (Instance a k) = (i : ℕ) × (slice_get derived i ≡ Some (record { «axiom» = a; number = k }))
 
 -- the clauses of a derived study
 abbrev pub derived_clauses : Question → List Cited → List Clause
@@ -27,11 +27,11 @@ derived_clauses study derived = clauses_for study.size (axioms_from study 0 deri
 -- each clause of a study whose origin is a frame or one of some instances stands among the clauses of the study of these instances
 abbrev pub InstanceClausesStand : Type 0
 InstanceClausesStand =
-    (study : Question) (core : List ℕ) (derived : List Cited) (j : ℕ) (s : Sourced) → slice_get (study_clauses study.size study.axioms core) j ≡ Some s → IsCovered derived s.origin
+    (study : Question) (core : List ℕ) (derived : List Cited) (j : ℕ) (s : Sourced) → slice_get (study_clauses study.size study.axioms core) j ≡ Some s → IsFrameOrCited derived s.origin
     → (place : ℕ) × (slice_get (derived_clauses study derived) place ≡ Some s.clause)
 
 -- the clauses of the study of some instances of a study within the limits are never refused
 abbrev pub DerivedClausesFit : Type 0
 DerivedClausesFit =
-    (study : Question) (derived : List Cited) → IsStudy study → IsWithinTotal study → IsTrue (list_all (is_present study) derived) → AreRising derived
+    (study : Question) (derived : List Cited) → IsStudy study → IsWithinTotal study → IsTrue (list_all (is_present study) derived) → AreRisingInstances derived
     → ground_fault study.size (axioms_from study 0 derived) (below (length derived)) ≡ None

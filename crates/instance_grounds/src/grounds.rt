@@ -8,7 +8,7 @@ ghost use Rattle.search_logs.specs.Spent.{all_places};
 ghost use Rattle.sharp_verdicts.specs.Derived.{derived_study};
 ghost use Rattle.sharp_verdicts.specs.Instances.{is_present};
 ghost use Rattle.sharp_verdicts.specs.Totals.{IsWithinTotal};
-ghost use Rattle.instance_stories.specs.Codes.{AreRising};
+ghost use Rattle.instance_stories.specs.Codes.{AreRisingInstances};
 
 use clause_form::{Ground, GroundFault};
 use crew::Crew;
@@ -37,7 +37,7 @@ pub fn ground_derived<R: Threads + Sync, K: OutcomeKind, G: Gate>(
     requires size { study.now.size ≡ K.size kind.now }
     requires total { IsWithinTotal study.now }
     requires present { IsTrue (list_all (is_present study.now) instances.now) }
-    requires rising { AreRising instances.now }
+    requires rising { AreRisingInstances instances.now }
     requires derived { derived.now ≡ derived_study study.now instances.now }
     ensures { IfOk result
         (λ clauses. clauses ≡ study_clauses derived.now.size derived.now.axioms (all_places derived.now)) }

@@ -1,7 +1,7 @@
 -- The names of variables, and what they stand for.
-use Rattle.std.proofs.Common.{◌≡◌, ◌≢◌, refl, sym, ap, subst, ◌∙◌, ℕ, ◌+◌, ◌<◌, ◌≤◌, ◌^◌, Bool, true, false, cond, List, [], ◌∷◌, ◌++◌, map, length, length-append, get_or, append-nil, append_assoc, slice_get, Option, Some, None, true≢false, arith}
+use Rattle.std.proofs.Common.{◌≡◌, ◌≢◌, refl, sym, ap, subst, ◌∙◌, ℕ, ◌+◌, ◌<◌, ◌≤◌, ◌^◌, Bool, true, false, cond, List, [], ◌∷◌, ◌++◌, map, length, length-append, append-nil, append_assoc, slice_get, Some, true≢false, arith}
 use Rattle.std.specs.Prelude.{nat_lt, slice_index}
-use Rattle.std.specs.Cmp.Lexicographic.{pointwise, bytes_decides}
+use Rattle.std.specs.Cmp.Lexicographic.{pointwise}
 use Rattle.std.specs.Fmt.{decimal}
 use Rattle.std.specs.Map.{lookup}
 use Rattle.std.specs.Option.{unwrap_or}
@@ -11,9 +11,10 @@ use Rattle.std.proofs.lemmas.Fmt.{decimal_injective}
 use Rattle.std.proofs.lemmas.List.{get_or_append_left}
 use Rattle.std.proofs.lemmas.Option.{get_or_from_slice_get, slice_get-get_or, slice_get_within}
 use Rattle.std.proofs.Math.Seq.{get_or-append_seam}
+use Rattle.lists.proofs.TextLaws.{same_bytes, differ}
 use Rattle.vocab.specs.declared.kinds.Sort.{Sort}
 use Rattle.vocab.specs.declared.kinds.Sort.TheVariants.{Profile}
-use Rattle.sorts.specs.NamedTruth.{Assignment, value_in}
+use Rattle.sorts.specs.NamedTruth.{Assignment, value_named}
 use Rattle.instance_text.specs.Bodies.{variable_name}
 use Rattle.instance_laws.specs.Laws.{with_values}
 
@@ -30,16 +31,6 @@ last sorts s r at = sym (get_or_from_slice_get (sorts ++ s ∷ []) (length sorts
 
 -- ---- names
 
-same_bytes : (xs : List ℕ) → bytes_eq xs xs ≡ true
-same_bytes xs = (bytes_decides xs xs).1 refl
-
-differ : (xs ys : List ℕ) → xs ≢ ys → bytes_eq xs ys ≡ false
-differ xs ys other = by_case (bytes_eq xs ys) refl
-  where
-    by_case : (b : Bool) → bytes_eq xs ys ≡ b → bytes_eq xs ys ≡ false
-    by_case true e = absurd (other ((bytes_decides xs ys).0 e))
-    by_case false e = e
-
 -- names of different places are different
 other_names : (s r : Sort) (m n : ℕ) → m < 2 ^ 64 → n < 2 ^ 64 → m ≢ n → variable_name s m ≢ variable_name r n
 other_names s r m n few many other same =
@@ -49,7 +40,7 @@ other_names s r m n few many other same =
 -- the names of the quantifiers around stand for the values of their variables
 pub record Names (sorts : List Sort) (env : List ℕ) (known : Assignment) : Type 0 where
   pub many : length env ≡ length sorts
-  pub stand : (level : ℕ) (s : Sort) → slice_get sorts level ≡ Some s → value_in (variable_name s (level + 1)) known ≡ slice_index env level
+  pub stand : (level : ℕ) (s : Sort) → slice_get sorts level ≡ Some s → value_named (variable_name s (level + 1)) known ≡ slice_index env level
 
 -- also those of one quantifier more
 pub one_more : (sorts : List Sort) (env : List ℕ) (known : Assignment) → Names sorts env known → length sorts ≤ 12 → (s : Sort) (v : ℕ)
@@ -63,7 +54,7 @@ one_more sorts env known names few s v = record {
     own = variable_name s (length sorts + 1)
 
     by_place : (level : ℕ) (r : Sort) → slice_get (sorts ++ s ∷ []) level ≡ Some r → (b : Bool) → nat_lt level (length sorts) ≡ b
-        → value_in (variable_name r (level + 1)) ((own, v) ∷ known) ≡ slice_index (env ++ v ∷ []) level
+        → value_named (variable_name r (level + 1)) ((own, v) ∷ known) ≡ slice_index (env ++ v ∷ []) level
     by_place level r at true e =
         let lt : level < length sorts = ltb-true level (length sorts) e in
         let lt_env : level < length env = omega (arith, lt, names.many) in
@@ -78,11 +69,11 @@ one_more sorts env known names few s v = record {
         let sort : r ≡ s = last sorts s r (subst (λ (l : ℕ). slice_get (sorts ++ s ∷ []) l ≡ Some r) here at) in
         let name : variable_name r (level + 1) ≡ own = ap (λ (q : Sort). variable_name q (level + 1)) sort ∙ ap (λ (l : ℕ). variable_name s (l + 1)) here in
         let place : level ≡ length env = omega (arith, here, names.many) in
-        ap (λ (n : List ℕ). value_in n ((own, v) ∷ known)) name
+        ap (λ (n : List ℕ). value_named n ((own, v) ∷ known)) name
         ∙ ap (λ (b : Bool). unwrap_or (cond b (Some v) (lookup (bytes_eq own) known)) 0) (same_bytes own)
         ∙ sym (ap (slice_index (env ++ v ∷ [])) place ∙ get_or-append_seam env v [] 0)
 
-    stand : (level : ℕ) (r : Sort) → slice_get (sorts ++ s ∷ []) level ≡ Some r → value_in (variable_name r (level + 1)) ((own, v) ∷ known) ≡ slice_index (env ++ v ∷ []) level
+    stand : (level : ℕ) (r : Sort) → slice_get (sorts ++ s ∷ []) level ≡ Some r → value_named (variable_name r (level + 1)) ((own, v) ∷ known) ≡ slice_index (env ++ v ∷ []) level
     stand level r at = by_place level r at (nat_lt level (length sorts)) refl
 
 -- and those of the leading universals

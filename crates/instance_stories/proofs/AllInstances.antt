@@ -11,12 +11,12 @@ use Rattle.vocab.specs.Limits.{instance_count}
 use Rattle.vocab.specs.Study.{Question, IsStudy}
 use Rattle.vocab.specs.Titled.{Titled}
 use Rattle.meaning.specs.Space.{up_from, below}
-use Rattle.grounding.specs.Rising.{IsAbove, has}
+use Rattle.grounding.specs.Rising.{RisesFrom, includes}
 use Rattle.grounding.proofs.RisingLaws.{above_not, first_there, rising_same}
 use Rattle.retell.proofs.CitedLaws.{limit_at}
 use Rattle.sharp_verdicts.specs.declared.instances.Cited.{Cited}
 use Rattle.sharp_verdicts.specs.Instances.{count_at, is_present, all_instances}
-use Rattle.instance_stories.specs.Codes.{code_of, AreRising, AreSmall}
+use Rattle.instance_stories.specs.Codes.{code_of, AreRisingInstances, HaveAxiomRoom}
 
 -- ---- numbers and instances
 
@@ -32,37 +32,37 @@ decoded c lt =
     let k : code_of c / 4294967296 - 1 ≡ c.«axiom» = ap (λ (n : ℕ). n - 1) q ∙ omega arith in
     λ i. record { «axiom» = k i; number = r i }
 
-pub all_decoded : (cs : List Cited) → AreSmall cs → map cited_of (map code_of cs) ≡ cs
+pub all_decoded : (cs : List Cited) → HaveAxiomRoom cs → map cited_of (map code_of cs) ≡ cs
 all_decoded [] h = refl
 all_decoded (c ∷ cs) h = ap₂ (λ (d : Cited) (ds : List Cited). d ∷ ds) (decoded c h.0) (all_decoded cs h.1)
 
 -- lists that rise and have the same numbers are the same
-pub rising_lists : (xs ys : List Cited) → AreSmall xs → AreSmall ys → AreRising xs → AreRising ys → ((k : ℕ) → has (map code_of xs) k ≡ has (map code_of ys) k) → xs ≡ ys
+pub rising_lists : (xs ys : List Cited) → HaveAxiomRoom xs → HaveAxiomRoom ys → AreRisingInstances xs → AreRisingInstances ys → ((k : ℕ) → includes (map code_of xs) k ≡ includes (map code_of ys) k) → xs ≡ ys
 rising_lists xs ys sx sy ax ay h = sym (all_decoded xs sx) ∙ ap (map cited_of) (rising_same 0 (map code_of xs) (map code_of ys) ax ay h) ∙ all_decoded ys sy
 
 -- ---- what rises
 
-pub above_weaken : (b b' : ℕ) (xs : List ℕ) → b ≤ b' → IsAbove b' xs → IsAbove b xs
+pub above_weaken : (b b' : ℕ) (xs : List ℕ) → b ≤ b' → RisesFrom b' xs → RisesFrom b xs
 above_weaken b b' [] le h = record {}
 above_weaken b b' (x ∷ xs) le h = (omega (arith, le, h.0), h.1)
 
-above_join : (b : ℕ) (xs ys : List ℕ) (m : ℕ) → IsAbove b xs → b < m → ((k : ℕ) → has xs k ≡ true → k < m) → ((b' : ℕ) → b' < m → IsAbove b' ys) → IsAbove b (xs ++ ys)
+above_join : (b : ℕ) (xs ys : List ℕ) (m : ℕ) → RisesFrom b xs → b < m → ((k : ℕ) → includes xs k ≡ true → k < m) → ((b' : ℕ) → b' < m → RisesFrom b' ys) → RisesFrom b (xs ++ ys)
 above_join b [] ys m h lt small rest = rest b lt
-above_join b (x ∷ xs) ys m h lt small rest = (h.0, above_join x xs ys m h.1 (small x (first_there x xs)) (λ k e. small k (or_right (nat_eq k x) (has xs k) e)) rest)
+above_join b (x ∷ xs) ys m h lt small rest = (h.0, above_join x xs ys m h.1 (small x (first_there x xs)) (λ k e. small k (or_right (nat_eq k x) (includes xs k) e)) rest)
 
-pub filter_rises : (t : Cited → Bool) (b : ℕ) (cs : List Cited) → IsAbove b (map code_of cs) → IsAbove b (map code_of (filter t cs))
+pub filter_rises : (t : Cited → Bool) (b : ℕ) (cs : List Cited) → RisesFrom b (map code_of cs) → RisesFrom b (map code_of (filter t cs))
 filter_rises t b [] h = record {}
 filter_rises t b (c ∷ cs) h = by (t c) (filter_rises t (code_of c) cs h.1)
   where
-    by : (r : Bool) → IsAbove (code_of c) (map code_of (filter t cs)) → IsAbove b (map code_of (if r then c ∷ filter t cs else filter t cs))
+    by : (r : Bool) → RisesFrom (code_of c) (map code_of (filter t cs)) → RisesFrom b (map code_of (if r then c ∷ filter t cs else filter t cs))
     by true ih = (h.0, ih)
     by false ih = above_weaken b (code_of c) (map code_of (filter t cs)) (omega (arith, h.0)) ih
 
-pub filter_small : (t : Cited → Bool) (cs : List Cited) → AreSmall cs → AreSmall (filter t cs)
+pub filter_small : (t : Cited → Bool) (cs : List Cited) → HaveAxiomRoom cs → HaveAxiomRoom (filter t cs)
 filter_small t [] h = tt
 filter_small t (c ∷ cs) h = by (t c) (filter_small t cs h.1)
   where
-    by : (r : Bool) → AreSmall (filter t cs) → AreSmall (if r then c ∷ filter t cs else filter t cs)
+    by : (r : Bool) → HaveAxiomRoom (filter t cs) → HaveAxiomRoom (if r then c ∷ filter t cs else filter t cs)
     by true ih = (h.0, ih)
     by false ih = ih
 
@@ -71,36 +71,36 @@ filter_small t (c ∷ cs) h = by (t c) (filter_small t cs h.1)
 abbrev at : ℕ → ℕ → Cited
 at k n = record { «axiom» = k; number = n }
 
-block_rises : (b k from n : ℕ) → b < (k + 1) * 4294967296 + from → IsAbove b (map code_of (map (at k) (up_from from n)))
+block_rises : (b k from n : ℕ) → b < (k + 1) * 4294967296 + from → RisesFrom b (map code_of (map (at k) (up_from from n)))
 block_rises b k from zero lt = record {}
 block_rises b k from (suc n) lt = (lt, block_rises ((k + 1) * 4294967296 + from) k (suc from) n (omega arith))
 
-block_below : (k from n c : ℕ) → has (map code_of (map (at k) (up_from from n))) c ≡ true → c < (k + 1) * 4294967296 + (from + n)
+block_below : (k from n c : ℕ) → includes (map code_of (map (at k) (up_from from n))) c ≡ true → c < (k + 1) * 4294967296 + (from + n)
 block_below k from zero c h = absurd cc
-block_below k from (suc n) c h = elim (or_cases (nat_eq c ((k + 1) * 4294967296 + from)) (has (map code_of (map (at k) (up_from (suc from) n))) c) h) [
+block_below k from (suc n) c h = elim (or_cases (nat_eq c ((k + 1) * 4294967296 + from)) (includes (map code_of (map (at k) (up_from (suc from) n))) c) h) [
   | inl e ↦ let same = eqb-true c ((k + 1) * 4294967296 + from) e in omega (arith, same)
   | inr e ↦ let ih = block_below k (suc from) n c e in omega (arith, ih)
 ]
 
-block_has : (k from n j : ℕ) → j < n → has (map code_of (map (at k) (up_from from n))) (code_of (at k (from + j))) ≡ true
+block_has : (k from n j : ℕ) → j < n → includes (map code_of (map (at k) (up_from from n))) (code_of (at k (from + j))) ≡ true
 block_has k from zero j lt = absurd (omega arith)
 block_has k from (suc n) zero lt = or_left _ _ (eq-eqb (code_of (at k (from + 0))) (code_of (at k from)) (omega arith))
 block_has k from (suc n) (suc j) lt =
     let over : suc from + j ≡ from + suc j = omega arith in
     or_right (nat_eq (code_of (at k (from + suc j))) (code_of (at k from))) _
-    (subst (λ (x : ℕ). has (map code_of (map (at k) (up_from (suc from) n))) (code_of (at k x)) ≡ true) over (block_has k (suc from) n j (omega (arith, lt))))
+    (subst (λ (x : ℕ). includes (map code_of (map (at k) (up_from (suc from) n))) (code_of (at k x)) ≡ true) over (block_has k (suc from) n j (omega (arith, lt))))
 
-block_small : (k from n : ℕ) → from + n ≤ 4294967296 → AreSmall (map (at k) (up_from from n))
+block_small : (k from n : ℕ) → from + n ≤ 4294967296 → HaveAxiomRoom (map (at k) (up_from from n))
 block_small k from zero le = tt
 block_small k from (suc n) le = (omega (arith, le), block_small k (suc from) n (omega (arith, le)))
 
-pub small_join : (xs ys : List Cited) → AreSmall xs → AreSmall ys → AreSmall (xs ++ ys)
+pub small_join : (xs ys : List Cited) → HaveAxiomRoom xs → HaveAxiomRoom ys → HaveAxiomRoom (xs ++ ys)
 small_join [] ys h k = k
 small_join (x ∷ xs) ys h k = (h.0, small_join xs ys h.1 k)
 
-pub has-append : (xs ys : List ℕ) (k : ℕ) → has (xs ++ ys) k ≡ (has xs k || has ys k)
+pub has-append : (xs ys : List ℕ) (k : ℕ) → includes (xs ++ ys) k ≡ (includes xs k || includes ys k)
 has-append [] ys k = refl
-has-append (x ∷ xs) ys k = ap (λ b. nat_eq k x || b) (has-append xs ys k) ∙ sym (or_assoc (nat_eq k x) (has xs k) (has ys k))
+has-append (x ∷ xs) ys k = ap (λ b. nat_eq k x || b) (has-append xs ys k) ∙ sym (or_assoc (nat_eq k x) (includes xs k) (includes ys k))
   where
     or_assoc : (a b c : Bool) → ((a || b) || c) ≡ (a || (b || c))
     or_assoc true b c = refl
@@ -112,42 +112,42 @@ module _ (study : Question) (few : (k : ℕ) → count_at study k ≤ 4294967296
   abbrev block : ℕ → List Cited
   block k = map (at k) (below (count_at study k))
 
-  blocks_rise : (b a n : ℕ) → b < (a + 1) * 4294967296 → IsAbove b (map code_of (flat_map block (up_from a n)))
+  blocks_rise : (b a n : ℕ) → b < (a + 1) * 4294967296 → RisesFrom b (map code_of (flat_map block (up_from a n)))
   blocks_rise b a zero lt = record {}
   blocks_rise b a (suc n) lt =
       let most = few a in
-      subst (IsAbove b) (sym (map-append code_of (block a) (flat_map block (up_from (suc a) n))))
+      subst (RisesFrom b) (sym (map-append code_of (block a) (flat_map block (up_from (suc a) n))))
       (above_join b (map code_of (block a)) (map code_of (flat_map block (up_from (suc a) n))) ((suc a + 1) * 4294967296)
       (block_rises b a 0 (count_at study a) (omega (arith, lt))) (omega (arith, lt)) (λ k h. let below_end = block_below a 0 (count_at study a) k h in omega (arith, below_end, most))
       (λ b' lt'. blocks_rise b' (suc a) n lt'))
 
-  blocks_small : (a n : ℕ) → AreSmall (flat_map block (up_from a n))
+  blocks_small : (a n : ℕ) → HaveAxiomRoom (flat_map block (up_from a n))
   blocks_small a zero = tt
   blocks_small a (suc n) = small_join (block a) (flat_map block (up_from (suc a) n)) (block_small a 0 (count_at study a) (let most = few a in omega (arith, most))) (blocks_small (suc a) n)
 
-  pub all_rise : AreRising (all_instances study)
+  pub all_rise : AreRisingInstances (all_instances study)
   all_rise = blocks_rise 0 0 (length study.axioms) (omega arith)
 
-  pub all_small : AreSmall (all_instances study)
+  pub all_small : HaveAxiomRoom (all_instances study)
   all_small = blocks_small 0 (length study.axioms)
 
-  blocks_have : (a n k j : ℕ) → k < n → j < count_at study (a + k) → has (map code_of (flat_map block (up_from a n))) (code_of (at (a + k) j)) ≡ true
+  blocks_have : (a n k j : ℕ) → k < n → j < count_at study (a + k) → includes (map code_of (flat_map block (up_from a n))) (code_of (at (a + k) j)) ≡ true
   blocks_have a zero k j lt in_k = absurd (omega arith)
   blocks_have a (suc n) zero j lt in_k =
       let same : a + 0 ≡ a = omega arith in
-      ap (λ xs. has xs (code_of (at (a + 0) j))) (map-append code_of (block a) (flat_map block (up_from (suc a) n))) ∙ has-append (map code_of (block a)) (map code_of (flat_map block (up_from (suc a) n))) (code_of (at (a + 0) j))
-      ∙ or_left _ _ (subst (λ (x : ℕ). has (map code_of (block a)) (code_of (at x j)) ≡ true) (sym same) (let z : 0 + j ≡ j = omega arith in subst (λ (x : ℕ). has (map code_of (block a)) (code_of (at a x)) ≡ true) z (block_has a 0 (count_at study a) j (subst (λ (x : ℕ). j < count_at study x) same in_k))))
+      ap (λ xs. includes xs (code_of (at (a + 0) j))) (map-append code_of (block a) (flat_map block (up_from (suc a) n))) ∙ has-append (map code_of (block a)) (map code_of (flat_map block (up_from (suc a) n))) (code_of (at (a + 0) j))
+      ∙ or_left _ _ (subst (λ (x : ℕ). includes (map code_of (block a)) (code_of (at x j)) ≡ true) (sym same) (let z : 0 + j ≡ j = omega arith in subst (λ (x : ℕ). includes (map code_of (block a)) (code_of (at a x)) ≡ true) z (block_has a 0 (count_at study a) j (subst (λ (x : ℕ). j < count_at study x) same in_k))))
   blocks_have a (suc n) (suc k) j lt in_k =
       let over : suc a + k ≡ a + suc k = omega arith in
-      ap (λ xs. has xs (code_of (at (a + suc k) j))) (map-append code_of (block a) (flat_map block (up_from (suc a) n))) ∙ has-append (map code_of (block a)) (map code_of (flat_map block (up_from (suc a) n))) (code_of (at (a + suc k) j))
-      ∙ or_right (has (map code_of (block a)) (code_of (at (a + suc k) j))) _
-      (subst (λ (x : ℕ). has (map code_of (flat_map block (up_from (suc a) n))) (code_of (at x j)) ≡ true) over (blocks_have (suc a) n k j (omega (arith, lt)) (subst (λ (x : ℕ). j < count_at study x) (sym over) in_k)))
+      ap (λ xs. includes xs (code_of (at (a + suc k) j))) (map-append code_of (block a) (flat_map block (up_from (suc a) n))) ∙ has-append (map code_of (block a)) (map code_of (flat_map block (up_from (suc a) n))) (code_of (at (a + suc k) j))
+      ∙ or_right (includes (map code_of (block a)) (code_of (at (a + suc k) j))) _
+      (subst (λ (x : ℕ). includes (map code_of (flat_map block (up_from (suc a) n))) (code_of (at x j)) ≡ true) over (blocks_have (suc a) n k j (omega (arith, lt)) (subst (λ (x : ℕ). j < count_at study x) (sym over) in_k)))
 
-  pub all_have : (c : Cited) → is_present study c ≡ true → has (map code_of (all_instances study)) (code_of c) ≡ true
+  pub all_have : (c : Cited) → is_present study c ≡ true → includes (map code_of (all_instances study)) (code_of c) ≡ true
   all_have c h =
       let e = and_parts (nat_lt c.«axiom» (length study.axioms)) (nat_lt c.number (count_at study c.«axiom»)) h in
       let same : 0 + c.«axiom» ≡ c.«axiom» = omega arith in
-      subst (λ (x : ℕ). has (map code_of (all_instances study)) (code_of (at x c.number)) ≡ true) same
+      subst (λ (x : ℕ). includes (map code_of (all_instances study)) (code_of (at x c.number)) ≡ true) same
       (blocks_have 0 (length study.axioms) c.«axiom» c.number (ltb-true c.«axiom» (length study.axioms) e.0) (subst (λ (x : ℕ). c.number < count_at study x) (sym same) (ltb-true c.number (count_at study c.«axiom») e.1)))
 
 -- ---- within a study
@@ -164,7 +164,7 @@ pub counts_within : (study : Question) → IsStudy study → (k : ℕ) → count
 counts_within study taken k = count_few study taken k (slice_get study.axioms k) refl
 
 -- present instances are small
-pub present_small : (study : Question) → IsStudy study → (cs : List Cited) → list_all (is_present study) cs ≡ true → AreSmall cs
+pub present_small : (study : Question) → IsStudy study → (cs : List Cited) → list_all (is_present study) cs ≡ true → HaveAxiomRoom cs
 present_small study taken [] h = tt
 present_small study taken (c ∷ cs) h =
     let e = and_parts (is_present study c) (list_all (is_present study) cs) h in
@@ -175,14 +175,14 @@ present_small study taken (c ∷ cs) h =
 -- ---- sums over rising numbers
 
 -- a rising list whose numbers all stand in another one sums up to no more
-pub sum_within : (f : ℕ → ℕ) (n : ℕ) (xs ys : List ℕ) → IsAbove n xs → IsAbove n ys → ((k : ℕ) → has xs k ≡ true → has ys k ≡ true) → sum_by f xs ≤ sum_by f ys
+pub sum_within : (f : ℕ → ℕ) (n : ℕ) (xs ys : List ℕ) → RisesFrom n xs → RisesFrom n ys → ((k : ℕ) → includes xs k ≡ true → includes ys k ≡ true) → sum_by f xs ≤ sum_by f ys
 sum_within f n [] ys ax ay h = omega arith
 sum_within f n (x ∷ xs) [] ax ay h = absurd (true≢false (sym (h x (first_there x xs))))
 sum_within f n (x ∷ xs) (y ∷ ys) ax ay h = by (nat_eq x y) refl (λ a s. sum_within f x xs ys ax.1 a s) (λ lt s. sum_within f y (x ∷ xs) ys (lt, ax.1) ay.1 s)
   where
     -- what stands in the rest of the one stands in the rest of the other
-    later : x ≡ y → (k : ℕ) → has xs k ≡ true → has ys k ≡ true
-    later same k e = elim (or_cases (nat_eq k y) (has ys k) (h k (or_right (nat_eq k x) (has xs k) e))) [
+    later : x ≡ y → (k : ℕ) → includes xs k ≡ true → includes ys k ≡ true
+    later same k e = elim (or_cases (nat_eq k y) (includes ys k) (h k (or_right (nat_eq k x) (includes xs k) e))) [
       | inl t ↦
           let is = eqb-true k y t in
           let low : k ≤ x = omega (arith, is, same) in
@@ -191,8 +191,8 @@ sum_within f n (x ∷ xs) (y ∷ ys) ax ay h = by (nat_eq x y) refl (λ a s. sum
     ]
 
     -- where the first of the other list is not the first of the one
-    past : y < x → (k : ℕ) → has (x ∷ xs) k ≡ true → has ys k ≡ true
-    past lt k e = elim (or_cases (nat_eq k y) (has ys k) (h k e)) [
+    past : y < x → (k : ℕ) → includes (x ∷ xs) k ≡ true → includes ys k ≡ true
+    past lt k e = elim (or_cases (nat_eq k y) (includes ys k) (h k e)) [
       | inl t ↦
           let is = eqb-true k y t in
           let low : k ≤ y = omega (arith, is) in
@@ -204,17 +204,17 @@ sum_within f n (x ∷ xs) (y ∷ ys) ax ay h = by (nat_eq x y) refl (λ a s. sum
     first : nat_eq x y ≡ false → y < x
     first e = elim (cases_lt y x) [
       | inl lt ↦ lt
-      | inr le ↦ elim (or_cases (nat_eq x y) (has ys x) (h x (first_there x xs))) [
+      | inr le ↦ elim (or_cases (nat_eq x y) (includes ys x) (h x (first_there x xs))) [
         | inl t ↦ absurd (true≢false (sym t ∙ e))
         | inr t ↦ absurd (true≢false (sym t ∙ above_not y x ys ay.1 le))
       ]
     ]
 
-    by : (b : Bool) → nat_eq x y ≡ b → (IsAbove x ys → ((k : ℕ) → has xs k ≡ true → has ys k ≡ true) → sum_by f xs ≤ sum_by f ys)
-        → (y < x → ((k : ℕ) → has (x ∷ xs) k ≡ true → has ys k ≡ true) → sum_by f (x ∷ xs) ≤ sum_by f ys) → sum_by f (x ∷ xs) ≤ sum_by f (y ∷ ys)
+    by : (b : Bool) → nat_eq x y ≡ b → (RisesFrom x ys → ((k : ℕ) → includes xs k ≡ true → includes ys k ≡ true) → sum_by f xs ≤ sum_by f ys)
+        → (y < x → ((k : ℕ) → includes (x ∷ xs) k ≡ true → includes ys k ≡ true) → sum_by f (x ∷ xs) ≤ sum_by f ys) → sum_by f (x ∷ xs) ≤ sum_by f (y ∷ ys)
     by true e ih skip =
         let same : x ≡ y = eqb-true x y e in
-        let less = ih (subst (λ (z : ℕ). IsAbove z ys) (sym same) ay.1) (later same) in
+        let less = ih (subst (λ (z : ℕ). RisesFrom z ys) (sym same) ay.1) (later same) in
         let head : f x ≡ f y = ap f same in
         omega (arith, less, head, sum_by-cons f x xs, sum_by-cons f y ys)
     by false e ih skip = let lt = first e in let less = skip lt (past lt) in omega (arith, less, sum_by-cons f y ys)

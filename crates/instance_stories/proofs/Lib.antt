@@ -1,3 +1,2 @@
 pub mod NamedLaws
 pub mod AllInstances
-pub mod Members

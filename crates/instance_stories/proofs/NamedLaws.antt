@@ -7,6 +7,7 @@ use Rattle.std.specs.Option.{option_map_or}
 use Rattle.std.proofs.lemmas.Bool.{and_parts, and_from, or_left, or_right}
 use Rattle.std.proofs.lemmas.List.{map-append}
 use Rattle.std.proofs.lemmas.Option.{slice_get_within}
+use Rattle.lists.proofs.TestLaws.{all_get}
 use Rattle.vocab.specs.declared.literals.Literal.{Literal}
 use Rattle.vocab.specs.Formula.{body_of}
 use Rattle.vocab.specs.Limits.{bases_of, instance_count}
@@ -32,8 +33,8 @@ use Rattle.sharp_verdicts.specs.declared.instances.Cited.{Cited}
 use Rattle.sharp_verdicts.specs.Derived.{closed_at, axioms_from, instance_name}
 use Rattle.sharp_verdicts.specs.Instances.{is_present, count_at, reasons_of, cites_axiom, is_axiom_told, core_of}
 use Rattle.sharp_verdicts.proofs.DerivedLaws.{get_none, derived_get}
-use Rattle.instance_studies.proofs.StudyLaws.{all_get, number_within}
-use Rattle.instance_stories.specs.Named.{reason_in, named_back, step_named, lemma_named, story_named}
+use Rattle.instance_studies.proofs.StudyLaws.{number_within}
+use Rattle.instance_stories.specs.Named.{reason_citing, named_back, step_named, lemma_named, story_named}
 
 -- ---- places
 
@@ -97,7 +98,7 @@ module _ (study : Question) where
     everywhere = below (length study.axioms)
 
     axiom_back : (known : List Literal) (i : ℕ) (values : List ℕ) (earlier : List Lemma) → (o : Option Cited) → slice_get derived i ≡ o → is_instance_false study.size known (slice_get daxioms i) values ≡ true
-        → refutes study.size study.axioms everywhere earlier known (reason_in study o) ≡ true
+        → refutes study.size study.axioms everywhere earlier known (reason_citing study o) ≡ true
     axiom_back known i values earlier None e h =
         absurd (true≢false (sym h ∙ ap (λ o. is_instance_false study.size known o values) (get_none study 0 derived i e)))
     axiom_back known i values earlier (Some c) e h =

@@ -9,14 +9,14 @@ use Rattle.sharp_verdicts.specs.declared.instances.Cited.{Cited}
 use Rattle.sharp_verdicts.specs.SharpLines.{reason_at}
 
 -- the reason that cites an instance, where there is one
-abbrev pub reason_in : Question → Option Cited → Reason
-reason_in study None = ByOutcome 0
-reason_in study (Some c) = reason_at study c
+abbrev pub reason_citing : Question → Option Cited → Reason
+reason_citing study None = ByOutcome 0
+reason_citing study (Some c) = reason_at study c
 
 module _ (study : Question) (derived : List Cited) where
   -- a reason by an axiom of the derived study is one by its instance
   abbrev pub named_back : Reason → Reason
-  named_back (ByAxiom k values) = reason_in study (slice_get derived k)
+  named_back (ByAxiom k values) = reason_citing study (slice_get derived k)
   named_back (ByOutcome p) = ByOutcome p
   named_back (ByLemma j) = ByLemma j
 

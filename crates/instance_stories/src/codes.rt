@@ -2,8 +2,8 @@
 
 ghost use Rattle.std.specs.Prelude.{◌≡◌, ◌<◌, ◌≤◌, ℕ, All, IfOk, length, map};
 ghost use Rattle.std.specs.List.Sorted.{IsNonDecreasing};
-ghost use Rattle.grounding.specs.Rising.{IsAbove, has};
-ghost use Rattle.instance_stories.specs.Codes.{code_of, AreRising, AreSmall};
+ghost use Rattle.grounding.specs.Rising.{RisesFrom, includes};
+ghost use Rattle.instance_stories.specs.Codes.{code_of, AreRisingInstances, HaveAxiomRoom};
 
 use lists::{Items, NoMemory};
 use sharp_verdicts::{Cited, Instances};
@@ -37,10 +37,10 @@ fn instance_of(code: u64) -> Cited
 fn merged(alloc: Global, codes: &[u64]) -> Result<Instances, NoMemory>
     requires falls { IsNonDecreasing codes.now }
     requires some { All (λ n. 4294967296 ≤ n) codes.now }
-    ensures rising { IfOk result AreRising }
-    ensures small { IfOk result AreSmall }
+    ensures rising { IfOk result AreRisingInstances }
+    ensures small { IfOk result HaveAxiomRoom }
     ensures has { IfOk result
-        (λ instances. (k : ℕ) → has (map code_of instances) k ≡ has codes.now k) }
+        (λ instances. (k : ℕ) → includes (map code_of instances) k ≡ includes codes.now k) }
     ensures few { IfOk result (λ instances. length instances ≤ length codes.now) }
 {
     let mut instances = Items::new(alloc);
@@ -58,10 +58,10 @@ fn merged(alloc: Global, codes: &[u64]) -> Result<Instances, NoMemory>
 /// The instances of some numbers, by axiom and number, each once.
 pub fn rising(alloc: Global, codes: &mut Vec<u64>) -> Result<Instances, NoMemory>
     requires some { All (λ n. 4294967296 ≤ n) codes.old.items }
-    ensures rising { IfOk result AreRising }
-    ensures small { IfOk result AreSmall }
+    ensures rising { IfOk result AreRisingInstances }
+    ensures small { IfOk result HaveAxiomRoom }
     ensures has { IfOk result
-        (λ instances. (k : ℕ) → has (map code_of instances) k ≡ has codes.old.items k) }
+        (λ instances. (k : ℕ) → includes (map code_of instances) k ≡ includes codes.old.items k) }
     ensures few { IfOk result (λ instances. length instances ≤ length codes.old.items) }
 {
     codes.sort_unstable();

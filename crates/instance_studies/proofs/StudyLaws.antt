@@ -1,5 +1,5 @@
 -- The study of some instances is a study within the limits.
-use Rattle.std.proofs.Common.{◌≡◌, refl, sym, ap, ◌∙◌, subst, ℕ, zero, suc, ◌+◌, ◌<◌, ◌≤◌, ◌||◌, Bool, true, false, not, List, [], ◌∷◌, ◌++◌, length, length-take, take, take_all, get_or, ap₂, arith, Option, Some, None}
+use Rattle.std.proofs.Common.{◌≡◌, refl, sym, ap, ◌∙◌, subst, ℕ, suc, ◌+◌, ◌<◌, ◌≤◌, ◌||◌, Bool, true, false, not, List, [], ◌∷◌, ◌++◌, length, length-take, take, take_all, get_or, ap₂, arith, Option, Some, None}
 use Rattle.std.specs.List.{list_all, list_any}
 use Rattle.std.specs.Prelude.{nat_lt, nat_eq, slice_get}
 use Rattle.std.specs.Cmp.Lexicographic.{pointwise}
@@ -7,8 +7,9 @@ use Rattle.std.specs.Option.{option_map_or}
 use Rattle.std.proofs.lemmas.Bool.{and_parts, and_from, false_from_ne_true, ltb-true}
 use Rattle.std.proofs.Math.Seq.{take-suc}
 use Rattle.std.proofs.lemmas.Slice.Eq.{bytes_eq-Decides}
+use Rattle.lists.proofs.TestLaws.{all_get}
 use Rattle.vocab.specs.Limits.{bases_of, instance_count, is_within_limits}
-use Rattle.vocab.specs.Study.{Question, IsStudy, is_sentence, have_own_names}
+use Rattle.vocab.specs.Study.{Question, IsStudy, is_sentence, axioms_have_own_names}
 use Rattle.vocab.specs.Titled.{Titled}
 use Rattle.meaning.specs.Instances.{instance_values}
 use Rattle.meaning.proofs.DigitLaws.{are_one_to_one}
@@ -17,12 +18,6 @@ use Rattle.sharp_verdicts.specs.declared.instances.Cited.{Cited}
 use Rattle.sharp_verdicts.specs.Instances.{count_at, is_present}
 use Rattle.sharp_verdicts.specs.Derived.{instance_name, closed_at, axiom_of, axioms_from, derived_study}
 use Rattle.instance_studies.proofs.NameLaws.{names_differ}
-
--- what holds of all items holds of the one at a place
-pub all_get : {A : Type 0} (t : A → Bool) (xs : List A) (k : ℕ) (a : A) → list_all t xs ≡ true → slice_get xs k ≡ Some a → t a ≡ true
-all_get t [] k a h e = absurd cc
-all_get t (x ∷ xs) zero a h e = let same : x ≡ a = cc in subst (λ y. t y ≡ true) same (and_parts (t x) (list_all t xs) h).0
-all_get t (x ∷ xs) (suc k) a h e = all_get t xs k a (and_parts (t x) (list_all t xs) h).1 e
 
 -- how many instances and which values an axiom has, and its closed body
 abbrev count_in : Question → Option Titled → ℕ
@@ -66,7 +61,7 @@ module _ (study : Question) where
       none : {a b : Bool} → a ≡ false → b ≡ false → (a || b) ≡ false
       none e f = λ i. e i || f i
 
-  pub have_names_from : (place : ℕ) (cs : List Cited) → have_own_names (axioms_from study place cs) ≡ true
+  pub have_names_from : (place : ℕ) (cs : List Cited) → axioms_have_own_names (axioms_from study place cs) ≡ true
   have_names_from place [] = refl
   have_names_from place (c ∷ cs) = and_from _ _ (ap not (name_is_new place (place + 1) cs (omega arith))) (have_names_from (place + 1) cs)
 

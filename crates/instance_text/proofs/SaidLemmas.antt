@@ -1,9 +1,10 @@
 -- An axiom of a study and its instances.
-use Rattle.std.proofs.Common.{◌≡◌, ◌∙◌, sym, ap, ℕ, ◌<◌, ◌≤◌, Bool, true, ◌&&◌, List, ◌++◌, map, Option, Some, slice_get, append_assoc, leb-true}
+use Rattle.std.proofs.Common.{◌≡◌, ap, ℕ, ◌<◌, ◌≤◌, true, ◌&&◌, map, Option, Some, slice_get, leb-true}
 use Rattle.std.specs.Prelude.{nat_le, nat_lt}
 use Rattle.std.specs.Cmp.Lexicographic.{pointwise}
 use Rattle.std.specs.Option.{option_map_or}
 use Rattle.std.proofs.lemmas.Bool.{and_parts}
+use Rattle.lists.proofs.TestLaws.{all_get}
 use Rattle.vocab.specs.Formula.{prefix_of, body_of}
 use Rattle.vocab.specs.Limits.{depth, bases_of, instance_count, atom_count, is_within_limits}
 use Rattle.vocab.specs.Size.{Extent, sort_count}
@@ -12,11 +13,6 @@ use Rattle.vocab.specs.Titled.{Titled}
 use Rattle.vocab.specs.Tree.{Tree}
 use Rattle.meaning.specs.Instances.{instance_values}
 use Rattle.meaning.proofs.DigitLaws.{are_one_to_one}
-use Rattle.story.proofs.PlaceLemmas.{all_at}
-
--- three texts, one after another
-pub joined : (o o1 o2 o3 a b c : List ℕ) → o1 ≡ o ++ a → o2 ≡ o1 ++ b → o3 ≡ o2 ++ c → o3 ≡ o ++ ((a ++ b) ++ c)
-joined o o1 o2 o3 a b c h1 h2 h3 = h3 ∙ ap (λ (l : List ℕ). l ++ c) (h2 ∙ ap (λ (l : List ℕ). l ++ b) h1 ∙ append_assoc o a b) ∙ append_assoc o (a ++ b) c
 
 -- the values of an instance are in range
 pub values_fit : (size : Extent) (sentence : Tree) (k : ℕ) → k < instance_count size sentence → pointwise nat_lt (instance_values size sentence k) (map (sort_count size) (prefix_of sentence)) ≡ true
@@ -24,11 +20,11 @@ values_fit size sentence k h = (are_one_to_one (bases_of size sentence)).digits 
 
 module _ (study : Question) (place : ℕ) (a : Titled) (at : slice_get study.axioms place ≡ Some a) where
   pub is_sentence_at : IsStudy study → is_sentence study.size a ≡ true
-  is_sentence_at is = all_at (is_sentence study.size) study.axioms place a is.sentences at
+  is_sentence_at is = all_get (is_sentence study.size) study.axioms place a is.sentences at
 
   module _ (is : IsStudy study) where
     within : is_within_limits study.size a.sentence ≡ true
-    within = all_at (λ (x : Titled). is_within_limits study.size x.sentence) study.axioms place a is.limits at
+    within = all_get (λ (x : Titled). is_within_limits study.size x.sentence) study.axioms place a is.limits at
 
     before_whole : (nat_le (depth a.sentence) 64 && nat_le (instance_count study.size a.sentence) 40000000 && nat_le (atom_count study.size (body_of a.sentence)) 1000000) ≡ true
     before_whole = (and_parts _ (nat_le (atom_count study.size a.sentence) 200000000) within).0

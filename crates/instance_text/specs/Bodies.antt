@@ -37,13 +37,13 @@ abbrev pub sort_at : List Sort → (level : ℕ) → Sort
 sort_at sorts level = unwrap_or (slice_get sorts level) Profile
 
 -- the sort of a term, but for a constant, which may be a value of several
-abbrev pub sort_of : List Sort → TermTree → Option Sort
-sort_of sorts (Var level) = Some (sort_at sorts level)
-sort_of sorts (Const c) = None
-sort_of sorts (With p i b) = Some Profile
-sort_of sorts (SwapVoters p i j) = Some Profile
-sort_of sorts (SwapAlts p x y) = Some Profile
-sort_of sorts (Swap x y z) = Some Alt
+abbrev pub known_sort : List Sort → TermTree → Option Sort
+known_sort sorts (Var level) = Some (sort_at sorts level)
+known_sort sorts (Const c) = None
+known_sort sorts (With p i b) = Some Profile
+known_sort sorts (SwapVoters p i j) = Some Profile
+known_sort sorts (SwapAlts p x y) = Some Profile
+known_sort sorts (Swap x y z) = Some Alt
 
 module _ (size : Extent) where
   -- the letters of a ballot or of a profile of the size
@@ -70,7 +70,7 @@ module _ (size : Extent) where
 
   -- the sort of the two terms of an equation
   abbrev pub common_sort : List Sort → TermTree → TermTree → Sort
-  common_sort sorts s t = unwrap_or (option_or (sort_of sorts s) (sort_of sorts t)) (constants_sort s t)
+  common_sort sorts s t = unwrap_or (option_or (known_sort sorts s) (known_sort sorts t)) (constants_sort s t)
 
   -- a variable of a sort at a level, with its value if it has one
   abbrev pub written : Sort → (level : ℕ) → Option ℕ → NamedTermTree

@@ -13,7 +13,7 @@ use Rattle.meaning.specs.Instances.{instance_values}
 use Rattle.meaning.specs.declared.stories.Reason.TheVariants.{Axiom as ByAxiom}
 use Rattle.verdicts.specs.Texts.{value_text}
 use Rattle.report_text.specs.Pieces.{reason_text}
-use Rattle.syntax.specs.Canonical.{text_of}
+use Rattle.syntax.specs.Canonical.{canonical_text}
 use Rattle.syntax.specs.Grammar.{word_of_sort}
 use Rattle.instance_text.specs.Bodies.{named_body, variable_name}
 
@@ -38,12 +38,12 @@ module _ (size : Extent) where
 
   -- the line of the body
   abbrev pub body_line : Titled → (values : List ℕ) → List ℕ
-  body_line a values = codes "body " ++ text_of (named_body size a.sentence values) ++ codes "\n"
+  body_line a values = codes "body " ++ canonical_text (named_body size a.sentence values) ++ codes "\n"
 
 module _ (study : Question) where
   -- an instance at these values: as a reason of a report cites it; its values; and its body
-  abbrev pub told : (place : ℕ) → Titled → (values : List ℕ) → List ℕ
-  told place a values =
+  abbrev pub told_instance : (place : ℕ) → Titled → (values : List ℕ) → List ℕ
+  told_instance place a values =
       reason_text study (ByAxiom place values) ++ codes "\n" ++ value_lines study.size 1 (prefix_of a.sentence) values ++ body_line study.size a values
 
   -- there are too few instances
@@ -51,21 +51,21 @@ module _ (study : Question) where
   few_line a = codes "instance: " ++ a.name ++ codes " has " ++ decimal (instance_count study.size a.sentence) ++ codes " instances, numbered from 0\n"
 
   -- the axiom has an instance of this number
-  abbrev pub has_instance : (number : ℕ) → Titled → Bool
-  has_instance number a = nat_lt number (instance_count study.size a.sentence)
+  abbrev pub has_numbered_instance : (number : ℕ) → Titled → Bool
+  has_numbered_instance number a = nat_lt number (instance_count study.size a.sentence)
 
   -- what is said of the instance of a number of the axiom at a place
-  abbrev pub said_of : (number place : ℕ) → Titled → List ℕ
-  said_of number place a = if has_instance number a then told place a (instance_values study.size a.sentence number) else few_line a
+  abbrev pub said_of_instance : (number place : ℕ) → Titled → List ℕ
+  said_of_instance number place a = if has_numbered_instance number a then told_instance place a (instance_values study.size a.sentence number) else few_line a
 
   -- the instance of a number of the axiom at a place is there, and what is said of it
   abbrev pub is_there_at : (number : ℕ) → Option ℕ → Bool
   is_there_at number None = false
-  is_there_at number (Some place) = option_map_or (has_instance number) (slice_get study.axioms place) false
+  is_there_at number (Some place) = option_map_or (has_numbered_instance number) (slice_get study.axioms place) false
 
   abbrev pub said_at : (name : List ℕ) → (number : ℕ) → Option ℕ → List ℕ
   said_at name number None = no_axiom_line name
-  said_at name number (Some place) = option_map_or (said_of number place) (slice_get study.axioms place) []
+  said_at name number (Some place) = option_map_or (said_of_instance number place) (slice_get study.axioms place) []
 
   -- the study has an axiom of the name with an instance of the number
   abbrev pub is_there : (name : List ℕ) → (number : ℕ) → Bool

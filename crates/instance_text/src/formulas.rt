@@ -2,9 +2,9 @@
 
 ghost use Rattle.std.specs.Prelude.{◌≡◌, ◌+◌, ◌∷◌, [], ◌++◌, codes, length, IfOk, OnOk};
 ghost use Rattle.vocab.specs.Tree.{atom_tree, term_tree, tree_of};
-ghost use Rattle.syntax.specs.Canonical.{term_text, text_of};
+ghost use Rattle.syntax.specs.Canonical.{term_text, canonical_text};
 ghost use Rattle.syntax.specs.Grammar.{word_of_sort};
-ghost use Rattle.instance_text.specs.Bodies.{atom, common_sort, constants_sort, formula, named_sentence, sort_of, term, variable_name};
+ghost use Rattle.instance_text.specs.Bodies.{atom, common_sort, constants_sort, formula, named_sentence, known_sort, term, variable_name};
 
 use crate::pieces::{put_variable, sort_at, sort_word};
 use crate::terms::{Around, Triple, put_prefers, put_term, put_three, put_wins};
@@ -15,8 +15,8 @@ use std::alloc::Global;
 use vocab::{Atom, Env, Formula, Sort, Term};
 
 /// The sort of a term, but for a constant.
-fn sort_of(sorts: &[Sort], given: &Term) -> Option<Sort>
-    ensures { result ≡ sort_of sorts.now (term_tree given.now) }
+fn known_sort(sorts: &[Sort], given: &Term) -> Option<Sort>
+    ensures { result ≡ known_sort sorts.now (term_tree given.now) }
 {
     match given {
         Term::Var(level) => Some(sort_at(sorts, *level)),
@@ -54,9 +54,9 @@ fn common_sort(around: &Around, left: &Term, right: &Term) -> Sort
     ensures { result ≡ common_sort around.now.space.now around.now.sorts.now (term_tree left.now)
         (term_tree right.now) }
 {
-    match sort_of(around.sorts, left) {
+    match known_sort(around.sorts, left) {
         Some(sort) => sort,
-        None => match sort_of(around.sorts, right) {
+        None => match known_sort(around.sorts, right) {
             Some(sort) => sort,
             None => constants_sort(around.space, left, right),
         },
@@ -86,7 +86,7 @@ fn put_equal(
 /// Adds an atom.
 fn put_atom(out: &mut Bytes, around: &Around, given: &Atom) -> Result<(), NoMemory>
     ensures { OnOk result (out.new ≡ out.old ++
-        text_of (atom around.now.space.now around.now.values.now around.now.sorts.now
+        canonical_text (atom around.now.space.now around.now.values.now around.now.sorts.now
         (atom_tree given.now))) }
 {
     match given {
@@ -149,7 +149,7 @@ pub(crate) fn put_formula(
     given: &Formula,
 ) -> Result<(), NoMemory>
     ensures { OnOk result (out.new ≡ out.old ++
-        text_of (formula around.now.space.now around.now.values.now around.now.sorts.now
+        canonical_text (formula around.now.space.now around.now.values.now around.now.sorts.now
         (tree_of given.now))) }
 {
     match given {
@@ -173,7 +173,7 @@ fn put_negation(
     inner: &Formula,
 ) -> Result<(), NoMemory>
     ensures { OnOk result (out.new ≡ out.old ++ (codes "!" ++
-        text_of (formula around.now.space.now around.now.values.now around.now.sorts.now
+        canonical_text (formula around.now.space.now around.now.values.now around.now.sorts.now
         (tree_of inner.now)))) }
 {
     out.append(b"!")?;
@@ -191,10 +191,10 @@ fn put_group(
     joint: &[u8],
     right: &Formula,
 ) -> Result<(), NoMemory>
-    ensures { OnOk result (out.new ≡ out.old ++ (codes "(" ++
-        text_of (formula around.now.space.now around.now.values.now around.now.sorts.now (tree_of left.now))
-        ++ joint.now ++
-        text_of (formula around.now.space.now around.now.values.now around.now.sorts.now (tree_of right.now))
+    ensures { OnOk result (out.new ≡ out.old ++ (codes "(" ++ canonical_text
+        (formula around.now.space.now around.now.values.now around.now.sorts.now (tree_of left.now))
+        ++ joint.now ++ canonical_text
+        (formula around.now.space.now around.now.values.now around.now.sorts.now (tree_of right.now))
         ++ codes ")")) }
 {
     out.append(b"(")?;
@@ -217,7 +217,7 @@ fn put_quantified(
 ) -> Result<(), NoMemory>
     ensures { OnOk result (out.new ≡ out.old ++ (quantifier.now
         ++ variable_name sort (length around.now.sorts.now + 1) ++ codes ": " ++ word_of_sort sort
-        ++ codes ". " ++ text_of (formula around.now.space.now around.now.values.now
+        ++ codes ". " ++ canonical_text (formula around.now.space.now around.now.values.now
         (around.now.sorts.now ++ sort ∷ []) (tree_of inner.now)))) }
 {
     put_binder(out, quantifier, around.sorts, sort)?;
@@ -238,7 +238,8 @@ pub fn put_sentence(
     space: &Space,
     given: &Formula,
 ) -> Result<(), NoMemory>
-    ensures { OnOk result (out.new ≡ out.old ++ text_of (named_sentence space.now (tree_of given.now))) }
+    ensures { OnOk result (out.new ≡
+        out.old ++ canonical_text (named_sentence space.now (tree_of given.now))) }
 {
     let values = Env::none();
     let sorts = Items::new(alloc);

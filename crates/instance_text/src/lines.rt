@@ -10,7 +10,7 @@ ghost use Rattle.verdicts.specs.Lines.{value_words};
 ghost use Rattle.verdicts.specs.Numbers.{number_text};
 ghost use Rattle.verdicts.specs.Texts.{value_text};
 ghost use Rattle.report_text.specs.Pieces.{reason_text, spaced};
-ghost use Rattle.instance_text.specs.Said.{body_line, told, value_line, value_lines};
+ghost use Rattle.instance_text.specs.Said.{body_line, told_instance, value_line, value_lines};
 
 use crate::formulas::put_formula;
 use crate::pieces::{put_number, put_variable, sort_word};
@@ -214,7 +214,7 @@ pub(crate) fn put_told(
     requires place { slice_get study.now.axioms place ≡ Some named.now }
     requires within { IsTrue (pointwise nat_lt values.now
         (map (sort_count study.now.size) (prefix_of named.now.sentence))) }
-    ensures { OnOk result (out.new ≡ out.old ++ told study.now place named.now values.now) }
+    ensures { OnOk result (out.new ≡ out.old ++ told_instance study.now place named.now values.now) }
 {
     put_reason(out, study, space, place, named, values)?;
     out.append(b"\n")?;

@@ -3,7 +3,7 @@
 ghost use Rattle.std.specs.Prelude.{◌≡◌, ◌<◌, length, slice_get, IfOk, Some};
 ghost use Rattle.vocab.specs.Limits.{instance_count};
 ghost use Rattle.meaning.specs.Instances.{instance_values};
-ghost use Rattle.instance_text.specs.Said.{axiom_place, few_line, has_instance, is_there, is_there_at, no_axiom_line, said, said_at, said_of, told};
+ghost use Rattle.instance_text.specs.Said.{axiom_place, few_line, has_numbered_instance, is_there, is_there_at, no_axiom_line, said, said_at, said_of_instance, told_instance};
 
 use crate::lines::put_told;
 use crate::pieces::put_number;
@@ -76,7 +76,7 @@ fn tell<K: OutcomeKind>(
     requires place { slice_get study.now.axioms place ≡ Some named.now }
     requires within { number < instance_count study.now.size named.now.sentence }
     ensures { IfOk result (λ text. text ≡
-        told study.now place named.now (instance_values study.now.size named.now.sentence number)) }
+        told_instance study.now place named.now (instance_values study.now.size named.now.sentence number)) }
 {
     let _axioms = study.axioms();
     numbers_are_digits();
@@ -99,8 +99,8 @@ fn say_of<K: OutcomeKind>(
     requires size { study.now.size ≡ K.size kind.now }
     requires place { slice_get study.now.axioms place ≡ Some named.now }
     requires count { count ≡ instance_count study.now.size named.now.sentence }
-    ensures there { IfOk result (λ s. s.there ≡ has_instance study.now number named.now) }
-    ensures text { IfOk result (λ s. s.text ≡ said_of study.now number place named.now) }
+    ensures there { IfOk result (λ s. s.there ≡ has_numbered_instance study.now number named.now) }
+    ensures text { IfOk result (λ s. s.text ≡ said_of_instance study.now number place named.now) }
 {
     if number < count {
         let text = tell(alloc, kind, study, place, named, number)?;

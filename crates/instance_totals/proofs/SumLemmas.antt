@@ -1,9 +1,9 @@
 -- Sums over the instances of an axiom, piece after piece.
-use Rattle.std.proofs.Common.{◌≡◌, refl, sym, ◌∙◌, ap, ap₂, ℕ, zero, suc, ◌+◌, ◌-◌, ◌*◌, ◌^◌, ◌<◌, ◌≤◌, Bool, true, false, ◌||◌, min, [], ◌∷◌, ◌++◌, length, arith, Option, Some, sum_by, lt-ltb}
+use Rattle.std.proofs.Common.{◌≡◌, sym, ◌∙◌, ap, ap₂, ℕ, zero, suc, ◌+◌, ◌-◌, ◌*◌, ◌^◌, ◌<◌, ◌≤◌, true, false, min, [], ◌∷◌, ◌++◌, length, arith, Option, Some, sum_by, lt-ltb}
 use Rattle.std.specs.Prelude.{nat_lt, slice_get}
 use Rattle.std.specs.Option.{option_map_or}
 use Rattle.std.proofs.Math.Nat.{suc-mul}
-use Rattle.std.proofs.lemmas.Bool.{and_from, ltb-false}
+use Rattle.std.proofs.lemmas.Bool.{and_from, ltb-false, or_parts}
 use Rattle.std.proofs.lemmas.List.Sums.{sum_by-cons, sum_by_push}
 use Rattle.vocab.specs.Limits.{instance_count}
 use Rattle.vocab.specs.Range.{up_from}
@@ -61,14 +61,10 @@ module _ (f : ℕ → ℕ) where
 
 -- ---- counts
 
-pub neither : (a b : Bool) → (a || b) ≡ false → (a ≡ false) × (b ≡ false)
-neither true b e = absurd cc
-neither false b e = (refl, e)
-
 -- what is not too wide
 pub narrow_counts : (counts : Counts) → is_wide counts ≡ false → (counts.clauses ≤ 100000) × (counts.literals ≤ 4000000)
 narrow_counts counts h =
-    let e = neither (nat_lt 100000 counts.clauses) (nat_lt 4000000 counts.literals) h in
+    let e = or_parts (nat_lt 100000 counts.clauses) (nat_lt 4000000 counts.literals) h in
     let few = ltb-false 100000 counts.clauses e.0 in
     let small = ltb-false 4000000 counts.literals e.1 in
     (omega (arith, few), omega (arith, small))

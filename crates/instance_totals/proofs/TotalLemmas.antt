@@ -3,13 +3,14 @@ use Rattle.std.proofs.Common.{◌≡◌, refl, sym, ◌∙◌, ap, ℕ, ◌+◌,
 use Rattle.std.specs.Prelude.{nat_lt, slice_get}
 use Rattle.std.specs.List.{flat_map}
 use Rattle.std.specs.Option.{option_map_or}
-use Rattle.std.proofs.lemmas.Bool.{and_parts, ltb-false}
+use Rattle.std.proofs.lemmas.Bool.{and_parts, ltb-false, or_parts}
 use Rattle.std.proofs.lemmas.List.Concat.{flat_map-append}
 use Rattle.std.proofs.lemmas.List.Sums.{sum_by-cons, sum_by-append}
 use Rattle.vocab.specs.Limits.{instance_count}
 use Rattle.vocab.specs.Range.{up_from}
 use Rattle.vocab.specs.Study.{Question}
 use Rattle.vocab.specs.Titled.{Titled}
+use Rattle.vocab.proofs.Ranges.{below_more}
 use Rattle.meaning.specs.declared.clauses.Counts.{Counts}
 use Rattle.meaning.specs.Measure.{measure_of}
 use Rattle.meaning.specs.Space.{below}
@@ -20,20 +21,19 @@ use Rattle.grounding.proofs.ChosenLemmas.{chosen-narrow}
 use Rattle.clause_form.specs.Refusals.{first_wide}
 use Rattle.clause_form.specs.Wide.{is_wide}
 use Rattle.search_logs.specs.Spent.{all_places}
-use Rattle.search_logs.proofs.PlaceLaws.{below_more}
 use Rattle.sharp_verdicts.specs.declared.instances.Cited.{Cited}
 use Rattle.sharp_verdicts.specs.Instances.{count_at}
-use Rattle.sharp_verdicts.specs.Totals.{counts_of_instance, is_over}
+use Rattle.sharp_verdicts.specs.Totals.{counts_of_instance, passes_clause_limits}
 use Rattle.instance_totals.specs.Bounds.{HasRoomFor}
 use Rattle.instance_totals.specs.Sums.{instance_at, counts_from, frame_counts, AreAllNarrow}
-use Rattle.instance_totals.proofs.SumLemmas.{counted, neither, sum_few}
+use Rattle.instance_totals.proofs.SumLemmas.{counted, sum_few}
 
 -- ---- limits
 
 -- what passes no limit
-pub within_limits : (counts : Counts) → is_over counts ≡ false → (counts.clauses ≤ 4000000) × (counts.literals ≤ 60000000)
+pub within_limits : (counts : Counts) → passes_clause_limits counts ≡ false → (counts.clauses ≤ 4000000) × (counts.literals ≤ 60000000)
 within_limits counts h =
-    let e = neither (nat_lt 4000000 counts.clauses) (nat_lt 60000000 counts.literals) h in
+    let e = or_parts (nat_lt 4000000 counts.clauses) (nat_lt 60000000 counts.literals) h in
     let few = ltb-false 4000000 counts.clauses e.0 in
     let small = ltb-false 60000000 counts.literals e.1 in
     (omega (arith, few), omega (arith, small))

@@ -1,11 +1,11 @@
 //! Whether the shapes of the axioms tell that all their instances are within the limits.
 
 ghost use Rattle.std.specs.Prelude.{◌≡◌, ◌<◌, length, IfSome, IsFalse, IsTrue};
-ghost use Rattle.sharp_verdicts.specs.Totals.{is_over, total};
+ghost use Rattle.sharp_verdicts.specs.Totals.{passes_clause_limits, total};
 ghost use Rattle.instance_totals.specs.Bounds.{HasRoomFor};
 ghost use Rattle.instance_totals.specs.Sums.{frame_counts};
 
-use crate::totals::is_over;
+use crate::totals::passes_clause_limits;
 use clause_form::most_counts;
 use meaning::Counts;
 use outcomes::OutcomeKind;
@@ -17,20 +17,20 @@ use worlds::instance_count;
 fn with_axiom<K: OutcomeKind>(kind: &K, study: &Study, place: u32, before: Counts) -> Option<Counts>
     requires size { study.now.size ≡ K.size kind.now }
     requires there { place < length study.now.axioms }
-    requires before { IsFalse (is_over before) }
+    requires before { IsFalse (passes_clause_limits before) }
     ensures { IfSome result (HasRoomFor study.now place before) }
 {
     let sentence = study.axioms().get(place as usize).sentence();
     let count = instance_count(kind.space(), sentence);
     let most = most_counts(kind.space(), sentence.body());
-    if is_over(most) {
+    if passes_clause_limits(most) {
         return None;
     }
     let after = Counts {
         clauses: before.clauses + count * most.clauses,
         literals: before.literals + count * most.literals,
     };
-    if is_over(after) {
+    if passes_clause_limits(after) {
         return None;
     }
     Some(after)
@@ -41,8 +41,8 @@ fn with_axiom<K: OutcomeKind>(kind: &K, study: &Study, place: u32, before: Count
 pub(crate) fn are_bounded<K: OutcomeKind>(kind: &K, study: &Study, frames: Counts) -> bool
     requires size { study.now.size ≡ K.size kind.now }
     requires frames { frames ≡ frame_counts study.now }
-    requires few { IsFalse (is_over frames) }
-    ensures { IsTrue result → IsFalse (is_over (total study.now)) }
+    requires few { IsFalse (passes_clause_limits frames) }
+    ensures { IsTrue result → IsFalse (passes_clause_limits (total study.now)) }
 {
     let count = study.axioms().len() as u32;
     let mut most = frames;

@@ -1,7 +1,7 @@
 //! The counts of the frames of a study.
 
 ghost use Rattle.std.specs.Prelude.{◌≡◌, IfOk, IsFalse, length, sum_by};
-ghost use Rattle.sharp_verdicts.specs.Totals.{is_over};
+ghost use Rattle.sharp_verdicts.specs.Totals.{passes_clause_limits};
 ghost use Rattle.instance_totals.specs.Sums.{frame_counts};
 
 use clause_form::GroundFault;
@@ -36,7 +36,7 @@ pub(crate) fn counts_of_frames<R: Threads + Sync, K: OutcomeKind, G: Gate>(
 ) -> Result<Counts, NoMemory>
     requires { study.now.size ≡ K.size kind.now }
     ensures counts { IfOk result (λ counts. counts ≡ frame_counts study.now) }
-    ensures few { IfOk result (λ counts. IsFalse (is_over counts)) }
+    ensures few { IfOk result (λ counts. IsFalse (passes_clause_limits counts)) }
 {
     let none = Places::new(alloc);
     match ground(alloc, crew, kind, study, &none) {

@@ -4,7 +4,7 @@ ghost use Rattle.std.specs.Prelude.{◌≡◌, None, IfErr, IfOk, IsFalse, OnOk}
 ghost use Rattle.vocab.specs.Study.{HasFewAxioms};
 ghost use Rattle.clause_form.specs.Refusals.{first_wide};
 ghost use Rattle.search_logs.specs.Spent.{all_places};
-ghost use Rattle.sharp_verdicts.specs.Totals.{IsWithinTotal, is_over, total};
+ghost use Rattle.sharp_verdicts.specs.Totals.{IsWithinTotal, passes_clause_limits, total};
 ghost use Rattle.instance_totals.specs.Sums.{AreAllNarrow, frame_counts};
 ghost use Rattle.instance_totals.specs.Totals.{IsTotalFault};
 
@@ -37,8 +37,8 @@ pub enum TotalFault {
 }
 
 /// Whether counts pass a limit of a list of clauses.
-pub(crate) fn is_over(counts: Counts) -> bool
-    ensures { result ≡ is_over counts }
+pub(crate) fn passes_clause_limits(counts: Counts) -> bool
+    ensures { result ≡ passes_clause_limits counts }
 {
     counts.clauses > MOST_CLAUSES || counts.literals > MOST_LITERALS
 }
@@ -55,7 +55,7 @@ pub(crate) fn with_instances<R: Threads + Sync, K: OutcomeKind, G: Gate>(
     requires listed { HasFewAxioms study.now }
     requires narrow { AreAllNarrow study.now }
     requires frames { frames ≡ frame_counts study.now }
-    requires few { IsFalse (is_over frames) }
+    requires few { IsFalse (passes_clause_limits frames) }
     ensures { IfOk result (λ counts. counts ≡ total study.now) }
 {
     let count = study.axioms().len() as u32;
@@ -95,7 +95,7 @@ pub fn check_total<R: Threads + Sync, K: OutcomeKind, G: Gate>(
     let Ok(counts) = with_instances(alloc, crew, kind, study, frames) else {
         return Err(TotalFault::NoMemory);
     };
-    if is_over(counts) {
+    if passes_clause_limits(counts) {
         return Err(TotalFault::Over(counts));
     }
     Ok(())

@@ -6,7 +6,7 @@ use Rattle.tellings.specs.declared.tellings.Sentence.{Sentence}
 use Rattle.tellings.specs.Tellings.{is_by}
 
 -- a sentence names this reason and rests on these facts
-pub record IsSentence (by : By) (rests : List Literal) (sentence : Sentence) : Type 0 where
+pub record IsSentenceBy (by : By) (rests : List Literal) (sentence : Sentence) : Type 0 where
   pub named : IsTrue (is_by sentence.by by)
   pub same : sentence.rests ≡ rests
 
@@ -14,7 +14,7 @@ pub record IsSentence (by : By) (rests : List Literal) (sentence : Sentence) : T
 -- and rests on these facts
 pub record IsJoined (old new : List Sentence) (by : By) (rests : List Literal) (number : ℕ) : Type 0 where
   pub within : number < length new
-  pub is : IsSomeAnd (slice_get new number) (IsSentence by rests)
+  pub is : IsSomeAnd (slice_get new number) (IsSentenceBy by rests)
   pub grown : length old ≤ length new
   pub kept : (i : ℕ) → i < length old → slice_get new i ≡ slice_get old i
   pub fresh : (i : ℕ) → length old ≤ i → i < length new → (i ≡ number) × (number ≡ length old)

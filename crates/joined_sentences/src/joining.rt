@@ -2,7 +2,7 @@
 
 ghost use Rattle.std.specs.Prelude.{◌≡◌, ◌<◌, ◌≤◌, length, slice_get, IsTrue, IfOk, IfSome, IsSomeAnd};
 ghost use Rattle.tellings.specs.Tellings.{by_of, is_by};
-ghost use Rattle.joined_sentences.specs.Joined.{IsJoined, IsSentence};
+ghost use Rattle.joined_sentences.specs.Joined.{IsJoined, IsSentenceBy};
 
 use crate::chains::Chains;
 use crate::literals::is_same;
@@ -52,7 +52,7 @@ fn are_same(left: &[Literal], right: &[Literal]) -> bool
 
 /// Whether a sentence names this reason and rests on these facts.
 fn is_sentence(sentence: &Sentence, by: By, rests: &[Literal]) -> bool
-    ensures { IsTrue result → IsSentence by rests.now sentence.now }
+    ensures { IsTrue result → IsSentenceBy by rests.now sentence.now }
 {
     is_by(sentence.by, by) && are_same(sentence.rests.as_slice(), rests)
 }
@@ -69,7 +69,7 @@ fn key_of(rests: &[Literal]) -> usize {
 /// Whether the sentence of a number, if there is one, names this reason and rests on these facts.
 fn is_at(sentences: &[Sentence], place: usize, by: By, rests: &[Literal]) -> bool
     ensures within { IsTrue result → place < length sentences.now }
-    ensures there { IsTrue result → IsSomeAnd (slice_get sentences.now place) (IsSentence by rests.now) }
+    ensures there { IsTrue result → IsSomeAnd (slice_get sentences.now place) (IsSentenceBy by rests.now) }
 {
     place < sentences.len() && is_sentence(&sentences[place], by, rests)
 }
@@ -77,7 +77,7 @@ fn is_at(sentences: &[Sentence], place: usize, by: By, rests: &[Literal]) -> boo
 /// The place of a sentence that names this reason and rests on these facts, if there is one.
 fn place_of(sentences: &[Sentence], chains: &Chains, by: By, rests: &[Literal]) -> Option<usize>
     ensures within { IfSome result (λ k. k < length sentences.now) }
-    ensures there { IfSome result (λ k. IsSomeAnd (slice_get sentences.now k) (IsSentence by rests.now)) }
+    ensures there { IfSome result (λ k. IsSomeAnd (slice_get sentences.now k) (IsSentenceBy by rests.now)) }
 {
     let mut next = chains.newest(key_of(rests));
     for _ in 0..sentences.len() {

@@ -14,10 +14,6 @@ periods_more a p x some =
     let split : a * p + x ≡ (a + x / p) * p + x % p = (let both : (a + x / p) * p ≡ a * p + x / p * p = add-mul a (x / p) p in omega (arith, parts, both)) in
     ap (λ n. n % p) split ∙ mod-mul-add (a + x / p) p (x % p) (mod_below x p some)
 
-positive_of : (t p n : ℕ) → n < t * p → 0 < p
-positive_of t zero n h = absurd (let z : t * 0 ≡ 0 = omega arith in let w : ⊥ = omega (arith, h, z) in w)
-positive_of t (suc p) n h = omega arith
-
 -- what is over a multiple of the period leaves the same over the period
 within_multiple : (t p n : ℕ) → 0 < p → n % (t * p) % p ≡ n % p
 within_multiple t p n some =
@@ -47,7 +43,7 @@ same_digits (suc skip) (b ∷ bs) n m h l e (suc i) s =
     let p = product (drop skip bs) in
     let whole = product_drop skip bs in
     let positive = positive_right b q n h in
-    let some : 0 < p = positive_of (product (take skip bs)) p 0 (subst (λ x. 0 < x) whole positive) in
+    let some : 0 < p = positive_right (product (take skip bs)) p 0 (subst (λ x. 0 < x) whole positive) in
     let over : (x : ℕ) → x % q % p ≡ x % p = λ x. ap (λ y. x % y % p) whole ∙ within_multiple (product (take skip bs)) p x some in
     same_digits skip bs (n % q) (m % q) (mod_below n q positive) (mod_below m q positive) (over n ∙ e ∙ sym (over m)) i (omega (arith, s))
 

@@ -9,7 +9,7 @@ use Rattle.vocab.specs.Size.{Extent}
 use Rattle.vocab.specs.Tree.{Tree}
 use Rattle.meaning.specs.Space.{digits_of}
 use Rattle.meaning.specs.Written.{write_out}
-use Rattle.profiles.proofs.DigitPlaces.{length-digits_of}
+use Rattle.meaning.proofs.DigitLaws.{length-digits_of}
 use Rattle.lanes.specs.Covers.{is_kept, is_lane, is_no_lane}
 use Rattle.lanes.specs.Lanes.{AreEntries, AreSameAt, IsEntry, IsTable, lane_values}
 use Rattle.lanes.specs.Marks.{IsTold}

@@ -1,5 +1,5 @@
 -- Literals of clauses, and their signs.
-use Rattle.std.proofs.Common.{◌≡◌, refl, sym, ap, ap₂, ℕ, ◌≤◌, Bool, true, false, not, ◌&&◌, ◌||◌, cond, inl, inr, List, [], ◌∷◌, map, Some, true≢false, leb-true}
+use Rattle.std.proofs.Common.{◌≡◌, refl, sym, ap, ap₂, ℕ, ◌≤◌, Bool, true, false, not, ◌&&◌, ◌||◌, cond, inl, inr, List, [], ◌∷◌, map, true≢false, leb-true}
 use Rattle.std.specs.Prelude.{◌==◌, nat_le}
 use Rattle.std.specs.Bool.{beq}
 use Rattle.std.specs.List.{list_any}
@@ -9,9 +9,6 @@ use Rattle.cnf.specs.Sat.{Clause, opposite_lit, has_lit, is_true_under}
 use Rattle.cnf.specs.Derived.{Effect, Satisfied, effect_of, effect_of_left, unassigned}
 use Rattle.cnf.specs.Fresh.{is_over}
 use Rattle.cnf.proofs.LitLaws.{same_lit-refl, member_passes}
-
-pub some_same : {X : Type 0} (a b : X) → Some a ≡ Some b → a ≡ b
-some_same a b h = cc
 
 -- ---- signs
 

@@ -7,10 +7,10 @@ use Rattle.cnf.specs.declared.derivations.Step.TheVariants.{Add, Drop}
 use Rattle.lrat_check.specs.Ranges.{has_next}
 use Rattle.cnf.specs.Sat.{Clause}
 use Rattle.cnf.specs.declared.derivations.Line.{Line}
-use Rattle.cnf.specs.Derived.{Standing, without, IsAccepted}
+use Rattle.cnf.specs.Derived.{StandingClauses, without, IsAccepted}
 use Rattle.cnf.specs.Fresh.{added_by}
 use Rattle.lrat_check.specs.Laws.{is_each_added}
-use Rattle.lrat_check.specs.Trim.{Kept, cites_id, hints_of, keep_step, kept_lines, renumbered, trimmed}
+use Rattle.lrat_check.specs.Trim.{Kept, cites_id, trimmed_hints, keep_step, kept_lines, renumbered, trimmed}
 use Rattle.lrat_check.specs.Collected.{collected, keep_all, is_ended, kepts, AreMatched, flagged}
 use Rattle.lrat_check.proofs.KeptLines.{no_new_clause}
 use Rattle.lrat_check.proofs.CollectLaws.{kept-collected, accepted_ends, matched_kepts}
@@ -50,7 +50,7 @@ trimmed_added clauses lines test h = same_added test [] (length clauses + 1) 1 (
 
 -- ---- the numbers of the lines
 
-kept_length : (lines : List Line) (rows : Standing) → length (kept_lines lines rows) ≤ length lines
+kept_length : (lines : List Line) (rows : StandingClauses) → length (kept_lines lines rows) ≤ length lines
 kept_length [] rows = omega arith
 kept_length (line ∷ lines) rows = step line.step (kept_length lines)
   where
@@ -58,12 +58,12 @@ kept_length (line ∷ lines) rows = step line.step (kept_length lines)
     kept_if true k later le = omega (arith, le)
     kept_if false k later le = omega (arith, le)
 
-    step : (s : Step) → ((rows : Standing) → length (kept_lines lines rows) ≤ length lines) → length (keep_step s rows (kept_lines lines)) ≤ suc (length lines)
+    step : (s : Step) → ((rows : StandingClauses) → length (kept_lines lines rows) ≤ length lines) → length (keep_step s rows (kept_lines lines)) ≤ suc (length lines)
     step (Drop ids) ih = let le : length (kept_lines lines (without ids rows)) ≤ length lines = ih (without ids rows) in omega (arith, le)
     step (Add id [] hints) ih = omega arith
     step (Add id (l ∷ ls) hints) ih =
         let later = kept_lines lines ((id, l ∷ ls) ∷ rows) in
-        kept_if (list_any (cites_id id) later) (record { id = id; clause = l ∷ ls; hints = hints_of rows (l ∷ ls) hints }) later (ih ((id, l ∷ ls) ∷ rows))
+        kept_if (list_any (cites_id id) later) (record { id = id; clause = l ∷ ls; hints = trimmed_hints rows (l ∷ ls) hints }) later (ih ((id, l ∷ ls) ∷ rows))
 
 renumbered_length : (pairs : List (ℕ × ℕ)) (next at : ℕ) (ks : List Kept) → length (renumbered pairs next at ks) ≡ length ks
 renumbered_length pairs next at [] = refl

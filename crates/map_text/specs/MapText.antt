@@ -12,9 +12,9 @@ use Rattle.core_maps.specs.declared.answers.Ending.{Ending}
 use Rattle.core_maps.specs.declared.answers.Ending.TheVariants.{Whole, Cut}
 
 -- whether the map may lack sets
-abbrev pub ending_text : Ending → List ℕ
-ending_text Whole = []
-ending_text Cut = codes "more\n"
+abbrev pub map_ending_text : Ending → List ℕ
+map_ending_text Whole = []
+map_ending_text Cut = codes "more\n"
 
 module _ (study : Question) where
   -- the names of the axioms at some places, each with a blank before it
@@ -30,12 +30,12 @@ module _ (study : Question) where
   sets_text word sets = flat_map (set_text word) sets
 
   -- each place is the place of an axiom
-  abbrev pub is_named : List ℕ → Bool
-  is_named set = list_all (λ k. nat_lt k (length study.axioms)) set
+  abbrev pub are_axiom_places : List ℕ → Bool
+  are_axiom_places set = list_all (λ k. nat_lt k (length study.axioms)) set
 
   -- so it is in each set
   abbrev pub are_named : List (List ℕ) → Type 0
-  are_named sets = IsTrue (list_all is_named sets)
+  are_named sets = IsTrue (list_all are_axiom_places sets)
 
   -- and in each set of a map
   pub record HasNames (sets : AxiomMap) : Type 0 where
@@ -50,4 +50,4 @@ map_text study map =
     (codes "bench cores 1\n" ++ lines_text study (about_lines study (own_version study)))
     ++ (sets_text study (codes "impossible") map.sets.impossible
     ++ (sets_text study (codes "possible") map.sets.possible
-    ++ (sets_text study (codes "open") map.sets.open ++ (ending_text map.ending ++ codes "end\n"))))
+    ++ (sets_text study (codes "open") map.sets.open ++ (map_ending_text map.ending ++ codes "end\n"))))

@@ -2,7 +2,7 @@
 
 ghost use Rattle.std.specs.Prelude.{◌≡◌};
 ghost use Rattle.texts.specs.Page.{Pours};
-ghost use Rattle.map_text.specs.MapText.{HasNames, are_named, ending_text, map_text, sets_text};
+ghost use Rattle.map_text.specs.MapText.{HasNames, are_named, map_ending_text, map_text, sets_text};
 
 use core_maps::{CoreMap, Ending};
 use edge::{Failed, Sink};
@@ -38,7 +38,7 @@ impl Text for SetLines<'_> {
 
 /// What stands at the end of a map, before its last line.
 fn ending_word(ending: Ending) -> &'static [u8]
-    ensures { result.now ≡ ending_text ending }
+    ensures { result.now ≡ map_ending_text ending }
 {
     match ending {
         Ending::Whole => b"",

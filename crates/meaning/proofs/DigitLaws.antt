@@ -1,5 +1,5 @@
 -- Numbers and their digits are one to one.
-use Rattle.std.proofs.Common.{◌≡◌, ◌≢◌, Bool, true, false, not, ◌&&◌, cond, eqb-true, eq-eqb, eq-or-lt_of_le, refl, sym, ◌∙◌, ap, ap₂, subst, ℕ, zero, suc, ◌+◌, ◌*◌, ◌/◌, ◌%◌, ◌^◌, ◌<◌, ◌≤◌, List, [], ◌∷◌, replicate, arith, ltb-true, lt-ltb, true≢false, mul-le-mul_right, pow-suc, mul_comm, suc-mul, eq-zero-or-pos, mul-zero, inl, inr}
+use Rattle.std.proofs.Common.{◌≡◌, ◌≢◌, Bool, true, false, not, ◌&&◌, cond, eqb-true, eq-eqb, eq-or-lt_of_le, refl, sym, ◌∙◌, ap, ap₂, subst, ℕ, zero, suc, ◌+◌, ◌*◌, ◌/◌, ◌%◌, ◌^◌, ◌<◌, ◌≤◌, List, [], ◌∷◌, replicate, arith, ltb-true, lt-ltb, true≢false, mul-le-mul_right, pow-suc, mul_comm, suc-mul, eq-zero-or-pos, mul-zero, inl, inr, length}
 use Rattle.std.specs.Prelude.{nat_lt, ◌==◌}
 use Rattle.std.specs.List.{list_all}
 use Rattle.std.specs.Cmp.Lexicographic.{pointwise}
@@ -15,6 +15,11 @@ use Rattle.vocab.specs.Limits.{product}
 -- a product that is above some number has no factor 0
 pub positive_right : (b p k : ℕ) → k < b * p → 0 < p
 positive_right b p k h = elim (eq-zero-or-pos p) [ inl e ↦ absurd (omega (arith, mul-zero b, subst (λ (x : ℕ). k < b * x) e h)) | inr e ↦ e ]
+
+-- there is a digit for each base
+pub length-digits_of : (bases : List ℕ) (k : ℕ) → length (digits_of bases k) ≡ length bases
+length-digits_of [] k = refl
+length-digits_of (b ∷ bases) k = ap suc (length-digits_of bases (k % product bases))
 
 digits_in : (bases : List ℕ) (k : ℕ) → k < product bases → AreDigits bases (digits_of bases k)
 digits_in [] k h = refl

@@ -1,5 +1,5 @@
 -- A sentence is true of a rule exactly where the body of each instance is.
-use Rattle.std.proofs.Common.{◌≡◌, refl, sym, ◌∙◌, ap, ap₂, subst, ℕ, suc, ◌+◌, ◌*◌, ◌/◌, ◌%◌, ◌<◌, ◌≤◌, Bool, true, false, List, [], ◌∷◌, ◌++◌, arith, append_assoc, append-nil, mul-le-mul_right, suc-mul, eq-zero-or-pos, mul-zero, inl, inr}
+use Rattle.std.proofs.Common.{◌≡◌, refl, sym, ◌∙◌, ap, ap₂, subst, ℕ, suc, ◌+◌, ◌*◌, ◌/◌, ◌%◌, ◌<◌, ◌≤◌, Bool, true, false, List, [], ◌∷◌, ◌++◌, arith, append_assoc, append-nil, mul-le-mul_right, suc-mul}
 use Rattle.std.specs.List.{list_all}
 use Rattle.std.proofs.lemmas.Nat.{div-mul-add, mod-mul-add, div_below, mod_below}
 use Rattle.vocab.specs.Formula.{body_of}
@@ -14,15 +14,13 @@ use Rattle.meaning.proofs.TestLaws.{list_all-ext}
 use Rattle.meaning.proofs.WrittenLaws.{truth_written}
 use Rattle.vocab.specs.Tree.{Tree, All}
 use Rattle.vocab.specs.Limits.{product, bases_of, instance_count}
+use Rattle.meaning.proofs.DigitLaws.{positive_right}
 
 -- two tests are the same, where each follows from the other
 pub same_tests : (a b : Bool) → (a ≡ true → b ≡ true) → (b ≡ true → a ≡ true) → a ≡ b
 same_tests true b f g = sym (f refl)
 same_tests false true f g = g refl
 same_tests false false f g = refl
-
-positive_of : (n p k : ℕ) → k < n * p → 0 < p
-positive_of n p k h = elim (eq-zero-or-pos p) [ inl e ↦ absurd (omega (arith, mul-zero n, subst (λ (x : ℕ). k < n * x) e h)) | inr e ↦ e ]
 
 pair_below : (n p v j : ℕ) → v < n → j < p → v * p + j < n * p
 pair_below n p v j in_v in_j = let le : suc v ≤ n = in_v in omega (arith, mul-le-mul_right p le, suc-mul v p)
@@ -35,7 +33,7 @@ module _ (size : Extent) (table : List ℕ) where
       let n = sort_count size s in
       let p = product (bases_of size f) in
       let lt : k < n * p = omega arith in
-      let positive = positive_of n p k lt in
+      let positive = positive_right n p k lt in
       let v = k / p in
       let in_v : v < 0 + n = omega (arith, div_below k p n positive lt) in
       let in_j : k % p < 0 + p = omega (arith, mod_below k p positive) in

@@ -4,13 +4,14 @@ use Rattle.std.proofs.lemmas.Bool.{and_from, and_left, and_parts, both_ways, fal
 use Rattle.std.proofs.lemmas.List.Folds.{list_all-map, list_any-append}
 use Rattle.std.specs.List.{flat_map, list_all, list_any, position_or_len}
 use Rattle.std.specs.Prelude.{◌==◌, nat_lt}
+use Rattle.lists.proofs.TestLaws.{all_read}
 use Rattle.meaning.specs.Space.{below, up_from}
 use Rattle.meaning.specs.Variables.{above_in, pair_place, pairs, triples}
 use Rattle.meaning.proofs.InstanceLaws.{same_tests}
 use Rattle.meaning.proofs.LiteralLaws.{unequal}
 use Rattle.meaning.proofs.RankingLaws.{first_place}
 use Rattle.meaning.proofs.SpaceLaws.{all_at, all_from}
-use Rattle.meaning.proofs.TestLaws.{all_read, list_all-flat_map, none_passes}
+use Rattle.meaning.proofs.TestLaws.{list_all-flat_map, none_passes}
 
 -- ---- what passes at each pair and each triple
 

@@ -1,11 +1,12 @@
 -- The assignments that satisfy the clauses of a study are the bits of the rules that satisfy its axioms.
-use Rattle.std.proofs.Common.{◌&&◌, ◌+◌, ◌<◌, Bool, List, ap, ap₂, arith, eq-eqb, false, length, lt-ltb, ltb-true, not, refl, subst, suc, sym, true, zero, ℕ, ◌↔◌, ◌∙◌, ◌∷◌, ◌≡◌, ◌≤◌, ◌||◌, []}
+use Rattle.std.proofs.Common.{◌&&◌, ◌+◌, ◌<◌, Bool, List, ap, ap₂, arith, eq-eqb, false, length, lt-ltb, ltb-true, not, refl, subst, suc, sym, true, zero, ℕ, ◌↔◌, ◌∙◌, ◌∷◌, ◌≡◌, ◌≤◌, ◌||◌, [], Some}
 use Rattle.std.proofs.lemmas.Bool.{and_from, and_parts}
 use Rattle.std.proofs.lemmas.List.Folds.{list_all-map}
 use Rattle.std.proofs.lemmas.List.Recursion.{and_from_places}
 use Rattle.std.specs.Bool.{beq}
 use Rattle.std.specs.List.{list_all, list_any}
 use Rattle.std.specs.Prelude.{◌==◌, IsTrue, nat_le, nat_lt, slice_get, slice_index}
+use Rattle.lists.proofs.TestLaws.{all_get}
 use Rattle.vocab.specs.Formula.{quantifier_depth}
 use Rattle.vocab.specs.Limits.{instance_count}
 use Rattle.vocab.specs.Literal.{profile_of}
@@ -179,3 +180,7 @@ are_satisfiable size axioms h chosen in_range = (
   λ a. let r = (are_rules size axioms h chosen in_range a.0).0 a.1 in (r.0, r.1),
   λ r. (bits_of size r.0, (are_rules size axioms h chosen in_range (bits_of size r.0)).1 (r.0, r.1, λ i low high. refl)),
 )
+
+-- what a rule has at a profile is an outcome
+pub rule_outcome : (size : Extent) (table : List ℕ) (p o : ℕ) → is_rule size table ≡ true → slice_get table p ≡ Some o → o < outcome_count size.kind size.alternatives
+rule_outcome size table p o rule at = ltb-true o _ (all_get (λ q. nat_lt q (outcome_count size.kind size.alternatives)) table p o (and_parts _ (list_all (λ q. nat_lt q (outcome_count size.kind size.alternatives)) table) rule).1 at)

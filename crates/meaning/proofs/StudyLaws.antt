@@ -29,7 +29,7 @@ use Rattle.meaning.specs.Variables.{lit_of}
 use Rattle.meaning.specs.Written.{And, Fact, Iff, Known, Neg, Or, Written, evaluate}
 use Rattle.meaning.proofs.ClauseLaws.{clauses_true}
 use Rattle.meaning.proofs.SentenceLaws.{IfSorted, sorted_at, instance_literals}
-use Rattle.meaning.proofs.TestLaws.{all-agree, list_all-ext, list_all-flat_map, list_any-map}
+use Rattle.meaning.proofs.TestLaws.{all-agree, list_all-ext, list_all-flat_map, list_any-map, or_swap}
 use Rattle.meaning.proofs.VariableLaws.{lit_of-opposite}
 
 -- what holds of each literal of a formula may be weakened
@@ -40,11 +40,6 @@ AllFacts-map P Q (Neg a) f h = AllFacts-map P Q a f h
 AllFacts-map P Q (And a b) f h = (AllFacts-map P Q a f h.0, AllFacts-map P Q b f h.1)
 AllFacts-map P Q (Or a b) f h = (AllFacts-map P Q a f h.0, AllFacts-map P Q b f h.1)
 AllFacts-map P Q (Iff a b) f h = (AllFacts-map P Q a f h.0, AllFacts-map P Q b f h.1)
-
-or_swap : (a b c : Bool) → (a || (b || c)) ≡ (b || (a || c))
-or_swap true true c = refl
-or_swap true false c = refl
-or_swap false b c = refl
 
 or_twice : (a b c : Bool) → a ≡ b → (b || c) ≡ (a || (b || c))
 or_twice true b c e = ap (λ x. x || c) (sym e)

@@ -1,5 +1,5 @@
 -- Tests, and tests of each item of a list.
-use Rattle.std.proofs.Common.{◌&&◌, ◌+◌, ◌++◌, ◌<◌, Bool, List, ap, ap₂, arith, false, get_or, length, map, not, refl, suc, true, zero, ℕ, ◌∙◌, ◌∷◌, ◌≡◌, ◌||◌, []}
+use Rattle.std.proofs.Common.{◌&&◌, ◌+◌, ◌++◌, ◌<◌, Bool, List, ap, ap₂, arith, false, map, not, refl, suc, true, zero, ℕ, ◌∙◌, ◌∷◌, ◌≡◌, ◌||◌, [], sym, true≢false}
 use Rattle.std.proofs.lemmas.Bool.{and_from, and_parts, or_parts}
 use Rattle.std.proofs.lemmas.List.Folds.{list_all-append}
 use Rattle.std.specs.List.{AllByRecursion, flat_map, list_all, list_any}
@@ -12,6 +12,15 @@ and-true false = refl
 pub or-false : (b : Bool) → (b || false) ≡ b
 or-false true = refl
 or-false false = refl
+
+pub or_swap : (a b c : Bool) → (a || (b || c)) ≡ (b || (a || c))
+or_swap true true c = refl
+or_swap true false c = refl
+or_swap false b c = refl
+
+pub rest_false : (a b : Bool) → a ≡ true → (a && b) ≡ false → b ≡ false
+rest_false true b e h = h
+rest_false false b e h = absurd (true≢false (sym e))
 
 -- ---- tests of each item of a list
 
@@ -39,12 +48,6 @@ list_all-both t (x ∷ xs) ys h k = let e = and_parts (t x) (list_all t xs) h in
 pub none_passes : {X : Type 0} (t : X → Bool) (xs : List X) → list_any t xs ≡ false → list_all (λ x. not (t x)) xs ≡ true
 none_passes t [] h = refl
 none_passes t (x ∷ xs) h = let e = or_parts (t x) (list_any t xs) h in and_from _ _ (ap not e.0) (none_passes t xs e.1)
-
--- a test that each item passes is passed at each place
-pub all_read : {X : Type 0} (t : X → Bool) (xs : List X) (k : ℕ) (d : X) → k < length xs → list_all t xs ≡ true → t (get_or xs k d) ≡ true
-all_read t [] k d l h = absurd (omega arith)
-all_read t (x ∷ xs) zero d l h = (and_parts (t x) (list_all t xs) h).0
-all_read t (x ∷ xs) (suc k) d l h = all_read t xs k d (omega (arith, l)) (and_parts (t x) (list_all t xs) h).1
 
 -- ---- tests of each number from a on
 

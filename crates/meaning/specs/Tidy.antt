@@ -12,7 +12,7 @@ use Rattle.meaning.specs.declared.stories.Reason.TheVariants.{Axiom as ByAxiom, 
 use Rattle.meaning.specs.declared.stories.StoryStep.{StoryStep}
 use Rattle.meaning.specs.declared.stories.Lemma.{Lemma}
 use Rattle.meaning.specs.Space.{number_of}
-use Rattle.meaning.specs.Stories.{claim_of}
+use Rattle.meaning.specs.Stories.{lemma_claim}
 use Rattle.meaning.specs.declared.clauses.Origin.{Origin}
 use Rattle.meaning.specs.declared.clauses.Origin.TheVariants.{Frame, Instance}
 use Rattle.meaning.specs.StudyClauses.{study_clauses}
@@ -27,13 +27,13 @@ is_lemma_cited j (ByOutcome p) = false
 is_lemma_cited j (ByLemma i) = i == j
 
 -- a reason of a lemma is lemma j
-abbrev pub cites : ℕ → Lemma → Bool
-cites j lemma = list_any (λ step. is_lemma_cited j step.reason) lemma.steps || is_lemma_cited j lemma.last
+abbrev pub cites_lemma : ℕ → Lemma → Bool
+cites_lemma j lemma = list_any (λ step. is_lemma_cited j step.reason) lemma.steps || is_lemma_cited j lemma.last
 
 -- the literal stands in the claim of a lemma
 abbrev pub is_claimed : Literal → Option Lemma → Bool
 is_claimed l None = false
-is_claimed l (Some lemma) = has (claim_of lemma) l
+is_claimed l (Some lemma) = has (lemma_claim lemma) l
 
 -- ---- used steps
 
@@ -44,17 +44,17 @@ module _ (size : Extent) (axioms : List Titled) (core : List ℕ) where
   is_instance_number i values (Some a) = i == number_of (bases_of size a.sentence) values
 
   -- a clause of this origin comes from what the reason cites
-  abbrev pub is_from : Reason → Origin → Bool
-  is_from (ByAxiom k values) (Frame p) = false
-  is_from (ByAxiom k values) (Instance j i) = j == k && is_instance_number i values (slice_get axioms k)
-  is_from (ByOutcome q) (Frame p) = p == q
-  is_from (ByOutcome q) (Instance j i) = false
-  is_from (ByLemma j) origin = false
+  abbrev pub comes_from : Reason → Origin → Bool
+  comes_from (ByAxiom k values) (Frame p) = false
+  comes_from (ByAxiom k values) (Instance j i) = j == k && is_instance_number i values (slice_get axioms k)
+  comes_from (ByOutcome q) (Frame p) = p == q
+  comes_from (ByOutcome q) (Instance j i) = false
+  comes_from (ByLemma j) origin = false
 
   -- the literal stands in a clause of the reason: in the claim of its lemma, or in a clause of the core's list that comes from what it cites
   abbrev pub is_in_reason : List Lemma → Literal → Reason → Bool
   is_in_reason earlier l (ByLemma j) = is_claimed l (slice_get earlier j)
-  is_in_reason earlier l reason = list_any (λ s. is_from reason s.origin && has_lit s.clause (lit_of size l)) (study_clauses size axioms core)
+  is_in_reason earlier l reason = list_any (λ s. comes_from reason s.origin && has_lit s.clause (lit_of size l)) (study_clauses size axioms core)
 
   -- the opposite of each step's literal stands in a clause of a later reason of the lemma
   abbrev pub are_steps_used : List Lemma → Reason → List StoryStep → Bool
@@ -68,7 +68,7 @@ module _ (size : Extent) (axioms : List Titled) (core : List ℕ) where
   is_tidy_from earlier [] = false
   is_tidy_from earlier (lemma ∷ []) = are_steps_used earlier lemma.last lemma.steps
   is_tidy_from earlier (lemma ∷ next ∷ rest) =
-      not (length lemma.suppose == 0) && list_any (cites (length earlier)) (next ∷ rest) && are_steps_used earlier lemma.last lemma.steps
+      not (length lemma.suppose == 0) && list_any (cites_lemma (length earlier)) (next ∷ rest) && are_steps_used earlier lemma.last lemma.steps
       && is_tidy_from (earlier ++ lemma ∷ []) (next ∷ rest)
 
   -- a story is tidy

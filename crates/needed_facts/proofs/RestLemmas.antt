@@ -1,8 +1,9 @@
 -- What is among known facts, and all of them.
-use Rattle.std.proofs.Common.{◌≡◌, refl, sym, subst, ℕ, Bool, true, false, cond, filter, List, [], ◌∷◌, ◌++◌, Result, Ok, Err, IfOk}
+use Rattle.std.proofs.Common.{◌≡◌, refl, sym, subst, ℕ, Bool, true, List, [], ◌∷◌, ◌++◌, Result, Ok, Err, IfOk}
 use Rattle.std.specs.Prelude.{◌==◌}
 use Rattle.std.specs.List.{list_all}
-use Rattle.std.proofs.lemmas.Bool.{and_parts, and_from, or_left, or_right}
+use Rattle.std.proofs.lemmas.Bool.{and_from, or_left, or_right}
+use Rattle.lists.proofs.TestLaws.{all_kept, all_weaker, kept_pass}
 use Rattle.vocab.specs.declared.literals.Literal.{Literal}
 use Rattle.vocab.specs.Literal.{has, profile_of, same_literal}
 use Rattle.vocab.specs.Size.{Extent}
@@ -14,34 +15,16 @@ use Rattle.tellings.specs.Laws.{facts_at}
 use Rattle.tellings.proofs.OutcomeLaws.{leave_nothing, own_facts}
 use Rattle.needed_facts.specs.declared.basis.Basis.{Basis}
 use Rattle.needed_facts.specs.Rests.{are_there, refutes_by, RestsOn}
-use Rattle.needed_facts.proofs.TestLemmas.{all_from}
 
 pub has_itself : (ls : List Literal) → list_all (has ls) ls ≡ true
 has_itself [] = refl
 has_itself (l ∷ ls) =
     and_from (has (l ∷ ls) l) (list_all (has (l ∷ ls)) ls) (or_left (same_literal l l) (has ls l) (same_literal-refl l))
-    (all_from (has ls) (has (l ∷ ls)) (λ k h. or_right (same_literal k l) (has ls k) h) ls (has_itself ls))
+    (all_weaker (has ls) (has (l ∷ ls)) (λ k h. or_right (same_literal k l) (has ls k) h) ls (has_itself ls))
 
 -- all that is among facts that stand, stands
 pub all_among : (t : Literal → Bool) (known rests : List Literal) → list_all t known ≡ true → list_all (has known) rests ≡ true → list_all t rests ≡ true
-all_among t known rests all kept = all_from (has known) t (λ q h. all_has t known q all h) rests kept
-
--- what all pass, those pass that are kept, and each of these is kept
-pub all_kept : (t keep : Literal → Bool) (ls : List Literal) → list_all t ls ≡ true → list_all t (filter keep ls) ≡ true
-all_kept t keep [] h = refl
-all_kept t keep (l ∷ ls) h = let p = and_parts (t l) (list_all t ls) h in cases (keep l) (all_kept t keep ls p.1) p.0
-  where
-    cases : (b : Bool) → list_all t (filter keep ls) ≡ true → t l ≡ true → list_all t (cond b (l ∷ filter keep ls) (filter keep ls)) ≡ true
-    cases true ih here = and_from (t l) (list_all t (filter keep ls)) here ih
-    cases false ih here = ih
-
-pub each_kept : (keep : Literal → Bool) (ls : List Literal) → list_all keep (filter keep ls) ≡ true
-each_kept keep [] = refl
-each_kept keep (l ∷ ls) = cases (keep l) refl (each_kept keep ls)
-  where
-    cases : (b : Bool) → keep l ≡ b → list_all keep (filter keep ls) ≡ true → list_all keep (cond b (l ∷ filter keep ls) (filter keep ls)) ≡ true
-    cases true here ih = and_from (keep l) (list_all keep (filter keep ls)) here ih
-    cases false here ih = ih
+all_among t known rests all kept = all_weaker (has known) t (λ q h. all_has t known q all h) rests kept
 
 module _ (size : Extent) (basis : Basis) where
   -- of what is left at a profile the facts there are enough
@@ -60,7 +43,7 @@ module _ (size : Extent) (basis : Basis) where
   are_found known reason p (Err e) is same = tt
   are_found known reason p (Ok found) is same =
       subst (λ (k : Reason). are_there k found ≡ true) (sym is)
-      (subst (λ (ls : List Literal). are_there (ByOutcome p) ls ≡ true) (sym same) (each_kept (λ (l : Literal). profile_of l == p) known))
+      (subst (λ (ls : List Literal). are_there (ByOutcome p) ls ≡ true) (sym same) (kept_pass (λ (l : Literal). profile_of l == p) known))
 
   pub all_rest : {E : Type 0} (known others : List Literal) (reason : Reason) (r : Result (List Literal) E) → IfOk r (λ all. all ≡ known) → refutes_by size basis (known ++ others) reason ≡ true →
       IfOk r (λ rests. RestsOn size basis known others reason rests)

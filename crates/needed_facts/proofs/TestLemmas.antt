@@ -1,12 +1,8 @@
 -- Tests that items of lists pass.
-use Rattle.std.proofs.Common.{◌≡◌, refl, ap, ℕ, zero, suc, ◌<◌, ◌≤◌, Bool, true, List, [], ◌∷◌, ◌++◌, length, get_or, arith, Some, None, inl, inr}
+use Rattle.std.proofs.Common.{◌≡◌, refl, ap, ℕ, zero, suc, ◌<◌, ◌≤◌, Bool, true, List, [], ◌∷◌, ◌++◌, length, get_or, arith, Some, inl, inr}
 use Rattle.std.specs.Prelude.{slice_get}
 use Rattle.std.specs.List.{list_all, list_any}
 use Rattle.std.proofs.lemmas.Bool.{and_parts, and_from, or_cases, or_left, or_right}
-
-pub all_from : {A : Type 0} (s t : A → Bool) → ((a : A) → s a ≡ true → t a ≡ true) → (xs : List A) → list_all s xs ≡ true → list_all t xs ≡ true
-all_from s t give [] h = refl
-all_from s t give (x ∷ xs) h = let p = and_parts (s x) (list_all s xs) h in and_from (t x) (list_all t xs) (give x p.0) (all_from s t give xs p.1)
 
 pub all_both : {A : Type 0} (r s t : A → Bool) → ((a : A) → r a ≡ true → s a ≡ true → t a ≡ true) → (xs : List A) → list_all r xs ≡ true → list_all s xs ≡ true → list_all t xs ≡ true
 all_both r s t give [] h k = refl
@@ -14,10 +10,6 @@ all_both r s t give (x ∷ xs) h k =
     let p = and_parts (r x) (list_all r xs) h in
     let q = and_parts (s x) (list_all s xs) k in
     and_from (t x) (list_all t xs) (give x p.0 q.0) (all_both r s t give xs p.1 q.1)
-
-pub all_more : {A : Type 0} (t : A → Bool) (xs : List A) (x : A) → list_all t xs ≡ true → t x ≡ true → list_all t (xs ++ x ∷ []) ≡ true
-all_more t [] x h k = and_from (t x) true k refl
-all_more t (y ∷ xs) x h k = let p = and_parts (t y) (list_all t xs) h in and_from (t y) (list_all t (xs ++ x ∷ [])) p.0 (all_more t xs x p.1 k)
 
 -- what all pass, each does
 pub all_pass : {A : Type 0} (t : A → Bool) → ((a : A) → t a ≡ true) → (xs : List A) → list_all t xs ≡ true
@@ -30,12 +22,6 @@ any_from s t give (x ∷ xs) h = elim (or_cases (s x) (list_any s xs) h) [
   | inl e ↦ or_left (t x) (list_any t xs) (give x e)
   | inr e ↦ or_right (t x) (list_any t xs) (any_from s t give xs e)
 ]
-
--- there is no item past the end
-pub past : {A : Type 0} (xs : List A) (i : ℕ) → length xs ≤ i → slice_get xs i ≡ None
-past [] i h = refl
-past (x ∷ xs) zero h = absurd (omega arith)
-past (x ∷ xs) (suc i) h = past xs i (omega arith)
 
 -- what stands at a place
 pub read_at : {A : Type 0} (xs : List A) (i : ℕ) (a d : A) → slice_get xs i ≡ Some a → (i < length xs) × (get_or xs i d ≡ a)

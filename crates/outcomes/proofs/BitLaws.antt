@@ -1,5 +1,5 @@
 -- Bits of outcomes and the literals that hold of them, and frames as clauses.
-use Rattle.std.proofs.Common.{◌≡◌, refl, sym, ap, subst, ◌∙◌, ℕ, ◌+◌, ◌*◌, ◌-◌, ◌<◌, ◌≤◌, Bool, true, false, not, arith, mul-le-mul_right}
+use Rattle.std.proofs.Common.{◌≡◌, sym, ap, subst, ◌∙◌, ℕ, ◌+◌, ◌*◌, ◌-◌, ◌<◌, ◌≤◌, Bool, true, false, not, arith, mul-le-mul_right}
 use Rattle.std.specs.Bool.{beq}
 use Rattle.std.specs.List.{list_all, list_any}
 use Rattle.vocab.specs.declared.kinds.Sort.TheVariants.{Profile}
@@ -8,6 +8,7 @@ use Rattle.vocab.specs.Literal.{opposite_of}
 use Rattle.vocab.specs.Size.{Extent, sort_count, outcome_count}
 use Rattle.cnf.specs.Sat.{is_lit_true, is_satisfied}
 use Rattle.cnf.specs.Signed.{Signed}
+use Rattle.cnf.proofs.LitLaws.{not-not}
 use Rattle.meaning.specs.Laws.{AreOf, literal_under}
 use Rattle.meaning.specs.Literals.{is_literal}
 use Rattle.meaning.specs.StudyClauses.{frame_of}
@@ -23,10 +24,6 @@ use Rattle.outcomes.specs.Frames.{frame_clauses}
 use Rattle.outcomes.specs.Laws.{FramesSayOneOutcome, BitsSayLiterals}
 use Rattle.outcomes.specs.OutcomeBits.{AreBitsAt}
 
-not_not : (b : Bool) → not (not b) ≡ b
-not_not true = refl
-not_not false = refl
-
 -- a variable of a profile is one of the study
 pub variable_in : (p count n i : ℕ) → p < count → i ≤ (p + 1) * n → i ≤ count * n
 variable_in p count n i in_p high = let next : p + 1 ≤ count = omega (arith, in_p) in omega (arith, high, mul-le-mul_right n next)
@@ -40,7 +37,7 @@ module _ (size : Extent) (p : ℕ) (in_p : p < sort_count size Profile) (v : ℕ
         beq-false _
         ∙ ap (λ j. not (holds_of size o j)) (literal_at-not size size.kind k false ∙ ap opposite_of e)
         ∙ ap not (opposites_differ size size.kind o in_o l in_l)
-        ∙ not_not (holds_of size o l)
+        ∙ not-not (holds_of size o l)
 
     -- bits of an outcome give the literals of the profile their truth values
     pub from_bits : AreBitsAt size p o v → AreOf size p o (literal_under size v)

@@ -4,8 +4,7 @@ use Rattle.std.specs.Prelude.{nat_le}
 use Rattle.vocab.specs.declared.kinds.Kind.{Kind}
 use Rattle.vocab.specs.declared.kinds.Kind.TheVariants.{Choice, Ranking, Sets}
 use Rattle.vocab.specs.Size.{outcome_count}
-use Rattle.meaning.proofs.SpaceLaws.{all_at}
-use Rattle.profiles.proofs.TableLemmas.{factorial_small}
+use Rattle.meaning.proofs.SpaceLaws.{all_at, factorial_small}
 
 pub few_outcomes : (kind : Kind) (m : ℕ) → m ≤ 5 → outcome_count kind m ≤ 120
 few_outcomes Choice m h = omega arith

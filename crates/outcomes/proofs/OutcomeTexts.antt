@@ -3,6 +3,7 @@ use Rattle.std.proofs.Common.{◌≡◌, refl, ap, ℕ, ◌-◌, ◌^◌, ◌<�
 use Rattle.std.specs.Prelude.{nat_le, slice_index}
 use Rattle.std.specs.List.{list_all}
 use Rattle.std.proofs.lemmas.Bool.{and_from, and_parts}
+use Rattle.lists.proofs.TestLaws.{all_read}
 use Rattle.vocab.specs.declared.kinds.Kind.{Kind}
 use Rattle.vocab.specs.declared.kinds.Kind.TheVariants.{Choice, Ranking, Sets}
 use Rattle.vocab.specs.Name.{is_lower}
@@ -11,7 +12,6 @@ use Rattle.meaning.specs.Subsets.{elements}
 use Rattle.meaning.specs.Space.{below, rankings, ranking}
 use Rattle.meaning.specs.Texts.{letter, outcome_text_of}
 use Rattle.meaning.proofs.SpaceLaws.{all_at, length-rankings}
-use Rattle.meaning.proofs.TestLaws.{all_read}
 use Rattle.meaning.proofs.TextLaws.{set_texts_same}
 use Rattle.profiles.proofs.DistinctTexts.{have_texts_of_their_own}
 use Rattle.profiles.proofs.TableLemmas.{length-letters}

@@ -6,7 +6,7 @@ use Rattle.std.specs.List.{flat_map, list_all}
 use Rattle.std.proofs.Math.Nat.{mod-lt}
 use Rattle.std.proofs.lemmas.Bool.{and_from, and_parts, or_cases, eqb-true, leb-true, ne_eqb, lt-ltb, ltb-true}
 use Rattle.std.proofs.lemmas.List.Folds.{list_all-append}
-use Rattle.pages.specs.FileNames.{is_ordinary, octal, quoted, shell_word}
+use Rattle.pages.specs.FileNames.{is_ordinary, octal, shell_quoted, shell_word}
 use Rattle.pages.specs.Laws.{is_shown}
 
 -- a byte between two bounds, neither of which is passed
@@ -73,15 +73,15 @@ by_tests b false true sign e = refl
 by_tests b false false true e = and_from (is_shown b) true (plain b 32 126 refl refl e) refl
 by_tests b false false false e = rw (digit_shown (b / 8 / 8), digit_shown (b / 8), digit_shown b) refl
 
-all_quoted : (name : List ℕ) → list_all is_shown (flat_map quoted name) ≡ true
+all_quoted : (name : List ℕ) → list_all is_shown (flat_map shell_quoted name) ≡ true
 all_quoted [] = refl
 all_quoted (b ∷ name) =
-    list_all-append is_shown (quoted b) (flat_map quoted name)
-    ∙ and_from (list_all is_shown (quoted b)) (list_all is_shown (flat_map quoted name)) (by_tests b (b == 39) (b == 92) (is_in_range 32 126 b) refl) (all_quoted name)
+    list_all-append is_shown (shell_quoted b) (flat_map shell_quoted name)
+    ∙ and_from (list_all is_shown (shell_quoted b)) (list_all is_shown (flat_map shell_quoted name)) (by_tests b (b == 39) (b == 92) (is_in_range 32 126 b) refl) (all_quoted name)
 
-by_words : (name : List ℕ) (plainly : Bool) → list_all is_ordinary name ≡ plainly → list_all is_shown (if plainly then name else codes "$'" ++ flat_map quoted name ++ codes "'") ≡ true
+by_words : (name : List ℕ) (plainly : Bool) → list_all is_ordinary name ≡ plainly → list_all is_shown (if plainly then name else codes "$'" ++ flat_map shell_quoted name ++ codes "'") ≡ true
 by_words name true e = all_ordinary name e
-by_words name false e = list_all-append is_shown (codes "$'" ++ flat_map quoted name) (codes "'") ∙ and_from _ true (list_all-append is_shown (codes "$'") (flat_map quoted name) ∙ and_from true _ refl (all_quoted name)) refl
+by_words name false e = list_all-append is_shown (codes "$'" ++ flat_map shell_quoted name) (codes "'") ∙ and_from _ true (list_all-append is_shown (codes "$'") (flat_map shell_quoted name) ∙ and_from true _ refl (all_quoted name)) refl
 
 -- no control byte of a file's name is in its word
 pub all_shown : (name : List ℕ) → list_all is_shown (shell_word name) ≡ true

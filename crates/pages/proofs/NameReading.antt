@@ -5,7 +5,7 @@ use Rattle.std.specs.Int.{is_in_range}
 use Rattle.std.specs.List.{flat_map, list_all}
 use Rattle.std.proofs.Math.Nat.{div-add-mod, mod-lt}
 use Rattle.std.proofs.lemmas.Bool.{and_from, and_parts, eqb-true, ltb-true, le-leb}
-use Rattle.pages.specs.FileNames.{is_ordinary, octal, octal_value, quoted, read_quoted, shell_word, word_read}
+use Rattle.pages.specs.FileNames.{is_ordinary, octal, octal_value, shell_quoted, read_quoted, shell_word, word_read}
 
 -- ---- the octal digits of a byte
 
@@ -31,12 +31,12 @@ by_tests b text false true sign small e f = ap (λ (n : ℕ). n ∷ read_quoted 
 by_tests b text false false true small e f = rw (e, f) refl
 by_tests b text false false false small e f = rw (is_digit (b / 8 / 8)) (ap (λ (n : ℕ). n ∷ read_quoted None text) (value b small))
 
-all_quoted : (name : List ℕ) → list_all (λ b. nat_lt b 256) name ≡ true → read_quoted None (flat_map quoted name ++ codes "'") ≡ name
+all_quoted : (name : List ℕ) → list_all (λ b. nat_lt b 256) name ≡ true → read_quoted None (flat_map shell_quoted name ++ codes "'") ≡ name
 all_quoted [] h = refl
 all_quoted (b ∷ name) h =
     let p = and_parts (nat_lt b 256) (list_all (λ b. nat_lt b 256) name) h in
-    ap (read_quoted None) (append_assoc (quoted b) (flat_map quoted name) (codes "'"))
-    ∙ by_tests b (flat_map quoted name ++ codes "'") (b == 39) (b == 92) (is_in_range 32 126 b) (ltb-true b 256 p.0) refl refl
+    ap (read_quoted None) (append_assoc (shell_quoted b) (flat_map shell_quoted name) (codes "'"))
+    ∙ by_tests b (flat_map shell_quoted name ++ codes "'") (b == 39) (b == 92) (is_in_range 32 126 b) (ltb-true b 256 p.0) refl refl
     ∙ ap (λ (bs : List ℕ). b ∷ bs) (all_quoted name p.1)
 
 -- ---- names
@@ -52,7 +52,7 @@ stays (a ∷ []) h = refl
 stays (a ∷ b ∷ text) h = first_stays a b text (a == 36) refl (and_parts (is_ordinary a) (list_all is_ordinary (b ∷ text)) h).0
 
 by_words : (name : List ℕ) (plainly : Bool) → list_all is_ordinary name ≡ plainly → list_all (λ b. nat_lt b 256) name ≡ true →
-    word_read (if plainly then name else codes "$'" ++ flat_map quoted name ++ codes "'") ≡ name
+    word_read (if plainly then name else codes "$'" ++ flat_map shell_quoted name ++ codes "'") ≡ name
 by_words name true e h = stays name e
 by_words name false e h = all_quoted name h
 

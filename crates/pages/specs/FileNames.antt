@@ -12,12 +12,12 @@ abbrev pub octal : ℕ → ℕ
 octal n = 48 + n % 8
 
 -- a byte between `$'` and `'`: a backslash stands before the quotation mark and the backslash, and the three octal digits of what is no printable sign of ASCII after one
-abbrev pub quoted : ℕ → List ℕ
-quoted b = if b == 39 then codes "\\'" else (if b == 92 then codes "\\\\" else (if is_in_range 32 126 b then b ∷ [] else 92 ∷ octal (b / 8 / 8) ∷ octal (b / 8) ∷ octal b ∷ []))
+abbrev pub shell_quoted : ℕ → List ℕ
+shell_quoted b = if b == 39 then codes "\\'" else (if b == 92 then codes "\\\\" else (if is_in_range 32 126 b then b ∷ [] else 92 ∷ octal (b / 8 / 8) ∷ octal (b / 8) ∷ octal b ∷ []))
 
 -- a name: as it stands, where each of its bytes stands for itself, and else quoted
 abbrev pub shell_word : List ℕ → List ℕ
-shell_word name = if list_all is_ordinary name then name else codes "$'" ++ flat_map quoted name ++ codes "'"
+shell_word name = if list_all is_ordinary name then name else codes "$'" ++ flat_map shell_quoted name ++ codes "'"
 
 -- ---- read back
 

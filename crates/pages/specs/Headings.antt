@@ -32,11 +32,11 @@ module _ (size : Extent) where
   abbrev pub away_html : List ℕ
   away_html = if size.absent then codes ", who may stay away," else []
 
-  abbrev pub some_html : List ℕ
-  some_html = codes ", with " ++ decimal (ballot_count size) ++ codes " of the rankings as ballots,"
+  abbrev pub some_ballots_html : List ℕ
+  some_ballots_html = codes ", with " ++ decimal (ballot_count size) ++ codes " of the rankings as ballots,"
 
   abbrev pub domain_html : List ℕ
-  domain_html = if has_all_ballots size then [] else some_html
+  domain_html = if has_all_ballots size then [] else some_ballots_html
 
   -- for whom a rule is
   abbrev pub for_html : List ℕ
@@ -59,12 +59,12 @@ module _ (marked : Bool) (axioms : List Titled) where
   listed_name count place k = between place count ++ called_html k
 
   -- the names of the axioms at some places
-  abbrev pub name_of : (count place : ℕ) → Option ℕ → List ℕ
-  name_of count place None = []
-  name_of count place (Some k) = listed_name count place k
+  abbrev pub name_if_any : (count place : ℕ) → Option ℕ → List ℕ
+  name_if_any count place None = []
+  name_if_any count place (Some k) = listed_name count place k
 
   abbrev pub name_in : List ℕ → ℕ → List ℕ
-  name_in places place = name_of (length places) place (slice_get places place)
+  name_in places place = name_if_any (length places) place (slice_get places place)
 
   abbrev pub names_html : List ℕ → List ℕ
   names_html places = flat_map (name_in places) (below (length places))
@@ -95,7 +95,7 @@ module _ (marked : Bool) (axioms : List Titled) where
     some_rule_html = codes "A rule" ++ for_html size ++ asked_html
 
     -- what a verdict says
-    abbrev pub claim_html : Verdict → List ℕ
-    claim_html (Possible table) = some_rule_html
-    claim_html (Impossible core story witnesses) = none_html core
-    claim_html Undecided = codes "No claim"
+    abbrev pub verdict_claim_html : Verdict → List ℕ
+    verdict_claim_html (Possible table) = some_rule_html
+    verdict_claim_html (Impossible core story witnesses) = none_html core
+    verdict_claim_html Undecided = codes "No claim"

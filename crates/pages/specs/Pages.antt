@@ -16,7 +16,7 @@ use Rattle.rule_pages.specs.Rules.{rule_html}
 use Rattle.story_pages.specs.Homes.{story_html}
 use Rattle.pages.specs.FileNames.{shell_word}
 use Rattle.pages.specs.Words.{opening, styles}
-use Rattle.pages.specs.Headings.{claim_html}
+use Rattle.pages.specs.Headings.{verdict_claim_html}
 use Rattle.pages.specs.Theorem.{size_html, axioms_html, reading_html}
 use Rattle.pages.specs.Witnesses.{witnesses_html}
 
@@ -53,7 +53,7 @@ module _ (size : Extent) (axioms : List Titled) where
   -- the front of the page: its title, the styles, the title again, and the size
   abbrev pub front_html : Verdict → List ℕ
   front_html verdict =
-      opening ++ claim_html false axioms size verdict ++ styles ++ claim_html true axioms size verdict
+      opening ++ verdict_claim_html false axioms size verdict ++ styles ++ verdict_claim_html true axioms size verdict
       ++ codes "</h1>\n" ++ size_html size
 
 -- how to check: the files of the study and of the report, as words of a command line, and the version

@@ -9,7 +9,7 @@ use Rattle.vocab.specs.declared.kinds.Sort.TheVariants.{Profile, Ballot}
 use Rattle.vocab.specs.Range.{below}
 use Rattle.vocab.specs.Size.{Extent, is_full, sort_count}
 use Rattle.vocab.specs.Titled.{Titled}
-use Rattle.syntax.specs.Canonical.{text_of}
+use Rattle.syntax.specs.Canonical.{canonical_text}
 use Rattle.axiom_library.specs.Library.{text_under}
 use Rattle.instance_text.specs.Bodies.{named_sentence}
 use Rattle.verdicts.specs.Lines.{name_at}
@@ -17,7 +17,7 @@ use Rattle.html.specs.Escapes.{escaped}
 use Rattle.html.specs.Facts.{alternative_html, ballot_html, profile_html}
 use Rattle.html.specs.Grids.{is_gridded}
 use Rattle.story_pages.specs.Sentences.{axiom_html}
-use Rattle.pages.specs.Words.{words_of}
+use Rattle.pages.specs.Words.{library_words}
 
 -- ---- the size
 
@@ -37,21 +37,21 @@ lettered_html x = codes " " ++ alternative_html x
 
 module _ (size : Extent) where
   -- a ballot, a blank before it
-  abbrev pub listed_html : ℕ → List ℕ
-  listed_html b = codes " " ++ ballot_html size b
+  abbrev pub listed_ballot_html : ℕ → List ℕ
+  listed_ballot_html b = codes " " ++ ballot_html size b
 
   -- the ballots that voters may cast
   abbrev pub some_ballots : List ℕ
-  some_ballots = codes "one of the rankings" ++ flat_map listed_html (below (sort_count size Ballot))
+  some_ballots = codes "one of the rankings" ++ flat_map listed_ballot_html (below (sort_count size Ballot))
 
-  abbrev pub ballots_html : List ℕ
-  ballots_html = if is_full size then codes "any ranking of them" else some_ballots
+  abbrev pub allowed_ballots_html : List ℕ
+  allowed_ballots_html = if is_full size then codes "any ranking of them" else some_ballots
 
   -- the size, and what a rule is
   abbrev pub size_html : List ℕ
   size_html =
       codes "<p>Voters: " ++ decimal size.voters ++ codes ". Alternatives:"
-      ++ flat_map lettered_html (below size.alternatives) ++ codes ". Each voter casts " ++ ballots_html
+      ++ flat_map lettered_html (below size.alternatives) ++ codes ". Each voter casts " ++ allowed_ballots_html
       ++ absent_words size
       ++ codes ". A rule gives " ++ gives_words size.kind ++ codes ", at each of the "
       ++ decimal (sort_count size Profile) ++ codes " profiles of ballots.</p>\n"
@@ -66,7 +66,7 @@ module _ (size : Extent) where
   -- the sentence of an axiom: that which the library has under its name, or else its own, each variable
   -- by the letter of its sort and its place
   abbrev pub sentence_text : Titled → List ℕ
-  sentence_text a = unwrap_or (text_under size.kind a.name) (text_of (named_sentence size a.sentence))
+  sentence_text a = unwrap_or (text_under size.kind a.name) (canonical_text (named_sentence size a.sentence))
 
   abbrev pub sentence_of : Option Titled → List ℕ
   sentence_of None = []
@@ -76,7 +76,7 @@ module _ (size : Extent) where
     -- the axiom at a place: its name, its words and its sentence
     abbrev pub axiom_item : ℕ → List ℕ
     axiom_item k =
-        codes "<li>" ++ axiom_html axioms k ++ words_of size.kind (name_at axioms k)
+        codes "<li>" ++ axiom_html axioms k ++ library_words size.kind (name_at axioms k)
         ++ sentence_of (slice_get axioms k) ++ codes "</li>\n"
 
     -- axioms by their places

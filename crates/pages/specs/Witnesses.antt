@@ -13,15 +13,15 @@ use Rattle.story_pages.specs.Sentences.{axiom_html}
 
 module _ (size : Extent) where
   -- the mark of an axiom of the core: a rule that satisfies the others, or that none was found
-  abbrev pub mark_of : Witness → List ℕ
-  mark_of (Rule table) = name_html size table ++ codes "</p>\n" ++ rule_html size table
-  mark_of (Open limit) =
+  abbrev pub mark_body_html : Witness → List ℕ
+  mark_body_html (Rule table) = name_html size table ++ codes "</p>\n" ++ rule_html size table
+  mark_body_html (Open limit) =
       codes " it is not known whether some rule satisfies the others: the search gave up after "
       ++ decimal limit ++ codes " conflicts.</p>\n"
 
   module _ (axioms : List Titled) where
     abbrev pub witness_html : ℕ → Witness → List ℕ
-    witness_html k mark = codes "<div><p>Without " ++ axiom_html axioms k ++ mark_of mark ++ codes "</div>\n"
+    witness_html k mark = codes "<div><p>Without " ++ axiom_html axioms k ++ mark_body_html mark ++ codes "</div>\n"
 
     abbrev pub witness_of : Option ℕ → Option Witness → List ℕ
     witness_of (Some k) (Some mark) = witness_html k mark

@@ -49,7 +49,7 @@ set_words name =
     []))))))
 
 -- the words of an axiom of the library of a kind; an axiom of the study's own has none
-abbrev pub words_of : Kind → List ℕ → List ℕ
-words_of Choice name = choice_words name
-words_of Ranking name = ranking_words name
-words_of Sets name = set_words name
+abbrev pub library_words : Kind → List ℕ → List ℕ
+library_words Choice name = choice_words name
+library_words Ranking name = ranking_words name
+library_words Sets name = set_words name

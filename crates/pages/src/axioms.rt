@@ -5,13 +5,13 @@ ghost use Rattle.std.specs.List.{flat_map};
 ghost use Rattle.std.specs.Option.{unwrap_or};
 ghost use Rattle.vocab.specs.Range.{below};
 ghost use Rattle.vocab.specs.Tree.{tree_of};
-ghost use Rattle.syntax.specs.Canonical.{text_of};
+ghost use Rattle.syntax.specs.Canonical.{canonical_text};
 ghost use Rattle.instance_text.specs.Bodies.{named_sentence};
 ghost use Rattle.verdicts.specs.Lines.{name_at};
-ghost use Rattle.pages.specs.Words.{words_of};
+ghost use Rattle.pages.specs.Words.{library_words};
 ghost use Rattle.pages.specs.Theorem.{code_html, sentence_text, sentence_of, axiom_item, axioms_html};
 
-use crate::words::words_of;
+use crate::words::library_words;
 use axiom_library::text_under;
 use html::{Html, put_text};
 use instance_text::put_sentence as put_named;
@@ -33,7 +33,7 @@ fn put_code(out: &mut Html, text: &[u8]) -> Result<(), NoMemory>
 
 /// The text of a sentence, each variable by the letter of its sort and its place.
 fn own_text(alloc: Global, space: &Space, sentence: &Formula) -> Result<Html, NoMemory>
-    ensures { IfOk result (λ text. text ≡ text_of (named_sentence space.now (tree_of sentence.now))) }
+    ensures { IfOk result (λ text. text ≡ canonical_text (named_sentence space.now (tree_of sentence.now))) }
 {
     let mut text = Html::new(alloc);
     put_named(alloc, &mut text, space, sentence)?;
@@ -43,7 +43,7 @@ fn own_text(alloc: Global, space: &Space, sentence: &Formula) -> Result<Html, No
 /// Adds a sentence of the study's own, as code.
 fn put_own(alloc: Global, out: &mut Html, space: &Space, sentence: &Formula) -> Result<(), NoMemory>
     ensures { OnOk result (out.new ≡ out.old ++
-        code_html (text_of (named_sentence space.now (tree_of sentence.now)))) }
+        code_html (canonical_text (named_sentence space.now (tree_of sentence.now)))) }
 {
     let text = own_text(alloc, space, sentence)?;
     put_code(out, text.as_slice())?;
@@ -60,7 +60,7 @@ fn put_found(
 ) -> Result<(), NoMemory>
     ensures { OnOk result (out.new ≡ out.old ++
         code_html (unwrap_or (option_map (λ text. text.now) found.entry)
-        (text_of (named_sentence space.now (tree_of sentence.now))))) }
+        (canonical_text (named_sentence space.now (tree_of sentence.now))))) }
 {
     match found {
         Some(text) => put_code(out, text),
@@ -100,15 +100,15 @@ fn put_sentence(
 
 /// Adds the words of the axiom at a place.
 fn put_words(out: &mut Html, space: &Space, axioms: &[Axiom], place: u32) -> Result<(), NoMemory>
-    ensures { OnOk result (out.new ≡ out.old ++ words_of space.now.kind (name_at axioms.now place)) }
+    ensures { OnOk result (out.new ≡ out.old ++ library_words space.now.kind (name_at axioms.now place)) }
 {
     let kind = space.size().kind();
     match axioms.get(place as usize) {
         Some(axiom) => {
             let name = axiom.name();
-            out.append(words_of(kind, name.bytes()))
+            out.append(library_words(kind, name.bytes()))
         }
-        None => out.append(words_of(kind, b"")),
+        None => out.append(library_words(kind, b"")),
     }
 }
 

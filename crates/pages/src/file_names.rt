@@ -2,7 +2,7 @@
 
 ghost use Rattle.std.specs.Prelude.{◌≡◌, ◌++◌, OnOk, IfOk};
 ghost use Rattle.std.specs.List.{flat_map, list_all};
-ghost use Rattle.pages.specs.FileNames.{is_ordinary, quoted, shell_word};
+ghost use Rattle.pages.specs.FileNames.{is_ordinary, shell_quoted, shell_word};
 
 use lists::{Items, NoMemory};
 use std::alloc::Global;
@@ -29,7 +29,7 @@ fn are_ordinary(name: &[u8]) -> bool
 
 /// Adds a byte as it stands between `$'` and `'`.
 fn put_quoted(word: &mut Items<u8>, byte: u8) -> Result<(), NoMemory>
-    ensures { OnOk result (word.new ≡ word.old ++ quoted byte) }
+    ensures { OnOk result (word.new ≡ word.old ++ shell_quoted byte) }
 {
     match byte {
         b'\'' => word.append(b"\\'"),
@@ -46,7 +46,7 @@ fn put_quoted(word: &mut Items<u8>, byte: u8) -> Result<(), NoMemory>
 
 /// Adds a name as it stands there.
 fn put_all_quoted(word: &mut Items<u8>, name: &[u8]) -> Result<(), NoMemory>
-    ensures { OnOk result (word.new ≡ word.old ++ flat_map quoted name.now) }
+    ensures { OnOk result (word.new ≡ word.old ++ flat_map shell_quoted name.now) }
 {
     for byte in name {
         put_quoted(word, *byte)?;

@@ -5,7 +5,7 @@ ghost use Rattle.std.specs.Fmt.{decimal};
 ghost use Rattle.vocab.specs.Size.{ballot_count};
 ghost use Rattle.verdicts.specs.Lines.{name_at};
 ghost use Rattle.html.specs.Escapes.{escaped};
-ghost use Rattle.pages.specs.Headings.{voter_noun, alternative_noun, voters_html, alternatives_html, away_html, some_html, domain_html, for_html, between, called_html, listed_name, name_in, names_html, own_name, all_names, none_html, satisfying_html, asked_html, some_rule_html, claim_html};
+ghost use Rattle.pages.specs.Headings.{voter_noun, alternative_noun, voters_html, alternatives_html, away_html, some_ballots_html, domain_html, for_html, between, called_html, listed_name, name_in, names_html, own_name, all_names, none_html, satisfying_html, asked_html, some_rule_html, verdict_claim_html};
 
 use html::{Html, put_number, put_text};
 use lists::NoMemory;
@@ -69,7 +69,7 @@ fn put_ballot_count(out: &mut Html, space: &Space) -> Result<(), NoMemory>
 
 /// Adds how many rankings may be cast.
 fn put_some(out: &mut Html, space: &Space) -> Result<(), NoMemory>
-    ensures { OnOk result (out.new ≡ out.old ++ some_html space.now) }
+    ensures { OnOk result (out.new ≡ out.old ++ some_ballots_html space.now) }
 {
     out.append(b", with ")?;
     put_ballot_count(out, space)?;
@@ -291,7 +291,7 @@ pub(crate) fn put_claim(
     verdict: &Verdict,
 ) -> Result<(), NoMemory>
     requires { length axioms.now ≡ count }
-    ensures { OnOk result (out.new ≡ out.old ++ claim_html marked axioms.now space.now verdict.now) }
+    ensures { OnOk result (out.new ≡ out.old ++ verdict_claim_html marked axioms.now space.now verdict.now) }
 {
     match verdict {
         Verdict::Possible(_) => put_some_rule(out, marked, space, axioms, count),

@@ -6,7 +6,7 @@ ghost use Rattle.std.specs.List.{flat_map};
 ghost use Rattle.vocab.specs.declared.kinds.Sort.TheVariants.{Ballot, Profile};
 ghost use Rattle.vocab.specs.Range.{below};
 ghost use Rattle.vocab.specs.Size.{sort_count};
-ghost use Rattle.pages.specs.Theorem.{gives_words, absent_words, lettered_html, listed_html, some_ballots, ballots_html, size_html, left_words, mark_words, example_html, profile_words, told_words, grey_words, gridded_words, table_words, reading_html};
+ghost use Rattle.pages.specs.Theorem.{gives_words, absent_words, lettered_html, listed_ballot_html, some_ballots, allowed_ballots_html, size_html, left_words, mark_words, example_html, profile_words, told_words, grey_words, gridded_words, table_words, reading_html};
 
 use html::{Html, is_gridded, put_alternative, put_ballot, put_number, put_profile};
 use lists::NoMemory;
@@ -56,7 +56,7 @@ fn put_letters(out: &mut Html, count: u8) -> Result<(), NoMemory>
 
 /// Adds a ballot, a blank before it.
 fn put_listed(out: &mut Html, space: &Space, b: u32) -> Result<(), NoMemory>
-    ensures { OnOk result (out.new ≡ out.old ++ listed_html space.now b) }
+    ensures { OnOk result (out.new ≡ out.old ++ listed_ballot_html space.now b) }
 {
     out.append(b" ")?;
     put_ballot(out, space, b)?;
@@ -66,7 +66,7 @@ fn put_listed(out: &mut Html, space: &Space, b: u32) -> Result<(), NoMemory>
 /// Adds all ballots.
 fn put_all_ballots(out: &mut Html, space: &Space) -> Result<(), NoMemory>
     ensures { OnOk result (out.new ≡ out.old ++
-        flat_map (listed_html space.now) (below (sort_count space.now Ballot))) }
+        flat_map (listed_ballot_html space.now) (below (sort_count space.now Ballot))) }
 {
     let count = space.ballots();
     for b in 0..count {
@@ -86,7 +86,7 @@ fn put_some_ballots(out: &mut Html, space: &Space) -> Result<(), NoMemory>
 
 /// Adds the ballots that voters may cast.
 fn put_ballots(out: &mut Html, space: &Space) -> Result<(), NoMemory>
-    ensures { OnOk result (out.new ≡ out.old ++ ballots_html space.now) }
+    ensures { OnOk result (out.new ≡ out.old ++ allowed_ballots_html space.now) }
 {
     if space.size().full() {
         return out.append(b"any ranking of them");

@@ -3,7 +3,7 @@
 ghost use Rattle.std.specs.Prelude.{◌≡◌, ◌++◌, length, OnOk};
 ghost use Rattle.std.specs.List.{flat_map};
 ghost use Rattle.vocab.specs.Range.{below};
-ghost use Rattle.pages.specs.Witnesses.{mark_of, witness_html, witness_at, witnesses_html};
+ghost use Rattle.pages.specs.Witnesses.{mark_body_html, witness_html, witness_at, witnesses_html};
 
 use html::{Html, put_number};
 use lists::NoMemory;
@@ -16,7 +16,7 @@ use vocab::{Axiom, Table};
 
 /// Adds the mark of an axiom of the core: a rule.
 fn put_ruled<K: OutcomeKind>(out: &mut Html, kind: &K, table: &Table) -> Result<(), NoMemory>
-    ensures { OnOk result (out.new ≡ out.old ++ mark_of (K.size kind.now) (Witness.Rule table.now)) }
+    ensures { OnOk result (out.new ≡ out.old ++ mark_body_html (K.size kind.now) (Witness.Rule table.now)) }
 {
     put_name(out, kind, table)?;
     out.append(b"</p>\n")?;
@@ -26,7 +26,7 @@ fn put_ruled<K: OutcomeKind>(out: &mut Html, kind: &K, table: &Table) -> Result<
 
 /// Adds the mark of an axiom of the core: open.
 fn put_open(out: &mut Html, space: &Space, limit: u32) -> Result<(), NoMemory>
-    ensures { OnOk result (out.new ≡ out.old ++ mark_of space.now (Witness.Open limit)) }
+    ensures { OnOk result (out.new ≡ out.old ++ mark_body_html space.now (Witness.Open limit)) }
 {
     out.append(
         b" it is not known whether some rule satisfies the others: the search gave up after ",
@@ -38,7 +38,7 @@ fn put_open(out: &mut Html, space: &Space, limit: u32) -> Result<(), NoMemory>
 
 /// Adds the mark of an axiom of the core.
 fn put_mark<K: OutcomeKind>(out: &mut Html, kind: &K, mark: &Witness) -> Result<(), NoMemory>
-    ensures { OnOk result (out.new ≡ out.old ++ mark_of (K.size kind.now) mark.now) }
+    ensures { OnOk result (out.new ≡ out.old ++ mark_body_html (K.size kind.now) mark.now) }
 {
     match mark {
         Witness::Rule(table) => put_ruled(out, kind, table),

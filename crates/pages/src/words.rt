@@ -1,7 +1,7 @@
 //! What stands on each page, and the words of the axioms of the library.
 
 ghost use Rattle.std.specs.Prelude.{◌≡◌};
-ghost use Rattle.pages.specs.Words.{opening, styles, choice_words, ranking_words, set_words, words_of};
+ghost use Rattle.pages.specs.Words.{opening, styles, choice_words, ranking_words, set_words, library_words};
 
 use vocab::Kind;
 
@@ -109,8 +109,8 @@ fn set_words(name: &[u8]) -> &'static [u8]
 }
 
 /// The words of an axiom of the library of a kind; an axiom of the study's own has none.
-pub(crate) fn words_of(kind: Kind, name: &[u8]) -> &'static [u8]
-    ensures { result.now ≡ words_of kind name.now }
+pub(crate) fn library_words(kind: Kind, name: &[u8]) -> &'static [u8]
+    ensures { result.now ≡ library_words kind name.now }
 {
     match kind {
         Kind::Choice => choice_words(name),

@@ -5,6 +5,7 @@ use Rattle.std.specs.List.{list_all}
 use Rattle.std.proofs.lemmas.Bool.{cases_lt, or_cases, or_left, or_right}
 use Rattle.std.proofs.lemmas.List.{map-append, take_more}
 use Rattle.std.proofs.lemmas.List.Folds.{list_any-append}
+use Rattle.lists.proofs.TestLaws.{all_get, all_snoc, all_weaker}
 use Rattle.vocab.specs.declared.literals.Literal.{Literal}
 use Rattle.vocab.specs.Literal.{has, opposite_of, same_literal}
 use Rattle.vocab.specs.Size.{Extent}
@@ -15,7 +16,6 @@ use Rattle.meaning.specs.declared.stories.Lemma.{Lemma}
 use Rattle.meaning.specs.declared.stories.Reason.{Reason}
 use Rattle.meaning.specs.declared.stories.Reason.TheVariants.{Axiom as ByAxiom, Outcome as ByOutcome, Lemma as ByLemma}
 use Rattle.meaning.specs.declared.stories.StoryStep.{StoryStep}
-use Rattle.story.proofs.PlaceLemmas.{all_at}
 use Rattle.worlds.specs.Boards.{are_distinct}
 use Rattle.tellings.specs.Tellings.{by_of, facts_of, is_covered, is_forced, IsForced}
 use Rattle.tellings.specs.declared.tellings.By.{By}
@@ -23,17 +23,17 @@ use Rattle.tellings.specs.declared.tellings.Placed.{Placed}
 use Rattle.tellings.specs.declared.tellings.Sentence.{Sentence}
 use Rattle.premises.specs.declared.forced.Forced.{Forced}
 use Rattle.premises.specs.Forcing.{are_covered, AreForcedSoFar, AreKept}
-use Rattle.joined_sentences.specs.Joined.{IsJoined, IsSentence}
+use Rattle.joined_sentences.specs.Joined.{IsJoined, IsSentenceBy}
 use Rattle.meaning.proofs.LiteralLaws.{same_literal-refl}
 use Rattle.needed_facts.specs.Rests.{are_there}
-use Rattle.needed_facts.proofs.TestLemmas.{all_each, all_from, all_more, read_at}
+use Rattle.needed_facts.proofs.TestLemmas.{all_each, read_at}
 use Rattle.premises.proofs.ToldLemmas.{all_say_more, numbered_more, said_more}
 
 -- the sentence rests on nothing
 abbrev pub is_alone : Sentence → Bool
 is_alone sentence = length sentence.rests == 0
 
-rests_on_nothing : (o : Option Sentence) (s : Sentence) (by : By) → IsSomeAnd o (IsSentence by []) → o ≡ Some s → is_alone s ≡ true
+rests_on_nothing : (o : Option Sentence) (s : Sentence) (by : By) → IsSomeAnd o (IsSentenceBy by []) → o ≡ Some s → is_alone s ≡ true
 rests_on_nothing None s by h e = absurd h
 rests_on_nothing (Some t) s by h e =
     let same : t ≡ s = cc in
@@ -44,7 +44,7 @@ alone_more old new by number joined h = all_each is_alone new each
   where
     each : (i : ℕ) (s : Sentence) → slice_get new i ≡ Some s → is_alone s ≡ true
     each i s at = elim (cases_lt i (length old)) [
-      | inl low ↦ all_at is_alone old i s h (sym (joined.kept i low) ∙ at)
+      | inl low ↦ all_get is_alone old i s h (sym (joined.kept i low) ∙ at)
       | inr high ↦
           let within : i < length new = (read_at new i s s at).0 in
           let same = (joined.fresh i high within).0 in
@@ -91,14 +91,14 @@ module _ (size : Extent) (axioms : List Titled) (core : List ℕ) where
   ]
 
   pub all_covered_more : (old new : List Literal) → AreKept old new → (steps : List StoryStep) → are_covered size axioms core old steps ≡ true → are_covered size axioms core new steps ≡ true
-  all_covered_more old new kept steps h = all_from (is_covered size axioms core old) (is_covered size axioms core new) (covered_more old new kept) steps h
+  all_covered_more old new kept steps h = all_weaker (is_covered size axioms core old) (is_covered size axioms core new) (covered_more old new kept) steps h
 
   -- one step more
   pub step_covered : (old new : List Literal) (steps : List StoryStep) (i : ℕ) (d : StoryStep) → i < length steps → AreKept old new → are_covered size axioms core old (take i steps) ≡ true →
       is_covered size axioms core new (get_or steps i d) ≡ true → are_covered size axioms core new (take (i + 1) steps) ≡ true
   step_covered old new steps i d lt kept h one =
       subst (λ (ss : List StoryStep). are_covered size axioms core new ss ≡ true) (sym (take_more steps i d lt))
-      (all_more (is_covered size axioms core new) (take i steps) (get_or steps i d) (all_covered_more old new kept (take i steps) h) one)
+      (all_snoc (is_covered size axioms core new) (take i steps) (get_or steps i d) (all_covered_more old new kept (take i steps) h) one)
 
   -- of all steps of some lemmas each fact that is forced is one of these
   abbrev pub lemmas_covered : List Literal → List Lemma → Bool
@@ -109,8 +109,8 @@ module _ (size : Extent) (axioms : List Titled) (core : List ℕ) where
       are_covered size axioms core new (get_or story i d).steps ≡ true → lemmas_covered new (take (i + 1) story) ≡ true
   lemma_covered old new story i d lt kept h one =
       subst (λ (ls : List Lemma). lemmas_covered new ls ≡ true) (sym (take_more story i d lt))
-      (all_more (λ (lemma : Lemma). are_covered size axioms core new lemma.steps) (take i story) (get_or story i d)
-      (all_from (λ (lemma : Lemma). are_covered size axioms core old lemma.steps) (λ (lemma : Lemma). are_covered size axioms core new lemma.steps) (λ lemma e. all_covered_more old new kept lemma.steps e) (take i story) h) one)
+      (all_snoc (λ (lemma : Lemma). are_covered size axioms core new lemma.steps) (take i story) (get_or story i d)
+      (all_weaker (λ (lemma : Lemma). are_covered size axioms core old lemma.steps) (λ (lemma : Lemma). are_covered size axioms core new lemma.steps) (λ lemma e. all_covered_more old new kept lemma.steps e) (take i story) h) one)
 
   -- the step whose fact was just added
   pub stated_covered : (old new : List Literal) (step : StoryStep) → new ≡ old ++ step.literal ∷ [] → is_covered size axioms core new step ≡ true

@@ -4,13 +4,14 @@ use Rattle.std.specs.Prelude.{slice_get}
 use Rattle.std.specs.List.{list_all}
 use Rattle.std.proofs.lemmas.Bool.{and_from, cases_lt}
 use Rattle.std.proofs.lemmas.List.{length-replicate}
+use Rattle.std.proofs.lemmas.Option.{slice_get_past}
 use Rattle.meaning.specs.declared.stories.Lemma.{Lemma}
 use Rattle.meaning.specs.declared.stories.Reason.{Reason}
 use Rattle.meaning.specs.declared.stories.Reason.TheVariants.{Axiom as ByAxiom, Outcome as ByOutcome, Lemma as ByLemma}
 use Rattle.tellings.specs.Tellings.{home_in, home_of, is_at, is_reached, reaches, takes_in, AreHomes}
 use Rattle.tellings.specs.declared.tellings.Placed.{Placed}
 use Rattle.tellings.specs.declared.tellings.Telling.{Telling}
-use Rattle.needed_facts.proofs.TestLemmas.{all_pass, past, read_at}
+use Rattle.needed_facts.proofs.TestLemmas.{all_pass, read_at}
 
 home_none : (n j : ℕ) → home_of (replicate n None) j ≡ None
 home_none zero j = refl
@@ -43,7 +44,7 @@ checked_homes story tellings homes n all most before within = record {
     | inl low ↦ within j m low e
     | inr high ↦
         let beyond : length homes ≤ j = omega arith in
-        let no : None ≡ Some m = sym (ap home_in (past homes j beyond)) ∙ e in
+        let no : None ≡ Some m = sym (ap home_in (slice_get_past homes j beyond)) ∙ e in
         cc
   ];
 }

@@ -1,10 +1,11 @@
 -- The first of the steps that follow, and the lemmas of a story.
-use Rattle.std.proofs.Common.{◌≡◌, refl, sym, ap, ◌∙◌, subst, ℕ, zero, suc, ◌+◌, ◌<◌, Bool, true, false, not, ◌&&◌, List, [], ◌∷◌, ◌++◌, take, drop, get_or, length, Some, append-nil, append_assoc, true≢false}
+use Rattle.std.proofs.Common.{◌≡◌, refl, sym, ap, ◌∙◌, subst, ℕ, zero, suc, ◌+◌, ◌<◌, true, false, not, ◌&&◌, List, [], ◌∷◌, ◌++◌, take, drop, get_or, length, Some, append-nil, append_assoc}
 use Rattle.std.specs.Prelude.{slice_get, ◌==◌}
 use Rattle.std.specs.List.{list_all}
-use Rattle.std.proofs.lemmas.Bool.{and_parts, and_from, or_parts}
+use Rattle.std.proofs.lemmas.Bool.{and_parts, and_from, or_parts, not-true}
 use Rattle.std.proofs.lemmas.List.{drop_more, take_more}
 use Rattle.std.proofs.lemmas.List.Elements.{filter-append}
+use Rattle.lists.proofs.TestLaws.{all_read}
 use Rattle.vocab.specs.declared.literals.Literal.{Literal}
 use Rattle.vocab.specs.Literal.{has, opposite_of}
 use Rattle.vocab.specs.Size.{Extent}
@@ -15,17 +16,12 @@ use Rattle.meaning.specs.declared.stories.StoryStep.{StoryStep}
 use Rattle.meaning.specs.Literals.{is_literal}
 use Rattle.meaning.specs.Stories.{are_forced, are_new, has_literals, is_decided, is_lemma, is_story_from}
 use Rattle.needed_facts.specs.declared.basis.Basis.{Basis}
-use Rattle.meaning.proofs.TestLaws.{all_read}
 use Rattle.needed_facts.specs.Rests.{refutes_by}
-use Rattle.premises.specs.SoFar.{follow, is_lemma_by, unforced}
-
-not_from : (b : Bool) → not b ≡ true → b ≡ false
-not_from true h = absurd (true≢false (sym h))
-not_from false h = refl
+use Rattle.premises.specs.SoFar.{steps_follow, is_lemma_by, unforced}
 
 -- what is new is not known
 is_fresh : (known : List Literal) (l : Literal) → not (is_decided known l) ≡ true → has known l ≡ false
-is_fresh known l h = (or_parts (has known l) (has known (opposite_of l)) (not_from (is_decided known l) h)).0
+is_fresh known l h = (or_parts (has known l) (has known (opposite_of l)) (not-true (is_decided known l) h)).0
 
 -- the next supposition is new, and so are those after it
 pub record NextNew (known : List Literal) (l : Literal) (rest : List Literal) : Type 0 where
@@ -43,15 +39,15 @@ module _ (size : Extent) (basis : Basis) (last : Reason) where
   pub record NextForced (known : List Literal) (step : StoryStep) (rest : List StoryStep) : Type 0 where
     pub fresh : has known step.literal ≡ false
     pub refuted : refutes_by size basis (known ++ opposite_of step.literal ∷ []) step.reason ≡ true
-    pub others : follow size basis last (known ++ step.literal ∷ []) rest ≡ true
+    pub others : steps_follow size basis last (known ++ step.literal ∷ []) rest ≡ true
 
-  pub next_forced : (known : List Literal) (steps : List StoryStep) (i : ℕ) (d : StoryStep) → i < length steps → follow size basis last known (drop i steps) ≡ true →
+  pub next_forced : (known : List Literal) (steps : List StoryStep) (i : ℕ) (d : StoryStep) → i < length steps → steps_follow size basis last known (drop i steps) ≡ true →
       NextForced known (get_or steps i d) (drop (i + 1) steps)
   next_forced known steps i d lt h =
       let step = get_or steps i d in
       let rest = drop (i + 1) steps in
-      let p = and_parts (not (is_decided known step.literal) && refutes_by size basis (known ++ opposite_of step.literal ∷ []) step.reason) (follow size basis last (known ++ step.literal ∷ []) rest)
-      (subst (λ (ss : List StoryStep). follow size basis last known ss ≡ true) (drop_more steps i d lt) h) in
+      let p = and_parts (not (is_decided known step.literal) && refutes_by size basis (known ++ opposite_of step.literal ∷ []) step.reason) (steps_follow size basis last (known ++ step.literal ∷ []) rest)
+      (subst (λ (ss : List StoryStep). steps_follow size basis last known ss ≡ true) (drop_more steps i d lt) h) in
       let q = and_parts (not (is_decided known step.literal)) (refutes_by size basis (known ++ opposite_of step.literal ∷ []) step.reason) p.0 in
       record { fresh = is_fresh known step.literal q.0; refuted = q.1; others = p.1 }
 
@@ -92,11 +88,11 @@ pub record Parts (size : Extent) (basis : Basis) (lemma : Lemma) : Type 0 where
   pub literals : has_literals size lemma ≡ true
   pub supposed : list_all (is_literal size) lemma.suppose ≡ true
   pub fresh : are_new [] lemma.suppose ≡ true
-  pub follows : follow size basis lemma.last lemma.suppose lemma.steps ≡ true
+  pub follows : steps_follow size basis lemma.last lemma.suppose lemma.steps ≡ true
 
 pub parts_of : (size : Extent) (basis : Basis) (lemma : Lemma) → is_lemma_by size basis lemma ≡ true → Parts size basis lemma
 parts_of size basis lemma h =
-    let p = and_parts (has_literals size lemma && are_new [] lemma.suppose) (follow size basis lemma.last lemma.suppose lemma.steps) h in
+    let p = and_parts (has_literals size lemma && are_new [] lemma.suppose) (steps_follow size basis lemma.last lemma.suppose lemma.steps) h in
     let q = and_parts (has_literals size lemma) (are_new [] lemma.suppose) p.0 in
     let r = and_parts (list_all (is_literal size) lemma.suppose) (list_all (λ (step : StoryStep). is_literal size step.literal) lemma.steps) q.0 in
     record { literals = q.0; supposed = r.0; fresh = q.1; follows = p.1 }

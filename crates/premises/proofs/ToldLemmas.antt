@@ -5,6 +5,8 @@ use Rattle.std.specs.List.{list_all, list_any}
 use Rattle.std.proofs.lemmas.Bool.{and_parts, and_from, or_cases, or_left, or_right, cases_lt}
 use Rattle.std.proofs.lemmas.List.{map-append}
 use Rattle.std.proofs.lemmas.List.Folds.{list_any-append}
+use Rattle.std.proofs.lemmas.Option.{slice_get_past}
+use Rattle.lists.proofs.TestLaws.{all_snoc, all_weaker}
 use Rattle.vocab.specs.declared.literals.Literal.{Literal}
 use Rattle.vocab.specs.declared.literals.Literal.TheVariants.{Wins, Loses, Above}
 use Rattle.vocab.specs.Literal.{has, opposite_of, profile_of, same_literal}
@@ -15,17 +17,17 @@ use Rattle.meaning.specs.declared.stories.Reason.{Reason}
 use Rattle.meaning.specs.declared.stories.Reason.TheVariants.{Axiom as ByAxiom, Outcome as ByOutcome, Lemma as ByLemma}
 use Rattle.meaning.specs.declared.stories.StoryStep.{StoryStep}
 use Rattle.meaning.specs.Stories.{refutes}
-use Rattle.tellings.specs.Tellings.{by_of, moved_to, rests_of, says, stand_there, stands_before}
+use Rattle.tellings.specs.Tellings.{by_of, moved_to, rests_of, says_step, stand_there, stands_before}
 use Rattle.tellings.specs.declared.tellings.Passage.{Passage}
 use Rattle.tellings.specs.declared.tellings.Placed.{Placed}
 use Rattle.tellings.specs.declared.tellings.Sentence.{Sentence}
 use Rattle.meaning.proofs.LiteralLaws.{same_literal-refl}
 use Rattle.needed_facts.specs.declared.basis.Basis.{Basis}
 use Rattle.needed_facts.specs.Rests.{are_there, RestsOn}
-use Rattle.joined_sentences.specs.Joined.{IsJoined, IsSentence}
-use Rattle.premises.specs.SoFar.{are_numbered, steps_of, IsToldSoFar}
+use Rattle.joined_sentences.specs.Joined.{IsJoined, IsSentenceBy}
+use Rattle.premises.specs.SoFar.{are_numbered, bare_steps, IsToldSoFar}
 use Rattle.needed_facts.proofs.RestLemmas.{has_itself, all_among}
-use Rattle.needed_facts.proofs.TestLemmas.{all_from, all_both, all_more, any_from, past}
+use Rattle.needed_facts.proofs.TestLemmas.{all_both, any_from}
 
 -- a step stands in the sentence of the number
 abbrev pub is_in : ℕ → Placed → Bool
@@ -47,7 +49,7 @@ is_stated k q placed = nat_lt placed.sentence k && same_literal q placed.step.li
 module _ (forced suppose : List Literal) where
   pub supposed_stand : (steps : List Placed) (k : ℕ) → list_all (stands_before forced suppose steps k) suppose ≡ true
   supposed_stand steps k =
-      all_from (has suppose) (stands_before forced suppose steps k) (λ q h. or_left (has forced q || has suppose q) (list_any (is_stated k q) steps) (or_right (has forced q) (has suppose q) h)) suppose (has_itself suppose)
+      all_weaker (has suppose) (stands_before forced suppose steps k) (λ q h. or_left (has forced q || has suppose q) (list_any (is_stated k q) steps) (or_right (has forced q) (has suppose q) h)) suppose (has_itself suppose)
 
   pub forced_stands : (steps : List Placed) (k : ℕ) (q : Literal) → has forced q ≡ true → stands_before forced suppose steps k q ≡ true
   forced_stands steps k q h = or_left (has forced q || has suppose q) (list_any (is_stated k q) steps) (or_left (has forced q) (has suppose q) h)
@@ -69,7 +71,7 @@ module _ (forced suppose : List Literal) where
 
   pub all_stand_more : (steps : List Placed) (p : Placed) (k m : ℕ) (qs : List Literal) → k ≤ m → list_all (stands_before forced suppose steps k) qs ≡ true →
       list_all (stands_before forced suppose (steps ++ p ∷ []) m) qs ≡ true
-  all_stand_more steps p k m qs le h = all_from (stands_before forced suppose steps k) (stands_before forced suppose (steps ++ p ∷ []) m) (λ q e. stands_more steps p k m q le e) qs h
+  all_stand_more steps p k m qs le h = all_weaker (stands_before forced suppose steps k) (stands_before forced suppose (steps ++ p ∷ []) m) (λ q e. stands_more steps p k m q le e) qs h
 
   -- a fact that was just stated stands before later sentences
   pub stated_stands : (steps : List Placed) (p : Placed) (m : ℕ) → p.sentence < m → stands_before forced suppose (steps ++ p ∷ []) m p.step.literal ≡ true
@@ -95,13 +97,13 @@ stand_of (ByLemma j) rests h = refl
 -- ---- sentences that are joined
 
 module _ (size : Extent) (axioms : List Titled) (core : List ℕ) (earlier : List Lemma) where
-  pub says_it : (o : Option Sentence) (step : StoryStep) (rests : List Literal) → IsSomeAnd o (IsSentence (by_of step.reason) rests) → are_there step.reason rests ≡ true →
-      refutes size axioms core earlier (rests ++ opposite_of step.literal ∷ []) step.reason ≡ true → says size axioms core earlier o step ≡ true
+  pub says_it : (o : Option Sentence) (step : StoryStep) (rests : List Literal) → IsSomeAnd o (IsSentenceBy (by_of step.reason) rests) → are_there step.reason rests ≡ true →
+      refutes size axioms core earlier (rests ++ opposite_of step.literal ∷ []) step.reason ≡ true → says_step size axioms core earlier o step ≡ true
   says_it None step rests h t r = absurd h
   says_it (Some s) step rests h t r =
       and_from _ _ (and_from _ _ h.named (subst (λ (ls : List Literal). stand_there ls step.reason ≡ true) (sym h.same) (stand_of step.reason rests t))) (subst (λ (ls : List Literal). refutes size axioms core earlier (ls ++ opposite_of step.literal ∷ []) step.reason ≡ true) (sym h.same) r)
 
-  its_rests : (o : Option Sentence) (step : StoryStep) (rests : List Literal) → IsSomeAnd o (IsSentence (by_of step.reason) rests) → rests_of o ≡ rests
+  its_rests : (o : Option Sentence) (step : StoryStep) (rests : List Literal) → IsSomeAnd o (IsSentenceBy (by_of step.reason) rests) → rests_of o ≡ rests
   its_rests None step rests h = absurd h
   its_rests (Some s) step rests h = h.same
 
@@ -116,14 +118,14 @@ module _ (size : Extent) (axioms : List Titled) (core : List ℕ) (earlier : Lis
 
     pub numbered_more : are_numbered (length old) steps ≡ true → are_numbered (length new) (steps ++ placed ∷ []) ≡ true
     numbered_more h =
-        all_more (λ p. nat_lt p.sentence (length new)) steps placed (all_from (λ p. nat_lt p.sentence (length old)) (λ p. nat_lt p.sentence (length new)) later steps h) (lt-ltb number (length new) joined.within)
+        all_snoc (λ p. nat_lt p.sentence (length new)) steps placed (all_weaker (λ p. nat_lt p.sentence (length old)) (λ p. nat_lt p.sentence (length new)) later steps h) (lt-ltb number (length new) joined.within)
 
-    pub said_more : are_numbered (length old) steps ≡ true → list_all (λ p. says size axioms core earlier (slice_get old p.sentence) p.step) steps ≡ true →
-        are_there step.reason rests ≡ true → refutes size axioms core earlier (rests ++ opposite_of step.literal ∷ []) step.reason ≡ true → list_all (λ p. says size axioms core earlier (slice_get new p.sentence) p.step) (steps ++ placed ∷ []) ≡ true
+    pub said_more : are_numbered (length old) steps ≡ true → list_all (λ p. says_step size axioms core earlier (slice_get old p.sentence) p.step) steps ≡ true →
+        are_there step.reason rests ≡ true → refutes size axioms core earlier (rests ++ opposite_of step.literal ∷ []) step.reason ≡ true → list_all (λ p. says_step size axioms core earlier (slice_get new p.sentence) p.step) (steps ++ placed ∷ []) ≡ true
     said_more numbered said there refuted =
-        all_more (λ p. says size axioms core earlier (slice_get new p.sentence) p.step) steps placed
-        (all_both (λ p. nat_lt p.sentence (length old)) (λ p. says size axioms core earlier (slice_get old p.sentence) p.step) (λ p. says size axioms core earlier (slice_get new p.sentence) p.step)
-        (λ p h s. subst (λ (o : Option Sentence). says size axioms core earlier o p.step ≡ true) (sym (joined.kept p.sentence (ltb-true p.sentence (length old) h))) s) steps numbered said)
+        all_snoc (λ p. says_step size axioms core earlier (slice_get new p.sentence) p.step) steps placed
+        (all_both (λ p. nat_lt p.sentence (length old)) (λ p. says_step size axioms core earlier (slice_get old p.sentence) p.step) (λ p. says_step size axioms core earlier (slice_get new p.sentence) p.step)
+        (λ p h s. subst (λ (o : Option Sentence). says_step size axioms core earlier o p.step ≡ true) (sym (joined.kept p.sentence (ltb-true p.sentence (length old) h))) s) steps numbered said)
         (says_it (slice_get new number) step rests joined.is there refuted)
 
     -- each sentence so far says a step, and so does one more
@@ -163,7 +165,7 @@ module _ (size : Extent) (basis : Basis) where
                 subst (λ (ls : List Literal). list_all (stands_before forced suppose more k) ls ≡ true) (sym same)
                 (all_stand_more forced suppose old.steps one (length old.sentences) k rests high
                 (all_among (stands_before forced suppose old.steps (length old.sentences)) known rests so_far.stands grounds.kept))
-            | inr beyond ↦ subst (λ (o : Option Sentence). list_all (stands_before forced suppose more k) (rests_of o) ≡ true) (sym (past new.sentences k beyond)) refl
+            | inr beyond ↦ subst (λ (o : Option Sentence). list_all (stands_before forced suppose more k) (rests_of o) ≡ true) (sym (slice_get_past new.sentences k beyond)) refl
           ]
         ]
 
@@ -174,7 +176,7 @@ module _ (size : Extent) (basis : Basis) where
       all_say = all_say_more size basis.study.now.axioms basis.core.now basis.earlier.now old.sentences new.sentences old.steps step rests number joined so_far.all_say;
       grounded = grounded_at;
       stands =
-          all_more (stands_before forced suppose more (length new.sentences)) known step.literal
+          all_snoc (stands_before forced suppose more (length new.sentences)) known step.literal
           (all_stand_more forced suppose old.steps one (length old.sentences) (length new.sentences) known joined.grown so_far.stands)
           (stated_stands forced suppose old.steps one (length new.sentences) joined.within);
     }
@@ -195,9 +197,9 @@ module _ (size : Extent) (basis : Basis) where
     all_say = so_far.all_say;
     grounded = so_far.grounded;
     stands =
-        all_more (stands_before forced suppose passage.steps (length passage.sentences)) known l so_far.stands (forced_stands forced suppose passage.steps (length passage.sentences) l h);
+        all_snoc (stands_before forced suppose passage.steps (length passage.sentences)) known l so_far.stands (forced_stands forced suppose passage.steps (length passage.sentences) l h);
   }
 
 -- the steps without their places, one more
-pub steps_more : (old new : List Placed) (placed : Placed) → new ≡ old ++ placed ∷ [] → steps_of new ≡ steps_of old ++ placed.step ∷ []
-steps_more old new placed is = ap steps_of is ∙ map-append (λ (p : Placed). p.step) old (placed ∷ [])
+pub steps_more : (old new : List Placed) (placed : Placed) → new ≡ old ++ placed ∷ [] → bare_steps new ≡ bare_steps old ++ placed.step ∷ []
+steps_more old new placed is = ap bare_steps is ∙ map-append (λ (p : Placed). p.step) old (placed ∷ [])

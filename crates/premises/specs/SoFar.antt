@@ -12,12 +12,12 @@ use Rattle.tellings.specs.declared.tellings.Passage.{Passage}
 use Rattle.tellings.specs.declared.tellings.Placed.{Placed}
 use Rattle.tellings.specs.declared.tellings.Sentence.{Sentence}
 use Rattle.tellings.specs.declared.tellings.Telling.{Telling}
-use Rattle.tellings.specs.Tellings.{are_said, rests_of, says, stands_before, IsTold, AllSay}
+use Rattle.tellings.specs.Tellings.{are_said, rests_of, says_step, stands_before, IsTellingRight, AllSay}
 use Rattle.needed_facts.specs.declared.basis.Basis.{Basis}
 
 -- the steps without their places
-abbrev pub steps_of : List Placed → List StoryStep
-steps_of placed = map (λ p. p.step) placed
+abbrev pub bare_steps : List Placed → List StoryStep
+bare_steps placed = map (λ p. p.step) placed
 
 -- those steps whose facts are not forced
 abbrev pub unforced : List Literal → List StoryStep → List StoryStep
@@ -30,15 +30,15 @@ are_numbered count steps = list_all (λ placed. nat_lt placed.sentence count) st
 module _ (size : Extent) (basis : Basis) where
   -- a sentence says a step
   abbrev pub says_by : Option Sentence → StoryStep → Bool
-  says_by sentence step = says size basis.study.now.axioms basis.core.now basis.earlier.now sentence step
+  says_by sentence step = says_step size basis.study.now.axioms basis.core.now basis.earlier.now sentence step
 
   -- each step stands in one sentence, which says it
   abbrev pub are_said_by : Passage → Bool
   are_said_by passage = are_said size basis.study.now.axioms basis.core.now basis.earlier.now passage
 
   -- each step is new and forced, and the last reason refutes all
-  abbrev pub follow : Reason → List Literal → List StoryStep → Bool
-  follow last known steps =
+  abbrev pub steps_follow : Reason → List Literal → List StoryStep → Bool
+  steps_follow last known steps =
       are_forced size basis.study.now.axioms basis.core.now basis.earlier.now last known steps
 
   -- a lemma follows from the earlier ones
@@ -46,9 +46,9 @@ module _ (size : Extent) (basis : Basis) where
   is_lemma_by lemma = is_lemma size basis.study.now.axioms basis.core.now basis.earlier.now lemma
 
   -- a lemma is told right
-  abbrev pub IsToldBy : List Literal → Lemma → Telling → Type 0
-  IsToldBy forced lemma telling =
-      IsTold size basis.study.now.axioms basis.core.now basis.earlier.now forced lemma telling
+  abbrev pub IsLemmaToldBy : List Literal → Lemma → Telling → Type 0
+  IsLemmaToldBy forced lemma telling =
+      IsTellingRight size basis.study.now.axioms basis.core.now basis.earlier.now forced lemma telling
 
   -- some steps of a lemma are told right, and all that is known was forced or supposed, or is stated
   pub record IsToldSoFar (forced suppose known : List Literal) (passage : Passage) : Type 0 where

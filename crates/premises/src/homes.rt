@@ -4,7 +4,7 @@ ghost use Rattle.std.specs.Prelude.{◌≡◌, ◌≤◌, ◌<◌, ℕ, length, 
 ghost use Rattle.std.specs.List.{list_all};
 ghost use Rattle.meaning.specs.declared.stories.Lemma.{Lemma};
 ghost use Rattle.tellings.specs.declared.tellings.Telling.{Telling};
-ghost use Rattle.tellings.specs.Tellings.{home_of, is_alone, is_at, is_reached, mentions, names, reaches};
+ghost use Rattle.tellings.specs.Tellings.{home_of, is_alone, is_at, is_reached, mentions, names_lemma, reaches};
 ghost use Rattle.tellings.specs.Tellings.{takes_in, AreHomes};
 
 use lists::{Items, NoMemory};
@@ -22,8 +22,8 @@ fn named(reason: &Reason) -> Option<u32> {
 }
 
 /// Whether a reason names the lemma at a place.
-fn names(place: usize, reason: &Reason) -> bool
-    ensures { result ≡ names place reason.now }
+fn names_lemma(place: usize, reason: &Reason) -> bool
+    ensures { result ≡ names_lemma place reason.now }
 {
     match *reason {
         Reason::Axiom(_, _) => false,
@@ -99,9 +99,9 @@ fn names_once(place: usize, lemma: &Lemma, telling: &Telling) -> bool
     let steps = telling.passage.steps.as_slice();
     let count = steps
         .iter()
-        .filter(|placed| names(place, &placed.step.reason))
+        .filter(|placed| names_lemma(place, &placed.step.reason))
         .count();
-    if names(place, &lemma.last) {
+    if names_lemma(place, &lemma.last) {
         count == 0
     } else {
         count == 1

@@ -5,7 +5,7 @@ ghost use Rattle.meaning.specs.declared.stories.Lemma.{Lemma};
 ghost use Rattle.meaning.specs.Stories.{is_story};
 ghost use Rattle.story.specs.Conditions.{has_places};
 ghost use Rattle.tellings.specs.Tellings.{IsStoryTold};
-ghost use Rattle.premises.specs.SoFar.{is_lemma_by, IsToldBy};
+ghost use Rattle.premises.specs.SoFar.{is_lemma_by, IsLemmaToldBy};
 ghost use Rattle.premises.specs.Told.{AreTold};
 
 use crate::checking::all_say;
@@ -65,13 +65,13 @@ impl<K: OutcomeKind> Teller<'_, K> {
         requires tried { desk.old.tried.size ≡ K.size self.now.grounds.kind.now }
         requires lemma { IsTrue (is_lemma_by (K.size self.now.grounds.kind.now) self.now.grounds.basis
             lemma.now) }
-        requires told { IsToldBy (K.size self.now.grounds.kind.now) self.now.grounds.basis
+        requires told { IsLemmaToldBy (K.size self.now.grounds.kind.now) self.now.grounds.basis
             self.now.forced.now.literals
             lemma.now telling }
         ensures known { desk.new.known.size ≡ desk.old.known.size }
         ensures tried { desk.new.tried.size ≡ desk.old.tried.size }
         ensures told { IfOk result (λ found. IfSome found
-            (IsToldBy (K.size self.now.grounds.kind.now) self.now.grounds.basis
+            (IsLemmaToldBy (K.size self.now.grounds.kind.now) self.now.grounds.basis
             self.now.forced.now.literals lemma.now)) }
     {
         let size = self.grounds.kind.space().size();
@@ -100,7 +100,7 @@ impl<K: OutcomeKind> Teller<'_, K> {
         ensures known { desk.new.known.size ≡ desk.old.known.size }
         ensures tried { desk.new.tried.size ≡ desk.old.tried.size }
         ensures told { IfOk result
-            (IsToldBy (K.size self.now.grounds.kind.now) self.now.grounds.basis
+            (IsLemmaToldBy (K.size self.now.grounds.kind.now) self.now.grounds.basis
             self.now.forced.now.literals lemma.now) }
     {
         let telling = self.tell(
@@ -128,7 +128,7 @@ impl<K: OutcomeKind> Teller<'_, K> {
         ensures known { desk.new.known.size ≡ desk.old.known.size }
         ensures tried { desk.new.tried.size ≡ desk.old.tried.size }
         ensures told { IfOk result
-            (IsToldBy (K.size self.now.grounds.kind.now) self.now.grounds.basis
+            (IsLemmaToldBy (K.size self.now.grounds.kind.now) self.now.grounds.basis
             self.now.forced.now.literals lemma.now) }
     {
         let telling = self.tell_at(alloc, desk, lemma)?;

@@ -3,7 +3,7 @@
 ghost use Rattle.std.specs.Prelude.{◌≡◌, [], ◌∷◌, ◌++◌, IsTrue, IfOk, OnOk};
 ghost use Rattle.meaning.specs.Literals.{is_literal};
 ghost use Rattle.meaning.specs.Stories.{has_literals};
-ghost use Rattle.premises.specs.SoFar.{steps_of, unforced, is_lemma_by};
+ghost use Rattle.premises.specs.SoFar.{bare_steps, unforced, is_lemma_by};
 
 use joined_sentences::Reshaped;
 use lists::{Items, NoMemory};
@@ -40,8 +40,8 @@ impl<K: OutcomeKind> Teller<'_, K> {
         step: &StoryStep,
     ) -> Result<(), NoMemory>
         requires literal { IsTrue (is_literal (K.size self.now.grounds.kind.now) step.now.literal) }
-        ensures { OnOk result (steps_of placed.new ≡
-            steps_of placed.old ++ unforced self.now.forced.now.literals (step.now ∷ [])) }
+        ensures { OnOk result (bare_steps placed.new ≡
+            bare_steps placed.old ++ unforced self.now.forced.now.literals (step.now ∷ [])) }
     {
         if self.forced.has(&step.literal) {
             return Ok(());
@@ -63,7 +63,7 @@ impl<K: OutcomeKind> Teller<'_, K> {
     ) -> Result<Items<Placed>, NoMemory>
         requires { IsTrue (has_literals (K.size self.now.grounds.kind.now) lemma.now) }
         ensures { IfOk result (λ placed.
-            steps_of placed ≡ unforced self.now.forced.now.literals lemma.now.steps) }
+            bare_steps placed ≡ unforced self.now.forced.now.literals lemma.now.steps) }
     {
         let mut placed = Items::with_room(alloc, numbers.len())?;
         for step in lemma.steps.as_slice() {
@@ -81,7 +81,7 @@ impl<K: OutcomeKind> Teller<'_, K> {
     ) -> Result<Passage, NoMemory>
         requires { IsTrue (is_lemma_by (K.size self.now.grounds.kind.now) self.now.grounds.basis lemma.now) }
         ensures { IfOk result (λ passage.
-            steps_of passage.steps ≡ unforced self.now.forced.now.literals lemma.now.steps) }
+            bare_steps passage.steps ≡ unforced self.now.forced.now.literals lemma.now.steps) }
     {
         let Reshaped { sentences, numbers } = reshaped;
         let steps = self.place_all(alloc, numbers.as_slice(), lemma)?;

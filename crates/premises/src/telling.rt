@@ -7,8 +7,8 @@ ghost use Rattle.vocab.specs.Literal.{has, opposite_of};
 ghost use Rattle.meaning.specs.Literals.{is_literal};
 ghost use Rattle.meaning.specs.Stories.{are_new, has_literals};
 ghost use Rattle.needed_facts.specs.Rests.{refutes_by};
-ghost use Rattle.premises.specs.SoFar.{steps_of, unforced, follow, is_lemma_by};
-ghost use Rattle.premises.specs.SoFar.{IsToldBy, IsToldSoFar};
+ghost use Rattle.premises.specs.SoFar.{bare_steps, unforced, steps_follow, is_lemma_by};
+ghost use Rattle.premises.specs.SoFar.{IsLemmaToldBy, IsToldSoFar};
 
 use crate::teller::Teller;
 use joined_sentences::{Chains, by_of, forget, join};
@@ -58,7 +58,7 @@ impl<K: OutcomeKind> Teller<'_, K> {
             self.now.forced.now.literals
             suppose (known.now.literals ++ step.now.literal ∷ []) passage.new) }
         ensures steps { OnOk result
-            (steps_of passage.new.steps ≡ steps_of passage.old.steps ++ step.now ∷ []) }
+            (bare_steps passage.new.steps ≡ bare_steps passage.old.steps ++ step.now ∷ []) }
     {
         let others = [step.literal.opposite()];
         let rests = self
@@ -96,8 +96,8 @@ impl<K: OutcomeKind> Teller<'_, K> {
             OnOk result (IsToldSoFar (K.size self.now.grounds.kind.now) self.now.grounds.basis
             self.now.forced.now.literals
             suppose (known.now.literals ++ step.now.literal ∷ []) passage.new) }
-        ensures steps { OnOk result (steps_of passage.new.steps ≡
-            steps_of passage.old.steps ++ unforced self.now.forced.now.literals (step.now ∷ [])) }
+        ensures steps { OnOk result (bare_steps passage.new.steps ≡
+            bare_steps passage.old.steps ++ unforced self.now.forced.now.literals (step.now ∷ [])) }
     {
         if self.forced.has(&step.literal) {
             return Ok(());
@@ -131,7 +131,7 @@ impl<K: OutcomeKind> Teller<'_, K> {
         requires tried { tried.old.size ≡ K.size self.now.grounds.kind.now }
         requires supposed { known.old.literals ≡ lemma.now.suppose }
         requires literals { IsTrue (has_literals (K.size self.now.grounds.kind.now) lemma.now) }
-        requires follows { IsTrue (follow (K.size self.now.grounds.kind.now) self.now.grounds.basis
+        requires follows { IsTrue (steps_follow (K.size self.now.grounds.kind.now) self.now.grounds.basis
             lemma.now.last
             lemma.now.suppose lemma.now.steps) }
         ensures known { known.new.size ≡ known.old.size }
@@ -139,7 +139,7 @@ impl<K: OutcomeKind> Teller<'_, K> {
         ensures told { IfOk result (IsToldSoFar (K.size self.now.grounds.kind.now) self.now.grounds.basis
             self.now.forced.now.literals lemma.now.suppose known.new.literals) }
         ensures steps { IfOk result (λ passage.
-            steps_of passage.steps ≡ unforced self.now.forced.now.literals lemma.now.steps) }
+            bare_steps passage.steps ≡ unforced self.now.forced.now.literals lemma.now.steps) }
         ensures ended { OnOk result (IsTrue (refutes_by (K.size self.now.grounds.kind.now)
             self.now.grounds.basis
             known.new.literals lemma.now.last)) }
@@ -172,7 +172,7 @@ impl<K: OutcomeKind> Teller<'_, K> {
         ensures known { known.new.size ≡ known.old.size }
         ensures tried { tried.new.size ≡ tried.old.size }
         ensures told { IfOk result
-            (IsToldBy (K.size self.now.grounds.kind.now) self.now.grounds.basis
+            (IsLemmaToldBy (K.size self.now.grounds.kind.now) self.now.grounds.basis
             self.now.forced.now.literals lemma.now) }
     {
         known.clear();

@@ -13,9 +13,9 @@ use Rattle.vocab.specs.Limits.{product}
 use Rattle.vocab.specs.Size.{Extent, IsSize, cast_count}
 use Rattle.meaning.specs.Digits.{AreDigits}
 use Rattle.meaning.specs.Space.{number_of, digits_of, cast_bases, casts_of, profile_number, with_ballot, with_voters_swapped}
-use Rattle.meaning.proofs.DigitLaws.{are_one_to_one}
+use Rattle.meaning.proofs.DigitLaws.{are_one_to_one, length-digits_of}
 use Rattle.profiles.specs.Weights.{place_values, weights_of}
-use Rattle.profiles.proofs.DigitPlaces.{IsListed, length-digits_of, length-bases, length-casts, weight_at, at_place_value, weight_positive}
+use Rattle.profiles.proofs.DigitPlaces.{IsListed, length-bases, length-casts, weight_at, at_place_value, weight_positive}
 
 -- ---- one digit replaced
 

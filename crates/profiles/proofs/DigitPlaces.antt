@@ -1,25 +1,22 @@
 -- A digit of a number is a quotient's remainder.
-use Rattle.std.proofs.Common.{◌≡◌, refl, sym, ◌∙◌, ap, ap₂, length-append, subst, ℕ, zero, suc, ◌+◌, ◌-◌, ◌*◌, ◌/◌, ◌%◌, ◌<◌, ◌≤◌, List, [], ◌∷◌, ◌++◌, length, get_or, take, drop, replicate, set, arith, add-one, mul_assoc, eq-zero-or-pos, inl, inr}
+use Rattle.std.proofs.Common.{◌≡◌, refl, sym, ◌∙◌, ap, ap₂, length-append, subst, ℕ, zero, suc, ◌+◌, ◌-◌, ◌*◌, ◌/◌, ◌%◌, ◌<◌, ◌≤◌, List, [], ◌∷◌, ◌++◌, length, get_or, take, drop, replicate, set, arith, add-one, mul_assoc}
 use Rattle.std.proofs.lemmas.Nat.{div_below, mod_below}
-use Rattle.std.proofs.Math.Nat.{div-add-mod', mod-eq_of_lt, mul-add-div_right, mul-add-mod_self_right, mul-div_cancel_left, one-mul, mul-zero}
+use Rattle.std.proofs.Math.Nat.{div-add-mod', mod-eq_of_lt, mul-add-div_right, mul-add-mod_self_right, mul-div_cancel_left, one-mul}
 use Rattle.std.proofs.lemmas.List.{length-replicate, get_or-replicate, get_or_append_left, get_or-append_right, take_all}
 use Rattle.std.proofs.Math.Seq.{drop-cons, take-append_seam}
 use Rattle.vocab.specs.InPlace.{padded}
 use Rattle.vocab.specs.Limits.{product}
 use Rattle.vocab.specs.Size.{Extent, IsSize, cast_count, sort_count}
 use Rattle.vocab.specs.declared.kinds.Sort.TheVariants.{Profile}
+use Rattle.vocab.proofs.Powers.{pow_positive}
 use Rattle.meaning.specs.Space.{digits_of, cast_bases, casts_of}
-use Rattle.meaning.proofs.DigitLaws.{lists_at_most, lists_within, product-replicate}
-use Rattle.meaning.proofs.SpaceLaws.{cast_positive, pow_positive}
+use Rattle.meaning.proofs.DigitLaws.{lists_at_most, lists_within, product-replicate, length-digits_of, positive_right}
+use Rattle.meaning.proofs.SpaceLaws.{cast_positive}
 use Rattle.profiles.specs.Weights.{place_values, weights_of}
 
 pub length-place_values : (bases : List ℕ) → length (place_values bases) ≡ length bases
 length-place_values [] = refl
 length-place_values (b ∷ bases) = ap suc (length-place_values bases)
-
-pub length-digits_of : (bases : List ℕ) (k : ℕ) → length (digits_of bases k) ≡ length bases
-length-digits_of [] k = refl
-length-digits_of (b ∷ bases) k = ap suc (length-digits_of bases (k % product bases))
 
 -- a product has each base as a factor, and what a step of its digit is worth
 factor : (bases : List ℕ) (j : ℕ) → j < length bases → (c : ℕ) × (product bases ≡ c * get_or bases j 0 * get_or (place_values bases) j 0)
@@ -28,9 +25,6 @@ factor (b ∷ bases) zero h = (1, ap (λ x. x * product bases) (sym (one-mul b))
 factor (b ∷ bases) (suc j) h =
     let rest = factor bases j (omega (arith, h)) in
     (b * rest.0, ap (λ x. b * x) (rest.1 ∙ mul_assoc rest.0 (get_or bases j 0) (get_or (place_values bases) j 0)) ∙ sym (mul_assoc b rest.0 (get_or bases j 0 * get_or (place_values bases) j 0)) ∙ sym (mul_assoc (b * rest.0) (get_or bases j 0) (get_or (place_values bases) j 0)))
-
-positive_of : (a b k : ℕ) → k < a * b → 0 < b
-positive_of a b k h = elim (eq-zero-or-pos b) [ inl e ↦ absurd (omega (arith, mul-zero a, subst (λ (x : ℕ). k < a * x) e h)) | inr e ↦ e ]
 
 -- what stands above a digit does not change it
 low_digit : (q r c d w : ℕ) → 0 < w → (q * (c * d * w) + r) / w % d ≡ r / w % d
@@ -41,13 +35,13 @@ low_digit q r c d w positive =
 pub digit_at : (bases : List ℕ) (k i : ℕ) → k < product bases → i < length bases → get_or (digits_of bases k) i 0 ≡ k / get_or (place_values bases) i 0 % get_or bases i 0
 digit_at [] k i h l = absurd (omega arith)
 digit_at (b ∷ bases) k zero h l =
-    let positive = positive_of b (product bases) k h in sym (mod-eq_of_lt (div_below k (product bases) b positive h))
+    let positive = positive_right b (product bases) k h in sym (mod-eq_of_lt (div_below k (product bases) b positive h))
 digit_at (b ∷ bases) k (suc j) h l =
-    let positive = positive_of b (product bases) k h in
+    let positive = positive_right b (product bases) k h in
     let inner : j < length bases = omega (arith, l) in
     let parts = factor bases j inner in
     let below : k % product bases < product bases = mod_below k (product bases) positive in
-    let worth : 0 < get_or (place_values bases) j 0 = positive_of (parts.0 * get_or bases j 0) (get_or (place_values bases) j 0) (k % product bases) (subst (λ (x : ℕ). k % product bases < x) parts.1 below) in
+    let worth : 0 < get_or (place_values bases) j 0 = positive_right (parts.0 * get_or bases j 0) (get_or (place_values bases) j 0) (k % product bases) (subst (λ (x : ℕ). k % product bases < x) parts.1 below) in
     digit_at bases (k % product bases) j below inner
     ∙ sym (low_digit (k / product bases) (k % product bases) parts.0 (get_or bases j 0) (get_or (place_values bases) j 0) worth)
     ∙ ap (λ x. (k / product bases * x + k % product bases) / get_or (place_values bases) j 0 % get_or bases j 0) (sym parts.1)
@@ -82,7 +76,7 @@ some_list size valid = subst (λ (x : ℕ). 0 < x) (sym (product-replicate size.
 pub weight_positive : (size : Extent) (i : ℕ) → IsSize size → i < size.voters → 0 < get_or (weights_of size) i 0
 weight_positive size i valid h =
     let parts = factor (cast_bases size) i (omega (arith, length-bases size)) in
-    rw (weight_at size i h) (positive_of (parts.0 * get_or (cast_bases size) i 0) (get_or (place_values (cast_bases size)) i 0) 0 (subst (λ (x : ℕ). 0 < x) parts.1 (some_list size valid)))
+    rw (weight_at size i h) (positive_right (parts.0 * get_or (cast_bases size) i 0) (get_or (place_values (cast_bases size)) i 0) 0 (subst (λ (x : ℕ). 0 < x) parts.1 (some_list size valid)))
 
 -- the cast of a voter, by one quotient and one remainder
 pub cast_at : (size : Extent) (p i : ℕ) → IsListed size p → i < size.voters → p / get_or (weights_of size) i 0 % cast_count size ≡ get_or (casts_of size p) i 0

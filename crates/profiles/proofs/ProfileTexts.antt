@@ -10,13 +10,13 @@ use Rattle.vocab.specs.Size.{Extent, IsSize, ballot_count, ballot_places, cast_c
 use Rattle.std.specs.Prelude.{Option, Some, None, IfSome, IfNone, MatchOption}
 use Rattle.meaning.specs.Space.{digits_of, casts_of}
 use Rattle.meaning.specs.Texts.{ballot_text, cast_text, letters_or_dash, profile_text, ranking_text, letter}
-use Rattle.meaning.proofs.DigitLaws.{product-replicate}
-use Rattle.meaning.proofs.SpaceLaws.{pow_positive}
+use Rattle.meaning.proofs.DigitLaws.{product-replicate, length-digits_of}
 use Rattle.std.proofs.lemmas.List.{get_or_append_left}
 use Rattle.std.proofs.lemmas.Bool.{cases_lt}
 use Rattle.std.proofs.lemmas.Option.{slice_get_past}
+use Rattle.vocab.proofs.Powers.{pow_positive}
 use Rattle.meaning.proofs.BallotLaws.{place_below, place_of_ballot, ranking_of_ballot}
-use Rattle.profiles.proofs.DigitPlaces.{length-casts, length-digits_of}
+use Rattle.profiles.proofs.DigitPlaces.{length-casts}
 use Rattle.profiles.proofs.JoinLemmas.{barred, join-cons, join-push, after_same, front_same}
 use Rattle.profiles.specs.Weights.{rank_of}
 use Rattle.profiles.proofs.TableLemmas.{length-ranking, rank-ranking}

@@ -1,5 +1,5 @@
 -- What the tables of rankings say, computed once over their rows.
-use Rattle.std.proofs.Common.{◌≡◌, refl, sym, ◌∙◌, ap, ap₂, ℕ, zero, suc, ◌+◌, ◌-◌, ◌*◌, ◌<◌, ◌≤◌, Bool, true, false, cond, ◌&&◌, true≢false, List, [], ◌∷◌, map, length, get_or, drop, arith, eqb-true, ltb-true, subst, take, set, ◌++◌, mul-le-mul_right, suc-mul, add_assoc, append_assoc}
+use Rattle.std.proofs.Common.{◌≡◌, refl, sym, ◌∙◌, ap, ap₂, ℕ, zero, suc, ◌+◌, ◌-◌, ◌*◌, ◌<◌, ◌≤◌, Bool, true, false, cond, ◌&&◌, List, [], ◌∷◌, map, length, get_or, drop, arith, eqb-true, ltb-true, subst, take, set, ◌++◌, mul-le-mul_right, suc-mul, add_assoc, append_assoc}
 use Rattle.std.specs.Prelude.{◌==◌, nat_lt, nat_eq, count_by}
 use Rattle.std.specs.List.{list_all}
 use Rattle.std.specs.Cmp.Lexicographic.{pointwise}
@@ -12,9 +12,9 @@ use Rattle.vocab.specs.Name.{is_name}
 use Rattle.vocab.specs.Size.{Extent, IsSize, ballot_count, ballot_places, cast_count, factorial}
 use Rattle.meaning.specs.Space.{exchanged, below, up_from, rankings, ranking, ranking_number, place, is_above}
 use Rattle.meaning.specs.Texts.{letter}
-use Rattle.meaning.proofs.SpaceLaws.{all_at, length-rankings}
+use Rattle.meaning.proofs.SpaceLaws.{all_at, length-rankings, factorial_small}
 use Rattle.meaning.proofs.BallotLaws.{ballots_within}
-use Rattle.meaning.proofs.RankingLaws.{are_rankings}
+use Rattle.meaning.proofs.RankingLaws.{are_rankings, same_list}
 use Rattle.profiles.specs.Weights.{places_of, rank_of}
 use Rattle.profiles.specs.declared.tables.TheConstants.{EXCHANGED, PAIRS, PLACES, RANKINGS}
 
@@ -38,16 +38,6 @@ rankings-rows = refl
 
 places-rows : PLACES ≡ map (λ r. map (place r) (below 5)) (rankings 5)
 places-rows = refl
-
--- five alternatives have 120 ballots, and fewer have no more
-pub factorial_small : (m : ℕ) → m ≤ 5 → factorial m ≤ 120
-factorial_small zero h = omega arith
-factorial_small (suc zero) h = omega arith
-factorial_small (suc (suc zero)) h = omega arith
-factorial_small (suc (suc (suc zero))) h = omega arith
-factorial_small (suc (suc (suc (suc zero)))) h = omega arith
-factorial_small (suc (suc (suc (suc (suc zero))))) h = omega arith
-factorial_small (suc (suc (suc (suc (suc (suc m)))))) h = absurd (omega (arith, h))
 
 pub small_ballot : (m b : ℕ) → m ≤ 5 → b < factorial m → b < 120
 small_ballot m b h l = omega (arith, factorial_small m h, l)
@@ -89,12 +79,6 @@ row_fact m b some few h =
     let rows = all_at (λ k. each_row (row_test (rankings 5) k) 0 (rankings k)) 5 1 m all_rows some (omega arith) in
     let at_b : 0 + b ≡ b = omega arith in
     subst (λ (k : ℕ). row_test (rankings 5) m k (ranking m b) ≡ true) at_b (row_at (row_test (rankings 5) m) 0 (rankings m) b rows (omega (arith, length-rankings m)))
-
-same_list : (xs ys : List ℕ) → pointwise nat_eq xs ys ≡ true → xs ≡ ys
-same_list [] [] h = refl
-same_list [] (y ∷ ys) h = absurd (true≢false (sym h))
-same_list (x ∷ xs) [] h = absurd (true≢false (sym h))
-same_list (x ∷ xs) (y ∷ ys) h = let e = and_parts (nat_eq x y) (pointwise nat_eq xs ys) h in ap₂ (λ (a : ℕ) (b : List ℕ). a ∷ b) (eqb-true x y e.0) (same_list xs ys e.1)
 
 pub length-ranking : (m b : ℕ) → b < factorial m → length (ranking m b) ≡ m
 length-ranking m b h = ((are_rankings m).each b h).size

@@ -9,18 +9,18 @@ pub record WatchersState : Type 0 where
   pub room : ℕ
 
 -- from this link the nodes follow in order, and then the end
-abbrev pub IsChain : List ℕ → ℕ → List ℕ → Type 0
-IsChain next link [] = link ≡ 18446744073709551615
-IsChain next link (n ∷ nodes) = (link ≡ n) × IsChain next (slice_index next n) nodes
+abbrev pub IsChainFrom : List ℕ → ℕ → List ℕ → Type 0
+IsChainFrom next link [] = link ≡ 18446744073709551615
+IsChainFrom next link (n ∷ nodes) = (link ≡ n) × IsChainFrom next (slice_index next n) nodes
 
 -- each node is in the chain of its owner, or loose; the loose nodes follow from a link of their own
 pub record AreLinked (owners heads next : List ℕ) (cursor : ℕ) (loose : List ℕ) : Type 0 where
   pub chain : ℕ → List ℕ
-  pub linked : (c : ℕ) → c < length heads → IsChain next (slice_index heads c) (chain c)
+  pub linked : (c : ℕ) → c < length heads → IsChainFrom next (slice_index heads c) (chain c)
   pub owned : (c : ℕ) → All (λ n. (n < length next) × (slice_index owners n ≡ c)) (chain c)
   pub chain_once : (c : ℕ) → AllPairs (λ a b. a ≢ b) (chain c)
   pub complete : (n : ℕ) → n < length next → Contains (chain (slice_index owners n)) n ⊎ Contains loose n
-  pub rest : IsChain next cursor loose
+  pub rest : IsChainFrom next cursor loose
   pub in_range : All (λ n. n < length next) loose
   pub once : AllPairs (λ a b. a ≢ b) loose
   pub apart : (c : ℕ) → All (λ n. ¬ Contains (chain c) n) loose

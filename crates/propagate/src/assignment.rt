@@ -5,7 +5,7 @@ ghost use Rattle.std.specs.Option.{option_map};
 ghost use Rattle.propagate.specs.Values.{value_in, IsUnassigned, AllFail, IsLastLeft, StaysWithin, StartsAtOne};
 ghost use Rattle.propagate.specs.Entries.{entry_of, up_to};
 ghost use Rattle.propagate.specs.TrailState.{TrailState, IsTrail, known, clause_at, IsLearnable, empty_over, learned, decided, forced_by, cut_to};
-ghost use Rattle.propagate.specs.Scan.{Stands};
+ghost use Rattle.propagate.specs.Scan.{IsScanOf};
 ghost use Rattle.propagate.specs.Outcome.{Ends};
 
 use crate::scan::Scan;
@@ -29,7 +29,7 @@ pub struct Assignment {
 
 impl Model for Assignment {
     ghost use Rattle.std.specs.Prelude.{[], length, vec_capacity};
-    ghost use Rattle.propagate.specs.TrailState.{TrailState, IsSound};
+    ghost use Rattle.propagate.specs.TrailState.{TrailState, TrailPartsAgree};
 
     ghost Value = { TrailState };
 
@@ -43,7 +43,7 @@ impl Model for Assignment {
           watches = [];
         } };
 
-    ghost invariant = { λ t. IsSound t.marks.items (vec_capacity t.entries) (record {
+    ghost invariant = { λ t. TrailPartsAgree t.marks.items (vec_capacity t.entries) (record {
       clauses = t.clauses;
       variables = length t.marks.items;
       entries = t.entries.items;
@@ -222,14 +222,14 @@ impl Assignment {
     /// How the clause of a number stands.
     pub fn scan(&self, k: usize) -> Scan
         requires { k < length self.now.clauses }
-        ensures { Stands (known self.now) (clause_at self.now k) result }
+        ensures { IsScanOf (known self.now) (clause_at self.now k) result }
     {
         self.scan_clause(self.clauses.get(k))
     }
 
     /// How a clause stands.
     fn scan_clause(&self, clause: &[Lit]) -> Scan
-        ensures { Stands (known self.now) clause.now result }
+        ensures { IsScanOf (known self.now) clause.now result }
     {
         let mut left: Option<Lit> = None;
         for lit in clause {

@@ -3,37 +3,34 @@ use Rattle.std.proofs.Common.{◌≡◌, refl, sym, ◌∙◌, ℕ, zero, suc, �
 use Rattle.std.specs.Prelude.{◌==◌}
 use Rattle.std.specs.List.{AllByRecursion, list_any, enumerate_from}
 use Rattle.std.proofs.lemmas.Bool.{and_parts}
-use Rattle.std.proofs.lemmas.Option.{slice_get_within}
+use Rattle.std.proofs.lemmas.Option.{slice_get_within, none-some}
 use Rattle.std.proofs.lemmas.List.Elements.{All-from_recursion}
 use Rattle.cnf.specs.declared.derivations.Line.{Line}
 use Rattle.cnf.specs.declared.derivations.Step.{Step}
 use Rattle.cnf.specs.declared.derivations.Step.TheVariants.{Add, Drop}
 use Rattle.cnf.specs.Signed.{Signed}
 use Rattle.cnf.specs.Sat.{Clause, opposite_lit}
-use Rattle.cnf.specs.Derived.{Standing, clause_under, Effect, Satisfied, Falsified, Forces, Unresolved}
+use Rattle.cnf.specs.Derived.{StandingClauses, clause_under, Effect, Satisfied, Falsified, Forces, Unresolved}
 use Rattle.cnf.specs.Trimmed.{is_in_option, effect_under, is_falsified_effect, is_used, are_hints_trimmed, is_cited_by, is_empty_clause, is_step_trimmed, is_trimmed_from, is_trimmed}
 use Rattle.renumbering.specs.Renumbered.{HasIdsBelow}
 use Rattle.renumbering.proofs.RenumberedLaws.{none_before, under_suc}
 
 -- each id that stands is below a bound
-abbrev Below : ℕ → Standing → Type 0
+abbrev Below : ℕ → StandingClauses → Type 0
 Below n s = (id : ℕ) (c : Clause) → clause_under s id ≡ Some c → id < n
 
-no_some : {A : Type 0} {a : A} → None ≡ Some a → ⊥
-no_some e = cc
-
 below_start : (cs : List Clause) → Below (length cs + 1) (enumerate_from 1 cs)
-below_start cs zero c e = absurd (no_some (sym (none_before 1 cs 0 (omega arith)) ∙ e))
+below_start cs zero c e = absurd (none-some _ (sym (none_before 1 cs 0 (omega arith)) ∙ e))
 below_start cs (suc j) c e = let w = slice_get_within cs j c (sym (under_suc cs j) ∙ e) in omega (arith, w)
 
-below_more : (n k : ℕ) (clause : Clause) (s : Standing) → k ≡ n → Below n s → Below (n + 1) ((k, clause) ∷ s)
+below_more : (n k : ℕ) (clause : Clause) (s : StandingClauses) → k ≡ n → Below n s → Below (n + 1) ((k, clause) ∷ s)
 below_more n k clause s same h id c e = by (k == id) refl e
   where
     by : (b : Bool) → (k == id) ≡ b → cond b (Some clause) (clause_under s id) ≡ Some c → id < n + 1
     by true t f = let is = eqb-true k id t in omega (arith, is, same)
     by false t f = let w = h id c f in omega (arith, w)
 
-module _ (s : Standing) (n : ℕ) (below : Below n s) where
+module _ (s : StandingClauses) (n : ℕ) (below : Below n s) where
   last_below : (id : ℕ) (known : List Signed) (o : Option Clause) → clause_under s id ≡ o → is_falsified_effect (effect_under known o) ≡ true → id < n
   last_below id known None e h = absurd cc
   last_below id known (Some c) e h = below id c e
@@ -65,7 +62,7 @@ below_all n bound ids le h = All-from_recursion (λ id. id < bound) ids (up ids 
     up (x ∷ xs) h = (omega (arith, h.0, le), up xs h.1)
 
 module _ (bound : ℕ) where
-  step_below : (step : Step) (lines : List Line) (s : Standing) (n : ℕ) (go : Standing → Bool) → Below n s → n < bound → is_step_trimmed s n step lines go ≡ true → HasIdsBelow bound step
+  step_below : (step : Step) (lines : List Line) (s : StandingClauses) (n : ℕ) (go : StandingClauses → Bool) → Below n s → n < bound → is_step_trimmed s n step lines go ≡ true → HasIdsBelow bound step
   step_below (Drop ids) lines s n go b lt h = absurd cc
   step_below (Add k clause hints) [] s n go b lt h =
       let a = and_parts (k == n && is_empty_clause clause) (are_hints_trimmed s hints (map opposite_lit clause)) h in
@@ -79,7 +76,7 @@ module _ (bound : ℕ) where
       (omega (arith, is, lt), below_all n bound hints (omega (arith, lt)) (hints_below s n b hints (map opposite_lit clause) d.1))
 
   -- what the rest of the lines says, where there is one
-  rest_trimmed : (step : Step) (line : Line) (lines : List Line) (s : Standing) (n : ℕ) (go : Standing → Bool) → Below n s → is_step_trimmed s n step (line ∷ lines) go ≡ true → (t : Standing) × Below (n + 1) t × (go t ≡ true)
+  rest_trimmed : (step : Step) (line : Line) (lines : List Line) (s : StandingClauses) (n : ℕ) (go : StandingClauses → Bool) → Below n s → is_step_trimmed s n step (line ∷ lines) go ≡ true → (t : StandingClauses) × Below (n + 1) t × (go t ≡ true)
   rest_trimmed (Drop ids) line lines s n go b h = absurd cc
   rest_trimmed (Add k clause hints) line lines s n go b h =
       let a = and_parts (k == n && not (is_empty_clause clause) && are_hints_trimmed s hints (map opposite_lit clause) && list_any (λ (l : Line). is_cited_by n l.step) (line ∷ lines)) (go ((k, clause) ∷ s)) h in
@@ -88,11 +85,11 @@ module _ (bound : ℕ) where
       let is = eqb-true k n (and_parts (k == n) (not (is_empty_clause clause)) d.0).0 in
       ((k, clause) ∷ s, below_more n k clause s is b, a.1)
 
-  lines_below : (lines : List Line) (s : Standing) (n : ℕ) → Below n s → n + length lines ≤ bound → is_trimmed_from s n lines ≡ true → AllByRecursion (λ (line : Line). HasIdsBelow bound line.step) lines
+  lines_below : (lines : List Line) (s : StandingClauses) (n : ℕ) → Below n s → n + length lines ≤ bound → is_trimmed_from s n lines ≡ true → AllByRecursion (λ (line : Line). HasIdsBelow bound line.step) lines
   lines_below [] s n b le h = tt
   lines_below (line ∷ []) s n b le h = (step_below line.step [] s n (λ t. is_trimmed_from t (n + 1) []) b (omega (arith, le)) h, tt)
   lines_below (line ∷ next ∷ lines) s n b le h =
-      let go = λ (t : Standing). is_trimmed_from t (n + 1) (next ∷ lines) in
+      let go = λ (t : StandingClauses). is_trimmed_from t (n + 1) (next ∷ lines) in
       let r = rest_trimmed line.step next lines s n go b h in
       (step_below line.step (next ∷ lines) s n go b (omega (arith, le)) h, lines_below (next ∷ lines) r.0 (n + 1) r.1 (omega (arith, le)) r.2)
 

@@ -9,9 +9,9 @@ use Rattle.cnf.specs.declared.derivations.Step.{Step}
 use Rattle.cnf.specs.declared.derivations.Step.TheVariants.{Add, Drop}
 use Rattle.cnf.specs.Signed.{Signed}
 use Rattle.cnf.specs.Sat.{Clause, opposite_lit}
-use Rattle.cnf.specs.Derived.{Standing, clause_under, Effect, Satisfied, Falsified, Forces, Unresolved}
+use Rattle.cnf.specs.Derived.{StandingClauses, clause_under, Effect, Satisfied, Falsified, Forces, Unresolved}
 use Rattle.cnf.specs.Trimmed.{is_in_option, effect_under, is_falsified_effect, is_used, are_hints_trimmed, is_cited_by, is_cited_in, is_empty_clause, is_step_trimmed, is_trimmed_from, is_trimmed}
-use Rattle.renumbering.specs.Renumbered.{new_place, new_id, renumbered_step, renumbered_line, StandsAt, ArePlaces}
+use Rattle.renumbering.specs.Renumbered.{new_place, new_id, renumbered_step, renumbered_line, IsClausePlace, AreClausePlaces}
 
 -- tests of numbers that are equal together
 same_test : (a b c d : ℕ) → (a ≡ b → c ≡ d) → (c ≡ d → a ≡ b) → (a == b) ≡ (c == d)
@@ -55,7 +55,7 @@ module _ (old new : List Clause) (places : List ℕ) where
   -- a hint names a clause that stands at its new place, or one that a line adds
   abbrev Good : ℕ → Type 0
   Good zero = Unit {0}
-  Good (suc j) = j < B → StandsAt old new j (slice_index places j)
+  Good (suc j) = j < B → IsClausePlace old new j (slice_index places j)
 
   abbrev AreGood : List ℕ → Type 0
   AreGood [] = Unit {0}
@@ -94,7 +94,7 @@ module _ (old new : List Clause) (places : List ℕ) where
   -- ---- what stands
 
   -- the clause of each id that is good stands under its new id
-  abbrev Reads : Standing → Standing → Type 0
+  abbrev Reads : StandingClauses → StandingClauses → Type 0
   Reads s s' = (id : ℕ) → Good id → clause_under s' (f id) ≡ clause_under s id
 
   reads_start : Reads (enumerate_from 1 old) (enumerate_from 1 new)
@@ -107,16 +107,16 @@ module _ (old new : List Clause) (places : List ℕ) where
         | inr le ↦ ap (slice_get new) (place_added j le) ∙ slice_get_past new (A + (j - B)) (omega arith) ∙ sym (slice_get_past old j le)
       ]
 
-  reads_more : (s s' : Standing) (i : ℕ) (c : Clause) → Reads s s' → Reads ((suc (B + i), c) ∷ s) ((f (suc (B + i)), c) ∷ s')
+  reads_more : (s s' : StandingClauses) (i : ℕ) (c : Clause) → Reads s s' → Reads ((suc (B + i), c) ∷ s) ((f (suc (B + i)), c) ∷ s')
   reads_more s s' i c r id g = ap₂ (λ b (o : Option Clause). cond b (Some c) o) (sym (same_id i id g)) (r id g)
 
   -- ---- hints
 
-  used_by : (s s' : Standing) → Reads s s' → (l : Signed) (ids : List ℕ) → AreGood ids → list_any (λ id. is_in_option l (clause_under s' id)) (map f ids) ≡ list_any (λ id. is_in_option l (clause_under s id)) ids
+  used_by : (s s' : StandingClauses) → Reads s s' → (l : Signed) (ids : List ℕ) → AreGood ids → list_any (λ id. is_in_option l (clause_under s' id)) (map f ids) ≡ list_any (λ id. is_in_option l (clause_under s id)) ids
   used_by s s' r l [] g = refl
   used_by s s' r l (id ∷ ids) g = ap₂ (λ a b. is_in_option l a || b) (r id g.0) (used_by s s' r l ids g.1)
 
-  hints_same : (s s' : Standing) → Reads s s' → (ids : List ℕ) → AreGood ids → (known : List Signed) → are_hints_trimmed s' (map f ids) known ≡ are_hints_trimmed s ids known
+  hints_same : (s s' : StandingClauses) → Reads s s' → (ids : List ℕ) → AreGood ids → (known : List Signed) → are_hints_trimmed s' (map f ids) known ≡ are_hints_trimmed s ids known
   hints_same s s' r [] g known = refl
   hints_same s s' r (id ∷ []) g known = ap (λ o. is_falsified_effect (effect_under known o)) (r id g.0)
   hints_same s s' r (id ∷ next ∷ ids) g known =
@@ -152,8 +152,8 @@ module _ (old new : List Clause) (places : List ℕ) where
     | inr e ↦ or_right _ _ (lines_cited i lines e)
   ]
 
-  step_renumbered : (step : Step) (lines : List Line) (i : ℕ) (s s' : Standing) (go go' : Standing → Bool) → Reads s s' → IsStepGood step →
-      ((t t' : Standing) → Reads t t' → go t ≡ true → go' t' ≡ true) →
+  step_renumbered : (step : Step) (lines : List Line) (i : ℕ) (s s' : StandingClauses) (go go' : StandingClauses → Bool) → Reads s s' → IsStepGood step →
+      ((t t' : StandingClauses) → Reads t t' → go t ≡ true → go' t' ≡ true) →
       is_step_trimmed s (suc (B + i)) step lines go ≡ true → is_step_trimmed s' (f (suc (B + i))) (renumbered_step B A places step) (map (renumbered_line B A places) lines) go' ≡ true
   step_renumbered (Drop ids) lines i s s' go go' r g next h = absurd cc
   step_renumbered (Add k clause hints) [] i s s' go go' r g next h =
@@ -170,7 +170,7 @@ module _ (old new : List Clause) (places : List ℕ) where
       (and_from _ _ (and_from _ _ (and_from _ _ (hint_cited i k d.0) d.1) (hints_same s s' r hints g (map opposite_lit clause) ∙ c.1)) (lines_cited i (line ∷ later) b.1))
       (next ((k, clause) ∷ s) ((f k, clause) ∷ s') (subst (λ (n : ℕ). Reads ((n, clause) ∷ s) ((f n, clause) ∷ s')) (sym is) (reads_more s s' i clause r)) a.1)
 
-  lines_renumbered : (lines : List Line) (i : ℕ) (s s' : Standing) → Reads s s' → AreLinesGood lines → is_trimmed_from s (suc (B + i)) lines ≡ true →
+  lines_renumbered : (lines : List Line) (i : ℕ) (s s' : StandingClauses) → Reads s s' → AreLinesGood lines → is_trimmed_from s (suc (B + i)) lines ≡ true →
       is_trimmed_from s' (f (suc (B + i))) (map (renumbered_line B A places) lines) ≡ true
   lines_renumbered [] i s s' r g h = absurd cc
   lines_renumbered (line ∷ lines) i s s' r g h =
@@ -197,11 +197,11 @@ module _ (old new : List Clause) (places : List ℕ) where
   good_lines [] p = tt
   good_lines (line ∷ lines) p = (good_step line.step (λ id h. p id (or_left _ _ h)), good_lines lines (λ id h. p id (or_right (is_cited_by id line.step) _ h)))
 
-  good_cited : (lines : List Line) → ArePlaces old new places lines → (id : ℕ) → is_cited_in lines id ≡ true → Good id
+  good_cited : (lines : List Line) → AreClausePlaces old new places lines → (id : ℕ) → is_cited_in lines id ≡ true → Good id
   good_cited lines p zero h = tt
   good_cited lines p (suc j) h = λ lt. p j lt h
 
-pub trimmed_renumbered : (old new : List Clause) (places : List ℕ) (lines : List Line) → is_trimmed old lines ≡ true → ArePlaces old new places lines →
+pub trimmed_renumbered : (old new : List Clause) (places : List ℕ) (lines : List Line) → is_trimmed old lines ≡ true → AreClausePlaces old new places lines →
     is_trimmed new (map (renumbered_line (length old) (length new) places) lines) ≡ true
 trimmed_renumbered old new places lines h p =
     let from : length old + 1 ≡ suc (length old + 0) = omega arith in

@@ -32,17 +32,17 @@ HasIdsBelow bound (Add id clause hints) = (id < bound) × All (λ h. h < bound) 
 HasIdsBelow bound (Drop ids) = All (λ h. h < bound) ids
 
 -- a clause of the first list stands at this place of the other
-pub record StandsAt (old new : List Clause) (j place : ℕ) : Type 0 where
+pub record IsClausePlace (old new : List Clause) (j place : ℕ) : Type 0 where
   pub within : place < length new
   pub same : slice_get new place ≡ slice_get old j
 
 -- each clause of the first list that a hint names stands at its place in the other
-abbrev pub ArePlaces : (old new : List Clause) → List ℕ → List Line → Type 0
-ArePlaces old new places lines = (j : ℕ) → j < length old → IsTrue (is_cited_in lines (suc j)) → StandsAt old new j (slice_index places j)
+abbrev pub AreClausePlaces : (old new : List Clause) → List ℕ → List Line → Type 0
+AreClausePlaces old new places lines = (j : ℕ) → j < length old → IsTrue (is_cited_in lines (suc j)) → IsClausePlace old new j (slice_index places j)
 
 -- each clause of the first list that a hint names stands somewhere in the other
 abbrev pub StandsSomewhere : (old new : List Clause) → List Line → Type 0
-StandsSomewhere old new lines = (j : ℕ) → j < length old → IsTrue (is_cited_in lines (suc j)) → (place : ℕ) × StandsAt old new j place
+StandsSomewhere old new lines = (j : ℕ) → j < length old → IsTrue (is_cited_in lines (suc j)) → (place : ℕ) × IsClausePlace old new j place
 
 -- the flags are as before, but up where an id passes a test
 pub record IsFlagging (old new : List Bool) (test : ℕ → Bool) : Type 0 where
@@ -57,4 +57,4 @@ pub record AreFlags (clauses : ℕ) (lines : List Line) (flags : List Bool) : Ty
 -- the clauses of the front of the first list whose flags are up stand at their places
 pub record ArePlacesUpTo (old new : List Clause) (flags : List Bool) (upto : ℕ) (places : List ℕ) : Type 0 where
   pub count : length places ≡ upto
-  pub stand : (j : ℕ) → j < upto → slice_index_or flags j false ≡ true → StandsAt old new j (slice_index places j)
+  pub stand : (j : ℕ) → j < upto → slice_index_or flags j false ≡ true → IsClausePlace old new j (slice_index places j)

@@ -2,7 +2,7 @@
 
 ghost use Rattle.std.specs.Prelude.{◌≡◌, ◌≢◌, ◌≤◌, ◌<◌, ℕ, length, slice_get, slice_index_or, false, Some, IfOk, MatchOption, IsTrue, IsFalse};
 ghost use Rattle.cnf.specs.Sat.{same_lit};
-ghost use Rattle.renumbering.specs.Renumbered.{ArePlacesUpTo, StandsAt};
+ghost use Rattle.renumbering.specs.Renumbered.{ArePlacesUpTo, IsClausePlace};
 
 use cnf::{Clauses, Lit};
 use lists::NoMemory;
@@ -71,7 +71,7 @@ pub fn places_of(
 ) -> Result<Vec<u32>, NoMemory>
     requires count { length flags.now ≡ length old.now.clauses }
     requires stand { (j : ℕ) → j < length old.now.clauses → IsTrue (slice_index_or flags.now j false) →
-        (place : ℕ) × StandsAt old.now.clauses new.now.clauses j place }
+        (place : ℕ) × IsClausePlace old.now.clauses new.now.clauses j place }
     ensures { IfOk result (λ places.
         ArePlacesUpTo old.now.clauses new.now.clauses flags.now (length old.now.clauses) places.items) }
 {

@@ -18,7 +18,7 @@ use Rattle.report.specs.declared.faults.ReportFault.{ReportFault}
 use Rattle.report.specs.declared.faults.ReportFault.TheVariants.{Line as AtLine, NoMemory}
 use Rattle.report.specs.declared.progress.Progress.{Progress}
 use Rattle.report.specs.declared.judging.Judging.{Judging}
-use Rattle.report.specs.Stands.{supposed, Stands, StandsAs, StandsFor, IsReady}
+use Rattle.report.specs.Stands.{supposed, Stands, StandsAs, StandsFor, StandsForSome}
 use Rattle.report.specs.Taken.{Took, IsTaken}
 
 -- ---- one line
@@ -114,13 +114,13 @@ module _ (study : Question) where
       by_told (Refused line word) k = let wrong : None ≡ Some (AtLine line word) = k in absurd (cc)
 
   -- a checker with a fault stays ready
-  pub still_ready : (n : ℕ) (fault : ReportFault) (r : Judging) (text : List ℕ) → IsReady study (at n (Some fault) r) → IsReady study (at (n + 1) (Some fault) r)
+  pub still_ready : (n : ℕ) (fault : ReportFault) (r : Judging) (text : List ℕ) → StandsForSome study (at n (Some fault) r) → StandsForSome study (at (n + 1) (Some fault) r)
   still_ready n fault r text (inl e) = inl e
   still_ready n fault r text (inr (lines, h)) = inr (lines ++ text ∷ [], still n fault r lines text h)
 
   -- the next line leaves a checker ready
-  pub step_ready : (n : ℕ) (fault : Option ReportFault) (r after : Judging) (text : List ℕ) → IsReady study (at n None r) →
-      ((s : Standing) → Stands study r s → fault ≢ Some NoMemory → StandsAs study fault after (settle study (n + 1) s (read_line study s text) Good)) → IsReady study (at (n + 1) fault after)
+  pub step_ready : (n : ℕ) (fault : Option ReportFault) (r after : Judging) (text : List ℕ) → StandsForSome study (at n None r) →
+      ((s : Standing) → Stands study r s → fault ≢ Some NoMemory → StandsAs study fault after (settle study (n + 1) s (read_line study s text) Good)) → StandsForSome study (at (n + 1) fault after)
   step_ready n fault r after text (inl e) go = absurd (cc)
   step_ready n fault r after text (inr (lines, h)) go = elim (is_wanting fault) [
     | inl e ↦ inl e
@@ -129,15 +129,15 @@ module _ (study : Question) where
 
   -- ---- at what a checker holds
 
-  pub still_ready_at : (n : ℕ) (o : Option ReportFault) (fault : ReportFault) (r : Judging) (text : List ℕ) → o ≡ Some fault → IsReady study (at n o r) → IsReady study (at (n + 1) o r)
-  still_ready_at n o fault r text e h = subst (λ x. IsReady study (at (n + 1) x r)) (sym e) (still_ready n fault r text (subst (λ x. IsReady study (at n x r)) e h))
+  pub still_ready_at : (n : ℕ) (o : Option ReportFault) (fault : ReportFault) (r : Judging) (text : List ℕ) → o ≡ Some fault → StandsForSome study (at n o r) → StandsForSome study (at (n + 1) o r)
+  still_ready_at n o fault r text e h = subst (λ x. StandsForSome study (at (n + 1) x r)) (sym e) (still_ready n fault r text (subst (λ x. StandsForSome study (at n x r)) e h))
 
   pub still_at : (n : ℕ) (o : Option ReportFault) (fault : ReportFault) (r : Judging) (lines : List (List ℕ)) (text : List ℕ) → o ≡ Some fault → StandsFor study (at n o r) lines → StandsFor study (at (n + 1) o r) (lines ++ text ∷ [])
   still_at n o fault r lines text e h = subst (λ x. StandsFor study (at (n + 1) x r) (lines ++ text ∷ [])) (sym e) (still n fault r lines text (subst (λ x. StandsFor study (at n x r) lines) e h))
 
-  pub step_ready_at : (n : ℕ) (o fault : Option ReportFault) (r after : Judging) (text : List ℕ) → o ≡ None → IsReady study (at n o r) →
-      ((s : Standing) → Stands study r s → fault ≢ Some NoMemory → StandsAs study fault after (settle study (n + 1) s (read_line study s text) Good)) → IsReady study (at (n + 1) fault after)
-  step_ready_at n o fault r after text e h go = step_ready n fault r after text (subst (λ x. IsReady study (at n x r)) e h) go
+  pub step_ready_at : (n : ℕ) (o fault : Option ReportFault) (r after : Judging) (text : List ℕ) → o ≡ None → StandsForSome study (at n o r) →
+      ((s : Standing) → Stands study r s → fault ≢ Some NoMemory → StandsAs study fault after (settle study (n + 1) s (read_line study s text) Good)) → StandsForSome study (at (n + 1) fault after)
+  step_ready_at n o fault r after text e h go = step_ready n fault r after text (subst (λ x. StandsForSome study (at n x r)) e h) go
 
   pub step_at : (n : ℕ) (o fault : Option ReportFault) (r after : Judging) (lines : List (List ℕ)) (text : List ℕ) → o ≡ None → StandsFor study (at n o r) lines →
       ((s : Standing) → Stands study r s → StandsAs study fault after (settle study (n + 1) s (read_line study s text) Good)) → StandsFor study (at (n + 1) fault after) (lines ++ text ∷ [])

@@ -1,18 +1,19 @@
 -- Places of axioms, as lists; and how tables are taken.
-use Rattle.std.proofs.Common.{◌≡◌, refl, sym, ap, ◌∙◌, subst, ℕ, zero, suc, ◌+◌, ◌<◌, ◌≤◌, Bool, true, false, not, List, [], ◌∷◌, ◌++◌, length, filter, Option, Some, None, Result, Ok, Err, cond, arith, add-one, lt-ltb, eq-eqb, eqb-true, length-append}
+use Rattle.std.proofs.Common.{◌≡◌, refl, sym, ap, ◌∙◌, subst, ℕ, ◌+◌, ◌<◌, ◌≤◌, Bool, true, false, not, List, [], ◌∷◌, ◌++◌, length, filter, Option, Some, None, Result, Ok, Err, cond, arith, eq-eqb, eqb-true, length-append}
 use Rattle.std.specs.Prelude.{◌==◌, nat_lt}
 use Rattle.std.specs.List.{list_all}
 use Rattle.std.specs.Option.{option_or}
-use Rattle.std.proofs.lemmas.Bool.{and_parts, and_from, ne_eqb}
+use Rattle.std.proofs.lemmas.Bool.{and_parts, ne_eqb}
 use Rattle.lists.specs.declared.memory.NoMemory.{NoMemory}
+use Rattle.lists.proofs.TestLaws.{all_kept}
 use Rattle.vocab.specs.declared.kinds.Sort.TheVariants.{Profile}
 use Rattle.vocab.specs.Size.{sort_count}
 use Rattle.vocab.specs.Study.{Question}
 use Rattle.meaning.specs.declared.cores.Witness.{Witness}
 use Rattle.meaning.specs.declared.cores.Witness.TheVariants.{Rule}
-use Rattle.meaning.specs.Space.{up_from, below}
+use Rattle.meaning.specs.Space.{below}
 use Rattle.meaning.specs.Truth.{is_rule}
-use Rattle.meaning.proofs.SpaceLaws.{all_from}
+use Rattle.meaning.proofs.SpaceLaws.{all_below}
 use Rattle.verdicts.specs.declared.refusals.Refusal.{Refusal}
 use Rattle.verdicts.specs.declared.refusals.Refusal.TheVariants.{Row}
 use Rattle.verdicts.specs.declared.verdicts.Verdict.TheVariants.{Possible}
@@ -26,41 +27,13 @@ use Rattle.report.specs.declared.judging.Judging.{Judging}
 use Rattle.report.specs.Stands.{Stands}
 use Rattle.report.specs.Taken.{Takes, TakesTable}
 
-up_more : (a n : ℕ) → up_from a (suc n) ≡ up_from a n ++ (a + n) ∷ []
-up_more a zero = let here : a ≡ a + 0 = omega arith in ap (λ x. x ∷ []) here
-up_more a (suc n) =
-    let same : suc a + n ≡ a + suc n = omega arith in
-    ap (λ xs. a ∷ xs) (up_more (suc a) n) ∙ ap (λ x. a ∷ up_from (suc a) n ++ x ∷ []) same
-
--- one more number
-pub below_more : (n : ℕ) → below (n + 1) ≡ below n ++ n ∷ []
-below_more n =
-    let next : n + 1 ≡ suc n = add-one n in
-    let here : 0 + n ≡ n = omega arith in
-    ap below next ∙ up_more 0 n ∙ ap (λ x. below n ++ x ∷ []) here
-
--- the numbers below n are below n
-pub all_below : (n : ℕ) → list_all (λ k. nat_lt k n) (below n) ≡ true
-all_below n = all_from (λ k. nat_lt k n) n 0 (λ v _ h. let l : v < n = omega (arith, h) in lt-ltb v n l)
-
--- what holds of all items holds of some of them
-pub all_filter : (s t : ℕ → Bool) (xs : List ℕ) → list_all s xs ≡ true → list_all s (filter t xs) ≡ true
-all_filter s t [] h = refl
-all_filter s t (x ∷ xs) h =
-    let p = and_parts (s x) (list_all s xs) h in
-    by_test (t x) p.0 (all_filter s t xs p.1)
-  where
-    by_test : (b : Bool) → s x ≡ true → list_all s (filter t xs) ≡ true → list_all s (cond b (x ∷ filter t xs) (filter t xs)) ≡ true
-    by_test true here rest = and_from _ _ here rest
-    by_test false here rest = rest
-
 -- the numbers below the length of a list
 pub in_below : (places : List ℕ) (n m : ℕ) → places ≡ below n → n ≡ m → list_all (λ k. nat_lt k m) places ≡ true
 in_below places n m e same = ap (list_all (λ k. nat_lt k m)) (e ∙ ap below same) ∙ all_below m
 
 -- the items of a list but one
 pub in_rest : (s : ℕ → Bool) (core places : List ℕ) (k : ℕ) → places ≡ filter (λ c. not (c == k)) core → list_all s core ≡ true → list_all s places ≡ true
-in_rest s core places k e h = ap (list_all s) e ∙ all_filter s (λ c. not (c == k)) core h
+in_rest s core places k e h = ap (list_all s) e ∙ all_kept s (λ c. not (c == k)) core h
 
 pub rest_is : (places rest from core : List ℕ) (k : ℕ) → places ≡ rest → rest ≡ filter (λ c. not (c == k)) from → from ≡ core → places ≡ filter (λ c. not (c == k)) core
 rest_is places rest from core k e f g = e ∙ f ∙ ap (filter (λ c. not (c == k))) g

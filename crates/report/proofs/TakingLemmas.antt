@@ -21,7 +21,7 @@ use Rattle.verdicts.specs.Texts.{words_of}
 use Rattle.verdicts.specs.Reading.{names}
 use Rattle.verdicts.specs.Lines.{Line, Title, KindIs, VotersAre, AlternativesAre, BallotsAre, AbsentIs, AxiomsAre, SaysPossible, SaysImpossible, SaysUndecided, LimitIs, RuleOf, Row, CoreIs, LemmasAre, Heading, Suppose, So, Clash, WithRule, WithOpen, End}
 use Rattle.verdicts.specs.Places.{Place, AtRow, AtCore, AtSuppose, AtStep, AtWitness, AtWitnessRow, Standing, wanted}
-use Rattle.verdicts.specs.Faults.{unless_so, places_of, is_core, next_after}
+use Rattle.verdicts.specs.Faults.{unless_so, named_places, is_core, next_after}
 use Rattle.verdicts.specs.Judge.{read_line, advance}
 use Rattle.verdicts.proofs.LineLaws.{map_is, keyed_is, test_is}
 use Rattle.verdicts.proofs.FitLaws.{Fits, wanted_fits}
@@ -31,7 +31,7 @@ use Rattle.verdicts.proofs.RangeLaws.{good_in_range}
 use Rattle.report_lines.specs.declared.lines.Line.{Line as HeldLine}
 use Rattle.report_lines.specs.declared.lines.Line.TheVariants as held
 use Rattle.report_lines.specs.declared.places.Place.TheVariants as place
-use Rattle.report_lines.specs.Held.{held_number, held_reason, held_place, held_line, if_core}
+use Rattle.report_lines.specs.Held.{held_count, held_reason, held_place, held_line, if_core}
 use Rattle.report.specs.declared.judging.Judging.{Judging}
 use Rattle.report.specs.Stands.{Stands, IsRead}
 use Rattle.report.specs.Taken.{Takes, IsInStory, IsLine, IsNextRow}
@@ -42,8 +42,8 @@ module _ (study : Question) where
   abbrev pub Said : HeldLine → Line → Type 0
   Said (held.Title version) w = w ≡ Title version
   Said (held.KindIs k) w = w ≡ KindIs k
-  Said (held.VotersAre c) w = (n : ℕ) × (w ≡ VotersAre n) × (c ≡ held_number n)
-  Said (held.AlternativesAre c) w = (n : ℕ) × (w ≡ AlternativesAre n) × (c ≡ held_number n)
+  Said (held.VotersAre c) w = (n : ℕ) × (w ≡ VotersAre n) × (c ≡ held_count n)
+  Said (held.AlternativesAre c) w = (n : ℕ) × (w ≡ AlternativesAre n) × (c ≡ held_count n)
   Said (held.BallotsAre b) w = (places : List ℕ) × (w ≡ BallotsAre places) × (b ≡ pointwise nat_eq places (ballot_places study.size))
   Said (held.AbsentIs absent) w = w ≡ AbsentIs absent
   Said (held.AxiomsAre b) w = (ns : List (List ℕ)) × (w ≡ AxiomsAre ns) × (b ≡ pointwise bytes_eq ns (map (λ a. a.name) study.axioms))
@@ -51,16 +51,16 @@ module _ (study : Question) where
   Said held.SaysImpossible w = w ≡ SaysImpossible
   Said held.SaysUndecided w = w ≡ SaysUndecided
   Said (held.LimitIs c) w = (n : ℕ) × (w ≡ LimitIs n)
-  Said (held.RuleOf c) w = (n : ℕ) × (w ≡ RuleOf n) × (c ≡ held_number n)
+  Said (held.RuleOf c) w = (n : ℕ) × (w ≡ RuleOf n) × (c ≡ held_count n)
   Said (held.Row p o) w = w ≡ Row p o
   Said held.CoreIs w = (ns : List (List ℕ)) × (w ≡ CoreIs ns)
-  Said (held.LemmasAre c) w = (n : ℕ) × (w ≡ LemmasAre n) × (c ≡ held_number n)
+  Said (held.LemmasAre c) w = (n : ℕ) × (w ≡ LemmasAre n) × (c ≡ held_count n)
   Said (held.Heading c) w = (n : ℕ) × (w ≡ Heading n)
   Said (held.Suppose l) w = w ≡ Suppose l
   Said (held.So l why) w = (reason : Reason) × (w ≡ So l reason) × (why ≡ held_reason reason)
   Said (held.Clash why) w = (reason : Reason) × (w ≡ Clash reason) × (why ≡ held_reason reason)
-  Said (held.WithRule name c) w = (n : ℕ) × (w ≡ WithRule name n) × (c ≡ held_number n)
-  Said (held.WithOpen name c) w = (n : ℕ) × (w ≡ WithOpen name n) × (c ≡ held_number n)
+  Said (held.WithRule name c) w = (n : ℕ) × (w ≡ WithRule name n) × (c ≡ held_count n)
+  Said (held.WithOpen name c) w = (n : ℕ) × (w ≡ WithOpen name n) × (c ≡ held_count n)
   Said held.End w = w ≡ End
 
   said : (w : Line) → Said (held_line study w) w
@@ -177,7 +177,7 @@ module _ (study : Question) where
       by_test false e = absurd (cc)
 
   pub with_core : (r : Judging) (s : Standing) (core : List ℕ) (names : List (List ℕ)) → Stands study r s
-      → core ≡ unwrap_or (places_of study.axioms names) []
+      → core ≡ unwrap_or (named_places study.axioms names) []
       → Stands study (record r { place = place.AtLemmas; core = core }) (advance study s (CoreIs names))
   with_core r s core names h e = record {
     place = refl;

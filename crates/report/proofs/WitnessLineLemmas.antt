@@ -1,11 +1,11 @@
 -- What a judging stands for at witnesses.
-use Rattle.std.proofs.Common.{◌≡◌, refl, sym, ap, ap₂, ◌∙◌, subst, ℕ, zero, suc, ◌+◌, ◌<◌, ◌≤◌, Bool, true, List, [], ◌∷◌, ◌++◌, length, length-append, Option, Some, None, arith}
+use Rattle.std.proofs.Common.{◌≡◌, refl, sym, ap, ap₂, ◌∙◌, subst, ℕ, ◌+◌, ◌<◌, ◌≤◌, Bool, true, List, [], ◌∷◌, ◌++◌, length, length-append, Option, Some, None, arith}
 use Rattle.std.specs.Prelude.{slice_get, nat_lt, ◌==◌}
 use Rattle.std.specs.Option.{option_or}
 use Rattle.std.specs.List.{list_all}
 use Rattle.std.specs.Str.{bytes_eq}
 use Rattle.std.proofs.lemmas.Bool.Decides.{Decides-eqb}
-use Rattle.std.proofs.lemmas.Bool.{and_parts}
+use Rattle.lists.proofs.TestLaws.{all_get}
 use Rattle.vocab.specs.Study.{Question}
 use Rattle.vocab.specs.Titled.{Titled}
 use Rattle.meaning.specs.declared.cores.Witness.{Witness}
@@ -20,7 +20,7 @@ use Rattle.verdicts.proofs.RangeLaws.{good_in_range}
 use Rattle.report_lines.specs.declared.places.Place.{Place as HeldPlace}
 use Rattle.report_lines.specs.declared.places.Place.TheVariants as place
 use Rattle.verdicts.specs.declared.verdicts.Confirmed.TheVariants as confirmed
-use Rattle.report_lines.specs.Held.{held_place, held_number}
+use Rattle.report_lines.specs.Held.{held_place, held_count}
 use Rattle.report.specs.declared.judging.Judging.{Judging}
 use Rattle.report.specs.Stands.{Stands, IsRead}
 
@@ -29,14 +29,8 @@ next_there [] witnesses = refl
 next_there (k ∷ core) [] = refl
 next_there (k ∷ core) (w ∷ witnesses) = next_there core witnesses
 
--- a number in a list whose items all pass a test
-all_there : (t : ℕ → Bool) (xs : List ℕ) (i x : ℕ) → list_all t xs ≡ true → slice_get xs i ≡ Some x → t x ≡ true
-all_there t [] i x h e = absurd (cc)
-all_there t (y ∷ ys) zero x h e = let same : y ≡ x = cc in subst (λ z. t z ≡ true) same (and_parts (t y) (list_all t ys) h).0
-all_there t (y ∷ ys) (suc i) x h e = all_there t ys i x (and_parts (t y) (list_all t ys) h).1 e
-
 -- a number that is held is compared with one below the end of `u64`
-pub number_same : (n m : ℕ) → m < 18446744073709551615 → held_number n ≡ m → (n == m) ≡ true
+pub number_same : (n m : ℕ) → m < 18446744073709551615 → held_count n ≡ m → (n == m) ≡ true
 number_same n m l e = (Decides-eqb n m).1 (omega (arith, l, e))
 
 -- neither of two tests fails
@@ -59,7 +53,7 @@ module _ (study : Question) (r : Judging) where
   few_places i = subst (λ (core : List ℕ). length core ≤ length study.axioms) (sym i.stands.core) (good_in_range study i.standing i.lines i.good).few
 
   pub place_in_range : IsRead study r → (k : ℕ) → slice_get r.core r.witnesses ≡ Some k → nat_lt k (length study.axioms) ≡ true
-  place_in_range i k e = all_there (λ k. nat_lt k (length study.axioms)) r.core r.witnesses k (in_range i) e
+  place_in_range i k e = all_get (λ k. nat_lt k (length study.axioms)) r.core r.witnesses k (in_range i) e
 
   module _ (s : Standing) (h : Stands study r s) where
     pub next_is : next_core s ≡ slice_get r.core r.witnesses

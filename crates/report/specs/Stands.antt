@@ -7,7 +7,7 @@ use Rattle.meaning.specs.declared.stories.Lemma.{Lemma}
 use Rattle.verdicts.specs.Places.{Standing}
 use Rattle.verdicts.specs.Faults.{known_of}
 use Rattle.verdicts.specs.Judge.{Told, Good, Refused, judge}
-use Rattle.report_lines.specs.Held.{held_number, held_place}
+use Rattle.report_lines.specs.Held.{held_count, held_place}
 use Rattle.report.specs.declared.faults.ReportFault.{ReportFault}
 use Rattle.report.specs.declared.faults.ReportFault.TheVariants.{Line as AtLine, NoMemory}
 use Rattle.report.specs.declared.progress.Progress.{Progress}
@@ -23,7 +23,7 @@ pub record Stands (study : Question) (r : Judging) (s : Standing) : Type 0 where
   pub version : r.version ≡ s.version
   pub rows : r.rows ≡ s.rows
   pub core : r.core ≡ s.core
-  pub count : r.count ≡ held_number s.count
+  pub count : r.count ≡ held_count s.count
   pub earlier : supposed r.earlier ≡ supposed s.earlier
   pub alone : IsTrue (list_all (λ lemma. length lemma.steps == 0) r.earlier)
   pub few : length r.earlier ≤ 4294967295
@@ -54,5 +54,5 @@ abbrev pub StandsFor : Question → Progress → List (List ℕ) → Type 0
 StandsFor study p lines = (p.lines ≡ length lines) × StandsAt study p (judge study lines)
 
 -- it stands for some lines, unless memory was wanting
-abbrev pub IsReady : Question → Progress → Type 0
-IsReady study p = (p.fault ≡ Some NoMemory) ⊎ ((lines : List (List ℕ)) × StandsFor study p lines)
+abbrev pub StandsForSome : Question → Progress → Type 0
+StandsForSome study p = (p.fault ≡ Some NoMemory) ⊎ ((lines : List (List ℕ)) × StandsFor study p lines)

@@ -26,8 +26,8 @@ abbrev pub Takes : Question → Standing → Line → Judging → Result (Option
 Takes study s line r result = IfOk result (Took study s line r)
 
 -- these are places of axioms
-abbrev pub ArePlaces : Question → List ℕ → Type 0
-ArePlaces study core = IsTrue (list_all (λ k. nat_lt k (length study.axioms)) core)
+abbrev pub AreAxiomPlaces : Question → List ℕ → Type 0
+AreAxiomPlaces study core = IsTrue (list_all (λ k. nat_lt k (length study.axioms)) core)
 
 -- these are outcomes of the size
 abbrev pub AreOutcomes : Extent → List ℕ → Type 0
@@ -38,13 +38,13 @@ pub record IsNextRow (study : Question) (r : Judging) (outcome : ℕ) : Type 0 w
   pub rows : AreOutcomes study.size r.rows
   pub more : length r.rows < sort_count study.size Profile
   pub fits : outcome < outcome_count study.size.kind study.size.alternatives
-  pub core : ArePlaces study r.core
+  pub core : AreAxiomPlaces study r.core
   pub next : r.place ≡ held_place AtWitnessRow → r.witnesses < length r.core
 
 -- the table has all its rows; where it is that of a witness, one is still due
 pub record HasTable (study : Question) (r : Judging) : Type 0 where
   pub rule : IsTrue (is_rule study.size r.rows)
-  pub core : ArePlaces study r.core
+  pub core : AreAxiomPlaces study r.core
   pub next : r.place ≡ held_place AtWitnessRow → r.witnesses < length r.core
 
 -- a lemma is being read

@@ -8,7 +8,7 @@ ghost use Rattle.verdicts.specs.Judge.{judge, conclude, rule_of, at_end, has_no_
 ghost use Rattle.verdicts.specs.Places.{Place as WantedPlace, AtNothing};
 ghost use Rattle.report_lines.specs.Held.{held_place};
 ghost use Rattle.report.specs.Answers.{told_of, is_rule_end, IsReportedRule, TellsAll, Concludes, ConfirmsRight, ConfirmsAll, ConfirmsTrue};
-ghost use Rattle.report.specs.Stands.{StandsFor, IsReady};
+ghost use Rattle.report.specs.Stands.{StandsFor, StandsForSome};
 
 use crate::faults::ReportFault;
 use crate::judging::Judging;
@@ -92,10 +92,10 @@ impl<'a, K: OutcomeKind> Checker<'a, K> {
         text: &[u8],
     ) -> Result<(), NoMemory>
         requires room { self.old.progress.lines < 4294967294 }
-        requires ready { IsReady self.old.subject.setting.study.now self.old.progress }
+        requires ready { StandsForSome self.old.subject.setting.study.now self.old.progress }
         ensures subject { self.new.subject ≡ self.old.subject }
         ensures lines { self.new.progress.lines ≡ self.old.progress.lines + 1 }
-        ensures ready { IsReady self.old.subject.setting.study.now self.new.progress }
+        ensures ready { StandsForSome self.old.subject.setting.study.now self.new.progress }
         ensures lasts { (fault : ReportFault) →
             self.old.progress.fault ≡ Some fault → self.new.progress.fault ≡ Some fault }
         ensures wanting { MatchResult result
@@ -144,10 +144,10 @@ impl<'a, K: OutcomeKind> Checker<'a, K> {
         text: &[u8],
     ) -> Result<(), ReportFault>
         requires room { self.old.progress.lines < 4294967294 }
-        requires ready { IsReady self.old.subject.setting.study.now self.old.progress }
+        requires ready { StandsForSome self.old.subject.setting.study.now self.old.progress }
         ensures subject { self.new.subject ≡ self.old.subject }
         ensures lines { self.new.progress.lines ≡ self.old.progress.lines + 1 }
-        ensures ready { IsReady self.old.subject.setting.study.now self.new.progress }
+        ensures ready { StandsForSome self.old.subject.setting.study.now self.new.progress }
         ensures told { result ≡ told_of self.new.progress.fault }
         ensures lasts { (fault : ReportFault) →
             self.old.progress.fault ≡ Some fault → self.new.progress.fault ≡ Some fault }

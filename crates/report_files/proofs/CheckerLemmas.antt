@@ -10,7 +10,7 @@ use Rattle.sharp_verdicts.specs.SharpLines.{SharpTitle}
 use Rattle.sharp_verdicts.specs.SharpPlaces.{read_title}
 use Rattle.sharp_report.specs.declared.progress.SharpProgress.{SharpProgress}
 use Rattle.sharp_report.specs.SharpStands.{SharpStandsFor}
-use Rattle.report_files.specs.Lines.{CheckerState, count_of, has_fault, sharp_fault_of, has_title, StandsBy, StandsForLines, StandsBefore, is_undecided, begins}
+use Rattle.report_files.specs.Lines.{CheckerState, lines_given, has_fault, sharp_fault_of, has_title, StandsBy, StandsForLines, StandsBefore, is_undecided, begins}
 use Rattle.report_files.specs.Pieces.{head_of}
 use Rattle.report_files.proofs.LineLemmas.{head_stands}
 use Rattle.report_files.proofs.SharpLineLemmas.{head_sharp_stands}
@@ -56,7 +56,7 @@ sharp_of None e = absurd (true≢false (sym e))
 sharp_of (Some p) e = (p, refl)
 
 -- at no line it was given none
-pub unread_count : (c : CheckerState) → StandsForLines c [] → count_of c ≡ 0
+pub unread_count : (c : CheckerState) → StandsForLines c [] → lines_given c ≡ 0
 unread_count c h = by_sharp c.sharp h
   where
     by_sharp : (o : Option SharpProgress) → StandsBy c.study c.report (c.admits && false) [] o → option_map_or (λ p. p.lines) o c.report.lines ≡ 0

@@ -6,7 +6,7 @@ use Rattle.std.specs.Prelude.{nat_lt}
 use Rattle.verdicts.specs.Judge.{pieces, front, final}
 use Rattle.report_files.specs.declared.files.Ending.{Ending}
 use Rattle.report_files.specs.declared.files.Ending.TheVariants as ending
-use Rattle.report_files.specs.Files.{IsEndedAt, most_report_bytes}
+use Rattle.report_files.specs.Files.{IsEndedAt, most_verdict_bytes}
 use Rattle.report_files.proofs.PieceLemmas.{front_more}
 
 -- ---- where the reading ended
@@ -16,7 +16,7 @@ consumed_front None bytes held h = absurd h
 consumed_front (Some rest) bytes held h = (rest, h)
 
 -- at its end all of the file was read
-pub whole_is : (known left : Option (List ℕ)) (faulty : Bool) (bytes held : List ℕ) → IsEndedAt ending.Whole known left faulty bytes → known ≡ Some held → (held ≡ bytes) × (length bytes ≤ most_report_bytes)
+pub whole_is : (known left : Option (List ℕ)) (faulty : Bool) (bytes held : List ℕ) → IsEndedAt ending.Whole known left faulty bytes → known ≡ Some held → (held ≡ bytes) × (length bytes ≤ most_verdict_bytes)
 whole_is known left faulty bytes held h e = (at_end left (subst (λ k. Consumes k left bytes) e h.0) h.1, h.2)
   where
     at_end : (left : Option (List ℕ)) → Consumes (Some held) left bytes → IsAtEnd left → held ≡ bytes
@@ -24,7 +24,7 @@ whole_is known left faulty bytes held h e = (at_end left (subst (λ k. Consumes 
     at_end (Some rest) c i = c ∙ ap (λ r. bytes ++ r) i ∙ append-nil bytes
 
 -- anywhere the bytes that were read are the first of the file
-pub prefix_is : (e : Ending) (known left : Option (List ℕ)) (faulty : Bool) (bytes held : List ℕ) → IsEndedAt e known left faulty bytes → known ≡ Some held → (rest : List ℕ) × (held ≡ bytes ++ rest) × (length bytes ≤ most_report_bytes)
+pub prefix_is : (e : Ending) (known left : Option (List ℕ)) (faulty : Bool) (bytes held : List ℕ) → IsEndedAt e known left faulty bytes → known ≡ Some held → (rest : List ℕ) × (held ≡ bytes ++ rest) × (length bytes ≤ most_verdict_bytes)
 prefix_is ending.Whole known left faulty bytes held h k = let f = consumed_front left bytes held (subst (λ x. Consumes x left bytes) k h.0) in (f.0, f.1, h.2)
 prefix_is ending.Faulty known left faulty bytes held h k = let f = consumed_front left bytes held (subst (λ x. Consumes x left bytes) k h.0) in (f.0, f.1, h.1)
 prefix_is ending.TooLong known left faulty bytes held h k =
@@ -32,13 +32,13 @@ prefix_is ending.TooLong known left faulty bytes held h k =
     (h.0 ++ f.0, f.1 ∙ append_assoc bytes h.0 f.0, omega (arith, h.3))
 
 -- at the limit they are as many as the limit allows, and the file has more
-pub limit_is : (known left : Option (List ℕ)) (faulty : Bool) (bytes held : List ℕ) → IsEndedAt ending.TooLong known left faulty bytes → known ≡ Some held → (most_report_bytes < length held) × (take most_report_bytes held ≡ bytes)
+pub limit_is : (known left : Option (List ℕ)) (faulty : Bool) (bytes held : List ℕ) → IsEndedAt ending.TooLong known left faulty bytes → known ≡ Some held → (most_verdict_bytes < length held) × (take most_verdict_bytes held ≡ bytes)
 limit_is known left faulty bytes held ended k =
     let f = consumed_front left (bytes ++ ended.0) held (subst (λ x. Consumes x left (bytes ++ ended.0)) k ended.1) in
     let split : held ≡ bytes ++ (ended.0 ++ f.0) = f.1 ∙ append_assoc bytes ended.0 f.0 in
     let sum : length held ≡ length bytes + length (ended.0 ++ f.0) = ap length split ∙ length-append bytes (ended.0 ++ f.0) in
     let more : length (ended.0 ++ f.0) ≡ length ended.0 + length f.0 = length-append ended.0 f.0 in
-    (omega (arith, sum, more, ended.2, ended.3), ap (take most_report_bytes) split ∙ take_whole bytes (ended.0 ++ f.0) most_report_bytes ended.3)
+    (omega (arith, sum, more, ended.2, ended.3), ap (take most_verdict_bytes) split ∙ take_whole bytes (ended.0 ++ f.0) most_verdict_bytes ended.3)
   where
     take_whole : (xs ys : List ℕ) (k : ℕ) → length xs ≡ k → take k (xs ++ ys) ≡ xs
     take_whole [] ys k e = ap (λ i. take i ys) (sym e)
@@ -49,20 +49,20 @@ limit_is known left faulty bytes held ended k =
 module _ {T J : Type 0} (judge : List (List ℕ) → T) (conclude : ℕ → List ℕ → T → J) (beyond : T → J) where
   -- the answer to a text of which so many bytes are read
   abbrev pub within : List ℕ → J
-  within held = cond (nat_lt most_report_bytes (length held)) (beyond (judge (front (pieces (take most_report_bytes held))))) (conclude (length (pieces held)) (final (pieces held)) (judge (front (pieces held))))
+  within held = cond (nat_lt most_verdict_bytes (length held)) (beyond (judge (front (pieces (take most_verdict_bytes held))))) (conclude (length (pieces held)) (final (pieces held)) (judge (front (pieces held))))
 
-  short_within : (held : List ℕ) → length held ≤ most_report_bytes → within held ≡ conclude (length (pieces held)) (final (pieces held)) (judge (front (pieces held)))
-  short_within held h = ap (λ b. cond b (beyond (judge (front (pieces (take most_report_bytes held))))) (conclude (length (pieces held)) (final (pieces held)) (judge (front (pieces held))))) (le-ltb most_report_bytes (length held) h)
+  short_within : (held : List ℕ) → length held ≤ most_verdict_bytes → within held ≡ conclude (length (pieces held)) (final (pieces held)) (judge (front (pieces held)))
+  short_within held h = ap (λ b. cond b (beyond (judge (front (pieces (take most_verdict_bytes held))))) (conclude (length (pieces held)) (final (pieces held)) (judge (front (pieces held))))) (le-ltb most_verdict_bytes (length held) h)
 
-  long_within : (held : List ℕ) → most_report_bytes < length held → within held ≡ beyond (judge (front (pieces (take most_report_bytes held))))
-  long_within held h = ap (λ b. cond b (beyond (judge (front (pieces (take most_report_bytes held))))) (conclude (length (pieces held)) (final (pieces held)) (judge (front (pieces held))))) (lt-ltb most_report_bytes (length held) h)
+  long_within : (held : List ℕ) → most_verdict_bytes < length held → within held ≡ beyond (judge (front (pieces (take most_verdict_bytes held))))
+  long_within held h = ap (λ b. cond b (beyond (judge (front (pieces (take most_verdict_bytes held))))) (conclude (length (pieces held)) (final (pieces held)) (judge (front (pieces held))))) (lt-ltb most_verdict_bytes (length held) h)
 
   -- all was read
   pub whole_within : (known left : Option (List ℕ)) (faulty : Bool) (bytes held : List ℕ) → IsEndedAt ending.Whole known left faulty bytes → known ≡ Some held
       → within held ≡ conclude (length (pieces bytes)) (final (pieces bytes)) (judge (front (pieces bytes)))
   whole_within known left faulty bytes held ended k =
       let parts = whole_is known left faulty bytes held ended k in
-      let short : length held ≤ most_report_bytes = subst (λ t. length t ≤ most_report_bytes) (sym parts.0) parts.1 in
+      let short : length held ≤ most_verdict_bytes = subst (λ t. length t ≤ most_verdict_bytes) (sym parts.0) parts.1 in
       short_within held short ∙ ap (λ t. conclude (length (pieces t)) (final (pieces t)) (judge (front (pieces t)))) parts.0
 
   -- a line that was read is faulty: no line after it changes what is told
@@ -70,9 +70,9 @@ module _ {T J : Type 0} (judge : List (List ℕ) → T) (conclude : ℕ → List
       → ((more : List (List ℕ)) → judge (front (pieces bytes) ++ more) ≡ told) → beyond told ≡ a → ((n : ℕ) (rest : List ℕ) → conclude n rest told ≡ a) → within held ≡ a
   faulty_within e known left faulty bytes held told a ended k stays past ends =
       let parts = prefix_is e known left faulty bytes held ended k in
-      ap within parts.1 ∙ elim (cases_lt most_report_bytes (length (bytes ++ parts.0))) [
+      ap within parts.1 ∙ elim (cases_lt most_verdict_bytes (length (bytes ++ parts.0))) [
         | inl long ↦
-            let part = front_part bytes parts.0 most_report_bytes parts.2 in
+            let part = front_part bytes parts.0 most_verdict_bytes parts.2 in
             long_within (bytes ++ parts.0) long ∙ ap (λ t. beyond (judge (front (pieces t)))) part.1 ∙ ap beyond (stays_so part.0) ∙ past
         | inr short ↦ short_within (bytes ++ parts.0) short ∙ ap (λ t. conclude (length (pieces (bytes ++ parts.0))) (final (pieces (bytes ++ parts.0))) t) (stays_so parts.0) ∙ ends (length (pieces (bytes ++ parts.0))) (final (pieces (bytes ++ parts.0)))
       ]

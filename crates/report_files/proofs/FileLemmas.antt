@@ -3,13 +3,13 @@ use Rattle.std.proofs.Common.{◌≡◌, refl, sym, ap, ◌∙◌, subst, ℕ, z
 use Rattle.std.specs.Io.KnownBytes.{Consumes}
 use Rattle.edge.specs.Shelf.{Files, OthersStay, NoneFell}
 use Rattle.edge.proofs.Known.{Consumes-more}
-use Rattle.report_files.specs.Files.{most_report_bytes}
+use Rattle.report_files.specs.Files.{most_verdict_bytes}
 use Rattle.report_files.proofs.PieceLemmas.{length_take}
 use Rattle.report_files.specs.Pieces.{ReaderState, StandsForText, HasTaken}
 
 -- as much was read as there is no room for any more
 pub record HasReadSoFar (name : List ℕ) (left_before left_now : Files) (files_before files_now : Option Files) (faults_before faults_now : List ℕ → ℕ) (room : ℕ) (bytes : List ℕ) : Type 0 where
-  pub count : length bytes + room ≡ most_report_bytes
+  pub count : length bytes + room ≡ most_verdict_bytes
   pub consumed : Consumes (left_before name) (left_now name) bytes
   pub same : files_now ≡ files_before
   pub others : OthersStay left_before left_now name
@@ -40,9 +40,9 @@ take_part : (n m : ℕ) (xs : List ℕ) → n ≤ m → take m xs ≡ take n xs 
 take_part n m xs h = sym (take-append-drop n (take m xs)) ∙ ap (λ ys. ys ++ drop n (take m xs)) (take_take n m xs h)
 
 -- more came of a read than there was room for
-pub consumes_too_many : (before now next : Option (List ℕ)) (bytes chunk : List ℕ) (count room : ℕ) → room < count → count ≤ length chunk → length bytes + room ≡ most_report_bytes
+pub consumes_too_many : (before now next : Option (List ℕ)) (bytes chunk : List ℕ) (count room : ℕ) → room < count → count ≤ length chunk → length bytes + room ≡ most_verdict_bytes
     → Consumes before now bytes → Consumes now next (take count chunk)
-    → (more : List ℕ) × Consumes before next ((bytes ++ take room chunk) ++ more) × (0 < length more) × (length (bytes ++ take room chunk) ≡ most_report_bytes)
+    → (more : List ℕ) × Consumes before next ((bytes ++ take room chunk) ++ more) × (0 < length more) × (length (bytes ++ take room chunk) ≡ most_verdict_bytes)
 consumes_too_many before now next bytes chunk count room less within total h k =
     let parts : take count chunk ≡ take room chunk ++ drop room (take count chunk) = take_part room count chunk (omega (arith, less)) in
     let whole : length (take count chunk) ≡ count = length_take count chunk within in
@@ -56,7 +56,7 @@ consumes_too_many before now next bytes chunk count room less within total h k =
     )
 
 -- what came of a read is counted
-pub count_more : (bytes chunk : List ℕ) (count room : ℕ) → count ≤ room → count ≤ length chunk → length bytes + room ≡ most_report_bytes → length (bytes ++ take count chunk) + (room - count) ≡ most_report_bytes
+pub count_more : (bytes chunk : List ℕ) (count room : ℕ) → count ≤ room → count ≤ length chunk → length bytes + room ≡ most_verdict_bytes → length (bytes ++ take count chunk) + (room - count) ≡ most_verdict_bytes
 count_more bytes chunk count room fits within total =
     let front : length (take count chunk) ≡ count = length_take count chunk within in
     let sum : length (bytes ++ take count chunk) ≡ length bytes + length (take count chunk) = length-append bytes (take count chunk) in

@@ -28,7 +28,7 @@ use Rattle.report_files.specs.declared.worths.SharpWorth.{SharpWorth}
 use Rattle.report_files.specs.declared.worths.SharpWorth.TheVariants as sharp_worth
 use Rattle.report_files.specs.declared.worths.Worth.{Worth}
 use Rattle.report_files.specs.declared.worths.Worth.TheVariants as worth
-use Rattle.report_files.specs.Files.{IsEndedAt, IsWorth, IsSharpWorth, IsJudgedWorth, IsJudgedWorthOf, IsClaimedIn, IsSharpIn, FileIsRight, FileIsConfirmed, HasReadWhole, most_report_bytes}
+use Rattle.report_files.specs.Files.{IsEndedAt, IsWorth, IsSharpWorth, IsJudgedWorth, IsJudgedWorthOf, IsClaimedIn, IsSharpIn, FileIsRight, FileIsConfirmed, HasReadWhole, most_verdict_bytes}
 use Rattle.report_files.specs.Lines.{CheckerState, has_fault, has_title, StandsForLines, StandsBy}
 use Rattle.report_files.specs.Pieces.{ReaderState, StandsForText}
 use Rattle.report_files.proofs.CheckerLemmas.{sharp_told}
@@ -69,26 +69,26 @@ title_of_file r e known left bytes held admits ended k stands = by_lines (front 
         ap has_sharp_title parts.1 ∙ title_after bytes parts.0 line lines e_lines
 
 module _ (study : Question) (held : List ℕ) where
-  pub judged_report : (w : Worth) → has_sharp_title held ≡ false → IsWorth (answer_within most_report_bytes study held) w → IsJudgedWorth (judged_within most_report_bytes study held) (Report w)
-  judged_report w e h = subst (λ b. IsJudgedWorth (cond b (AsSharp (sharp_answer_within study most_report_bytes held)) (AsReport (answer_within most_report_bytes study held))) (Report w)) (sym e) h
+  pub judged_report : (w : Worth) → has_sharp_title held ≡ false → IsWorth (answer_within most_verdict_bytes study held) w → IsJudgedWorth (judged_within most_verdict_bytes study held) (Report w)
+  judged_report w e h = subst (λ b. IsJudgedWorth (cond b (AsSharp (sharp_answer_within study most_verdict_bytes held)) (AsReport (answer_within most_verdict_bytes study held))) (Report w)) (sym e) h
 
-  pub judged_sharp : (w : SharpWorth) → has_sharp_title held ≡ true → IsSharpWorth (sharp_answer_within study most_report_bytes held) w → IsJudgedWorth (judged_within most_report_bytes study held) (Sharp w)
-  judged_sharp w e h = subst (λ b. IsJudgedWorth (cond b (AsSharp (sharp_answer_within study most_report_bytes held)) (AsReport (answer_within most_report_bytes study held))) (Sharp w)) (sym e) h
+  pub judged_sharp : (w : SharpWorth) → has_sharp_title held ≡ true → IsSharpWorth (sharp_answer_within study most_verdict_bytes held) w → IsJudgedWorth (judged_within most_verdict_bytes study held) (Sharp w)
+  judged_sharp w e h = subst (λ b. IsJudgedWorth (cond b (AsSharp (sharp_answer_within study most_verdict_bytes held)) (AsReport (answer_within most_verdict_bytes study held))) (Sharp w)) (sym e) h
 
   -- and back
-  report_judged : (w : Worth) → IsJudgedWorth (judged_within most_report_bytes study held) (Report w) → (has_sharp_title held ≡ false) × IsWorth (answer_within most_report_bytes study held) w
+  report_judged : (w : Worth) → IsJudgedWorth (judged_within most_verdict_bytes study held) (Report w) → (has_sharp_title held ≡ false) × IsWorth (answer_within most_verdict_bytes study held) w
   report_judged w h = by_title (has_sharp_title held) refl h
     where
-      by_title : (b : Bool) → has_sharp_title held ≡ b → IsJudgedWorth (cond b (AsSharp (sharp_answer_within study most_report_bytes held)) (AsReport (answer_within most_report_bytes study held))) (Report w)
-          → (has_sharp_title held ≡ false) × IsWorth (answer_within most_report_bytes study held) w
+      by_title : (b : Bool) → has_sharp_title held ≡ b → IsJudgedWorth (cond b (AsSharp (sharp_answer_within study most_verdict_bytes held)) (AsReport (answer_within most_verdict_bytes study held))) (Report w)
+          → (has_sharp_title held ≡ false) × IsWorth (answer_within most_verdict_bytes study held) w
       by_title true e h = absurd h
       by_title false e h = (e, h)
 
-  sharp_judged : (w : SharpWorth) → IsJudgedWorth (judged_within most_report_bytes study held) (Sharp w) → (has_sharp_title held ≡ true) × IsSharpWorth (sharp_answer_within study most_report_bytes held) w
+  sharp_judged : (w : SharpWorth) → IsJudgedWorth (judged_within most_verdict_bytes study held) (Sharp w) → (has_sharp_title held ≡ true) × IsSharpWorth (sharp_answer_within study most_verdict_bytes held) w
   sharp_judged w h = by_title (has_sharp_title held) refl h
     where
-      by_title : (b : Bool) → has_sharp_title held ≡ b → IsJudgedWorth (cond b (AsSharp (sharp_answer_within study most_report_bytes held)) (AsReport (answer_within most_report_bytes study held))) (Sharp w)
-          → (has_sharp_title held ≡ true) × IsSharpWorth (sharp_answer_within study most_report_bytes held) w
+      by_title : (b : Bool) → has_sharp_title held ≡ b → IsJudgedWorth (cond b (AsSharp (sharp_answer_within study most_verdict_bytes held)) (AsReport (answer_within most_verdict_bytes study held))) (Sharp w)
+          → (has_sharp_title held ≡ true) × IsSharpWorth (sharp_answer_within study most_verdict_bytes held) w
       by_title true e h = (e, h)
       by_title false e h = absurd h
 
@@ -134,8 +134,8 @@ if_some (Some x) h f = f x h
 module _ (study : Question) (files : Files) (name : List ℕ) where
   pub file_right : (w : JudgedWorth) → IsJudgedWorthOf study files name w → FileIsRight study files name w
   file_right w (held, at, is) = (
-    λ claim e. let told = report_judged study held (worth.Confirmed claim) (subst (IsJudgedWorth (judged_within most_report_bytes study held)) e is) in claimed_in study files name held claim (worth.Confirmed claim) refl at told.1,
-    λ e. let told = sharp_judged study held sharp_worth.Confirmed (subst (IsJudgedWorth (judged_within most_report_bytes study held)) e is) in sharp_in study files name held at told.1,
+    λ claim e. let told = report_judged study held (worth.Confirmed claim) (subst (IsJudgedWorth (judged_within most_verdict_bytes study held)) e is) in claimed_in study files name held claim (worth.Confirmed claim) refl at told.1,
+    λ e. let told = sharp_judged study held sharp_worth.Confirmed (subst (IsJudgedWorth (judged_within most_verdict_bytes study held)) e is) in sharp_in study files name held at told.1,
   )
 
   same_bytes : (o : Option (List ℕ)) (xs ys : List ℕ) → o ≡ Some xs → o ≡ Some ys → xs ≡ ys
@@ -152,12 +152,12 @@ module _ (study : Question) (files : Files) (name : List ℕ) where
       let v = c.right.verdict in
       let few : lemma_count v < 2 ^ 64 = omega (arith, lemmas_fit study c.bytes v c.right.report, c.fits) in
       let whole : answer study c.bytes ≡ IsConfirmed v = right_is_confirmed study is listed c.bytes v c.right.report few in
-      let confirmed : answer_within most_report_bytes study c.bytes ≡ IsConfirmed v = (within_limit most_report_bytes study c.bytes v).1 (c.fits, whole) in
+      let confirmed : answer_within most_verdict_bytes study c.bytes ≡ IsConfirmed v = (within_limit most_verdict_bytes study c.bytes v).1 (c.fits, whole) in
       let none : has_sharp_title c.bytes ≡ false = untitled c.bytes (has_sharp_title c.bytes) refl (λ e. let wrong : IsConfirmed v ≡ Faulty 1 Form = sym whole ∙ e in absurd (cc)) in
       by_worth w
       (subst (λ a. IsJudgedWorth (AsReport a) w) confirmed
-      (subst (λ b. IsJudgedWorth (cond b (AsSharp (sharp_answer_within study most_report_bytes c.bytes)) (AsReport (answer_within most_report_bytes study c.bytes))) w) none
-      (subst (λ (xs : List ℕ). IsJudgedWorth (judged_within most_report_bytes study xs) w) same is_worth)))
+      (subst (λ b. IsJudgedWorth (cond b (AsSharp (sharp_answer_within study most_verdict_bytes c.bytes)) (AsReport (answer_within most_verdict_bytes study c.bytes))) w) none
+      (subst (λ (xs : List ℕ). IsJudgedWorth (judged_within most_verdict_bytes study xs) w) same is_worth)))
     where
       by_worth : (w : JudgedWorth) → IsJudgedWorth (AsReport (IsConfirmed c.right.verdict)) w → w ≡ Report (worth.Confirmed claim)
       by_worth (Report x) h = ap Report (confirmed_some (claim_of c.right.verdict) claim x c.right.claims h)
@@ -166,13 +166,13 @@ module _ (study : Question) (files : Files) (name : List ℕ) where
   sharp_confirmed : HasFewAxioms study → (w : JudgedWorth) → IsJudgedWorthOf study files name w → IsReportable study → IsSharpIn study files name → w ≡ Sharp sharp_worth.Confirmed
   sharp_confirmed listed w (held, at, is_worth) is s =
       let same : held ≡ s.bytes = same_bytes (files name) held s.bytes at s.held in
-      let low : most_report_bytes < 2 ^ 64 = omega arith in
-      let confirmed : sharp_answer_within study most_report_bytes s.bytes ≡ SharpConfirmed s.verdict = (texts_confirmed most_report_bytes study is listed low s.bytes s.verdict).1 (s.fits, s.text) in
+      let low : most_verdict_bytes < 2 ^ 64 = omega arith in
+      let confirmed : sharp_answer_within study most_verdict_bytes s.bytes ≡ SharpConfirmed s.verdict = (texts_confirmed most_verdict_bytes study is listed low s.bytes s.verdict).1 (s.fits, s.text) in
       let titled : has_sharp_title s.bytes ≡ true = ap has_sharp_title s.text.is ∙ begins_titled in
       by_worth w
       (subst (λ a. IsJudgedWorth (AsSharp a) w) confirmed
-      (subst (λ b. IsJudgedWorth (cond b (AsSharp (sharp_answer_within study most_report_bytes s.bytes)) (AsReport (answer_within most_report_bytes study s.bytes))) w) titled
-      (subst (λ (xs : List ℕ). IsJudgedWorth (judged_within most_report_bytes study xs) w) same is_worth)))
+      (subst (λ b. IsJudgedWorth (cond b (AsSharp (sharp_answer_within study most_verdict_bytes s.bytes)) (AsReport (answer_within most_verdict_bytes study s.bytes))) w) titled
+      (subst (λ (xs : List ℕ). IsJudgedWorth (judged_within most_verdict_bytes study xs) w) same is_worth)))
     where
       begins_titled : has_sharp_title (sharp_text study s.verdict) ≡ true
       begins_titled = refl

@@ -21,7 +21,7 @@ use Rattle.report_files.specs.declared.files.Ending.{Ending}
 use Rattle.report_files.specs.declared.files.Ending.TheVariants as ending
 use Rattle.report_files.specs.declared.worths.Worth.{Worth}
 use Rattle.report_files.specs.declared.worths.Worth.TheVariants as worth
-use Rattle.report_files.specs.Files.{IsEndedAt, IsWorth, IsClaimedIn, WorthHolds, most_report_bytes}
+use Rattle.report_files.specs.Files.{IsEndedAt, IsWorth, IsClaimedIn, WorthHolds, most_verdict_bytes}
 use Rattle.report_files.proofs.EndedLemmas.{whole_within, faulty_within, beyond_within}
 use Rattle.report_files.proofs.LineLemmas.{refused_more}
 use Rattle.report_files.proofs.TextLemmas.{text_right}
@@ -61,7 +61,7 @@ module _ (study : Question) where
   -- all was read
   pub whole_worth : (e : Ending) (known left : Option (List ℕ)) (faulty : Bool) (bytes held : List ℕ) (result : Result Confirmed ReportFault) (w : Worth)
       → e ≡ ending.Whole → IsEndedAt e known left faulty bytes → known ≡ Some held
-      → Concludes (answer study bytes) result → ((a : Judgement) → Concludes a result → IsWorth a w) → IsWorth (answer_within most_report_bytes study held) w
+      → Concludes (answer study bytes) result → ((a : Judgement) → Concludes a result → IsWorth a w) → IsWorth (answer_within most_verdict_bytes study held) w
   whole_worth e known left faulty bytes held result w same ended k concluded worth_of =
       let whole : IsEndedAt ending.Whole known left faulty bytes = subst (λ x. IsEndedAt x known left faulty bytes) same ended in
       subst (λ a. IsWorth a w) (sym (whole_within (judge study) conclude beyond known left faulty bytes held whole k)) (worth_of (answer study bytes) concluded)
@@ -69,15 +69,15 @@ module _ (study : Question) where
   -- a line is faulty
   pub faulty_worth : (p : Progress) (e : Ending) (known left : Option (List ℕ)) (faulty : Bool) (bytes held : List ℕ) (fault : ReportFault) (w : Worth)
       → p.fault ≡ Some fault → IsEndedAt e known left faulty bytes → known ≡ Some held → StandsFor study p (front (pieces bytes))
-      → ((a : Judgement) → Concludes a (Err fault) → IsWorth a w) → IsWorth (answer_within most_report_bytes study held) w
+      → ((a : Judgement) → Concludes a (Err fault) → IsWorth a w) → IsWorth (answer_within most_verdict_bytes study held) w
   faulty_worth p e known left faulty bytes held fault w f ended k stands worth_of = by_told (judge study (front (pieces bytes))) refl stands.1
     where
-      by_told : (told : Told) → judge study (front (pieces bytes)) ≡ told → StandsAt study p told → IsWorth (answer_within most_report_bytes study held) w
+      by_told : (told : Told) → judge study (front (pieces bytes)) ≡ told → StandsAt study p told → IsWorth (answer_within most_verdict_bytes study held) w
       by_told (Good s) told h = let wrong : Some fault ≡ None = sym f ∙ h.0 in absurd (cc)
       by_told (Refused m word) told h =
           let same : Some fault ≡ Some (AtLine m word) = sym f ∙ h in
           let fault_is : fault ≡ AtLine m word = cc in
-          let answered : answer_within most_report_bytes study held ≡ Faulty m word =
+          let answered : answer_within most_verdict_bytes study held ≡ Faulty m word =
           faulty_within (judge study) conclude beyond e known left faulty bytes held (Refused m word) (Faulty m word) ended k
           (λ more. refused_more study (front (pieces bytes)) more m word told) refl (λ n rest. refl) in
           subst (λ a. IsWorth a w) (sym answered) (worth_of (Faulty m word) (ap Err fault_is))
@@ -89,7 +89,7 @@ module _ (study : Question) where
 
   pub long_worth : (p : Progress) (e : Ending) (known left : Option (List ℕ)) (faulty : Bool) (bytes held : List ℕ)
       → p.fault ≡ None → faulty ≡ false → e ≢ ending.Whole → IsEndedAt e known left faulty bytes → known ≡ Some held → StandsFor study p (front (pieces bytes))
-      → IsWorth (answer_within most_report_bytes study held) worth.TooLong
+      → IsWorth (answer_within most_verdict_bytes study held) worth.TooLong
   long_worth p e known left faulty bytes held f none differs ended k stands =
       subst (λ a. IsWorth a worth.TooLong)
       (sym (beyond_within (judge study) conclude beyond e known left faulty bytes held differs none ended k ∙ faultless_is p (judge study (front (pieces bytes))) f stands.1)) refl
@@ -111,10 +111,10 @@ worth_claim (Faulty n word) c w e h = absurd (cc)
 worth_claim TooLong c w e h = absurd (cc)
 
 -- what is confirmed of a file is the claim of a right verdict whose report it is
-pub claimed_in : (study : Question) (files : Files) (name held : List ℕ) (claim : Confirmed) (w : Worth) → w ≡ worth.Confirmed claim → files name ≡ Some held → IsWorth (answer_within most_report_bytes study held) w → IsClaimedIn study files name claim
+pub claimed_in : (study : Question) (files : Files) (name held : List ℕ) (claim : Confirmed) (w : Worth) → w ≡ worth.Confirmed claim → files name ≡ Some held → IsWorth (answer_within most_verdict_bytes study held) w → IsClaimedIn study files name claim
 claimed_in study files name held claim w e at is =
-    let found = worth_claim (answer_within most_report_bytes study held) claim w e is in
-    let within = (within_limit most_report_bytes study held found.0).0 found.1 in
+    let found = worth_claim (answer_within most_verdict_bytes study held) claim w e is in
+    let within = (within_limit most_verdict_bytes study held found.0).0 found.1 in
     record {
       bytes = held;
       held = at;

@@ -26,8 +26,8 @@ use Rattle.report_files.specs.declared.worths.JudgedWorth.TheVariants as judged_
 use Rattle.report_files.specs.Pieces.{ReaderState, StandsForText}
 
 -- the most bytes of a report or a sharp text
-abbrev pub most_report_bytes : ℕ
-most_report_bytes = 268435456
+abbrev pub most_verdict_bytes : ℕ
+most_verdict_bytes = 268435456
 
 -- the fault of a file that was not rewound
 abbrev pub file_fault : RewindFault → FileFault
@@ -37,11 +37,11 @@ file_fault rewind.NoMemory = fault.NoMemory
 -- where the reading of a file ended: all of it was read, or as much as the limit allows, or as much as has the first faulty line
 abbrev pub IsEndedAt : Ending → (before now : Option (List ℕ)) (faulty : Bool) (bytes : List ℕ) → Type 0
 IsEndedAt ending.Whole before now faulty bytes = Consumes before now bytes × IsAtEnd now ×
-    (length bytes ≤ most_report_bytes)
+    (length bytes ≤ most_verdict_bytes)
 IsEndedAt ending.TooLong before now faulty bytes = (more : List ℕ) × Consumes before now (bytes ++ more) ×
-    (0 < length more) × (length bytes ≡ most_report_bytes)
+    (0 < length more) × (length bytes ≡ most_verdict_bytes)
 IsEndedAt ending.Faulty before now faulty bytes = Consumes before now bytes ×
-    (length bytes ≤ most_report_bytes) × IsTrue faulty
+    (length bytes ≤ most_verdict_bytes) × IsTrue faulty
 
 -- ---- what an answer is worth
 
@@ -66,12 +66,12 @@ IsJudgedWorth _ _ = ⊥
 -- the file is held, and this is what its report is worth
 abbrev pub IsWorthOf : Question → Files → List ℕ → Worth → Type 0
 IsWorthOf study files name w = (held : List ℕ) × (files name ≡ Some held) ×
-    IsWorth (answer_within most_report_bytes study held) w
+    IsWorth (answer_within most_verdict_bytes study held) w
 
 -- the same of a report or a sharp text, as its first line says
 abbrev pub IsJudgedWorthOf : Question → Files → List ℕ → JudgedWorth → Type 0
 IsJudgedWorthOf study files name w = (held : List ℕ) × (files name ≡ Some held) ×
-    IsJudgedWorth (judged_within most_report_bytes study held) w
+    IsJudgedWorth (judged_within most_verdict_bytes study held) w
 
 -- ---- what is confirmed of a file
 
@@ -79,14 +79,14 @@ IsJudgedWorthOf study files name w = (held : List ℕ) × (files name ≡ Some h
 pub record IsClaimedIn (study : Question) (files : Files) (name : List ℕ) (claim : Confirmed) : Type 0 where
   pub bytes : List ℕ
   pub held : files name ≡ Some bytes
-  pub fits : length bytes ≤ most_report_bytes
+  pub fits : length bytes ≤ most_verdict_bytes
   pub right : IsClaimed study bytes claim
 
 -- the file is held, within the limit, and is the sharp text of a right sharp verdict
 pub record IsSharpIn (study : Question) (files : Files) (name : List ℕ) : Type 0 where
   pub bytes : List ℕ
   pub held : files name ≡ Some bytes
-  pub fits : length bytes ≤ most_report_bytes
+  pub fits : length bytes ≤ most_verdict_bytes
   pub verdict : Pointed
   pub text : IsSharpText study verdict bytes
 

@@ -21,8 +21,8 @@ abbrev pub IsSharpPart : (study : Question) (its_study : Question) → SharpProg
 IsSharpPart study its_study p = (its_study ≡ study) × IsSharpReady study p
 
 -- how many lines it was given
-abbrev pub count_of : CheckerState → ℕ
-count_of c = option_map_or (λ p. p.lines) c.sharp c.report.lines
+abbrev pub lines_given : CheckerState → ℕ
+lines_given c = option_map_or (λ p. p.lines) c.sharp c.report.lines
 
 -- a line that it was given is faulty, or memory was wanting
 abbrev pub has_fault : CheckerState → Bool

@@ -8,8 +8,8 @@ ghost use Rattle.vocab.specs.Study.{HasFewAxioms};
 ghost use Rattle.verdicts.specs.Judge.{answer_within};
 ghost use Rattle.sharp_verdicts.specs.SharpJudge.{sharp_answer_within};
 ghost use Rattle.sharp_verdicts.specs.Judged.{judged_within};
-ghost use Rattle.report_files.specs.Files.{IsEndedAt, IsWorth, IsSharpWorth, IsJudgedWorth, IsWorthOf, IsJudgedWorthOf, FileIsRight, FileIsConfirmed, HasReadWhole, WorthHolds, SharpWorthHolds, JudgedWorthHolds, most_report_bytes};
-ghost use Rattle.report_files.specs.Lines.{count_of, has_fault};
+ghost use Rattle.report_files.specs.Files.{IsEndedAt, IsWorth, IsSharpWorth, IsJudgedWorth, IsWorthOf, IsJudgedWorthOf, FileIsRight, FileIsConfirmed, HasReadWhole, WorthHolds, SharpWorthHolds, JudgedWorthHolds, most_verdict_bytes};
+ghost use Rattle.report_files.specs.Lines.{lines_given, has_fault};
 ghost use Rattle.report_files.specs.Pieces.{StandsForText, HasTaken};
 
 use crate::reader::Reader;
@@ -90,10 +90,10 @@ fn read_pieces<R: Threads + Sync, S: Shelf, K: OutcomeKind, G: Gate>(
     shelf: &mut S,
     name: &str,
 ) -> Result<Ending, FileFault>
-    requires lines { count_of reader.old.checker ≡ 0 }
+    requires lines { lines_given reader.old.checker ≡ 0 }
     ensures study { reader.new.checker.study ≡ reader.old.checker.study }
     ensures admits { reader.new.checker.admits ≡ reader.old.checker.admits }
-    ensures lines { IfOk result (λ _. count_of reader.new.checker ≤ 268435456) }
+    ensures lines { IfOk result (λ _. lines_given reader.new.checker ≤ 268435456) }
     ensures read { IfOk result (λ ending. (bytes : List ℕ) ×
         IsEndedAt ending (S.left shelf.old name.now) (S.left shelf.new name.now)
         (has_fault reader.new.checker) bytes × HasTaken reader.old reader.new bytes) }
@@ -124,12 +124,12 @@ fn read_pieces<R: Threads + Sync, S: Shelf, K: OutcomeKind, G: Gate>(
 
 /// What the report is worth whose reading ended so.
 fn worth_at<K: OutcomeKind>(reader: &Reader<K>, ending: Ending) -> Result<Worth, NoMemory>
-    requires lines { count_of reader.now.checker ≤ 268435456 }
+    requires lines { lines_given reader.now.checker ≤ 268435456 }
     requires reports { reader.now.checker.sharp ≡ None }
     ensures worth { IfOk result (λ worth. (known left : Option (List ℕ)) (bytes held : List ℕ) →
         IsEndedAt ending known left (has_fault reader.now.checker) bytes → known ≡ Some held →
         StandsForText reader.now bytes →
-        IsWorth (answer_within most_report_bytes reader.now.checker.study held) worth) }
+        IsWorth (answer_within most_verdict_bytes reader.now.checker.study held) worth) }
     ensures holds { IfOk result (λ worth. (bytes : List ℕ) → IsSize reader.now.checker.study.size →
         StandsForText reader.now bytes → WorthHolds reader.now.checker.study worth) }
     ensures whole { IfOk result (λ worth. (claim : Confirmed) →
@@ -149,13 +149,13 @@ fn sharp_worth_at<K: OutcomeKind>(
     reader: &Reader<K>,
     ending: Ending,
 ) -> Result<SharpWorth, NoMemory>
-    requires lines { count_of reader.now.checker ≤ 268435456 }
+    requires lines { lines_given reader.now.checker ≤ 268435456 }
     requires texts { IsTrue reader.now.checker.admits }
     requires sharp { IsTrue (is_some reader.now.checker.sharp) }
     ensures worth { IfOk result (λ worth. (known left : Option (List ℕ)) (bytes held : List ℕ) →
         IsEndedAt ending known left (has_fault reader.now.checker) bytes → known ≡ Some held →
         StandsForText reader.now bytes →
-        IsSharpWorth (sharp_answer_within reader.now.checker.study most_report_bytes held) worth) }
+        IsSharpWorth (sharp_answer_within reader.now.checker.study most_verdict_bytes held) worth) }
     ensures holds { IfOk result (λ worth. (bytes : List ℕ) → IsSize reader.now.checker.study.size →
         StandsForText reader.now bytes → SharpWorthHolds reader.now.checker.study worth) }
 {
@@ -173,12 +173,12 @@ fn judged_worth_at<K: OutcomeKind>(
     reader: &Reader<K>,
     ending: Ending,
 ) -> Result<JudgedWorth, NoMemory>
-    requires lines { count_of reader.now.checker ≤ 268435456 }
+    requires lines { lines_given reader.now.checker ≤ 268435456 }
     requires texts { IsTrue reader.now.checker.admits }
     ensures worth { IfOk result (λ worth. (known left : Option (List ℕ)) (bytes held : List ℕ) →
         IsEndedAt ending known left (has_fault reader.now.checker) bytes → known ≡ Some held →
         StandsForText reader.now bytes →
-        IsJudgedWorth (judged_within most_report_bytes reader.now.checker.study held) worth) }
+        IsJudgedWorth (judged_within most_verdict_bytes reader.now.checker.study held) worth) }
     ensures holds { IfOk result (λ worth. (bytes : List ℕ) → IsSize reader.now.checker.study.size →
         StandsForText reader.now bytes → JudgedWorthHolds reader.now.checker.study worth) }
 {
@@ -206,7 +206,7 @@ pub fn worth_of<R: Threads + Sync, S: Shelf, K: OutcomeKind, G: Gate>(
     ensures holds { IsSize reader.old.checker.study.size →
         IfOk result (WorthHolds reader.old.checker.study) }
     ensures study { reader.new.checker.study ≡ reader.old.checker.study }
-    ensures lines { IfOk result (λ _. count_of reader.new.checker ≤ 268435456) }
+    ensures lines { IfOk result (λ _. lines_given reader.new.checker ≤ 268435456) }
     ensures stands { IfOk result (λ _. (bytes : List ℕ) × StandsForText reader.new bytes) }
     ensures whole { IfSome (S.files shelf.old)
         (λ files. IfOk result (HasReadWhole reader.new files name.now)) }

@@ -8,7 +8,7 @@ ghost use Rattle.verdicts.specs.Report.{is_right};
 ghost use Rattle.report.specs.Answers.{Concludes};
 ghost use Rattle.sharp_verdicts.specs.SharpJudge.{sharp_judge, sharp_conclude};
 ghost use Rattle.sharp_report.specs.SharpAnswers.{SharpConcludes};
-ghost use Rattle.report_files.specs.Lines.{is_undecided, begins, count_of, has_fault, sharp_fault_of, StandsForLines, StandsBefore};
+ghost use Rattle.report_files.specs.Lines.{is_undecided, begins, lines_given, has_fault, sharp_fault_of, StandsForLines, StandsBefore};
 
 use crew::Crew;
 use edge::Gate;
@@ -46,7 +46,7 @@ impl<'a, K: OutcomeKind> Model for LineChecker<'a, K> {
     ghost use Rattle.std.specs.Prelude.{IfSome, option_map};
     ghost use Rattle.std.specs.Coded.{codes};
     ghost use Rattle.vocab.specs.TreeCode.{titled_code};
-    ghost use Rattle.report.specs.Stands.{IsReady};
+    ghost use Rattle.report.specs.Stands.{StandsForSome};
     ghost use Rattle.report_files.specs.Lines.{CheckerState, IsSharpPart};
 
     ghost Value = { CheckerState };
@@ -61,7 +61,7 @@ impl<'a, K: OutcomeKind> Model for LineChecker<'a, K> {
           sharp = option_map (λ s. s.progress) c.sharp;
         } };
 
-    ghost invariant = { λ c. IsReady c.report.subject.setting.study.now c.report.progress
+    ghost invariant = { λ c. StandsForSome c.report.subject.setting.study.now c.report.progress
         × IfSome c.sharp (λ s.
         IsSharpPart c.report.subject.setting.study.now s.subject.setting.study.now s.progress) };
 }
@@ -109,7 +109,7 @@ impl<'a, K: OutcomeKind> LineChecker<'a, K> {
     fn begin(&mut self, line: &[u8]) -> Result<(), NoMemory>
         ensures study { self.new.study ≡ self.old.study }
         ensures admits { self.new.admits ≡ self.old.admits }
-        ensures count { OnOk result (count_of self.new ≡ count_of self.old) }
+        ensures count { OnOk result (lines_given self.new ≡ lines_given self.old) }
         ensures stands { OnOk result ((lines : List (List ℕ)) →
             StandsForLines self.old lines → StandsBefore self.new lines line.now) }
     {
@@ -128,10 +128,10 @@ impl<'a, K: OutcomeKind> LineChecker<'a, K> {
         crew: &Crew<R, G>,
         line: &[u8],
     ) -> Result<(), NoMemory>
-        requires { count_of self.old < 4294967294 }
+        requires { lines_given self.old < 4294967294 }
         ensures study { self.new.study ≡ self.old.study }
         ensures admits { self.new.admits ≡ self.old.admits }
-        ensures count { OnOk result (count_of self.new ≡ count_of self.old + 1) }
+        ensures count { OnOk result (lines_given self.new ≡ lines_given self.old + 1) }
         ensures taken { OnOk result ((lines : List (List ℕ)) →
             StandsBefore self.old lines line.now → StandsForLines self.new (lines ++ line.now ∷ [])) }
     {
@@ -148,10 +148,10 @@ impl<'a, K: OutcomeKind> LineChecker<'a, K> {
         crew: &Crew<R, G>,
         line: &[u8],
     ) -> Result<(), NoMemory>
-        requires { count_of self.old < 4294967294 }
+        requires { lines_given self.old < 4294967294 }
         ensures study { self.new.study ≡ self.old.study }
         ensures admits { self.new.admits ≡ self.old.admits }
-        ensures count { OnOk result (count_of self.new ≡ count_of self.old + 1) }
+        ensures count { OnOk result (lines_given self.new ≡ lines_given self.old + 1) }
         ensures taken { OnOk result ((lines : List (List ℕ)) →
             StandsForLines self.old lines → StandsForLines self.new (lines ++ line.now ∷ [])) }
     {
@@ -196,7 +196,7 @@ impl<'a, K: OutcomeKind> LineChecker<'a, K> {
     /// What the judge of reports answers of the text that has these lines, each with its line end, and then
     /// the rest. It refuses the title of a sharp text.
     pub(crate) fn conclude(&self, rest: &[u8]) -> Result<Confirmed, ReportFault>
-        requires { count_of self.now ≤ 4294967294 }
+        requires { lines_given self.now ≤ 4294967294 }
         ensures { (lines : List (List ℕ)) → StandsForLines self.now lines →
             Concludes (conclude (length lines + 1) rest.now (judge self.now.study lines)) result }
     {
@@ -212,7 +212,7 @@ impl<'a, K: OutcomeKind> LineChecker<'a, K> {
     /// What the judge of sharp texts answers of it, where these are admitted. It refuses a first line that is
     /// not their title.
     pub(crate) fn conclude_sharp(&self, rest: &[u8]) -> Result<(), SharpFault>
-        requires { count_of self.now ≤ 4294967294 }
+        requires { lines_given self.now ≤ 4294967294 }
         ensures { (lines : List (List ℕ)) → IsTrue self.now.admits → StandsForLines self.now lines →
             SharpConcludes (sharp_conclude self.now.study (length lines + 1) rest.now
             (sharp_judge self.now.study lines)) result }
@@ -228,7 +228,7 @@ impl<'a, K: OutcomeKind> LineChecker<'a, K> {
 
     /// The table of the rule, where the lines, each with its line end, are a confirmed report with one.
     pub(crate) fn table(&self) -> Option<&Table>
-        requires { count_of self.now ≤ 4294967294 }
+        requires { lines_given self.now ≤ 4294967294 }
         ensures value { (lines : List (List ℕ)) → StandsForLines self.now lines →
             option_map (λ table. table.now) result ≡
             rule_of (conclude (length lines + 1) [] (judge self.now.study lines)) }

@@ -8,7 +8,7 @@ ghost use Rattle.verdicts.specs.Report.{is_right};
 ghost use Rattle.report.specs.Answers.{Concludes, ConfirmsRight, ConfirmsAll, ConfirmsTrue};
 ghost use Rattle.sharp_verdicts.specs.SharpJudge.{sharp_answer};
 ghost use Rattle.sharp_report.specs.SharpAnswers.{SharpConcludes};
-ghost use Rattle.report_files.specs.Lines.{count_of, has_fault, sharp_fault_of, StandsForLines};
+ghost use Rattle.report_files.specs.Lines.{lines_given, has_fault, sharp_fault_of, StandsForLines};
 ghost use Rattle.report_files.specs.Pieces.{head_of, StandsForText, HasTaken};
 
 use crate::cutting::cut_line;
@@ -120,10 +120,10 @@ impl<'a, K: OutcomeKind> Reader<'a, K> {
         crew: &Crew<R, G>,
         piece: &[u8],
     ) -> Result<(), NoMemory>
-        requires { count_of self.old.checker < 4294967294 }
+        requires { lines_given self.old.checker < 4294967294 }
         ensures study { self.new.checker.study ≡ self.old.checker.study }
         ensures admits { self.new.checker.admits ≡ self.old.checker.admits }
-        ensures lines { OnOk result (count_of self.new.checker ≡ count_of self.old.checker + 1) }
+        ensures lines { OnOk result (lines_given self.new.checker ≡ lines_given self.old.checker + 1) }
         ensures ended { OnOk result (self.new.held ≡ []) }
         ensures taken { OnOk result ((lines : List (List ℕ)) (rest : List ℕ) →
             StandsForLines self.old.checker lines → self.old.held ≡ head_of rest →
@@ -145,11 +145,11 @@ impl<'a, K: OutcomeKind> Reader<'a, K> {
         crew: &Crew<R, G>,
         bytes: &[u8],
     ) -> Result<(), NoMemory>
-        requires { count_of self.old.checker + length bytes.now < 4294967294 }
+        requires { lines_given self.old.checker + length bytes.now < 4294967294 }
         ensures study { self.new.checker.study ≡ self.old.checker.study }
         ensures admits { self.new.checker.admits ≡ self.old.checker.admits }
         ensures lines { OnOk result
-            (count_of self.new.checker ≤ count_of self.old.checker + length bytes.now) }
+            (lines_given self.new.checker ≤ lines_given self.old.checker + length bytes.now) }
         ensures taken { OnOk result (HasTaken self.old self.new bytes.now) }
     {
         let mut rest = bytes;
@@ -190,7 +190,7 @@ impl<'a, K: OutcomeKind> Reader<'a, K> {
 
     /// What the judge of reports answers of the text: Ok exactly where it is a confirmed report.
     pub fn end(&self) -> Result<Confirmed, ReportFault>
-        requires { count_of self.now.checker ≤ 4294967294 }
+        requires { lines_given self.now.checker ≤ 4294967294 }
         ensures { (text : List ℕ) → StandsForText self.now text →
             Concludes (answer self.now.checker.study text) result }
     {
@@ -200,7 +200,7 @@ impl<'a, K: OutcomeKind> Reader<'a, K> {
     /// What the judge of sharp texts answers of the text, where these are admitted: Ok exactly where it is a
     /// confirmed sharp text.
     pub fn end_sharp(&self) -> Result<(), SharpFault>
-        requires { count_of self.now.checker ≤ 4294967294 }
+        requires { lines_given self.now.checker ≤ 4294967294 }
         ensures { (text : List ℕ) → IsTrue self.now.checker.admits → StandsForText self.now text →
             SharpConcludes (sharp_answer self.now.checker.study text) result }
     {
@@ -209,7 +209,7 @@ impl<'a, K: OutcomeKind> Reader<'a, K> {
 
     /// The table of the rule, where the text is a confirmed report with one.
     pub fn table(&self) -> Option<&Table>
-        requires { count_of self.now.checker ≤ 4294967294 }
+        requires { lines_given self.now.checker ≤ 4294967294 }
         ensures value { (text : List ℕ) → StandsForText self.now text →
             option_map (λ table. table.now) result ≡ rule_of (answer self.now.checker.study text) }
         ensures right { (text : List ℕ) → StandsForText self.now text →

@@ -1,10 +1,11 @@
 -- What is held of a line, by the parts that are read of it.
-use Rattle.std.proofs.Common.{◌≡◌, ◌≢◌, refl, sym, ap, ap₂, ◌∙◌, ℕ, ◌^◌, ◌<◌, Bool, true, false, cond, Option, Some, None, option_map, option_and_then, List, [], ◌∷◌, arith, inl, inr, true≢false, decimal}
+use Rattle.std.proofs.Common.{◌≡◌, ◌≢◌, refl, sym, ap, ap₂, ◌∙◌, ℕ, ◌^◌, ◌<◌, Bool, true, false, cond, Option, Some, None, option_map, option_and_then, List, [], ◌∷◌, arith, inl, inr, decimal}
 use Rattle.std.specs.Prelude.{codes}
 use Rattle.std.specs.Option.{option_or}
 use Rattle.std.specs.Str.{bytes_eq}
 use Rattle.std.proofs.lemmas.List.Splits.{join_with_byte-slice_split}
 use Rattle.std.proofs.lemmas.Slice.Eq.{bytes_eq-Decides}
+use Rattle.lists.proofs.TextLaws.{differs}
 use Rattle.vocab.specs.declared.kinds.Kind.{Kind}
 use Rattle.vocab.specs.declared.kinds.Kind.TheVariants.{Choice, Ranking, Sets}
 use Rattle.vocab.specs.declared.literals.Literal.{Literal}
@@ -13,7 +14,7 @@ use Rattle.vocab.specs.Name.{is_name}
 use Rattle.vocab.specs.Study.{Question}
 use Rattle.meaning.specs.declared.stories.Reason.{Reason}
 use Rattle.verdicts.specs.Numbers.{number_text, read_number}
-use Rattle.verdicts.specs.Texts.{joined, words_of, kinds, named_by, read_kind, read_literal}
+use Rattle.verdicts.specs.Texts.{joined_words, words_of, kinds, named_by, read_kind, read_literal}
 use Rattle.verdicts.specs.Lines.{Line, Title, KindIs, AbsentIs, SaysPossible, SaysImpossible, SaysUndecided, Heading, So, Clash, WithRule, WithOpen, End}
 use Rattle.verdicts.specs.Reading.{keyed, one_word, no_word, read_version, read_absent, verdict_word, read_heading, read_named, read_witness, read_reason, read_so}
 use Rattle.verdicts.proofs.WordLaws.{IsIn, named_in, text_named}
@@ -21,7 +22,7 @@ use Rattle.verdicts.proofs.PrintLaws.{named_nothing, decimal_is}
 use Rattle.verdicts.proofs.LineLaws.{keyed_is, one_is, map_is, none_is}
 use Rattle.report_lines.specs.declared.lines.Line.{Line as HeldLine}
 use Rattle.report_lines.specs.declared.lines.Line.TheVariants as held
-use Rattle.report_lines.specs.Held.{held_number, held_reason, held_line}
+use Rattle.report_lines.specs.Held.{held_count, held_reason, held_line}
 use Rattle.report_lines.proofs.WordLemmas.{keyed_then, keyed_one_then}
 
 -- ---- after a key
@@ -44,10 +45,7 @@ module _ {A B : Type 0} (h : A → B) where
 
 -- ---- lines of one text
 
-differs : (text other : List ℕ) → bytes_eq text other ≡ false → text ≢ other
-differs text other h e = true≢false (sym ((bytes_eq-Decides text other).1 e) ∙ h)
-
-whole : (text : List ℕ) → joined (words_of text) ≡ text
+whole : (text : List ℕ) → joined_words (words_of text) ≡ text
 whole text = join_with_byte-slice_split 32 text
 
 abbrev title_word : List ℕ → Option Line
@@ -58,7 +56,7 @@ title_line words = keyed (codes "bench") (keyed (codes "report") (one_word title
 
 -- the first line of a version
 abbrev title_text : ℕ → List ℕ
-title_text version = joined (codes "bench" ∷ codes "report" ∷ number_text version ∷ [])
+title_text version = joined_words (codes "bench" ∷ codes "report" ∷ number_text version ∷ [])
 
 module _ {B : Type 0} (h : Line → B) (text : List ℕ) where
   pub is_first : bytes_eq text (codes "bench report 1") ≡ true → Some (h (Title 1)) ≡ option_map h (title_line (words_of text))
@@ -76,7 +74,7 @@ module _ {B : Type 0} (h : Line → B) (text : List ℕ) where
       let words : words_of text ≡ codes "bench" ∷ codes "report" ∷ last.0 ∷ [] = first.1 ∙ ap (λ ws. codes "bench" ∷ ws) (second.1 ∙ ap (λ ws. codes "report" ∷ ws) last.1) in
       let named : last.0 ≡ number_text version.0 = text_named number_text (1 ∷ 2 ∷ []) last.0 version.0 version.1 in
       each version.0 (named_in number_text (1 ∷ 2 ∷ []) last.0 version.0 version.1)
-      (sym (whole text) ∙ ap joined words ∙ ap (λ w. joined (codes "bench" ∷ codes "report" ∷ w ∷ [])) named))
+      (sym (whole text) ∙ ap joined_words words ∙ ap (λ w. joined_words (codes "bench" ∷ codes "report" ∷ w ∷ [])) named))
     where
       each : (v : ℕ) → IsIn (1 ∷ 2 ∷ []) v → text ≢ title_text v
       each v (inl e) same = differs text (codes "bench report 1") a (same ∙ ap title_text (sym e))
@@ -87,7 +85,7 @@ module _ {B : Type 0} (h : Line → B) (text : List ℕ) where
   no_end other = nothing_told h _ (λ l e.
       let first = keyed_is (codes "end") (no_word End) (words_of text) l e in
       let last = none_is End first.0 l first.2 in
-      differs text (codes "end") other (sym (whole text) ∙ ap joined (first.1 ∙ ap (λ ws. codes "end" ∷ ws) last.0)))
+      differs text (codes "end") other (sym (whole text) ∙ ap joined_words (first.1 ∙ ap (λ ws. codes "end" ∷ ws) last.0)))
 
 -- ---- the kind
 
@@ -168,7 +166,7 @@ module _ (study : Question) where
 
   pub is_heading : (n : ℕ) (word text : List ℕ) → n < 2 ^ 64 → text ≡ decimal n → bytes_eq word text ≡ true → Some (held.Heading n) ≡ option_map (held_line study) (read_heading n word)
   is_heading n word text l e t =
-      let small : n ≡ held_number n = omega (arith, l) in
+      let small : n ≡ held_count n = omega (arith, l) in
       ap (λ k. Some (held.Heading k)) small ∙ sym (ap (option_map (held_line study)) (printed n word text true l e t))
 
   pub no_heading : (n : ℕ) (word text : List ℕ) → n < 2 ^ 64 → text ≡ decimal n → bytes_eq word text ≡ false → None ≡ option_map (held_line study) (read_heading n word)
@@ -177,16 +175,16 @@ module _ (study : Question) where
   -- ---- witnesses
 
   module _ (name : List ℕ) where
-    rule_of : (o : Option ℕ) (p : Option Line) (n : ℕ) → Some n ≡ option_map held_number o → Some (held.WithRule name n) ≡ option_map (held_line study) (option_or (option_map (WithRule name) o) p)
+    rule_of : (o : Option ℕ) (p : Option Line) (n : ℕ) → Some n ≡ option_map held_count o → Some (held.WithRule name n) ≡ option_map (held_line study) (option_or (option_map (WithRule name) o) p)
     rule_of None p n e = absurd (cc)
-    rule_of (Some m) p n e = let same : n ≡ held_number m = cc in ap (λ k. Some (held.WithRule name k)) same
+    rule_of (Some m) p n e = let same : n ≡ held_count m = cc in ap (λ k. Some (held.WithRule name k)) same
 
-    open_of : (o p : Option ℕ) (n : ℕ) → None ≡ option_map held_number o → Some n ≡ option_map held_number p → Some (held.WithOpen name n) ≡ option_map (held_line study) (option_or (option_map (WithRule name) o) (option_map (WithOpen name) p))
+    open_of : (o p : Option ℕ) (n : ℕ) → None ≡ option_map held_count o → Some n ≡ option_map held_count p → Some (held.WithOpen name n) ≡ option_map (held_line study) (option_or (option_map (WithRule name) o) (option_map (WithOpen name) p))
     open_of (Some m) p n e t = absurd (cc)
     open_of None None n e t = absurd (cc)
-    open_of None (Some m) n e t = let same : n ≡ held_number m = cc in ap (λ k. Some (held.WithOpen name k)) same
+    open_of None (Some m) n e t = let same : n ≡ held_count m = cc in ap (λ k. Some (held.WithOpen name k)) same
 
-    neither_of : (o p : Option ℕ) → None ≡ option_map held_number o → None ≡ option_map held_number p → None ≡ option_map (held_line study) (option_or (option_map (WithRule name) o) (option_map (WithOpen name) p))
+    neither_of : (o p : Option ℕ) → None ≡ option_map held_count o → None ≡ option_map held_count p → None ≡ option_map (held_line study) (option_or (option_map (WithRule name) o) (option_map (WithOpen name) p))
     neither_of (Some m) p e t = absurd (cc)
     neither_of None (Some m) e t = absurd (cc)
     neither_of None None e t = refl
@@ -212,16 +210,16 @@ module _ (study : Question) where
         → r ≡ option_map (held_line study) (keyed (codes "without") read_witness words)
     told_after words rest more r e cut h t = keyed_told (held_line study) (codes "without") read_witness words rest r e (t ∙ sym (ap (λ ws. option_map (held_line study) (read_witness ws)) cut ∙ ap (option_map (held_line study)) (named_told more h)))
 
-    pub with_rule : (words rest more : List (List ℕ)) (n : ℕ) → keyed (codes "without") (λ ws. Some ws) words ≡ Some rest → rest ≡ name ∷ more → is_name name ≡ true → Some n ≡ option_map held_number (keyed (codes "rule") (one_word read_number) more)
+    pub with_rule : (words rest more : List (List ℕ)) (n : ℕ) → keyed (codes "without") (λ ws. Some ws) words ≡ Some rest → rest ≡ name ∷ more → is_name name ≡ true → Some n ≡ option_map held_count (keyed (codes "rule") (one_word read_number) more)
         → Some (held.WithRule name n) ≡ option_map (held_line study) (keyed (codes "without") read_witness words)
     with_rule words rest more n e cut h t = told_after words rest more (Some (held.WithRule name n)) e cut h (rule_of _ _ n t)
 
-    pub with_open : (words rest more : List (List ℕ)) (n : ℕ) → keyed (codes "without") (λ ws. Some ws) words ≡ Some rest → rest ≡ name ∷ more → is_name name ≡ true → None ≡ option_map held_number (keyed (codes "rule") (one_word read_number) more)
-        → Some n ≡ option_map held_number (keyed (codes "open") (one_word read_number) more) → Some (held.WithOpen name n) ≡ option_map (held_line study) (keyed (codes "without") read_witness words)
+    pub with_open : (words rest more : List (List ℕ)) (n : ℕ) → keyed (codes "without") (λ ws. Some ws) words ≡ Some rest → rest ≡ name ∷ more → is_name name ≡ true → None ≡ option_map held_count (keyed (codes "rule") (one_word read_number) more)
+        → Some n ≡ option_map held_count (keyed (codes "open") (one_word read_number) more) → Some (held.WithOpen name n) ≡ option_map (held_line study) (keyed (codes "without") read_witness words)
     with_open words rest more n e cut h none t = told_after words rest more (Some (held.WithOpen name n)) e cut h (open_of _ _ n none t)
 
-    pub with_neither : (words rest more : List (List ℕ)) → keyed (codes "without") (λ ws. Some ws) words ≡ Some rest → rest ≡ name ∷ more → is_name name ≡ true → None ≡ option_map held_number (keyed (codes "rule") (one_word read_number) more)
-        → None ≡ option_map held_number (keyed (codes "open") (one_word read_number) more) → None ≡ option_map (held_line study) (keyed (codes "without") read_witness words)
+    pub with_neither : (words rest more : List (List ℕ)) → keyed (codes "without") (λ ws. Some ws) words ≡ Some rest → rest ≡ name ∷ more → is_name name ≡ true → None ≡ option_map held_count (keyed (codes "rule") (one_word read_number) more)
+        → None ≡ option_map held_count (keyed (codes "open") (one_word read_number) more) → None ≡ option_map (held_line study) (keyed (codes "without") read_witness words)
     with_neither words rest more e cut h none t = told_after words rest more None e cut h (neither_of _ _ none t)
 
   -- ---- steps

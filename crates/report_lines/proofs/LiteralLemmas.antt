@@ -3,8 +3,9 @@ use Rattle.std.proofs.Common.{◌≡◌, ◌≢◌, sym, ap, ap₂, ◌∙◌, s
 use Rattle.std.specs.Prelude.{nat_lt, ◌==◌}
 use Rattle.std.proofs.lemmas.Bool.{and_parts}
 use Rattle.std.proofs.lemmas.Bool.Decides.{Decides-eqb}
+use Rattle.lists.proofs.PlaceLaws.{head_same, tail_same}
 use Rattle.vocab.specs.declared.kinds.Kind.{Kind}
-use Rattle.vocab.specs.declared.kinds.Kind.TheVariants.{Ranking, Sets}
+use Rattle.vocab.specs.declared.kinds.Kind.TheVariants.{Ranking}
 use Rattle.vocab.specs.declared.kinds.Sort.TheVariants.{Profile}
 use Rattle.vocab.specs.declared.literals.Literal.{Literal}
 use Rattle.vocab.specs.declared.literals.Literal.TheVariants.{Wins, Loses, Above}
@@ -17,12 +18,6 @@ use Rattle.verdicts.proofs.WordLaws.{in_below, from_below, text_named, named_in}
 use Rattle.verdicts.proofs.PrintLaws.{named_none, named_nothing}
 use Rattle.verdicts.proofs.FitLaws.{literal_in}
 use Rattle.verdicts.proofs.ReadLaws.{literal_read}
-
-pub first_same : (a b : ℕ) (s t : List ℕ) → a ∷ s ≡ b ∷ t → a ≡ b
-first_same a b s t e = cc
-
-pub rest_same : (a b : ℕ) (s t : List ℕ) → a ∷ s ≡ b ∷ t → s ≡ t
-rest_same a b s t e = cc
 
 module _ (size : Extent) where
   abbrev count : ℕ
@@ -44,11 +39,11 @@ module _ (size : Extent) where
     IsWinner x p = (x < size.alternatives) × (p < count) × (word ≡ letter x ∷ 64 ∷ profile_text size p)
 
     pub no_letter : (byte mark : ℕ) (text : List ℕ) → word ≡ byte ∷ mark ∷ text → ((x : ℕ) → x < size.alternatives → byte ≢ letter x) → IsNoWinner
-    no_letter byte mark text e none x p l h same = none x l (first_same byte (letter x) (mark ∷ text) (64 ∷ profile_text size p) (sym e ∙ same))
+    no_letter byte mark text e none x p l h same = none x l (head_same byte (letter x) (mark ∷ text) (64 ∷ profile_text size p) (sym e ∙ same))
 
     pub no_profile : (byte mark : ℕ) (text : List ℕ) → word ≡ byte ∷ mark ∷ text → None ≡ read_profile size text → IsNoWinner
     no_profile byte mark text e none x p l h same =
-        unnamed_profile text none p h (rest_same mark 64 text (profile_text size p) (rest_same byte (letter x) (mark ∷ text) (64 ∷ profile_text size p) (sym e ∙ same)))
+        unnamed_profile text none p h (tail_same mark 64 text (profile_text size p) (tail_same byte (letter x) (mark ∷ text) (64 ∷ profile_text size p) (sym e ∙ same)))
 
     pub a_winner : (byte x p : ℕ) (text : List ℕ) → word ≡ byte ∷ 64 ∷ text → (x < size.alternatives) × (byte ≡ letter x) → Some p ≡ read_profile size text → IsWinner x p
     a_winner byte x p text e h named =
@@ -72,7 +67,7 @@ module _ (size : Extent) where
     pub no_upper : (byte : ℕ) (text : List ℕ) → word ≡ byte ∷ 62 ∷ text → ((x : ℕ) → x < size.alternatives → byte ≢ letter x) → IsNone Ranking
     no_upper byte text e none (Wins x p) h same = true≢false (sym h)
     no_upper byte text e none (Loses x p) h same = true≢false (sym h)
-    no_upper byte text e none (Above x y p) h same = none x (above_in x y p h).0 (first_same byte (letter x) (62 ∷ text) (62 ∷ letter y ∷ 64 ∷ profile_text size p) (sym e ∙ same))
+    no_upper byte text e none (Above x y p) h same = none x (above_in x y p h).0 (head_same byte (letter x) (62 ∷ text) (62 ∷ letter y ∷ 64 ∷ profile_text size p) (sym e ∙ same))
 
     -- what is told of a literal is that of the size
     pub literal_is : IsSize size → (k : Kind) → k ≡ size.kind → (r : Option Literal) → MatchOption r (IsNone k) (IsOne k) → r ≡ read_literal size word

@@ -2,11 +2,12 @@
 use Rattle.std.proofs.Math.Path.{fun_ext}
 use Rattle.std.specs.Str.{bytes_eq}
 use Rattle.verdicts.specs.Reading.{keyed, one_word}
-use Rattle.std.proofs.Common.{◌≡◌, option_and_then, true≢false, refl, sym, ap, ◌∙◌, ℕ, suc, ◌+◌, ◌≤◌, Bool, true, false, not, cond, List, [], ◌∷◌, length, take, drop, Option, Some, None, arith, ltb-false}
+use Rattle.std.proofs.Common.{◌≡◌, option_and_then, true≢false, refl, sym, ap, ◌∙◌, ℕ, ◌+◌, ◌≤◌, Bool, true, false, not, cond, List, [], ◌∷◌, length, take, drop, Option, Some, None, arith, ltb-false}
 use Rattle.std.specs.Prelude.{◌==◌, nat_lt, position}
 use Rattle.std.specs.List.{position_or_len, onto_first}
 use Rattle.std.proofs.lemmas.List.Splits.{slice_split-cons_yes, slice_split-cons_no}
 use Rattle.std.proofs.lemmas.List.Sums.{prefix_len-le-length}
+use Rattle.lists.proofs.PlaceLaws.{drop_cons, take_cons}
 use Rattle.verdicts.specs.Texts.{words_of}
 use Rattle.report_lines.specs.Rest.{words_after}
 
@@ -26,12 +27,6 @@ end_none text e = by_test (nat_lt (end_of text) (length text)) refl e
     by_test : (t : Bool) → nat_lt (end_of text) (length text) ≡ t → None ≡ cond t (Some (end_of text)) None → length text ≡ end_of text
     by_test true h e = absurd (cc)
     by_test false h e = omega (arith, ltb-false (end_of text) (length text) h, end_within text)
-
-take_cons : (b k : ℕ) (text : List ℕ) → take (1 + k) (b ∷ text) ≡ b ∷ take k text
-take_cons b k text = let e : 1 + k ≡ suc k = omega arith in ap (λ n. take n (b ∷ text)) e
-
-drop_cons : (b k : ℕ) (text : List ℕ) → drop (1 + k) (b ∷ text) ≡ drop k text
-drop_cons b k text = let e : 1 + k ≡ suc k = omega arith in ap (λ n. drop n (b ∷ text)) e
 
 -- the first word, and the words of what is left
 pub cut : (text : List ℕ) → words_of text ≡ take (end_of text) text ∷ words_after (drop (end_of text) text)

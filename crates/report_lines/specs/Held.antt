@@ -10,7 +10,7 @@ use Rattle.verdicts.specs.Texts.{words_of}
 use Rattle.verdicts.specs.Lines.{Line, Title, KindIs, VotersAre, AlternativesAre, BallotsAre, AbsentIs, AxiomsAre, SaysPossible, SaysImpossible, SaysUndecided, LimitIs, RuleOf, Row, CoreIs, LemmasAre, Heading, Suppose, So, Clash, WithRule, WithOpen, End}
 use Rattle.verdicts.specs.Places.{Place, AtTitle, AtKind, AtVoters, AtAlternatives, AtBallots, AtAbsent, AtAxioms, AtVerdict, AtLimit, AtRule, AtRow, AtCore, AtLemmas, AtLemma, AtSuppose, AtStep, AtWitness, AtWitnessRow, AtEnd, AtNothing}
 use Rattle.verdicts.specs.Claims.{claim_of}
-use Rattle.verdicts.specs.Faults.{places_of, is_core}
+use Rattle.verdicts.specs.Faults.{named_places, is_core}
 use Rattle.report_lines.specs.declared.places.Place.{Place as HeldPlace}
 use Rattle.report_lines.specs.declared.places.Place.TheVariants as place
 use Rattle.report_lines.specs.declared.lines.Line.{Line as HeldLine}
@@ -40,8 +40,8 @@ held_place (AtEnd verdict) = place.AtEnd (claim_of verdict)
 held_place (AtNothing verdict) = place.AtNothing (claim_of verdict)
 
 -- a number, which stands still at the end of `u64`
-abbrev pub held_number : ℕ → ℕ
-held_number n = min n (2 ^ 64 - 1)
+abbrev pub held_count : ℕ → ℕ
+held_count n = min n (2 ^ 64 - 1)
 
 -- a reason; the place of a lemma stands still at the end of `u32`
 abbrev pub held_reason : Reason → Reason
@@ -54,25 +54,25 @@ module _ (study : Question) where
   abbrev pub held_line : Line → HeldLine
   held_line (Title version) = held.Title version
   held_line (KindIs k) = held.KindIs k
-  held_line (VotersAre n) = held.VotersAre (held_number n)
-  held_line (AlternativesAre n) = held.AlternativesAre (held_number n)
+  held_line (VotersAre n) = held.VotersAre (held_count n)
+  held_line (AlternativesAre n) = held.AlternativesAre (held_count n)
   held_line (BallotsAre places) = held.BallotsAre (pointwise nat_eq places (ballot_places study.size))
   held_line (AbsentIs absent) = held.AbsentIs absent
   held_line (AxiomsAre names) = held.AxiomsAre (pointwise bytes_eq names (map (λ a. a.name) study.axioms))
   held_line SaysPossible = held.SaysPossible
   held_line SaysImpossible = held.SaysImpossible
   held_line SaysUndecided = held.SaysUndecided
-  held_line (LimitIs n) = held.LimitIs (held_number n)
-  held_line (RuleOf n) = held.RuleOf (held_number n)
+  held_line (LimitIs n) = held.LimitIs (held_count n)
+  held_line (RuleOf n) = held.RuleOf (held_count n)
   held_line (Row p o) = held.Row p o
   held_line (CoreIs names) = held.CoreIs
-  held_line (LemmasAre n) = held.LemmasAre (held_number n)
-  held_line (Heading n) = held.Heading (held_number n)
+  held_line (LemmasAre n) = held.LemmasAre (held_count n)
+  held_line (Heading n) = held.Heading (held_count n)
   held_line (Suppose l) = held.Suppose l
   held_line (So l r) = held.So l (held_reason r)
   held_line (Clash r) = held.Clash (held_reason r)
-  held_line (WithRule name n) = held.WithRule name (held_number n)
-  held_line (WithOpen name n) = held.WithOpen name (held_number n)
+  held_line (WithRule name n) = held.WithRule name (held_count n)
+  held_line (WithOpen name n) = held.WithOpen name (held_count n)
   held_line End = held.End
 
   -- places, where they are those of distinct axioms of the study in order
@@ -80,5 +80,5 @@ module _ (study : Question) where
   if_core places = if is_core (length study.axioms) places then places else None
 
   -- the places of the axioms that a line names after its first word, where the names are those of distinct ones in order
-  abbrev pub core_of : List ℕ → Option (List ℕ)
-  core_of text = if_core (places_of study.axioms (drop 1 (words_of text)))
+  abbrev pub named_core : List ℕ → Option (List ℕ)
+  named_core text = if_core (named_places study.axioms (drop 1 (words_of text)))

@@ -1,7 +1,7 @@
 //! The places of a core.
 
 ghost use Rattle.std.specs.Prelude.{◌≡◌, IfOk};
-ghost use Rattle.report_lines.specs.Held.{core_of};
+ghost use Rattle.report_lines.specs.Held.{named_core};
 
 use crate::indexed::IndexedStudy;
 use crate::words::{cut_word, next_word};
@@ -16,7 +16,7 @@ pub fn read_core(
     study: &IndexedStudy,
     text: &[u8],
 ) -> Result<Option<Places>, NoMemory>
-    ensures { IfOk result (λ core. core ≡ core_of study.now text.now) }
+    ensures { IfOk result (λ core. core ≡ named_core study.now text.now) }
 {
     let (_, rest) = cut_word(text);
     let mut core = Places::new(alloc);

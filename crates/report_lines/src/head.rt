@@ -5,7 +5,7 @@ ghost use Rattle.vocab.specs.Study.{Question};
 ghost use Rattle.verdicts.specs.Numbers.{read_number};
 ghost use Rattle.verdicts.specs.Texts.{words_of};
 ghost use Rattle.verdicts.specs.Reading.{keyed, one_word};
-ghost use Rattle.report_lines.specs.Held.{held_number};
+ghost use Rattle.report_lines.specs.Held.{held_count};
 ghost use Rattle.report_lines.specs.Wanted.{held_wanted};
 
 use crate::all_axioms::are_all_axioms;
@@ -52,7 +52,7 @@ pub(crate) fn read_kind(text: &[u8]) -> Option<Line>
 
 /// The number of a line that has a key and a number. It stands still at the end of `u64`.
 pub fn read_count(text: &[u8], key: &[u8]) -> Option<u64>
-    ensures { result ≡ option_map held_number (keyed key.now (one_word read_number) (words_of text.now)) }
+    ensures { result ≡ option_map held_count (keyed key.now (one_word read_number) (words_of text.now)) }
 {
     read_number(first_keyed(text, key)?)
 }

@@ -5,7 +5,7 @@ ghost use Rattle.std.specs.List.{list_all};
 ghost use Rattle.vocab.specs.Name.{is_digit};
 ghost use Rattle.verdicts.specs.Numbers.{is_number, value_after, read_number};
 ghost use Rattle.verdicts.specs.Reading.{read_positive};
-ghost use Rattle.report_lines.specs.Held.{held_number};
+ghost use Rattle.report_lines.specs.Held.{held_count};
 
 fn is_digit(c: u8) -> bool
     ensures { result ≡ is_digit c }
@@ -31,7 +31,7 @@ fn is_number(word: &[u8]) -> bool
 
 /// The number of a word of digits, which stands still at the end of `u64`.
 fn value(word: &[u8]) -> u64
-    ensures { result ≡ held_number (value_after 0 word.now) }
+    ensures { result ≡ held_count (value_after 0 word.now) }
 {
     let mut value: u64 = 0;
     for digit in word {
@@ -45,7 +45,7 @@ fn value(word: &[u8]) -> u64
 /// The number of a word in decimal digits, without a sign and without a leading zero, except `0` itself. It
 /// stands still at the end of `u64`.
 pub fn read_number(word: &[u8]) -> Option<u64>
-    ensures { result ≡ option_map held_number (read_number word.now) }
+    ensures { result ≡ option_map held_count (read_number word.now) }
 {
     if is_number(word) {
         Some(value(word))
@@ -56,7 +56,7 @@ pub fn read_number(word: &[u8]) -> Option<u64>
 
 /// The number of a word, where it is not 0.
 pub(crate) fn read_positive(word: &[u8]) -> Option<u64>
-    ensures { result ≡ option_map held_number (read_positive word.now) }
+    ensures { result ≡ option_map held_count (read_positive word.now) }
 {
     match read_number(word) {
         Some(number) => { if number == 0 { None } else { Some(number) } }

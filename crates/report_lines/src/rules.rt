@@ -6,7 +6,7 @@ ghost use Rattle.verdicts.specs.Numbers.{read_number};
 ghost use Rattle.verdicts.specs.Texts.{words_of};
 ghost use Rattle.verdicts.specs.Lines.{Row};
 ghost use Rattle.verdicts.specs.Reading.{keyed, one_word, read_row};
-ghost use Rattle.report_lines.specs.Held.{held_number};
+ghost use Rattle.report_lines.specs.Held.{held_count};
 ghost use Rattle.report_lines.specs.Rest.{words_after};
 ghost use Rattle.report_lines.specs.Wanted.{held_wanted};
 
@@ -53,7 +53,7 @@ pub(crate) fn read_row<K: OutcomeKind>(kind: &K, text: &[u8]) -> Option<Line>
 }
 
 fn read_next_count(rest: &[u8], key: &[u8]) -> Option<u64>
-    ensures { result ≡ option_map held_number (keyed key.now (one_word read_number) (words_after rest.now)) }
+    ensures { result ≡ option_map held_count (keyed key.now (one_word read_number) (words_after rest.now)) }
 {
     read_number(next_keyed(rest, key)?)
 }

@@ -1,26 +1,24 @@
 -- The names, the rules and the witnesses of a report, and all of it.
-use Rattle.std.proofs.Common.{◌≡◌, refl, sym, ap, ap₂, ◌∙◌, subst, ℕ, zero, suc, ◌+◌, ◌<◌, inl, inr, Bool, true, false, length, List, [], ◌∷◌, ◌++◌, map, drop, get_or, Some, codes, cond, add-one, append-nil, append_assoc, drop-cons, ltb-true, arith}
-use Rattle.std.specs.Prelude.{nat_lt, slice_get, slice_index}
-use Rattle.std.specs.List.{list_all}
+use Rattle.std.proofs.Common.{◌≡◌, refl, sym, ap, ap₂, ◌∙◌, ℕ, zero, suc, ◌+◌, ◌<◌, inl, inr, Bool, true, false, length, List, [], ◌∷◌, ◌++◌, map, drop, get_or, Some, codes, cond, add-one, append-nil, append_assoc, drop-cons, arith}
+use Rattle.std.specs.Prelude.{slice_get, slice_index}
 use Rattle.std.specs.Cmp.Lexicographic.{pointwise}
 use Rattle.std.proofs.lemmas.Bool.{and_parts, cases_lt, false≢true}
 use Rattle.std.proofs.lemmas.Grind.{flat_map-append}
 use Rattle.std.proofs.lemmas.List.{drop_all}
 use Rattle.vocab.specs.declared.kinds.Sort.TheVariants.{Profile}
-use Rattle.vocab.specs.Size.{Extent, ballot_places, sort_count, outcome_count}
+use Rattle.vocab.specs.Size.{Extent, ballot_places, sort_count}
 use Rattle.vocab.specs.Study.{Question}
 use Rattle.vocab.specs.Titled.{Titled}
 use Rattle.meaning.specs.declared.cores.Witness.{Witness}
 use Rattle.meaning.specs.declared.cores.Witness.TheVariants.{Rule, Open}
 use Rattle.meaning.specs.declared.stories.Lemma.{Lemma}
 use Rattle.meaning.specs.Texts.{kind_text, profile_text, ranking_text, outcome_text}
-use Rattle.meaning.specs.Truth.{is_rule}
 use Rattle.verdicts.specs.declared.verdicts.Verdict.{Verdict}
 use Rattle.verdicts.specs.declared.verdicts.Verdict.TheVariants.{Possible, Impossible, Undecided}
 use Rattle.verdicts.specs.Lines.{Line, BallotsAre, AbsentIs, AxiomsAre, End, name_at, title_of}
 use Rattle.verdicts.specs.Numbers.{number_text}
 use Rattle.verdicts.specs.Report.{row_lines, lemma_lines, story_lines, domain_lines, head_lines, own_version, witness_lines, all_witness_lines, verdict_lines, report_text}
-use Rattle.report_text.specs.Pieces.{about_lines, count_text, ended, lines_text, spaced, told_lines}
+use Rattle.report_text.specs.Pieces.{about_lines, count_text, ended_line, lines_text, spaced, told_lines}
 use Rattle.texts.specs.Spelled.{spelled}
 use Rattle.report_text.proofs.WordLemmas.{joined_spaced}
 
@@ -46,11 +44,11 @@ pub domain_text : (study : Question) (size : Extent) → study.size ≡ size →
 domain_text study size same =
     let places : List ℕ = ballot_places study.size in
     let texts : List (List ℕ) = map (ranking_text study.size.alternatives) places in
-    let absent : List ℕ = ended study (AbsentIs study.size.absent) in
+    let absent : List ℕ = ended_line study (AbsentIs study.size.absent) in
     ap (λ (e : Extent). (codes "ballots" ++ (spelled (λ _ (place : ℕ). 32 ∷ ranking_text e.alternatives place) 0 (ballot_places e) ++ 10 ∷ [])) ++ absent) (sym same)
     ∙ ap (λ (words : List ℕ). (codes "ballots" ++ (words ++ 10 ∷ [])) ++ absent) (names_spelled (ranking_text study.size.alternatives) 0 places)
     ∙ ap (λ (words : List ℕ). (words ++ 10 ∷ []) ++ absent) (sym (joined_spaced (codes "ballots") texts))
-    ∙ ap (λ (last : List ℕ). ended study (BallotsAre places) ++ last) (sym (append-nil absent))
+    ∙ ap (λ (last : List ℕ). ended_line study (BallotsAre places) ++ last) (sym (append-nil absent))
 
 -- version 1 has no such lines
 pub no_domain : (study : Question) (full : Bool) → full ≡ true → [] ≡ lines_text study (domain_lines study (cond full 1 2))
@@ -71,10 +69,10 @@ about_text study version =
     let names : codes "axioms" ++ (spelled (λ _ (a : Titled). 32 ∷ a.name) 0 study.axioms ++ 10 ∷ []) ≡ lines_text study (AxiomsAre (map (λ (a : Titled). a.name) study.axioms) ∷ [])
     = ap (λ (words : List ℕ). codes "axioms" ++ (words ++ 10 ∷ [])) (names_spelled (λ (a : Titled). a.name) 0 study.axioms)
     ∙ ap (λ (words : List ℕ). words ++ 10 ∷ []) (sym (joined_spaced (codes "axioms") (map (λ (a : Titled). a.name) study.axioms)))
-    ∙ sym (append-nil (ended study (AxiomsAre (map (λ (a : Titled). a.name) study.axioms)))) in
+    ∙ sym (append-nil (ended_line study (AxiomsAre (map (λ (a : Titled). a.name) study.axioms)))) in
     ap (λ (rest : List ℕ). (codes "kind " ++ (kind_text study.size.kind ++ 10 ∷ [])) ++ (count_text (codes "voters ") study.size.voters ++ (count_text (codes "alternatives ") study.size.alternatives ++ rest)))
     (ap (λ (last : List ℕ). lines_text study (domain_lines study version) ++ last) names
-    ∙ sym (flat_map-append (ended study) (domain_lines study version) (AxiomsAre (map (λ (a : Titled). a.name) study.axioms) ∷ [])))
+    ∙ sym (flat_map-append (ended_line study) (domain_lines study version) (AxiomsAre (map (λ (a : Titled). a.name) study.axioms) ∷ [])))
 
 -- the title comes first
 pub head_text : (study : Question) (version : ℕ) → count_text (codes "bench report ") version ++ lines_text study (about_lines study version) ≡ lines_text study (head_lines study version)
@@ -91,14 +89,6 @@ from_zero n = omega arith
 
 pub row_is : (size : Extent) (p o : ℕ) (profile outcome : List ℕ) → profile ≡ profile_text size p → outcome ≡ outcome_text size o → profile ++ (32 ∷ (outcome ++ 10 ∷ [])) ≡ row_text size (0 + p) o
 row_is size p o profile outcome a b = ap₂ (λ (x y : List ℕ). x ++ (32 ∷ (y ++ 10 ∷ []))) a b ∙ ap (λ (n : ℕ). row_text size n o) (from_zero p)
-
-in_list : (P : ℕ → Bool) (xs : List ℕ) (i x : ℕ) → list_all P xs ≡ true → slice_get xs i ≡ Some x → P x ≡ true
-in_list P [] i x h at = cc
-in_list P (y ∷ xs) zero x h at = let same : y ≡ x = cc in subst (λ z. P z ≡ true) same (and_parts (P y) (list_all P xs) h).0
-in_list P (y ∷ xs) (suc i) x h at = in_list P xs i x (and_parts (P y) (list_all P xs) h).1 at
-
-pub outcome_there : (size : Extent) (table : List ℕ) (p o : ℕ) → is_rule size table ≡ true → slice_get table p ≡ Some o → o < outcome_count size.kind size.alternatives
-outcome_there size table p o rule at = ltb-true o _ (in_list (λ q. nat_lt q (outcome_count size.kind size.alternatives)) table p o (and_parts _ (list_all (λ q. nat_lt q (outcome_count size.kind size.alternatives)) table) rule).1 at)
 
 pub rows_spelled : (study : Question) (n : ℕ) (table : List ℕ) → spelled (row_text study.size) n table ≡ lines_text study (row_lines n table)
 rows_spelled study n [] = refl
@@ -126,7 +116,7 @@ module _ (study : Question) (size : Extent) (same : study.size ≡ size) where
 abbrev pub witness_text : Question → List ℕ → ℕ → Witness → List ℕ
 witness_text study core i witness = lines_text study (witness_lines study (slice_index core i) witness)
 
-no_witness : (study : Question) (core : List ℕ) → [] ≡ lines_text study (all_witness_lines study core [])
+pub no_witness : (study : Question) (core : List ℕ) → [] ≡ lines_text study (all_witness_lines study core [])
 no_witness study [] = refl
 no_witness study (k ∷ core) = refl
 
@@ -138,7 +128,7 @@ witnesses_spelled study f core n (w ∷ witnesses) h = elim (cases_lt n (length 
       let next : drop n core ≡ slice_index core n ∷ drop (n + 1) core = rw (add-one, drop-cons core n 0) refl in
       let more : pointwise f (drop (n + 1) core) witnesses ≡ true = (and_parts (f (slice_index core n) w) (pointwise f (drop (n + 1) core) witnesses) (rw next at h)).1 in
       ap (λ (rest : List ℕ). witness_text study core n w ++ rest) (witnesses_spelled study f core (n + 1) witnesses more)
-      ∙ sym (flat_map-append (ended study) (witness_lines study (slice_index core n) w) (all_witness_lines study (drop (n + 1) core) witnesses))
+      ∙ sym (flat_map-append (ended_line study) (witness_lines study (slice_index core n) w) (all_witness_lines study (drop (n + 1) core) witnesses))
       ∙ ap (λ (left : List ℕ). lines_text study (all_witness_lines study left (w ∷ witnesses))) (sym next)
   | inr past ↦ absurd (false≢true (rw (drop_all n core past) at h))
 ]
@@ -164,8 +154,8 @@ own_head study = head_lines study (own_version study)
 -- what the study is, the verdict and the end
 report_parts : (study : Question) (verdict : Verdict) → report_text study verdict ≡ (lines_text study (own_head study) ++ lines_text study (verdict_lines study verdict)) ++ codes "end\n"
 report_parts study verdict =
-    flat_map-append (ended study) (own_head study ++ verdict_lines study verdict) (End ∷ [])
-    ∙ ap (λ (front : List ℕ). front ++ codes "end\n") (flat_map-append (ended study) (own_head study) (verdict_lines study verdict))
+    flat_map-append (ended_line study) (own_head study ++ verdict_lines study verdict) (End ∷ [])
+    ∙ ap (λ (front : List ℕ). front ++ codes "end\n") (flat_map-append (ended_line study) (own_head study) (verdict_lines study verdict))
 
 pub undecided_text : (study : Question) → lines_text study (own_head study) ++ (count_text (codes "verdict undecided\nconflicts ") study.conflicts ++ codes "end\n") ≡ report_text study Undecided
 undecided_text study = regroup (lines_text study (own_head study)) (codes "verdict undecided\nconflicts " ++ (number_text study.conflicts ++ 10 ∷ [])) (codes "end\n") ∙ sym (report_parts study Undecided)
@@ -188,7 +178,7 @@ story_spelled : (study : Question) (n : ℕ) (story : List Lemma) → spelled (�
 story_spelled study n [] = refl
 story_spelled study n (lemma ∷ story) =
     ap (λ (rest : List ℕ). lines_text study (lemma_lines n lemma) ++ rest) (story_spelled study (n + 1) story)
-    ∙ sym (flat_map-append (ended study) (lemma_lines n lemma) (story_lines (n + 1) story))
+    ∙ sym (flat_map-append (ended_line study) (lemma_lines n lemma) (story_lines (n + 1) story))
 
 -- the core, the number of lemmas and the story
 claim_parts : (names lemmas story : List ℕ) →
@@ -214,7 +204,7 @@ impossible_text study core story witnesses =
     let told : List ℕ = lines_text study (told_lines study core story) in
     let marks : List ℕ = lines_text study (all_witness_lines study core witnesses) in
     regroup head told marks (codes "end\n")
-    ∙ ap (λ (claim : List ℕ). (head ++ claim) ++ codes "end\n") (sym (flat_map-append (ended study) (told_lines study core story) (all_witness_lines study core witnesses)))
+    ∙ ap (λ (claim : List ℕ). (head ++ claim) ++ codes "end\n") (sym (flat_map-append (ended_line study) (told_lines study core story) (all_witness_lines study core witnesses)))
     ∙ sym (report_parts study (Impossible core story witnesses))
   where
     regroup : (a b c d : List ℕ) → (a ++ b) ++ (c ++ d) ≡ (a ++ (b ++ c)) ++ d

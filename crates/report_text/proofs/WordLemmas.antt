@@ -9,11 +9,11 @@ use Rattle.vocab.specs.Titled.{Titled}
 use Rattle.vocab.specs.Tree.{Tree, All}
 use Rattle.meaning.specs.declared.stories.Reason.TheVariants.{Axiom as ByAxiom}
 use Rattle.verdicts.specs.Lines.{value_words, name_at, sorts_of, title_of}
-use Rattle.verdicts.specs.Texts.{value_text, joined}
+use Rattle.verdicts.specs.Texts.{value_text, joined_words}
 use Rattle.report_text.specs.Pieces.{instance_text, spaced, reason_text}
 
 -- a blank stands before each word but the first
-pub joined_spaced : (word : List ℕ) (words : List (List ℕ)) → joined (word ∷ words) ≡ word ++ spaced words
+pub joined_spaced : (word : List ℕ) (words : List (List ℕ)) → joined_words (word ∷ words) ≡ word ++ spaced words
 joined_spaced word [] = sym (append-nil word)
 joined_spaced word (next ∷ words) = ap (λ rest. word ++ (32 ∷ rest)) (joined_spaced next words)
 
@@ -27,7 +27,7 @@ next_value study size tree s rest values level v same is within at =
 -- an instance of the axiom at a place
 pub named_instance : (study : Question) (k : ℕ) (values : List ℕ) (a : Titled) → slice_get study.axioms k ≡ Some a → a.name ++ spaced (value_words study (prefix_of a.sentence) values) ≡ instance_text study k values
 named_instance study k values a at =
-    sym (ap (λ (found : Option Titled). joined (title_of found ∷ value_words study (sorts_of found) values)) at ∙ joined_spaced a.name (value_words study (prefix_of a.sentence) values))
+    sym (ap (λ (found : Option Titled). joined_words (title_of found ∷ value_words study (sorts_of found) values)) at ∙ joined_spaced a.name (value_words study (prefix_of a.sentence) values))
 
 -- as a reason
 pub axiom_text : (study : Question) (k : ℕ) (values : List ℕ) → codes "axiom " ++ instance_text study k values ≡ reason_text study (ByAxiom k values)

@@ -7,7 +7,7 @@ use Rattle.meaning.specs.declared.stories.Lemma.{Lemma}
 use Rattle.verdicts.specs.Lines.{Line, KindIs, VotersAre, AlternativesAre, AxiomsAre, SaysImpossible, CoreIs, LemmasAre, line_text, name_at, reason_words, sorts_of, value_words}
 use Rattle.verdicts.specs.Numbers.{number_text}
 use Rattle.verdicts.specs.Report.{domain_lines, story_lines}
-use Rattle.verdicts.specs.Texts.{joined}
+use Rattle.verdicts.specs.Texts.{joined_words}
 
 -- words, each with a blank before it
 abbrev pub spaced : List (List ℕ) → List ℕ
@@ -18,20 +18,20 @@ abbrev pub count_text : List ℕ → ℕ → List ℕ
 count_text key count = key ++ (number_text count ++ 10 ∷ [])
 
 -- a line with its line end
-abbrev pub ended : Question → Line → List ℕ
-ended study line = line_text study line ++ 10 ∷ []
+abbrev pub ended_line : Question → Line → List ℕ
+ended_line study line = line_text study line ++ 10 ∷ []
 
 -- lines, each with its line end
 abbrev pub lines_text : Question → List Line → List ℕ
-lines_text study lines = flat_map (ended study) lines
+lines_text study lines = flat_map (ended_line study) lines
 
 -- a reason
 abbrev pub reason_text : Question → Reason → List ℕ
-reason_text study reason = joined (reason_words study reason)
+reason_text study reason = joined_words (reason_words study reason)
 
 -- an instance of the axiom at a place: the name of the axiom, and the values of its leading universals
 abbrev pub instance_text : Question → ℕ → List ℕ → List ℕ
-instance_text study k values = joined (name_at study.axioms k ∷ value_words study (sorts_of (slice_get study.axioms k)) values)
+instance_text study k values = joined_words (name_at study.axioms k ∷ value_words study (sorts_of (slice_get study.axioms k)) values)
 
 -- what a study is, in a report of a version, after its title
 abbrev pub about_lines : Question → ℕ → List Line

@@ -5,7 +5,7 @@ ghost use Rattle.std.specs.List.{list_all};
 ghost use Rattle.meaning.specs.Literals.{is_literal};
 ghost use Rattle.verdicts.specs.Lines.{Suppose};
 ghost use Rattle.verdicts.specs.Report.{is_lemma_text, is_reason, lemma_lines, step_line};
-ghost use Rattle.report_text.specs.Pieces.{ended, lines_text, told_lines};
+ghost use Rattle.report_text.specs.Pieces.{ended_line, lines_text, told_lines};
 ghost use Rattle.texts.specs.Spelled.{spelled};
 
 use crate::counts::Count;
@@ -26,7 +26,7 @@ struct Supposed<'a> {
 impl Text for Supposed<'_> {
     ghost can = { λ lines. IsTrue (list_all (is_literal lines.of.study.now.size) lines.literals.now) };
 
-    ghost text = { λ lines. spelled (λ _ l. ended lines.of.study.now (Suppose l)) 0 lines.literals.now };
+    ghost text = { λ lines. spelled (λ _ l. ended_line lines.of.study.now (Suppose l)) 0 lines.literals.now };
 
     fn pour<O: Sink>(&self, page: &mut Page, out: &mut O) -> Result<(), Failed> {
         for literal in self.literals {
@@ -53,7 +53,8 @@ impl Text for Steps<'_> {
         is_literal lines.of.study.now.size step.literal && is_reason lines.of.study.now step.reason)
         lines.steps.now) };
 
-    ghost text = { λ lines. spelled (λ _ step. ended lines.of.study.now (step_line step)) 0 lines.steps.now };
+    ghost text = { λ lines. spelled (λ _ step. ended_line lines.of.study.now (step_line step)) 0
+        lines.steps.now };
 
     fn pour<O: Sink>(&self, page: &mut Page, out: &mut O) -> Result<(), Failed> {
         for step in self.steps {

@@ -1,8 +1,9 @@
 -- Axiom after axiom, up to the first that a rule does not satisfy.
-use Rattle.std.proofs.Common.{◌≡◌, ap, sym, ◌∙◌, subst, ℕ, zero, suc, ◌+◌, ◌<◌, ◌≤◌, cond, Bool, true, List, [], ◌∷◌, length, drop, slice_get, slice_index_or, Some, None, refl, add-one, drop-cons, arith, leb-true}
+use Rattle.std.proofs.Common.{◌≡◌, ap, sym, ◌∙◌, ℕ, zero, suc, ◌+◌, ◌<◌, ◌≤◌, cond, Bool, true, List, [], ◌∷◌, length, drop, slice_get, slice_index_or, Some, None, refl, add-one, drop-cons, arith, leb-true}
 use Rattle.std.specs.Prelude.{nat_lt, nat_le}
 use Rattle.std.specs.List.{list_all}
 use Rattle.std.proofs.lemmas.Bool.{and_parts}
+use Rattle.lists.proofs.TestLaws.{all_get}
 use Rattle.vocab.specs.Formula.{body_of}
 use Rattle.vocab.specs.Limits.{depth, instance_count, atom_count, is_within_limits}
 use Rattle.vocab.specs.Study.{Question, IsStudy, is_sentence}
@@ -16,19 +17,13 @@ use Rattle.verdicts.specs.Faults.{table_fault, failing}
 use Rattle.verdicts.proofs.TableLaws.{table_faults}
 use Rattle.rule_check.specs.Pieces.{IsLeastFalse}
 
--- what holds of each item holds of the item at a place
-in_list : {A : Type 0} (P : A → Bool) (xs : List A) (i : ℕ) (a : A) → list_all P xs ≡ true → slice_get xs i ≡ Some a → P a ≡ true
-in_list P [] i a h at = cc
-in_list P (x ∷ xs) zero a h at = let same : x ≡ a = cc in subst (λ y. P y ≡ true) same (and_parts (P x) (list_all P xs) h).0
-in_list P (x ∷ xs) (suc i) a h at = in_list P xs i a (and_parts (P x) (list_all P xs) h).1 at
-
 module _ (study : Question) (place : ℕ) (a : Titled) where
   pub sentence_at : IsStudy study → slice_get study.axioms place ≡ Some a → is_sentence study.size a ≡ true
-  sentence_at is at = in_list (is_sentence study.size) study.axioms place a is.sentences at
+  sentence_at is at = all_get (is_sentence study.size) study.axioms place a is.sentences at
 
   pub few_at : IsStudy study → slice_get study.axioms place ≡ Some a → instance_count study.size a.sentence ≤ 40000000
   few_at is at =
-      let within = in_list (λ (x : Titled). is_within_limits study.size x.sentence) study.axioms place a is.limits at in
+      let within = all_get (λ (x : Titled). is_within_limits study.size x.sentence) study.axioms place a is.limits at in
       let one = and_parts _ (nat_le (atom_count study.size a.sentence) 200000000) within in
       let two = and_parts _ (nat_le (atom_count study.size (body_of a.sentence)) 1000000) one.0 in
       let three = and_parts (nat_le (depth a.sentence) 64) (nat_le (instance_count study.size a.sentence) 40000000) two.0 in

@@ -1,17 +1,10 @@
 -- Piece after piece, up to the first in which an instance is false.
-use Rattle.std.proofs.Common.{◌≡◌, ℕ, ◌+◌, ◌^◌, ◌-◌, ◌<◌, ◌≤◌, min, IsTrue, List, Some, None, inl, inr, arith}
+use Rattle.std.proofs.Common.{ℕ, ◌+◌, ◌<◌, ◌≤◌, IsTrue, List, Some, None, inl, inr, arith}
 use Rattle.std.proofs.lemmas.Bool.{cases_lt}
 use Rattle.vocab.specs.Size.{Extent}
 use Rattle.vocab.specs.Titled.{Titled}
 use Rattle.meaning.specs.Instances.{is_instance_true, AreInstancesTrue, IsFirstFailure}
-use Rattle.rule_check.specs.Pieces.{start_of, IsLeastFalse, IsLeastOfPiece}
-
-pub zero_more : (n : ℕ) → 0 + n ≡ n
-zero_more n = omega arith
-
--- few instances are counted whole
-pub counted_whole : (count instances : ℕ) → count ≡ min instances (2 ^ 64 - 1) → instances ≤ 40000000 → count ≡ instances
-counted_whole count instances cut few = omega (arith, cut, few)
+use Rattle.rule_check.specs.Pieces.{start_of_piece, IsLeastFalse, IsLeastOfPiece}
 
 module _ (size : Extent) (table : List ℕ) (a : Titled) where
   -- where all instances from a start up to a number are true, those from there on go on
@@ -36,15 +29,15 @@ module _ (size : Extent) (table : List ℕ) (a : Titled) where
   module _ (from to : ℕ) where
     -- the instances of the pieces before this one are true
     abbrev pub AreTrueBefore : ℕ → Type 0
-    AreTrueBefore piece = (k : ℕ) → from ≤ k → k < start_of from piece → k < to → IsTrue (is_instance_true size table a.sentence k)
+    AreTrueBefore piece = (k : ℕ) → from ≤ k → k < start_of_piece from piece → k < to → IsTrue (is_instance_true size table a.sentence k)
 
     pub true_further : (piece : ℕ) → AreTrueBefore piece → IsLeastOfPiece size table a from to piece None → AreTrueBefore (piece + 1)
-    true_further piece before here k low high within = elim (cases_lt k (start_of from piece)) [
+    true_further piece before here k low high within = elim (cases_lt k (start_of_piece from piece)) [
       | inl less ↦ before k low less within
       | inr le ↦ here k le (omega (arith, high, within))
     ]
 
-    pub true_to_end : (count : ℕ) → to ≤ start_of from count → AreTrueBefore count → AreInstancesTrue size table a.sentence from to
+    pub true_to_end : (count : ℕ) → to ≤ start_of_piece from count → AreTrueBefore count → AreInstancesTrue size table a.sentence from to
     true_to_end count whole before k low high = before k low (omega (arith, high, whole)) high
 
     pub first_of_piece : (piece instance : ℕ) → AreTrueBefore piece → IsLeastOfPiece size table a from to piece (Some instance) → IsFirstFailure size table a.sentence from to instance
@@ -52,7 +45,7 @@ module _ (size : Extent) (table : List ℕ) (a : Titled) where
       not_before = omega (arith, here.not_before);
       within = omega (arith, here.within);
       fails = here.fails;
-      first = λ k low less. elim (cases_lt k (start_of from piece)) [
+      first = λ k low less. elim (cases_lt k (start_of_piece from piece)) [
         | inl earlier ↦ before k low earlier (omega (arith, less, here.within))
         | inr le ↦ here.first k le less
       ];

@@ -10,12 +10,12 @@ use Rattle.lanes.specs.Lanes.{IsPlan}
 use Rattle.lanes.specs.declared.telling.Plan.{Plan}
 
 -- where a piece of the instances from `from` on begins
-abbrev pub start_of : ℕ → ℕ → ℕ
-start_of from piece = from + 4096 * piece
+abbrev pub start_of_piece : ℕ → ℕ → ℕ
+start_of_piece from piece = from + 4096 * piece
 
 -- where a piece of the instances from `from` up to `to` ends
-abbrev pub end_of : ℕ → ℕ → ℕ → ℕ
-end_of from to piece = min (start_of from (piece + 1)) to
+abbrev pub end_of_piece : ℕ → ℕ → ℕ → ℕ
+end_of_piece from to piece = min (start_of_piece from (piece + 1)) to
 
 module _ (size : Extent) (table : List ℕ) (a : Titled) where
   -- the instances up to this one can be tried, with a plan of the axiom if there is one
@@ -33,4 +33,4 @@ module _ (size : Extent) (table : List ℕ) (a : Titled) where
 
   -- what was found is the least instance of a piece that is false of the rule
   abbrev pub IsLeastOfPiece : ℕ → ℕ → ℕ → Option ℕ → Type 0
-  IsLeastOfPiece from to piece found = IsLeastFalse (start_of from piece) (end_of from to piece) found
+  IsLeastOfPiece from to piece found = IsLeastFalse (start_of_piece from piece) (end_of_piece from to piece) found

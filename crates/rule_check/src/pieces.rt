@@ -2,7 +2,7 @@
 
 ghost use Rattle.std.specs.Prelude.{◌≤◌, ◌+◌, IfOk, length};
 ghost use Rattle.crew.specs.Right.{AreRight};
-ghost use Rattle.rule_check.specs.Pieces.{CanBeTried, IsLeastFalse, IsLeastOfPiece, start_of, end_of};
+ghost use Rattle.rule_check.specs.Pieces.{CanBeTried, IsLeastFalse, IsLeastOfPiece, start_of_piece, end_of_piece};
 
 use crate::blocks::{Round, least_false};
 use crew::{Crew, Job, Parts, map_pieces};
@@ -30,11 +30,11 @@ struct Pieces<'a, F> {
 impl<F: Fn(u64, u64) -> Option<u64> + Sync> Job for Pieces<'_, F> {
     type Part = Option<u64>;
 
-    ghost has = { λ job piece. (start_of job.from piece ≤ job.to) ×
-        F.pre job.find.now (start_of job.from piece) (end_of job.from job.to piece) };
+    ghost has = { λ job piece. (start_of_piece job.from piece ≤ job.to) ×
+        F.pre job.find.now (start_of_piece job.from piece) (end_of_piece job.from job.to piece) };
 
-    ghost is_right = { λ job piece found. F.post job.find.now (start_of job.from piece)
-        (end_of job.from job.to piece) found };
+    ghost is_right = { λ job piece found. F.post job.find.now (start_of_piece job.from piece)
+        (end_of_piece job.from job.to piece) found };
 
     fn part(&self, piece: u32) -> Result<Option<u64>, NoMemory> {
         let start = self.from + PIECE * u64::from(piece);
@@ -47,7 +47,7 @@ impl<F: Fn(u64, u64) -> Option<u64> + Sync> Job for Pieces<'_, F> {
 fn first_found<K: OutcomeKind>(round: &Round<K>, parts: &Parts<Option<u64>>) -> Option<u64>
     requires right { AreRight (IsLeastOfPiece (K.size round.now.kind.now) round.now.table.now
         round.now.named.now round.now.from round.now.to) 0 parts.now }
-    requires whole { round.now.to ≤ start_of round.now.from (length parts.now) }
+    requires whole { round.now.to ≤ start_of_piece round.now.from (length parts.now) }
     ensures { IsLeastFalse (K.size round.now.kind.now) round.now.table.now round.now.named.now
         round.now.from round.now.to result }
 {

@@ -18,15 +18,15 @@ use Rattle.meaning.specs.Laws.{clauses_for, AreBitsOf}
 use Rattle.meaning.specs.Space.{below}
 use Rattle.meaning.specs.Variables.{bits_of, variable_count}
 use Rattle.meaning.proofs.RuleLaws.{are_rules}
+use Rattle.meaning.proofs.CoreLaws.{core_in_range}
 use Rattle.clause_form.proofs.OverLaws.{clauses_over}
 use Rattle.core_reduce.specs.Tables.{IsTableOf}
-use Rattle.core_reduce.proofs.CoreLaws.{core_in_range}
 use Rattle.search_logs.specs.Spent.{all_places}
 use Rattle.search_logs.proofs.PlaceLaws.{core_below}
 use Rattle.rule_lists.specs.declared.answers.Ending.{Ending}
 use Rattle.rule_lists.specs.declared.answers.RuleList.{RuleList}
-use Rattle.rule_lists.specs.RuleLists.{has_table, is_rising, IsRuleOf, IsCutShort, IsOther, EndsWith, IsRuleList}
-use Rattle.rule_lists.specs.Finding.{denial, IsFound, IsPut}
+use Rattle.rule_lists.specs.RuleLists.{has_table, are_tables_rising, IsRuleOf, IsListCutShort, IsOtherRule, EndsWith, IsRuleList}
+use Rattle.rule_lists.specs.Finding.{denial, AreFoundRules, PutsTable}
 use Rattle.rule_lists.proofs.LeavingLaws.{denial_leaves_out, denial_length, denial_over, is_fresh, leave_one_more, others_satisfy, rule_of, table_is_rule}
 
 all_append : (P : List ℕ → Type 0) (xs ys : List (List ℕ)) → AllByRecursion P xs → AllByRecursion P ys → AllByRecursion P (xs ++ ys)
@@ -56,7 +56,7 @@ module _ (study : Question) (sentences : list_all (is_sentence study.size) study
       let same : table ≡ r.0 = table_is_rule study.size table r.0 v of (rule_of study r.0 r.1) r.2 in
       subst (λ (t : List ℕ). IsRuleOf study t × AreBitsOf study.size t v) (sym same) (r.1, r.2)
 
-  module _ (tables : List (List ℕ)) (clauses : List Clause) (f : IsFound study tables clauses) where
+  module _ (tables : List (List ℕ)) (clauses : List Clause) (f : AreFoundRules study tables clauses) where
     pub parts_satisfied : (v : ℕ → Bool) → is_satisfied v clauses ≡ true → (is_satisfied v (clauses_for study.size study.axioms (all_places study)) ≡ true) × (is_satisfied v f.left_out ≡ true)
     parts_satisfied v sat =
         and_parts _ _ (sym (list_all-append (is_clause_true v) (clauses_for study.size study.axioms (all_places study)) f.left_out) ∙ ap (is_satisfied v) (sym f.is) ∙ sat)
@@ -70,7 +70,7 @@ module _ (study : Question) (sentences : list_all (is_sentence study.size) study
         (r.0, r.1, sym (f.same table) ∙ is_fresh study f.found f.left_out f.each v p.1 table r.1)
 
     -- so there is another rule
-    pub another_rule : (v : ℕ → Bool) → is_satisfied v clauses ≡ true → (table : List ℕ) × IsOther study tables table
+    pub another_rule : (v : ℕ → Bool) → is_satisfied v clauses ≡ true → (table : List ℕ) × IsOtherRule study tables table
     another_rule v sat =
         let p = parts_satisfied v sat in
         let r = (are_rules study.size study.axioms sentences (all_places study) places_in_range v).0 p.0 in
@@ -92,8 +92,8 @@ module _ (study : Question) (sentences : list_all (is_sentence study.size) study
         cases false e = absurd (accepted_unsatisfiable clauses lines accepted (bits_of study.size table) (satisfied e))
 
     -- one rule more
-    pub found_more : (v : ℕ → Bool) (table : List ℕ) → IsRuleOf study table → AreBitsOf study.size table v → (new : List (List ℕ)) → IsPut tables new table → is_rising new ≡ true
-        → IsFound study new (clauses ++ denial v (variable_count study.size) ∷ [])
+    pub found_more : (v : ℕ → Bool) (table : List ℕ) → IsRuleOf study table → AreBitsOf study.size table v → (new : List (List ℕ)) → PutsTable tables new table → are_tables_rising new ≡ true
+        → AreFoundRules study new (clauses ++ denial v (variable_count study.size) ∷ [])
     found_more v table rule same new put rising =
         let clause = denial v (variable_count study.size) in record {
           right = subst (AllByRecursion (IsRuleOf study)) (sym put.new_is) (let p = all_parts (IsRuleOf study) put.before put.after (subst (AllByRecursion (IsRuleOf study)) put.old_is f.right) in all_append (IsRuleOf study) put.before (table ∷ put.after) p.0 (rule, p.1));
@@ -112,14 +112,14 @@ module _ (study : Question) (sentences : list_all (is_sentence study.size) study
           over = list_all-append (is_over (variable_count study.size)) clauses (clause ∷ []) ∙ and_from _ _ f.over (and_from _ _ (denial_over v (variable_count study.size) (variable_count study.size) (omega arith)) refl);
         }
 
-    pub put_length : (table : List ℕ) (new : List (List ℕ)) → IsPut tables new table → length new ≡ length tables + 1
+    pub put_length : (table : List ℕ) (new : List (List ℕ)) → PutsTable tables new table → length new ≡ length tables + 1
     put_length table new put =
         ap length put.new_is ∙ length-append put.before (table ∷ put.after)
         ∙ (let both : length tables ≡ length put.before + length put.after = ap length put.old_is ∙ length-append put.before put.after in
         let more : length put.before + length (table ∷ put.after) ≡ length tables + 1 = omega (arith, both) in more)
 
     -- a search that spent its limit, or a list without room, cuts the list short
-    pub cut_by_search : (lines : List Line) → IsSpent (variable_count study.size) clauses study.conflicts lines → IsCutShort study tables
+    pub cut_by_search : (lines : List Line) → IsSpent (variable_count study.size) clauses study.conflicts lines → IsListCutShort study tables
     cut_by_search lines spent = record {
       found = f.found;
       same = f.same;
@@ -128,7 +128,7 @@ module _ (study : Question) (sentences : list_all (is_sentence study.size) study
       cause = inl (lines, subst (λ (cs : List Clause). IsSpent (variable_count study.size) cs study.conflicts lines) f.is spent);
     }
 
-    pub cut_by_room : (list : ClauseList) → list.clauses ≡ clauses → (v : ℕ → Bool) (clause : Clause) → clause ≡ denial v (variable_count study.size) → IsFullFor list (length clause) → IsCutShort study tables
+    pub cut_by_room : (list : ClauseList) → list.clauses ≡ clauses → (v : ℕ → Bool) (clause : Clause) → clause ≡ denial v (variable_count study.size) → IsFullFor list (length clause) → IsListCutShort study tables
     cut_by_room list same v clause is full = record {
       found = f.found;
       same = f.same;
@@ -142,13 +142,13 @@ module _ (study : Question) (sentences : list_all (is_sentence study.size) study
         → IsRuleList study most list
     makes_list list ending same ends most few h = record {
       right = subst (AllByRecursion (IsRuleOf study)) (sym same) f.right;
-      rising = subst (λ (ts : List (List ℕ)). is_rising ts ≡ true) (sym same) f.rising;
+      rising = subst (λ (ts : List (List ℕ)). are_tables_rising ts ≡ true) (sym same) f.rising;
       few = subst (λ (ts : List (List ℕ)). length ts ≤ most) (sym same) few;
       ends = subst (λ (ts : List (List ℕ)). EndsWith study most ts list.ending) (sym same) (subst (EndsWith study most tables) (sym ends) h);
     }
 
   -- at first nothing is found
-  pub found_nothing : (clauses : List Clause) → clauses ≡ clauses_for study.size study.axioms (all_places study) → IsFound study [] clauses
+  pub found_nothing : (clauses : List Clause) → clauses ≡ clauses_for study.size study.axioms (all_places study) → AreFoundRules study [] clauses
   found_nothing clauses same = record {
     right = tt;
     rising = refl;

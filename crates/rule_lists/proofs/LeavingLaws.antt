@@ -1,10 +1,10 @@
 -- Clauses that leave out rules.
-use Rattle.std.proofs.Common.{◌≡◌, refl, sym, ◌∙◌, ap, subst, ℕ, zero, suc, ◌+◌, ◌<◌, ◌≤◌, Bool, true, false, not, ◌&&◌, ◌||◌, List, [], ◌∷◌, ◌++◌, length, length-append, inl, inr, ◌⊎◌, arith, true≢false, eqb-true, le-leb}
+use Rattle.std.proofs.Common.{◌≡◌, refl, sym, ◌∙◌, ap, subst, ℕ, zero, suc, ◌+◌, ◌<◌, ◌≤◌, Bool, true, false, not, ◌&&◌, List, [], ◌∷◌, ◌++◌, length, length-append, inl, inr, ◌⊎◌, arith, true≢false, eqb-true, le-leb}
 use Rattle.std.specs.Prelude.{◌==◌, nat_lt, nat_le, slice_get, slice_index}
 use Rattle.std.specs.Bool.{beq}
 use Rattle.std.specs.List.{list_all, AllByRecursion}
 use Rattle.std.specs.Str.{bytes_eq}
-use Rattle.std.proofs.lemmas.Bool.{and_parts, and_from}
+use Rattle.std.proofs.lemmas.Bool.{and_parts, and_from, or_parts, or_from}
 use Rattle.std.proofs.lemmas.List.{ext_get_or}
 use Rattle.std.proofs.lemmas.List.Folds.{list_all-append, list_any-append}
 use Rattle.std.proofs.lemmas.Slice.Eq.{bytes_eq-Decides}
@@ -25,14 +25,6 @@ use Rattle.core_reduce.specs.Tables.{IsTableOf}
 use Rattle.search_logs.specs.Spent.{all_places}
 use Rattle.rule_lists.specs.RuleLists.{has_table, IsRuleOf, LeavesOut, LeaveOut}
 use Rattle.rule_lists.specs.Finding.{denial}
-
-pub both_false : (a b : Bool) → (a || b) ≡ false → (a ≡ false) × (b ≡ false)
-both_false true b h = absurd (true≢false h)
-both_false false b h = (refl, h)
-
-either_false : (a b : Bool) → a ≡ false → b ≡ false → (a || b) ≡ false
-either_false false b e h = h
-either_false true b e h = absurd (true≢false e)
 
 -- ---- one assignment
 
@@ -76,14 +68,14 @@ module _ (v w : ℕ → Bool) where
   denied zero same = refl
   denied (suc n) same =
       list_any-append (is_lit_true w) (denial v n) (lit_at v n ∷ [])
-      ∙ either_false _ _ (denied n (λ i low high. same i low (omega (arith, high))))
-      (either_false _ _ (ap (λ (b : Bool). beq b (not (v (n + 1)))) (same (n + 1) (omega arith) (omega arith)) ∙ differs (v (n + 1))) refl)
+      ∙ or_from _ _ (denied n (λ i low high. same i low (omega (arith, high))))
+      (or_from _ _ (ap (λ (b : Bool). beq b (not (v (n + 1)))) (same (n + 1) (omega arith) (omega arith)) ∙ differs (v (n + 1))) refl)
 
   pub denies_alone : (n : ℕ) → is_clause_true w (denial v n) ≡ false → (i : ℕ) → 1 ≤ i → i ≤ n → w i ≡ v i
   denies_alone zero h i low high = absurd (omega (arith, low, high))
   denies_alone (suc n) h i low high =
-      let parts = both_false _ _ (sym (list_any-append (is_lit_true w) (denial v n) (lit_at v n ∷ [])) ∙ h) in
-      let last = is_same (w (n + 1)) (v (n + 1)) (both_false _ _ parts.1).0 in
+      let parts = or_parts _ _ (sym (list_any-append (is_lit_true w) (denial v n) (lit_at v n ∷ [])) ∙ h) in
+      let last = is_same (w (n + 1)) (v (n + 1)) (or_parts _ _ parts.1).0 in
       elim (up_to i n high) [
         | inl earlier ↦ denies_alone n parts.0 i low earlier
         | inr here ↦ subst (λ (k : ℕ). w k ≡ v k) (sym here) last
@@ -158,7 +150,7 @@ module _ (study : Question) where
   is_fresh (t ∷ tables) [] h v sat table same = absurd h
   is_fresh (t ∷ tables) (c ∷ clauses) h v sat table same =
       let p = and_parts (is_clause_true v c) (is_satisfied v clauses) sat in
-      either_false (bytes_eq table t) (has_table tables table) (other (bytes_eq table t) refl p.0) (is_fresh tables clauses h.1 v p.1 table same)
+      or_from (bytes_eq table t) (has_table tables table) (other (bytes_eq table t) refl p.0) (is_fresh tables clauses h.1 v p.1 table same)
     where
       other : (b : Bool) → bytes_eq table t ≡ b → is_clause_true v c ≡ true → b ≡ false
       other false e k = refl
@@ -173,7 +165,7 @@ module _ (study : Question) where
   others_satisfy [] (c ∷ clauses) h rules table rule other = absurd h
   others_satisfy (t ∷ tables) [] h rules table rule other = absurd h
   others_satisfy (t ∷ tables) (c ∷ clauses) h rules table rule other =
-      let p = both_false (bytes_eq table t) (has_table tables table) other in
+      let p = or_parts (bytes_eq table t) (has_table tables table) other in
       and_from (is_clause_true (bits_of study.size table) c) (is_satisfied (bits_of study.size table) clauses)
       (true_at (is_clause_true (bits_of study.size table) c) refl p.0) (others_satisfy tables clauses h.1 rules.1 table rule p.1)
     where

@@ -22,16 +22,16 @@ abbrev pub has_table : List (List ℕ) → List ℕ → Bool
 has_table tables table = list_any (bytes_eq table) tables
 
 -- a table comes before another in lexicographic order
-abbrev pub is_before : List ℕ → List ℕ → Bool
-is_before [] [] = false
-is_before [] (o ∷ os) = true
-is_before (o ∷ os) [] = false
-is_before (o ∷ os) (u ∷ us) = nat_lt o u || (o == u && is_before os us)
+abbrev pub is_table_before : List ℕ → List ℕ → Bool
+is_table_before [] [] = false
+is_table_before [] (o ∷ os) = true
+is_table_before (o ∷ os) [] = false
+is_table_before (o ∷ os) (u ∷ us) = nat_lt o u || (o == u && is_table_before os us)
 
 -- each table comes before all later ones; so no two are the same
-abbrev pub is_rising : List (List ℕ) → Bool
-is_rising [] = true
-is_rising (table ∷ tables) = list_all (is_before table) tables && is_rising tables
+abbrev pub are_tables_rising : List (List ℕ) → Bool
+are_tables_rising [] = true
+are_tables_rising (table ∷ tables) = list_all (is_table_before table) tables && are_tables_rising tables
 
 module _ (study : Question) where
   -- a rule of the study's size satisfies all its axioms
@@ -64,7 +64,7 @@ module _ (study : Question) where
   IsFullOver clauses = (list : ClauseList) × (list.clauses ≡ clauses) × IsFullFor list (variable_count study.size)
 
   -- over the clauses of all axioms, and one for each of these rules that leaves it out, in some order, a search spent the limit, or no clause has room
-  pub record IsCutShort (tables : List (List ℕ)) : Type 0 where
+  pub record IsListCutShort (tables : List (List ℕ)) : Type 0 where
     pub found : List (List ℕ)
     pub same : (table : List ℕ) → has_table found table ≡ has_table tables table
     pub left_out : List Clause
@@ -74,19 +74,19 @@ module _ (study : Question) where
   -- ---- the list
 
   -- some rule is none of these
-  pub record IsOther (tables : List (List ℕ)) (table : List ℕ) : Type 0 where
+  pub record IsOtherRule (tables : List (List ℕ)) (table : List ℕ) : Type 0 where
     pub right : IsRuleOf table
     pub other : IsFalse (has_table tables table)
 
   -- how a list of rules ends: these are all; or they are as many as were asked for, and there is another; or the search was cut short
   abbrev pub EndsWith : (most : ℕ) → List (List ℕ) → Ending → Type 0
   EndsWith most tables Whole = (table : List ℕ) → IsRuleOf table → IsTrue (has_table tables table)
-  EndsWith most tables More = (length tables ≡ most) × (table : List ℕ) × IsOther tables table
-  EndsWith most tables Open = IsCutShort tables
+  EndsWith most tables More = (length tables ≡ most) × (table : List ℕ) × IsOtherRule tables table
+  EndsWith most tables Open = IsListCutShort tables
 
   -- a list of rules is right: each satisfies all axioms, no two are the same, they stand in lexicographic order, there are at most as many as were asked for, and they end so
   pub record IsRuleList (most : ℕ) (list : RuleList) : Type 0 where
     pub right : AllByRecursion IsRuleOf list.tables
-    pub rising : IsTrue (is_rising list.tables)
+    pub rising : IsTrue (are_tables_rising list.tables)
     pub few : length list.tables ≤ most
     pub ends : EndsWith most list.tables list.ending

@@ -3,13 +3,13 @@
 ghost use Rattle.std.specs.Prelude.{◌≡◌, ◌≤◌, ◌+◌, length, IfOk, IfSome, IfNone, IsTrue, IsFalse};
 ghost use Rattle.cnf.specs.Assignment.{value_of};
 ghost use Rattle.cnf.specs.Sat.{is_satisfied};
-ghost use Rattle.cdcl.specs.Answer.{Answers};
+ghost use Rattle.cdcl.specs.Answer.{IsSearchAnswer};
 ghost use Rattle.meaning.specs.StudyClauses.{study_clauses};
 ghost use Rattle.meaning.specs.Variables.{variable_count};
 ghost use Rattle.clause_form.specs.Sources.{clauses_in};
 ghost use Rattle.search_logs.specs.Spent.{all_places};
 ghost use Rattle.rule_lists.specs.RuleLists.{EndsWith, IsRuleList};
-ghost use Rattle.rule_lists.specs.Finding.{IsFound, IsAfter};
+ghost use Rattle.rule_lists.specs.Finding.{AreFoundRules, IsAfter};
 
 use crate::answers::{Ending, RuleList};
 use crate::denying::denial_of;
@@ -58,7 +58,8 @@ impl Found {
     /// Nothing is found yet.
     pub(crate) fn new(alloc: Global, study: &Study, ground: &Ground) -> Result<Found, NoMemory>
         requires { ground.now ≡ study_clauses study.now.size study.now.axioms (all_places study.now) }
-        ensures found { IfOk result (λ found. IsFound study.now found.tables.items found.clauses.clauses) }
+        ensures found { IfOk result
+            (λ found. AreFoundRules study.now found.tables.items found.clauses.clauses) }
         ensures none { IfOk result (λ found. length found.tables.items ≡ 0) }
     {
         let _axioms = study.axioms();
@@ -77,9 +78,9 @@ impl Found {
         study: &Study,
     ) -> Result<Search, NoMemory>
         requires size { study.now.size ≡ K.size kind.now }
-        requires found { IsFound study.now self.now.tables.items self.now.clauses.clauses }
+        requires found { AreFoundRules study.now self.now.tables.items self.now.clauses.clauses }
         ensures { IfOk result
-            (Answers self.now.clauses.clauses (variable_count study.now.size) study.now.conflicts) }
+            (IsSearchAnswer self.now.clauses.clauses (variable_count study.now.size) study.now.conflicts) }
     {
         let _axioms = study.axioms();
         laws::kinds_have_sizes(kind);
@@ -96,7 +97,7 @@ impl Found {
         bits: &Bits,
     ) -> Result<Option<Ending>, NoMemory>
         requires size { study.now.size ≡ K.size kind.now }
-        requires found { IsFound study.now self.old.tables.items self.old.clauses.clauses }
+        requires found { AreFoundRules study.now self.old.tables.items self.old.clauses.clauses }
         requires length { length bits.now ≡ variable_count study.now.size }
         requires satisfied { IsTrue (is_satisfied (value_of bits.now) self.old.clauses.clauses) }
         ensures { IfOk result
@@ -123,7 +124,7 @@ impl Found {
         study: &Study,
     ) -> Result<Option<Ending>, NoMemory>
         requires size { study.now.size ≡ K.size kind.now }
-        requires found { IsFound study.now self.old.tables.items self.old.clauses.clauses }
+        requires found { AreFoundRules study.now self.old.tables.items self.old.clauses.clauses }
         ensures { IfOk result
             (IsAfter study.now self.old.tables.items self.new.tables.items self.new.clauses.clauses) }
     {
@@ -143,7 +144,7 @@ impl Found {
         study: &Study,
     ) -> Result<Ending, NoMemory>
         requires size { study.now.size ≡ K.size kind.now }
-        requires found { IsFound study.now self.now.tables.items self.now.clauses.clauses }
+        requires found { AreFoundRules study.now self.now.tables.items self.now.clauses.clauses }
         ensures { IfOk result (EndsWith study.now (length self.now.tables.items) self.now.tables.items) }
     {
         let _axioms = study.axioms();

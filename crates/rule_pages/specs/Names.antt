@@ -16,15 +16,15 @@ use Rattle.rule_pages.specs.declared.names.RuleName.{RuleName}
 use Rattle.rule_pages.specs.declared.names.RuleName.TheVariants.{Always, Voter}
 
 -- the letters of the outcome that an order of the alternatives gives: all of it where rules rank, and else its first alone
-abbrev pub chosen : Kind → List ℕ → List ℕ
-chosen Choice order = take 1 order
-chosen Ranking order = order
-chosen Sets order = take 1 order
+abbrev pub outcome_letters : Kind → List ℕ → List ℕ
+outcome_letters Choice order = take 1 order
+outcome_letters Ranking order = order
+outcome_letters Sets order = take 1 order
 
 -- the letters of an outcome are those that a voter's ballot gives by the voter's role: the ballot, or the ballot turned round
 abbrev pub is_taken : Kind → Role → (ballot outcome : List ℕ) → Bool
-is_taken kind Decides ballot outcome = bytes_eq outcome (chosen kind ballot)
-is_taken kind LastWins ballot outcome = bytes_eq outcome (chosen kind (reverse ballot))
+is_taken kind Decides ballot outcome = bytes_eq outcome (outcome_letters kind ballot)
+is_taken kind LastWins ballot outcome = bytes_eq outcome (outcome_letters kind (reverse ballot))
 
 module _ (size : Extent) where
   -- the code is one of an outcome, and voter i casts a ballot which gives it by this role; the letters of an outcome are no other's

@@ -3,12 +3,12 @@ use Rattle.std.specs.Prelude.{ℕ, nat_lt, List, ◌++◌, codes, if◌then◌el
 use Rattle.vocab.specs.declared.kinds.Sort.TheVariants.{Profile}
 use Rattle.vocab.specs.Size.{Extent, sort_count}
 use Rattle.html.specs.Grids.{grid_html, is_gridded}
-use Rattle.rule_pages.specs.Entries.{ruled_html, list_html}
+use Rattle.rule_pages.specs.Entries.{ruled_html, rule_list_html}
 
 module _ (size : Extent) where
   -- a table for two voters, and else a list
   abbrev pub body_html : List ℕ → List ℕ
-  body_html table = if is_gridded size 25 then grid_html size (ruled_html size table) else list_html size table
+  body_html table = if is_gridded size 25 then grid_html size (ruled_html size table) else rule_list_html size table
 
   -- a table or a list that stands closed, to be opened
   abbrev pub folded_html : List ℕ → List ℕ

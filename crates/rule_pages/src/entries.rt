@@ -6,7 +6,7 @@ ghost use Rattle.vocab.specs.declared.kinds.Sort.TheVariants.{Profile};
 ghost use Rattle.vocab.specs.Range.{below};
 ghost use Rattle.vocab.specs.Size.{sort_count, cast_count};
 ghost use Rattle.meaning.specs.Space.{casts_of};
-ghost use Rattle.rule_pages.specs.Entries.{ruled_html, entry_html, cast_html, entry_of, fold_html, fold_start, list_html};
+ghost use Rattle.rule_pages.specs.Entries.{ruled_html, entry_html, cast_html, entry_under, fold_html, fold_start, rule_list_html};
 
 use html::{Html, put_ballot, put_outcome, put_profile};
 use lists::NoMemory;
@@ -75,7 +75,7 @@ fn put_entry_of<K: OutcomeKind>(
     p: u32,
 ) -> Result<(), NoMemory>
     requires { p < sort_count (K.size kind.now) Profile }
-    ensures { OnOk result (out.new ≡ out.old ++ entry_of (K.size kind.now) table.now cast p) }
+    ensures { OnOk result (out.new ≡ out.old ++ entry_under (K.size kind.now) table.now cast p) }
 {
     if first_cast(kind.space(), p) != cast {
         return Ok(());
@@ -91,7 +91,8 @@ fn put_entries<K: OutcomeKind>(
     cast: u32,
 ) -> Result<(), NoMemory>
     ensures { OnOk result (out.new ≡ out.old ++
-        flat_map (entry_of (K.size kind.now) table.now cast) (below (sort_count (K.size kind.now) Profile))) }
+        flat_map (entry_under (K.size kind.now) table.now cast)
+        (below (sort_count (K.size kind.now) Profile))) }
 {
     let count = kind.space().count();
     for p in 0..count {
@@ -146,7 +147,7 @@ pub(crate) fn put_list<K: OutcomeKind>(
     kind: &K,
     table: &Table,
 ) -> Result<(), NoMemory>
-    ensures { OnOk result (out.new ≡ out.old ++ list_html (K.size kind.now) table.now) }
+    ensures { OnOk result (out.new ≡ out.old ++ rule_list_html (K.size kind.now) table.now) }
 {
     let count = cast_count(kind.space());
     for cast in 0..count {

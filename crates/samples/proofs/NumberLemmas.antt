@@ -1,7 +1,7 @@
 -- The study of a number: its size, its entries one by one, and that nothing in it is refused.
-use Rattle.std.proofs.Common.{◌≡◌, ◌≤◌, ◌<◌, ◌+◌, arith, refl, sym, ℕ, zero, suc, pos, List, [], ◌∷◌, ◌++◌, length, get_or, drop, Bool, true, false, cond, not, Ok, Err, lit≤, append_assoc}
+use Rattle.std.proofs.Common.{◌≡◌, ◌≤◌, ◌<◌, ◌+◌, arith, refl, ℕ, zero, suc, pos, List, [], ◌∷◌, ◌++◌, length, get_or, drop, Bool, true, false, cond, not, Ok, Err, lit≤, append_assoc}
 use Rattle.std.specs.Prelude.{◌/◌, ◌%◌, ◌==◌}
-use Rattle.std.proofs.lemmas.Bool.{and_parts, and_from, or_parts, or_from, not_from_false}
+use Rattle.std.proofs.lemmas.Bool.{and_parts, and_from, or_parts, or_from, not_from_false, not-true}
 use Rattle.std.proofs.lemmas.List.{drop_more}
 use Rattle.std.specs.List.{list_any}
 use Rattle.std.specs.Str.{bytes_eq}
@@ -12,7 +12,7 @@ use Rattle.vocab.specs.SizeFault.{size_of}
 use Rattle.axiom_library.specs.Library.{Entry, choice, ranking}
 use Rattle.study.specs.declared.faults.StudyFault.{StudyFault}
 use Rattle.study.specs.Listing.{have_own_names, IsListing}
-use Rattle.study.specs.Reading.{IsAnswer}
+use Rattle.study.specs.Reading.{IsListingAnswer}
 use Rattle.samples.specs.Sample.{sample_kind, sample_entries, entries_by, sample_listing}
 use Rattle.study.proofs.OneAnswer.{one_of_listing}
 use Rattle.samples.proofs.Samples.{samples_given}
@@ -59,15 +59,11 @@ none_chosen p digits (e ∷ entries) none =
     by_digit true first rest = or_from _ _ first rest
     by_digit false first rest = rest
 
-not_false : (b : Bool) → not b ≡ true → b ≡ false
-not_false true e = sym e
-not_false false e = refl
-
 own_chosen : (digits : ℕ) (entries : List Entry) → have_own_names entries ≡ true → have_own_names (entries_by digits entries) ≡ true
 own_chosen digits [] own = refl
 own_chosen digits (e ∷ entries) own =
     let parts = and_parts (not (list_any (λ other. bytes_eq e.name other.name) entries)) (have_own_names entries) own in
-    by_digit (digits % 2 == 1) (none_chosen (λ other. bytes_eq e.name other.name) (digits / 2) entries (not_false _ parts.0)) (own_chosen (digits / 2) entries parts.1)
+    by_digit (digits % 2 == 1) (none_chosen (λ other. bytes_eq e.name other.name) (digits / 2) entries (not-true _ parts.0)) (own_chosen (digits / 2) entries parts.1)
   where
     by_digit : (b : Bool) → list_any (λ other. bytes_eq e.name other.name) (entries_by (digits / 2) entries) ≡ false → have_own_names (entries_by (digits / 2) entries) ≡ true
         → have_own_names (cond b (e ∷ entries_by (digits / 2) entries) (entries_by (digits / 2) entries)) ≡ true
@@ -95,7 +91,7 @@ sample_whole n = record {
 }
 
 -- it has a study, so nothing in it is refused
-pub sample_not_refused : (n : ℕ) (refusal : StudyFault) → IsAnswer (sample_listing n) (Err refusal) → ⊥
+pub sample_not_refused : (n : ℕ) (refusal : StudyFault) → IsListingAnswer (sample_listing n) (Err refusal) → ⊥
 sample_not_refused n refusal answered =
     let given = samples_given n in
     let same = one_of_listing (sample_listing n) (Err refusal) (Ok given.0) answered given.1 in

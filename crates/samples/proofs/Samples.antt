@@ -4,11 +4,11 @@ use Rattle.std.specs.Prelude.{◌+◌, ◌/◌, ◌%◌, ◌==◌}
 use Rattle.std.specs.List.{AllByRecursion}
 use Rattle.vocab.specs.declared.kinds.Kind.{Kind}
 use Rattle.vocab.specs.declared.kinds.Kind.TheVariants.{Choice, Ranking}
-use Rattle.vocab.specs.NamedDepth.{depth, quantifiers}
+use Rattle.vocab.specs.NamedDepth.{named_depth, quantifiers}
 use Rattle.vocab.specs.NamedTree.{NamedTree}
 use Rattle.vocab.specs.Size.{Extent, IsSize, full_size}
 use Rattle.vocab.specs.Study.{Question}
-use Rattle.syntax.specs.Canonical.{text_of}
+use Rattle.syntax.specs.Canonical.{canonical_text}
 use Rattle.syntax.specs.Sentence.{IsSentence}
 use Rattle.syntax.proofs.RoundTrip.{tree_lexemes, writable_read}
 use Rattle.sorts.specs.Answers.{answer_of}
@@ -29,7 +29,7 @@ record FitsBoth (kind : Kind) (e : Entry) : Type 0 where
   of_two : Fits (full_size kind 2 3) e
   of_three : Fits (full_size kind 3 3) e
 
-fits : (kind : Kind) (e : Entry) (f : NamedTree) → text_of f ≡ e.text → is_writable f ≡ true → length (tree_lexemes f []) ≤ 600 → depth f ≤ 64 → quantifiers f ≤ 12
+fits : (kind : Kind) (e : Entry) (f : NamedTree) → canonical_text f ≡ e.text → is_writable f ≡ true → length (tree_lexemes f []) ≤ 600 → named_depth f ≤ 64 → quantifiers f ≤ 12
     → is_fit (full_size kind 2 3) (answer_of (full_size kind 2 3) f) ≡ true → is_fit (full_size kind 3 3) (answer_of (full_size kind 3 3) f) ≡ true → FitsBoth kind e
 fits kind e f same writable few shallow few_variables two three =
     let reads : IsSentence e.text f = subst (λ t. IsSentence t f) same (writable_read f (writable_by_test f writable) few shallow few_variables) in

@@ -8,7 +8,7 @@ use Rattle.vocab.specs.Size.{full_size}
 use Rattle.vocab.specs.Study.{Question}
 use Rattle.axiom_library.specs.Library.{Entry, choice, ranking}
 use Rattle.study.specs.declared.listing.Listing.{Listing}
-use Rattle.study.specs.Reading.{IsAnswer}
+use Rattle.study.specs.Reading.{IsListingAnswer}
 
 -- rules that choose at even numbers, and rules that rank at odd ones
 abbrev pub sample_kind : ℕ → Kind
@@ -38,7 +38,7 @@ sample_listing n = record {
 
 -- the study that a listing reads as is that of the number
 abbrev pub IsSampleStudy : ℕ → Question → Type 0
-IsSampleStudy n study = IsAnswer (sample_listing n) (Ok study)
+IsSampleStudy n study = IsListingAnswer (sample_listing n) (Ok study)
 
 -- each number has exactly one study
 abbrev pub SamplesAreStudies : Type 0

@@ -17,7 +17,7 @@ use Rattle.adopt.specs.declared.telling.Adopted.{Adopted}
 use Rattle.adopt.specs.Told.{IsAdopted}
 use Rattle.words.specs.Words.{Adopt}
 use Rattle.answers.specs.Studies.{GivesStudy, study_refused, study_given}
-use Rattle.answers.specs.Grounding.{all_clauses, fault_of, clauses_made}
+use Rattle.answers.specs.Grounding.{all_clauses, clauses_fault, clauses_made}
 use Rattle.answers.specs.Export.{exported_formula}
 use Rattle.answers.specs.Lrat.{Said, said_of, of_derivation}
 use Rattle.answers.specs.Adopt.{IsRetold, Adopts, proof_refused, proof_retold, IsAdoption}
@@ -27,7 +27,7 @@ use Rattle.command_parts.specs.declared.answer.Answer.TheVariants as answer
 use Rattle.command_parts.specs.declared.answer.Stop.{Stop}
 use Rattle.command_parts.specs.Answers.{HasText, run_of, text_of}
 use Rattle.command_parts.specs.GivenProof.{IsDerivation, RefusesProof}
-use Rattle.command_parts.specs.Opened.{IsRead, Refuses}
+use Rattle.command_parts.specs.Opened.{IsStudyRead, Refuses}
 use Rattle.search_commands.specs.Retold.{IsDerivationJudged, lines_retold, line_refused}
 use Rattle.answers.proofs.LimitLemmas.{variables_few}
 use Rattle.search_commands.proofs.ClauseLemmas.{no_clauses}
@@ -102,16 +102,16 @@ module _ (told : Option Files) (proof : List ℕ) (study : Question) (variables 
 
 module _ (told : Option Files) (name proof : List ℕ) where
   -- a study whose clauses were made is taken
-  pub clauses_taken : (study : Question) → IsRead told name study → fault_of study ≡ None
-      → IfSome told (λ files. (study : Question) × GivesStudy files name study × (fault_of study ≡ None))
+  pub clauses_taken : (study : Question) → IsStudyRead told name study → clauses_fault study ≡ None
+      → IfSome told (λ files. (study : Question) × GivesStudy files name study × (clauses_fault study ≡ None))
   clauses_taken study read none = go told refl
     where
-      go : (o : Option Files) → told ≡ o → IfSome o (λ files. (study : Question) × GivesStudy files name study × (fault_of study ≡ None))
+      go : (o : Option Files) → told ≡ o → IfSome o (λ files. (study : Question) × GivesStudy files name study × (clauses_fault study ≡ None))
       go None e = tt
       go (Some files) e = (study, given told name study files read e, none)
 
   -- the proof is judged over its clauses
-  pub adopted_rows : (study : Question) (result : Result Answer Stop) → IsRead told name study → fault_of study ≡ None
+  pub adopted_rows : (study : Question) (result : Result Answer Stop) → IsStudyRead told name study → clauses_fault study ≡ None
       → IfOk result (λ answer. (files : Files) → told ≡ Some files → Adopts files proof study (run_of answer) (text_of answer))
       → (files : Files) → AreFiles told (name ∷ proof ∷ []) files → IfOk result (λ answer. IsAdoption files name proof (run_of answer) (text_of answer))
   adopted_rows study (Ok answer) read none judged files (are_told e) = study_given study (given told name study files read e) (clauses_made none (judged files e))
@@ -119,7 +119,7 @@ module _ (told : Option Files) (name proof : List ℕ) where
   adopted_rows study (Err stop) read none judged files h = tt
 
   -- the clauses are refused
-  pub clauses_row : (study : Question) (fault : GroundFault) → IsRead told name study → fault ≢ NoMemory → IsRefused fault (fault_of study)
+  pub clauses_row : (study : Question) (fault : GroundFault) → IsStudyRead told name study → fault ≢ NoMemory → IsRefused fault (clauses_fault study)
       → (files : Files) → AreFiles told (name ∷ proof ∷ []) files
       → IsAdoption files name proof (run_of (answer.NoClauses study fault)) (text_of (answer.NoClauses study fault))
   clauses_row study fault read known is files (are_told e) = study_given study (given told name study files read e) (no_clauses study fault _ known is)

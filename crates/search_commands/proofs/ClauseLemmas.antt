@@ -12,7 +12,7 @@ use Rattle.clause_text.specs.Dimacs.{dimacs_text, size_text}
 use Rattle.search_logs.specs.Spent.{all_places}
 use Rattle.answers.specs.declared.runs.Run.{Run}
 use Rattle.answers.specs.Export.{IsWritten}
-use Rattle.answers.specs.Grounding.{fault_of, OverClauses, clauses_refused, clauses_made}
+use Rattle.answers.specs.Grounding.{clauses_fault, OverClauses, clauses_refused, clauses_made}
 use Rattle.command_parts.specs.declared.answer.Answer.TheVariants as answer
 use Rattle.command_parts.specs.Answers.{run_of, text_of}
 use Rattle.command_parts.proofs.StudyLemmas.{IsStudyCommand, low_at, over_low}
@@ -24,13 +24,13 @@ refused_as (Full place) wanted known is = is
 refused_as NoMemory wanted known is = absurd (known refl)
 
 -- the clauses are refused
-pub no_clauses : (study : Question) (fault : GroundFault) (P : Type 0) → fault ≢ NoMemory → IsRefused fault (fault_of study)
+pub no_clauses : (study : Question) (fault : GroundFault) (P : Type 0) → fault ≢ NoMemory → IsRefused fault (clauses_fault study)
     → OverClauses study (run_of (answer.NoClauses study fault)) (text_of (answer.NoClauses study fault)) P
 no_clauses study fault P known is =
-    clauses_refused fault (refused_as fault (fault_of study) known is) refl (record { ends = refl; no_verdict = refl; no_logs = refl; no_sharp = refl })
+    clauses_refused fault (refused_as fault (clauses_fault study) known is) refl (record { ends = refl; no_verdict = refl; no_logs = refl; no_sharp = refl })
 
 -- the clauses are written
-pub clauses_written : (study : Question) (clauses : List Sourced) (variables : ℕ) → fault_of study ≡ None
+pub clauses_written : (study : Question) (clauses : List Sourced) (variables : ℕ) → clauses_fault study ≡ None
     → clauses ≡ study_clauses study.size study.axioms (all_places study) → variables ≡ variable_count study.size
     → OverClauses study (run_of (answer.Clauses study.size variables clauses)) (text_of (answer.Clauses study.size variables clauses))
     (IsWritten study (run_of (answer.Clauses study.size variables clauses)) (text_of (answer.Clauses study.size variables clauses)))

@@ -12,12 +12,12 @@ use Rattle.search_logs.specs.Spent.{all_places, AreSpentLogs}
 use Rattle.verdicts.specs.declared.verdicts.Verdict.{Verdict}
 use Rattle.sharp_verdicts.specs.declared.sharp.Sharp.{Sharp}
 use Rattle.sharp_verdicts.specs.Sharpened.{IsSharpened}
-use Rattle.sharp_verdicts.specs.Totals.{IsWithinTotal, is_over, total}
+use Rattle.sharp_verdicts.specs.Totals.{IsWithinTotal, passes_clause_limits, total}
 use Rattle.instance_totals.specs.declared.totals.TotalFault.TheVariants.{Over}
 use Rattle.instance_totals.specs.Totals.{IsTotalFault}
 use Rattle.words.specs.Words.{Request, Sharpen}
 use Rattle.answers.specs.declared.runs.Run.{Run}
-use Rattle.answers.specs.Grounding.{OverClauses, fault_of}
+use Rattle.answers.specs.Grounding.{OverClauses, clauses_fault}
 use Rattle.answers.specs.Sharpen.{Sharpens, is_impossible, total_line, total_refused, decided, sharpened}
 use Rattle.command_parts.specs.declared.answer.Answer.TheVariants as answer
 use Rattle.command_parts.specs.Answers.{run_of, text_of}
@@ -32,11 +32,11 @@ none_first : (first second : Option GroundFault) → option_or first second ≡ 
 none_first None second none = refl
 none_first (Some fault) second none = absurd (cc)
 
-pub narrow : (study : Question) → fault_of study ≡ None → first_wide study.size study.axioms (all_places study) ≡ None
+pub narrow : (study : Question) → clauses_fault study ≡ None → first_wide study.size study.axioms (all_places study) ≡ None
 narrow study none = none_first _ _ none
 
 -- a total within the limits passes none
-not_over : (study : Question) → IsWithinTotal study → IsFalse (is_over (total study))
+not_over : (study : Question) → IsWithinTotal study → IsFalse (passes_clause_limits (total study))
 not_over study within =
     or_from (nat_lt 4000000 (total study).clauses) (nat_lt 60000000 (total study).literals) (le-ltb 4000000 (total study).clauses within.clauses)
     (le-ltb 60000000 (total study).literals within.literals)
@@ -48,7 +48,7 @@ module _ (study : Question) where
   pub over_row : (counts : Counts) → IsTotalFault study (Over counts)
       → Sharpens study (run_of (answer.OverTotal counts)) (text_of (answer.OverTotal counts))
   over_row counts (same, over) =
-      total_refused (subst (λ (c : Counts). IsTrue (is_over c)) same over) (ap total_line same) (record { ends = refl; no_verdict = refl; no_logs = refl; no_sharp = refl })
+      total_refused (subst (λ (c : Counts). IsTrue (passes_clause_limits c)) same over) (ap total_line same) (record { ends = refl; no_verdict = refl; no_logs = refl; no_sharp = refl })
 
   -- a verdict was found that is no impossibility
   pub decided_row : (logs : List SearchLog) (verdict : Verdict) → IsWithinTotal study → IsVerdict study logs verdict → AreSpentLogs study logs

@@ -13,7 +13,7 @@ ghost use Rattle.lrat_check.specs.Ranges.{has_next};
 ghost use Rattle.adopt.specs.Told.{IsAdopted};
 ghost use Rattle.words.specs.Words.{Adopt};
 ghost use Rattle.answers.specs.Adopt.{Adopts, IsRetold};
-ghost use Rattle.command_parts.specs.Answers.{HasText, run_of, status_of, text_of};
+ghost use Rattle.command_parts.specs.Answers.{HasText, run_of, answer_status, text_of};
 ghost use Rattle.command_parts.specs.Answered.{Answers};
 ghost use Rattle.search_commands.specs.Retold.{IsDerivationJudged};
 
@@ -93,7 +93,7 @@ fn judge_over<S: Shelf, K: OutcomeKind>(
     requires clauses { clauses ≡ study_clauses study.size study.axioms (all_places study) }
     ensures row { IfOk result (λ answer. (files : Files) → S.files shelf.old ≡ Some files →
         Adopts files proof.now study (run_of answer) (text_of answer)) }
-    ensures status { IfOk result (λ answer. status_of answer ≤ 1) }
+    ensures status { IfOk result (λ answer. answer_status answer ≤ 1) }
     ensures has_text { IfOk result HasText }
     ensures fault { IsErrOf result Stop.ReadFault →
         Rose (S.faults shelf.old proof.now) (S.faults shelf.new proof.now) }
@@ -118,7 +118,7 @@ fn judge_proof<S: Shelf>(
     requires clauses { clauses ≡ study_clauses study.size study.axioms (all_places study) }
     ensures row { IfOk result (λ answer. (files : Files) → S.files shelf.old ≡ Some files →
         Adopts files proof.now study (run_of answer) (text_of answer)) }
-    ensures status { IfOk result (λ answer. status_of answer ≤ 1) }
+    ensures status { IfOk result (λ answer. answer_status answer ≤ 1) }
     ensures has_text { IfOk result HasText }
     ensures fault { IsErrOf result Stop.ReadFault →
         Rose (S.faults shelf.old proof.now) (S.faults shelf.new proof.now) }

@@ -1,7 +1,7 @@
 //! The command `proof`: reads a study, and searches for a refutation of its clauses.
 
 ghost use Rattle.std.specs.Prelude.{◌≡◌, ◌≢◌, ◌≤◌, Some, Err, IfOk};
-ghost use Rattle.core_reduce.specs.Proofs.{IsProved};
+ghost use Rattle.core_reduce.specs.Proofs.{IsProvedRight};
 ghost use Rattle.words.specs.Words.{Proof};
 ghost use Rattle.answers.specs.Proof.{Proves};
 ghost use Rattle.answers.specs.Grounding.{OverClauses};
@@ -22,7 +22,7 @@ use vocab::Study;
 
 /// What is shown of a search over the clauses of a study.
 fn answer_of(study: &Study, proved: Proved) -> Answer
-    requires { IsProved study.now proved }
+    requires { IsProvedRight study.now proved }
     ensures shown { Proves study.now (run_of result) (text_of result) }
     ensures has_text { HasText result }
 {

@@ -8,7 +8,7 @@ use Rattle.syntax.specs.declared.lexemes.Joint.TheVariants as joint
 use Rattle.syntax.specs.declared.lexemes.Lexeme.{Lexeme}
 use Rattle.syntax.specs.declared.lexemes.Lexeme.TheVariants as lexeme
 use Rattle.syntax.specs.declared.lexemes.Quantifier.{Quantifier}
-use Rattle.syntax.specs.Grammar.{IsFree, variable, call, voter, alternative, ballot, IsTerms, last_term, more_terms, pred, equal, IsFormula, quantified, negation, group, atom, IsChain, last_part, more_parts, ands, ors, mark_of, word_of_sort, word_of_quantifier}
+use Rattle.syntax.specs.Grammar.{IsFree, variable, call, voter, alternative, ballot, IsTerms, last_term, more_terms, pred, equal, IsFormula, quantified, negation, group, atom, IsChain, last_part, more_parts, ands, ors, joint_lexeme, word_of_sort, word_of_quantifier}
 use Rattle.sentence_fronts.specs.declared.expected.Symbol.{Symbol}
 use Rattle.sentence_fronts.specs.declared.expected.Symbol.TheVariants as symbol
 use Rattle.sentence_fronts.specs.declared.lexeme_kinds.LexemeKind.TheVariants as kind
@@ -48,7 +48,7 @@ or_join (a_formula {f} d) (one_more_or {f = k} c) = (tree.Either f k, more_parts
 close_join : (j : Joint) {ls mid rest : List Lexeme} → Derives symbol.Formula ls mid → Derives symbol.Close mid rest → AnyChain j ls rest
 close_join j (a_formula {f} d) a_close = (f, last_part d)
 
-joint_back : (j : Joint) {ls rest : List Lexeme} → AnyChain j ls rest → Derives symbol.Joint (mark_of j ∷ ls) rest
+joint_back : (j : Joint) {ls rest : List Lexeme} → AnyChain j ls rest → Derives symbol.Joint (joint_lexeme j ∷ ls) rest
 joint_back j c = a_joint j refl c.1
 
 negation_back : {ls rest : List Lexeme} → Derives symbol.Formula ls rest → Derives symbol.Formula (lexeme.Not ∷ ls) rest

@@ -5,7 +5,7 @@ use Rattle.syntax.specs.declared.lexemes.Joint.{Joint}
 use Rattle.syntax.specs.declared.lexemes.Joint.TheVariants as joint
 use Rattle.syntax.specs.declared.lexemes.Lexeme.{Lexeme}
 use Rattle.syntax.specs.declared.lexemes.Lexeme.TheVariants as lexeme
-use Rattle.syntax.specs.Grammar.{IsFree, IsTerm, variable, call, voter, alternative, ballot, IsTerms, last_term, more_terms, IsAtom, pred, equal, IsFormula, quantified, negation, group, atom, IsChain, last_part, more_parts, mark_of}
+use Rattle.syntax.specs.Grammar.{IsFree, IsTerm, variable, call, voter, alternative, ballot, IsTerms, last_term, more_terms, IsAtom, pred, equal, IsFormula, quantified, negation, group, atom, IsChain, last_part, more_parts, joint_lexeme}
 use Rattle.sentence_fronts.specs.declared.expected.Symbol.{Symbol}
 use Rattle.sentence_fronts.specs.declared.expected.Symbol.TheVariants as symbol
 use Rattle.sentence_fronts.specs.LexemeKinds.{kind_of, word_kind}
@@ -70,7 +70,7 @@ formula_ahead (quantified {word = w} {name = n} {sort_word = v} {ls = m} q s e f
     (ap (after symbol.Formula) (quantifier_kind q w e))
     (m, (lexeme.Dot ∷ m, (lexeme.Word v ∷ lexeme.Dot ∷ m, (lexeme.Colon ∷ lexeme.Word v ∷ lexeme.Dot ∷ m, (lexeme.Word n ∷ lexeme.Colon ∷ lexeme.Word v ∷ lexeme.Dot ∷ m, refl, a_variable f), a_colon), a_sort s k), a_dot), a_formula d)
 formula_ahead (negation d) = moves (symbol.Formula ∷ []) refl (one (a_formula d))
-formula_ahead (group {ms = m} j d c) = moves (symbol.Joint ∷ symbol.Formula ∷ []) refl (two (mark_of j ∷ m, a_formula d, a_joint j refl c))
+formula_ahead (group {ms = m} j d c) = moves (symbol.Joint ∷ symbol.Formula ∷ []) refl (two (joint_lexeme j ∷ m, a_formula d, a_joint j refl c))
 formula_ahead (atom d) = atom_ahead d
 
 term_ahead : {l : Lexeme} {ls rest : List Lexeme} {t : NamedTermTree} → IsTerm (l ∷ ls) t rest → Ahead symbol.Term l ls rest
@@ -80,7 +80,7 @@ term_ahead voter = moves [] refl refl
 term_ahead alternative = moves [] refl refl
 term_ahead ballot = moves [] refl refl
 
-joint_ahead : (j : Joint) (ls rest : List Lexeme) (f : NamedTree) → IsChain j ls f rest → Ahead symbol.Joint (mark_of j) ls rest
+joint_ahead : (j : Joint) (ls rest : List Lexeme) (f : NamedTree) → IsChain j ls f rest → Ahead symbol.Joint (joint_lexeme j) ls rest
 joint_ahead joint.Both ls rest f c = moves (symbol.MoreAnds ∷ symbol.Formula ∷ []) refl (two (and_split c))
 joint_ahead joint.Either ls rest f c = moves (symbol.MoreOrs ∷ symbol.Formula ∷ []) refl (two (or_split c))
 joint_ahead joint.Implies ls rest f c = moves (symbol.Close ∷ symbol.Formula ∷ []) refl (two (implies_split c))

@@ -10,8 +10,8 @@ use Rattle.sentence_fronts.specs.declared.expected.Symbol.TheVariants as symbol
 use Rattle.sentence_fronts.specs.declared.lexeme_kinds.LexemeKind.{LexemeKind}
 use Rattle.sentence_fronts.specs.declared.lexeme_kinds.LexemeKind.TheVariants as kind
 use Rattle.sentence_fronts.specs.LexemeKinds.{kind_of}
-use Rattle.sentence_fronts.specs.Expected.{Derives, a_formula, may_end, Refuses, Leads, Expects}
-use Rattle.sentence_fronts.specs.Fronts.{IsFront, EachMay, NoneMay, IsTold, IsPassed, Tells, no_more, told, passed}
+use Rattle.sentence_fronts.specs.Expected.{Derives, a_formula, may_end, RefusesKind, Leads, Expects}
+use Rattle.sentence_fronts.specs.Fronts.{IsFront, EachMay, NoneMay, IsKindTold, IsPassed, TellsKinds, no_more, told, passed}
 use Rattle.sentence_fronts.proofs.Moves.{one}
 use Rattle.sentence_fronts.proofs.Backs.{one_of}
 use Rattle.sentence_fronts.proofs.Hopes.{formula_of}
@@ -42,7 +42,7 @@ front_of before stack x = let r = x.back x.some.0 x.some.1 in record { rest = x.
 pub each_may : (before : List Lexeme) (stack new : List Symbol) (k : LexemeKind) → Expects before stack → Leads stack k new → EachMay before k
 each_may before stack new k x leads l e = front_of (before ++ l ∷ []) new (expects_more before stack new l k x e leads)
 
-pub none_may : (before : List Lexeme) (stack : List Symbol) (k : LexemeKind) → Expects before stack → Refuses stack k → NoneMay before k
+pub none_may : (before : List Lexeme) (stack : List Symbol) (k : LexemeKind) → Expects before stack → RefusesKind stack k → NoneMay before k
 none_may before stack k x refuses l e front =
     refuses l front.rest e (x.on (l ∷ front.rest) front.tree (subst (λ m. Reads m front.tree) (append_assoc before (l ∷ []) front.rest) front.reads))
 
@@ -52,7 +52,7 @@ may_end_there before stack x h = let r = x.back [] (complete_of stack h) in (r.0
 pub may_not_end_there : (before : List Lexeme) (stack : List Symbol) → Expects before stack → list_all may_end stack ≡ false → (f : NamedTree) → Reads before f → ⊥
 may_not_end_there before stack x h f r = let e = completes_ends stack (x.on [] f (subst (λ m. Reads m f) (sym (append-nil before)) r)) in cc
 
-pub plain_told : (before : List Lexeme) (k : LexemeKind) → k ≢ kind.End → k ≢ kind.Sort → EachMay before k → IsTold before k
+pub plain_told : (before : List Lexeme) (k : LexemeKind) → k ≢ kind.End → k ≢ kind.Sort → EachMay before k → IsKindTold before k
 plain_told before kind.End a b h = absurd (a refl)
 plain_told before kind.Sort a b h = absurd (b refl)
 plain_told before _ a b h = h
@@ -62,27 +62,27 @@ plain_passed before kind.End a b h = absurd (a refl)
 plain_passed before kind.Sort a b h = absurd (b refl)
 plain_passed before _ a b h = h
 
-pub tells_told : (before : List Lexeme) (ks ts : List LexemeKind) (k : LexemeKind) → Tells before ks ts → IsTold before k → Tells before (ks ++ k ∷ []) (ts ++ k ∷ [])
+pub tells_told : (before : List Lexeme) (ks ts : List LexemeKind) (k : LexemeKind) → TellsKinds before ks ts → IsKindTold before k → TellsKinds before (ks ++ k ∷ []) (ts ++ k ∷ [])
 tells_told before [] [] k no_more t = told t no_more
 tells_told before [] (i ∷ ts) k r t = elim r [ ]
 tells_told before (j ∷ ks) (i ∷ ts) k (told h r) t = told h (tells_told before ks ts k r t)
 tells_told before (j ∷ ks) ts k (passed h r) t = passed h (tells_told before ks ts k r t)
 
-pub tells_passed : (before : List Lexeme) (ks ts : List LexemeKind) (k : LexemeKind) → Tells before ks ts → IsPassed before k → Tells before (ks ++ k ∷ []) ts
+pub tells_passed : (before : List Lexeme) (ks ts : List LexemeKind) (k : LexemeKind) → TellsKinds before ks ts → IsPassed before k → TellsKinds before (ks ++ k ∷ []) ts
 tells_passed before [] [] k no_more t = passed t no_more
 tells_passed before [] (i ∷ ts) k r t = elim r [ ]
 tells_passed before (j ∷ ks) (i ∷ ts) k (told h r) t = told h (tells_passed before ks ts k r t)
 tells_passed before (j ∷ ks) ts k (passed h r) t = passed h (tells_passed before ks ts k r t)
 
-pub told_more : (before : List Lexeme) (ks next new : List LexemeKind) (i : ℕ) (k : LexemeKind) → i < length ks → Tells before (take i ks) next → IsTold before (get_or ks i k) → new ≡ next ++ get_or ks i k ∷ [] → Tells before (take (i + 1) ks) new
+pub told_more : (before : List Lexeme) (ks next new : List LexemeKind) (i : ℕ) (k : LexemeKind) → i < length ks → TellsKinds before (take i ks) next → IsKindTold before (get_or ks i k) → new ≡ next ++ get_or ks i k ∷ [] → TellsKinds before (take (i + 1) ks) new
 told_more before ks next new i k lt r t e =
-    let more : Tells before (take i ks ++ get_or ks i k ∷ []) (next ++ get_or ks i k ∷ []) = tells_told before (take i ks) next (get_or ks i k) r t in
-    subst (λ ts. Tells before (take (i + 1) ks) ts) (sym e) (subst (λ js. Tells before js (next ++ get_or ks i k ∷ [])) (sym (take_more ks i k lt)) more)
+    let more : TellsKinds before (take i ks ++ get_or ks i k ∷ []) (next ++ get_or ks i k ∷ []) = tells_told before (take i ks) next (get_or ks i k) r t in
+    subst (λ ts. TellsKinds before (take (i + 1) ks) ts) (sym e) (subst (λ js. TellsKinds before js (next ++ get_or ks i k ∷ [])) (sym (take_more ks i k lt)) more)
 
-pub passed_more : (before : List Lexeme) (ks next new : List LexemeKind) (i : ℕ) (k : LexemeKind) → i < length ks → Tells before (take i ks) next → IsPassed before (get_or ks i k) → new ≡ next → Tells before (take (i + 1) ks) new
+pub passed_more : (before : List Lexeme) (ks next new : List LexemeKind) (i : ℕ) (k : LexemeKind) → i < length ks → TellsKinds before (take i ks) next → IsPassed before (get_or ks i k) → new ≡ next → TellsKinds before (take (i + 1) ks) new
 passed_more before ks next new i k lt r t e =
-    let more : Tells before (take i ks ++ get_or ks i k ∷ []) next = tells_passed before (take i ks) next (get_or ks i k) r t in
-    subst (λ ts. Tells before (take (i + 1) ks) ts) (sym e) (subst (λ js. Tells before js next) (sym (take_more ks i k lt)) more)
+    let more : TellsKinds before (take i ks ++ get_or ks i k ∷ []) next = tells_passed before (take i ks) next (get_or ks i k) r t in
+    subst (λ ts. TellsKinds before (take (i + 1) ks) ts) (sym e) (subst (λ js. TellsKinds before js next) (sym (take_more ks i k lt)) more)
 
-pub told_all : (before : List Lexeme) (ks all next : List LexemeKind) (i : ℕ) → length ks ≤ i → ks ≡ all → Tells before (take i ks) next → Tells before all next
-told_all before ks all next i le e r = subst (λ js. Tells before js next) (take_all i ks le ∙ e) r
+pub told_all : (before : List Lexeme) (ks all next : List LexemeKind) (i : ℕ) → length ks ≤ i → ks ≡ all → TellsKinds before (take i ks) next → TellsKinds before all next
+told_all before ks all next i le e r = subst (λ js. TellsKinds before js next) (take_all i ks le ∙ e) r

@@ -1,18 +1,18 @@
 -- What a lexeme makes of a stack.
-use Rattle.std.proofs.Common.{◌≡◌, Bool, true, false, not, ◌&&◌, ◌||◌, List, [], ◌∷◌, ◌++◌, length, take, arith, refl, sym, ap, ◌∙◌, subst, Option, Some, None, append_assoc, append-nil}
+use Rattle.std.proofs.Common.{◌≡◌, Bool, true, false, not, ◌||◌, List, [], ◌∷◌, ◌++◌, length, take, arith, refl, sym, ap, ◌∙◌, subst, Option, Some, None, append_assoc, append-nil}
 use Rattle.std.specs.List.{list_all}
 use Rattle.std.proofs.Math.Seq.{take-append_seam}
+use Rattle.std.proofs.lemmas.Bool.{and_from, and_parts}
 use Rattle.vocab.specs.NamedTree.{NamedTree}
 use Rattle.syntax.specs.declared.lexemes.Lexeme.{Lexeme}
 use Rattle.syntax.specs.Grammar.{IsFormula, atom, equal}
-use Rattle.syntax.proofs.Runs.{and_true}
 use Rattle.syntax.proofs.Unique.{no_term_empty}
 use Rattle.sentence_fronts.specs.declared.expected.Symbol.{Symbol}
 use Rattle.sentence_fronts.specs.declared.expected.Symbol.TheVariants as symbol
 use Rattle.sentence_fronts.specs.declared.lexeme_kinds.LexemeKind.{LexemeKind}
 use Rattle.sentence_fronts.specs.declared.lexeme_kinds.LexemeKind.TheVariants as kind
 use Rattle.sentence_fronts.specs.LexemeKinds.{kind_of}
-use Rattle.sentence_fronts.specs.Expected.{Derives, a_formula, call_whole, no_call, a_term, Goes, Completes, after, may_end, may_be_longer, is_closing, is_settled_above, is_settled, Refuses, Leads}
+use Rattle.sentence_fronts.specs.Expected.{Derives, a_formula, call_whole, no_call, a_term, Goes, Completes, after, may_end, may_be_longer, is_closing, is_settled_above, is_settled, RefusesKind, Leads}
 use Rattle.sentence_fronts.proofs.Moves.{moves, ends, ahead, one}
 use Rattle.sentence_fronts.proofs.Backs.{GoesOn, one_of, back}
 use Rattle.sentence_fronts.proofs.Hopes.{Hopes, hope}
@@ -40,23 +40,20 @@ is_floor : Bool → List Symbol → Bool
 is_floor closing [] = closing
 is_floor closing (a ∷ above) = is_floor (is_closing a) above
 
-and_both : {a b : Bool} → a ≡ true → b ≡ true → (a && b) ≡ true
-and_both h k = rw (h, k) refl
-
 settled_split : (c : Bool) (xs ys : List Symbol) → is_settled_above c (xs ++ ys) ≡ true → (is_settled_above c xs ≡ true) × (is_settled_above (is_floor c xs) ys ≡ true)
 unfolding is_floor
 settled_split c [] ys h = (refl, h)
 settled_split c (a ∷ xs) ys h =
-    let p = and_true (not (may_be_longer a) || c) (is_settled_above (is_closing a) (xs ++ ys)) h in
+    let p = and_parts (not (may_be_longer a) || c) (is_settled_above (is_closing a) (xs ++ ys)) h in
     let s = settled_split (is_closing a) xs ys p.1 in
-    (and_both p.0 s.0, s.1)
+    (and_from _ _ p.0 s.0, s.1)
 
 settled_join : (c : Bool) (xs ys : List Symbol) → is_settled_above c xs ≡ true → is_settled_above (is_floor c xs) ys ≡ true → is_settled_above c (xs ++ ys) ≡ true
 unfolding is_floor
 settled_join c [] ys h k = k
 settled_join c (a ∷ xs) ys h k =
-    let p = and_true (not (may_be_longer a) || c) (is_settled_above (is_closing a) xs) h in
-    and_both p.0 (settled_join (is_closing a) xs ys p.1 k)
+    let p = and_parts (not (may_be_longer a) || c) (is_settled_above (is_closing a) xs) h in
+    and_from _ _ p.0 (settled_join (is_closing a) xs ys p.1 k)
 
 abbrev settled_after : Bool → Option (List Symbol) → Bool
 settled_after c None = true
@@ -157,7 +154,7 @@ below_stops (a ∷ xs) l ls h e g = floor_stops (a ∷ xs) l ls [] h e g
 floor_of : (below : List Symbol) (top : Symbol) → is_settled (below ++ top ∷ []) ≡ true → (not (may_be_longer top) || is_floor true below) ≡ true
 floor_of below top h =
     let s = settled_split true below (top ∷ []) h in
-    (and_true (not (may_be_longer top) || is_floor true below) true s.1).0
+    (and_parts (not (may_be_longer top) || is_floor true below) true s.1).0
 
 floor_below : (b c : Bool) → b ≡ true → (not b || c) ≡ true → c ≡ true
 floor_below true c h k = k
@@ -240,7 +237,7 @@ step_found stack rest below ps top k p e h =
       settled = leads.settled;
     })
 
-pub step_refused : (stack rest below : List Symbol) (top : Symbol) (k : LexemeKind) → Passes stack k rest → rest ≡ below ++ top ∷ [] → after top k ≡ None → may_end top ≡ false → Refuses stack k
+pub step_refused : (stack rest below : List Symbol) (top : Symbol) (k : LexemeKind) → Passes stack k rest → rest ≡ below ++ top ∷ [] → after top k ≡ None → may_end top ≡ false → RefusesKind stack k
 step_refused stack rest below top k p e h t l ls i g =
     let o = only_ends below top k l ls h i (subst (λ x. Completes x (l ∷ ls)) e (p.on l ls i g)) in
     let a = o.0 in
@@ -250,7 +247,7 @@ empty_symbols : (xs : List Symbol) → length xs ≡ 0 → xs ≡ []
 empty_symbols [] h = refl
 empty_symbols (x ∷ xs) h = absurd (omega arith)
 
-pub step_empty : (stack rest : List Symbol) (k : LexemeKind) → Passes stack k rest → length rest ≡ 0 → Refuses stack k
+pub step_empty : (stack rest : List Symbol) (k : LexemeKind) → Passes stack k rest → length rest ≡ 0 → RefusesKind stack k
 step_empty stack rest k p e l ls i g =
     let n : l ∷ ls ≡ [] = subst (λ x. Completes x (l ∷ ls)) (empty_symbols rest e) (p.on l ls i g) in
     cc
@@ -259,7 +256,7 @@ step_empty stack rest k p e l ls i g =
 
 pub complete_of : (stack : List Symbol) → list_all may_end stack ≡ true → Completes stack []
 complete_of [] h = refl
-complete_of (a ∷ above) h = let p = and_true (may_end a) (list_all may_end above) h in ([], complete_of above p.1, empty_at a p.0 [])
+complete_of (a ∷ above) h = let p = and_parts (may_end a) (list_all may_end above) h in ([], complete_of above p.1, empty_at a p.0 [])
 
 no_formula : {f : NamedTree} {rest : List Lexeme} → IsFormula [] f rest → ⊥
 no_formula (atom (equal d e)) = no_term_empty d
@@ -275,7 +272,7 @@ all_end [] rest g = (refl, sym g)
 all_end (a ∷ above) rest g =
     let s = all_end above g.0 g.1 in
     let d = empty_derives (subst (λ m. Derives a m rest) s.1 g.2) in
-    (and_both d.0 s.0, d.1)
+    (and_from _ _ d.0 s.0, d.1)
 
 pub completes_ends : (stack : List Symbol) → Completes stack [] → list_all may_end stack ≡ true
 completes_ends stack g = (all_end stack [] g).0

@@ -1,17 +1,17 @@
 -- How far a sentence goes along with a text.
-use Rattle.std.proofs.Common.{◌≡◌, ℕ, ◌-◌, ◌≤◌, ◌<◌, Bool, true, false, not, ◌||◌, ◌==◌, List, [], ◌∷◌, ◌++◌, length, refl, sym, ap, ◌∙◌, subst, arith, ◌⊎◌, inl, inr, None, append_assoc, append-nil}
+use Rattle.std.proofs.Common.{◌≡◌, ℕ, ◌-◌, ◌≤◌, ◌<◌, true, false, not, List, [], ◌∷◌, ◌++◌, length, refl, sym, ap, ◌∙◌, subst, arith, None, append_assoc, append-nil}
 use Rattle.syntax.specs.declared.lexemes.Lexeme.{Lexeme}
 use Rattle.syntax.specs.Grammar.{Reads}
-use Rattle.syntax.specs.Lexemes.{Starts, Lexes, no_more, blank, one_more, is_blank, starts_without}
+use Rattle.syntax.specs.Lexemes.{Starts, Lexes, no_more, blank, one_more, is_white_space, starts_without}
 use Rattle.syntax.specs.Scanning.{lexeme_at}
-use Rattle.syntax.proofs.Starting.{none_starts, one_start, equal_bytes}
-use Rattle.syntax.proofs.Lexings.{starts_longer, empty_of}
+use Rattle.syntax.proofs.Starting.{none_starts, one_start}
+use Rattle.syntax.proofs.Lexings.{starts_longer, empty_of, starts_not_blank}
 use Rattle.sentence_fronts.specs.declared.expected.Symbol.{Symbol}
 use Rattle.sentence_fronts.specs.declared.expected.Symbol.TheVariants as symbol
 use Rattle.sentence_fronts.specs.declared.lexeme_kinds.LexemeKind.{LexemeKind}
 use Rattle.sentence_fronts.specs.LexemeKinds.{kind_of, all_kinds}
-use Rattle.sentence_fronts.specs.Expected.{Refuses, Leads, Expects, Walks, IsStop}
-use Rattle.sentence_fronts.specs.Fronts.{IsFront, IsFurthest, Tells}
+use Rattle.sentence_fronts.specs.Expected.{RefusesKind, Leads, Expects, Walks, IsStop}
+use Rattle.sentence_fronts.specs.Fronts.{IsFront, IsFurthest, TellsKinds}
 use Rattle.sentence_fronts.proofs.Places.{expects_start, expects_more, front_of}
 
 -- ---- blanks
@@ -24,44 +24,24 @@ pub record Skips (text rest : List ℕ) : Type 0 where
 pub skips_none : (text : List ℕ) → Skips text text
 skips_none text = record { lexed = λ ls end d. d; within = omega arith }
 
-pub skips_more : (text rest more : List ℕ) (c : ℕ) → Skips text rest → rest ≡ c ∷ more → is_blank c ≡ true → Skips text more
+pub skips_more : (text rest more : List ℕ) (c : ℕ) → Skips text rest → rest ≡ c ∷ more → is_white_space c ≡ true → Skips text more
 skips_more text rest more c s e b = record {
   lexed = λ ls end d. s.lexed ls end (subst (λ r. Lexes r ls end) (sym e) (blank b d));
   within = (let w = s.within in let n = ap length e in omega arith);
 }
 
-pub bare_at : (rest more : List ℕ) (c : ℕ) → rest ≡ c ∷ more → is_blank c ≡ false → starts_without is_blank rest ≡ true
+pub bare_at : (rest more : List ℕ) (c : ℕ) → rest ≡ c ∷ more → is_white_space c ≡ false → starts_without is_white_space rest ≡ true
 bare_at rest more c e b = rw (e, b) refl
 
-pub bare_end : (rest : List ℕ) → length rest ≡ 0 → starts_without is_blank rest ≡ true
+pub bare_end : (rest : List ℕ) → length rest ≡ 0 → starts_without is_white_space rest ≡ true
 bare_end rest h = rw (empty_of rest h) refl
 
-or_true : (a b : Bool) → (a || b) ≡ true → (a ≡ true) ⊎ (b ≡ true)
-or_true true b h = inl refl
-or_true false b h = inr h
-
-none_at : (c d : ℕ) (bytes : List ℕ) → (c == d) ≡ true → lexeme_at (d ∷ bytes) ≡ None → lexeme_at (c ∷ bytes) ≡ None
-none_at c d bytes h k = ap (λ b. lexeme_at (b ∷ bytes)) (equal_bytes c d h) ∙ k
-
-none_at_blank : (c : ℕ) (bytes : List ℕ) → is_blank c ≡ true → lexeme_at (c ∷ bytes) ≡ None
-none_at_blank c bytes b =
-    elim (or_true (c == 9 || c == 10 || c == 13) (c == 32) b) [
-      | inl b1 ↦ elim (or_true (c == 9 || c == 10) (c == 13) b1) [
-        | inl b2 ↦ elim (or_true (c == 9) (c == 10) b2) [ inl h ↦ none_at c 9 bytes h refl | inr h ↦ none_at c 10 bytes h refl ]
-        | inr h ↦ none_at c 13 bytes h refl
-      ]
-      | inr h ↦ none_at c 32 bytes h refl
-    ]
-
-starts_not_blank : (c : ℕ) (bytes more : List ℕ) (l : Lexeme) → is_blank c ≡ true → Starts (c ∷ bytes) l more → ⊥
-starts_not_blank c bytes more l b s = none_starts (c ∷ bytes) (none_at_blank c bytes b) l more s
-
-bare_not_blank : (c : ℕ) (bytes : List ℕ) → starts_without is_blank (c ∷ bytes) ≡ true → is_blank c ≡ true → ⊥
+bare_not_blank : (c : ℕ) (bytes : List ℕ) → starts_without is_white_space (c ∷ bytes) ≡ true → is_white_space c ≡ true → ⊥
 bare_not_blank c bytes h b = let k : not true ≡ true = rw b at h in cc
 
 -- ---- steps along the text
 
-pub walks_start : (text rest : List ℕ) (stack : List Symbol) → stack ≡ symbol.Formula ∷ [] → ((ls : List Lexeme) (end : List ℕ) → Lexes rest ls end → Lexes text ls end) → starts_without is_blank rest ≡ true → length rest ≤ length text → Walks text stack rest
+pub walks_start : (text rest : List ℕ) (stack : List Symbol) → stack ≡ symbol.Formula ∷ [] → ((ls : List Lexeme) (end : List ℕ) → Lexes rest ls end → Lexes text ls end) → starts_without is_white_space rest ≡ true → length rest ≤ length text → Walks text stack rest
 walks_start text rest stack e lexed bare within = record {
   before = [];
   lexed = lexed;
@@ -71,7 +51,7 @@ walks_start text rest stack e lexed bare within = record {
 }
 
 pub walks_more : (text rest more left : List ℕ) (stack new : List Symbol) (l : Lexeme) (k : LexemeKind) → Walks text stack rest → Starts rest l more → k ≡ kind_of l → Leads stack k new
-    → ((ls : List Lexeme) (end : List ℕ) → Lexes left ls end → Lexes more ls end) → starts_without is_blank left ≡ true → length left ≤ length more → Walks text new left
+    → ((ls : List Lexeme) (end : List ℕ) → Lexes left ls end → Lexes more ls end) → starts_without is_white_space left ≡ true → length left ≤ length more → Walks text new left
 walks_more text rest more left stack new l k w s e leads lexed bare within = record {
   before = w.before ++ l ∷ [];
   lexed = λ ls end d. subst (λ b. Lexes text b end) (sym (append_assoc w.before (l ∷ []) ls)) (w.lexed (l ∷ ls) end (one_more s (lexed ls end d)));
@@ -86,10 +66,10 @@ shorter rest more left l s h = let b = starts_longer rest more l s in omega arit
 pub stops_at_none : (rest : List ℕ) (stack : List Symbol) → lexeme_at rest ≡ None → IsStop rest stack
 stops_at_none rest stack h l more s = absurd (none_starts rest h l more s)
 
-pub stops_refused : (rest more : List ℕ) (old stack : List Symbol) (l : Lexeme) (k : LexemeKind) → Starts rest l more → k ≡ kind_of l → Refuses old k → stack ≡ old → IsStop rest stack
+pub stops_refused : (rest more : List ℕ) (old stack : List Symbol) (l : Lexeme) (k : LexemeKind) → Starts rest l more → k ≡ kind_of l → RefusesKind old k → stack ≡ old → IsStop rest stack
 stops_refused rest more old stack l k s e refuses same m end t =
     let one = one_start rest more end l m s t in
-    subst (λ x. Refuses x (kind_of m)) (sym same) (subst (λ x. Refuses old (kind_of x)) one.0 (subst (λ x. Refuses old x) e refuses))
+    subst (λ x. RefusesKind x (kind_of m)) (sym same) (subst (λ x. RefusesKind old (kind_of x)) one.0 (subst (λ x. RefusesKind old x) e refuses))
 
 -- ---- the furthest place
 
@@ -102,7 +82,7 @@ further_more : (rest : List ℕ) (k l : Lexeme) (ks ls : List Lexeme) → k ≡ 
 further_more rest k l ks ls e (no_longer h) = no_longer (omega arith)
 further_more rest k l ks ls e (further a more zs s h) = further a more zs s (ap (λ x. l ∷ x) h ∙ ap (λ x. x ∷ (ks ++ a ∷ zs)) (sym e))
 
-goes_further : {text rest end : List ℕ} {xs ys : List Lexeme} → Lexes text xs rest → starts_without is_blank rest ≡ true → Lexes text ys end → GoesFurther rest xs ys
+goes_further : {text rest end : List ℕ} {xs ys : List Lexeme} → Lexes text xs rest → starts_without is_white_space rest ≡ true → Lexes text ys end → GoesFurther rest xs ys
 goes_further no_more b no_more = no_longer (omega arith)
 goes_further no_more b (blank {c = c} {bytes = bs} h e) = absurd (bare_not_blank c bs b h)
 goes_further no_more b (one_more {more = m} {l = l} {ls = ls} s e) = further l m ls s refl
@@ -115,12 +95,12 @@ goes_further {text} {rest} {end} (one_more {more = m} {l = k} {ls = ks} s d) b (
     let same = one_start text m n k l s t in
     further_more rest k l ks ls same.0 (goes_further d b (subst (λ r. Lexes r ls end) (sym same.1) e))
 
-beyond : (stack : List Symbol) (before ls zs : List Lexeme) (l : Lexeme) → Expects before stack → IsFront ls → ls ≡ before ++ l ∷ zs → Refuses stack (kind_of l) → ⊥
+beyond : (stack : List Symbol) (before ls zs : List Lexeme) (l : Lexeme) → Expects before stack → IsFront ls → ls ≡ before ++ l ∷ zs → RefusesKind stack (kind_of l) → ⊥
 beyond stack before ls zs l x front e refuses =
     let r = subst (λ m. Reads m front.tree) (ap (λ m. m ++ front.rest) e ∙ append_assoc before (l ∷ zs) front.rest) front.reads in
     refuses l (zs ++ front.rest) refl (x.on (l ∷ (zs ++ front.rest)) front.tree r)
 
-pub furthest_place : (text rest : List ℕ) (stack : List Symbol) (next : List LexemeKind) (offset : ℕ) → Walks text stack rest → IsStop rest stack → ((before : List Lexeme) → Expects before stack → Tells before all_kinds next) → offset ≡ length text - length rest → IsFurthest text offset next
+pub furthest_place : (text rest : List ℕ) (stack : List Symbol) (next : List LexemeKind) (offset : ℕ) → Walks text stack rest → IsStop rest stack → ((before : List Lexeme) → Expects before stack → TellsKinds before all_kinds next) → offset ≡ length text - length rest → IsFurthest text offset next
 furthest_place text rest stack next offset w stop tells at =
     let lexed : Lexes text w.before rest = subst (λ b. Lexes text b rest) (append-nil w.before) (w.lexed [] rest no_more) in
     record {

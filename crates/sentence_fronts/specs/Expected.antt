@@ -6,8 +6,8 @@ use Rattle.syntax.specs.declared.lexemes.Joint.{Joint}
 use Rattle.syntax.specs.declared.lexemes.Joint.TheVariants as joint
 use Rattle.syntax.specs.declared.lexemes.Lexeme.{Lexeme}
 use Rattle.syntax.specs.declared.lexemes.Lexeme.TheVariants as lexeme
-use Rattle.syntax.specs.Grammar.{IsFree, IsTerm, IsTerms, IsFormula, IsChain, mark_of, word_of_sort, Reads}
-use Rattle.syntax.specs.Lexemes.{Lexes, Starts, is_blank, starts_without}
+use Rattle.syntax.specs.Grammar.{IsFree, IsTerm, IsTerms, IsFormula, IsChain, joint_lexeme, word_of_sort, Reads}
+use Rattle.syntax.specs.Lexemes.{Lexes, Starts, is_white_space, starts_without}
 use Rattle.sentence_fronts.specs.declared.expected.Symbol.{Symbol}
 use Rattle.sentence_fronts.specs.declared.expected.Symbol.TheVariants as symbol
 use Rattle.sentence_fronts.specs.declared.lexeme_kinds.LexemeKind.{LexemeKind}
@@ -21,7 +21,7 @@ pub data Derives : Symbol → List Lexeme → List Lexeme → Type 0 where
   name_equal : {ls rest : List Lexeme} {t : NamedTermTree} → IsTerm ls t rest → Derives symbol.AfterName (lexeme.Equals ∷ ls) rest
   call_whole : {rest : List Lexeme} → Derives symbol.AfterCall rest rest
   call_equal : {ls rest : List Lexeme} {t : NamedTermTree} → IsTerm ls t rest → Derives symbol.AfterCall (lexeme.Equals ∷ ls) rest
-  a_joint : {l : Lexeme} {ls rest : List Lexeme} {f : NamedTree} → (j : Joint) → l ≡ mark_of j → IsChain j ls f rest → Derives symbol.Joint (l ∷ ls) rest
+  a_joint : {l : Lexeme} {ls rest : List Lexeme} {f : NamedTree} → (j : Joint) → l ≡ joint_lexeme j → IsChain j ls f rest → Derives symbol.Joint (l ∷ ls) rest
   no_more_ands : {rest : List Lexeme} → Derives symbol.MoreAnds (lexeme.Close ∷ rest) rest
   one_more_and : {ls rest : List Lexeme} {f : NamedTree} → IsChain joint.Both ls f rest → Derives symbol.MoreAnds (lexeme.And ∷ ls) rest
   no_more_ors : {rest : List Lexeme} → Derives symbol.MoreOrs (lexeme.Close ∷ rest) rest
@@ -119,8 +119,8 @@ abbrev pub is_settled : List Symbol → Bool
 is_settled stack = is_settled_above true stack
 
 -- no sentence that completes the stack begins with a lexeme of this kind
-abbrev pub Refuses : List Symbol → LexemeKind → Type 0
-Refuses stack k = (l : Lexeme) (rest : List Lexeme) → kind_of l ≡ k → Completes stack (l ∷ rest) → ⊥
+abbrev pub RefusesKind : List Symbol → LexemeKind → Type 0
+RefusesKind stack k = (l : Lexeme) (rest : List Lexeme) → kind_of l ≡ k → Completes stack (l ∷ rest) → ⊥
 
 -- After a lexeme of this kind, what completed one stack completes the other, and if anything did, something does.
 pub record Leads (stack : List Symbol) (k : LexemeKind) (new : List Symbol) : Type 0 where
@@ -140,10 +140,10 @@ pub record Expects (before : List Lexeme) (stack : List Symbol) : Type 0 where
 pub record Walks (text : List ℕ) (stack : List Symbol) (rest : List ℕ) : Type 0 where
   pub before : List Lexeme
   pub lexed : (ls : List Lexeme) (end : List ℕ) → Lexes rest ls end → Lexes text (before ++ ls) end
-  pub bare : starts_without is_blank rest ≡ true
+  pub bare : starts_without is_white_space rest ≡ true
   pub expects : Expects before stack
   pub within : length rest ≤ length text
 
 -- With no lexeme there does a sentence go on.
 abbrev pub IsStop : List ℕ → List Symbol → Type 0
-IsStop rest stack = (l : Lexeme) (more : List ℕ) → Starts rest l more → Refuses stack (kind_of l)
+IsStop rest stack = (l : Lexeme) (more : List ℕ) → Starts rest l more → RefusesKind stack (kind_of l)

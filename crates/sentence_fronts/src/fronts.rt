@@ -2,7 +2,7 @@
 
 ghost use Rattle.std.specs.Prelude.{◌≡◌, ◌≤◌, ◌∷◌, [], true, length, List, ℕ, IfOk};
 ghost use Rattle.syntax.specs.declared.lexemes.Lexeme.{Lexeme as Lex};
-ghost use Rattle.syntax.specs.Lexemes.{Lexes, is_blank, starts_without};
+ghost use Rattle.syntax.specs.Lexemes.{Lexes, is_white_space, starts_without};
 ghost use Rattle.sentence_fronts.specs.Expected.{Walks, IsStop};
 ghost use Rattle.sentence_fronts.specs.Fronts.{IsFurthest};
 
@@ -26,7 +26,7 @@ pub struct FurthestPlace {
 /// What follows the blanks at the front.
 fn after_blanks(text: &[u8]) -> &[u8]
     ensures lexed { (ls : List Lex) (end : List ℕ) → Lexes result.now ls end → Lexes text.now ls end }
-    ensures bare { starts_without is_blank result.now ≡ true }
+    ensures bare { starts_without is_white_space result.now ≡ true }
     ensures within { length result.now ≤ length text.now }
 {
     let mut rest = text;

@@ -1,7 +1,7 @@
 //! Kinds of lexemes.
 
 ghost use Rattle.std.specs.Prelude.{◌≡◌};
-ghost use Rattle.sentence_fronts.specs.LexemeKinds.{kind_of as kind_in, word_kind as kind_of_word, kind_text as text_in, all_kinds};
+ghost use Rattle.sentence_fronts.specs.LexemeKinds.{kind_of as kind_in, word_kind as kind_of_word, lexeme_kind_text as text_in, all_kinds};
 
 use syntax::Lexeme;
 

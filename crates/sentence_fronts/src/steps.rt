@@ -2,7 +2,7 @@
 
 ghost use Rattle.std.specs.Prelude.{◌≡◌, ◌++◌, take, true, IsTrue, IsFalse, IfOk, MatchOption};
 ghost use Rattle.std.specs.List.{list_all};
-ghost use Rattle.sentence_fronts.specs.Expected.{Refuses, Leads, is_settled, may_end as can_end};
+ghost use Rattle.sentence_fronts.specs.Expected.{RefusesKind, Leads, is_settled, may_end as can_end};
 
 use crate::expected::{Symbol, after, may_end};
 use crate::lexeme_kinds::LexemeKind;
@@ -19,7 +19,7 @@ pub(crate) struct Change {
 /// stand for no lexeme is passed over.
 pub(crate) fn step(stack: &[Symbol], kind: LexemeKind) -> Option<Change>
     requires { is_settled stack.now ≡ true }
-    ensures { MatchOption result (Refuses stack.now kind)
+    ensures { MatchOption result (RefusesKind stack.now kind)
         (λ step. Leads stack.now kind (take step.stay stack.now ++ step.above.now)) }
 {
     let mut rest = stack;
@@ -42,7 +42,7 @@ pub(crate) fn step(stack: &[Symbol], kind: LexemeKind) -> Option<Change>
 pub(crate) fn take_lexeme(stack: &mut Vec<Symbol>, kind: LexemeKind) -> Result<bool, NoMemory>
     requires { is_settled stack.old.items ≡ true }
     ensures yes { IfOk result (λ taken. IsTrue taken → Leads stack.old.items kind stack.new.items) }
-    ensures no { IfOk result (λ taken. IsFalse taken → Refuses stack.old.items kind) }
+    ensures no { IfOk result (λ taken. IsFalse taken → RefusesKind stack.old.items kind) }
     ensures same { IfOk result (λ taken. IsFalse taken → stack.new.items ≡ stack.old.items) }
 {
     let Some(found) = step(stack.as_slice(), kind) else {

@@ -3,7 +3,7 @@
 ghost use Rattle.std.specs.Prelude.{◌≡◌, true, List, IsTrue, IsFalse, IfOk};
 ghost use Rattle.syntax.specs.declared.lexemes.Lexeme.{Lexeme as Lex};
 ghost use Rattle.sentence_fronts.specs.LexemeKinds.{all_kinds};
-ghost use Rattle.sentence_fronts.specs.Fronts.{EachMay, NoneMay, IsTold, IsPassed, Tells};
+ghost use Rattle.sentence_fronts.specs.Fronts.{EachMay, NoneMay, IsKindTold, IsPassed, TellsKinds};
 ghost use Rattle.sentence_fronts.specs.Expected.{Expects, is_settled};
 
 use crate::expected::Symbol;
@@ -27,7 +27,7 @@ fn may_follow(stack: &[Symbol], kind: LexemeKind) -> bool
 /// Whether the kind is told.
 fn is_told(stack: &[Symbol], kind: LexemeKind) -> bool
     requires { is_settled stack.now ≡ true }
-    ensures yes { IsTrue result → (before : List Lex) → Expects before stack.now → IsTold before kind }
+    ensures yes { IsTrue result → (before : List Lex) → Expects before stack.now → IsKindTold before kind }
     ensures no { IsFalse result → (before : List Lex) → Expects before stack.now → IsPassed before kind }
 {
     match kind {
@@ -43,7 +43,7 @@ fn is_told(stack: &[Symbol], kind: LexemeKind) -> bool
 pub(crate) fn told(alloc: Global, stack: &[Symbol]) -> Result<Items<LexemeKind>, NoMemory>
     requires { is_settled stack.now ≡ true }
     ensures { IfOk result
-        (λ next. (before : List Lex) → Expects before stack.now → Tells before all_kinds next) }
+        (λ next. (before : List Lex) → Expects before stack.now → TellsKinds before all_kinds next) }
 {
     let mut next = Items::new(alloc);
     for kind in kinds() {

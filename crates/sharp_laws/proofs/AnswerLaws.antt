@@ -9,7 +9,7 @@ use Rattle.meaning.proofs.SpaceLaws.{list_all-map_of}
 use Rattle.meaning.proofs.TestLaws.{list_all-both}
 use Rattle.verdicts.specs.declared.refusals.Refusal.TheVariants.{Form}
 use Rattle.verdicts.specs.Judge.{pieces, front, final}
-use Rattle.verdicts.specs.Laws.{IsReportable, IsShort}
+use Rattle.verdicts.specs.Laws.{IsReportable, HasShortLines}
 use Rattle.verdicts.specs.Places.{Standing}
 use Rattle.verdicts.specs.Texts.{words_of}
 use Rattle.verdicts.proofs.WordLaws.{lacks, split_ended}
@@ -67,7 +67,7 @@ module _ (study : Question) (is : IsReportable study) where
   shorts : HasFewAxioms study → (v : Pointed) → IsSharpRight study v → length v.story < 2 ^ 64 → list_all short (texts_of v) ≡ true
   shorts listed v right few = list_all-map_of (is_sharp_short study is) short (sharp_line_text study) (sharp_lines study v) (λ l e. e) (lines_short study is listed v right few)
 
-  pub text_short : HasFewAxioms study → (v : Pointed) → IsSharpRight study v → length v.story < 2 ^ 64 → IsShort (sharp_text study v)
+  pub text_short : HasFewAxioms study → (v : Pointed) → IsSharpRight study v → length v.story < 2 ^ 64 → HasShortLines (sharp_text study v)
   text_short listed v right few = ap (list_all short) (all_pieces v right) ∙ list_all-both short (texts_of v) ([] ∷ []) (shorts listed v right few) refl
 
   confirmed : (v : Pointed) → IsSharpRight study v → list_all short (texts_of v) ≡ true → sharp_answer study (sharp_text study v) ≡ SharpConfirmed v

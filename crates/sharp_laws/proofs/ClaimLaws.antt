@@ -1,5 +1,5 @@
 -- What a right sharp verdict claims holds: its story is accepted over the study of the listed instances, so no rule makes the bodies of all of these true.
-use Rattle.std.proofs.Common.{◌≡◌, refl, sym, ap, ap₂, ◌∙◌, subst, subst₂, ℕ, zero, suc, ◌<◌, ◌⊎◌, inl, inr, Bool, true, false, not, ◌&&◌, List, [], ◌∷◌, ◌++◌, map, filter, length, Option, Some, None, arith, true≢false, cond, eqb-true, eq-eqb, lt-ltb, ltb-true}
+use Rattle.std.proofs.Common.{◌≡◌, refl, sym, ap, ap₂, ◌∙◌, subst, subst₂, ℕ, zero, suc, ◌<◌, ◌⊎◌, inl, inr, Bool, true, false, not, ◌&&◌, List, [], ◌∷◌, ◌++◌, map, length, Option, Some, None, arith, true≢false, cond, eqb-true, eq-eqb, lt-ltb, ltb-true}
 use Rattle.std.specs.Prelude.{◌==◌, nat_lt, slice_get}
 use Rattle.std.specs.List.{list_all, list_any}
 use Rattle.std.specs.Option.{option_map_or}
@@ -7,6 +7,8 @@ use Rattle.std.specs.Cmp.Lexicographic.{pointwise}
 use Rattle.std.proofs.lemmas.Bool.{and_parts, and_from, or_cases, or_left, or_right}
 use Rattle.std.proofs.lemmas.List.{map-append}
 use Rattle.std.proofs.lemmas.Option.{slice_get_within}
+use Rattle.lists.proofs.TestLaws.{all_get, all_kept}
+use Rattle.lists.proofs.PlaceLaws.{there_is}
 use Rattle.vocab.specs.declared.literals.Literal.{Literal}
 use Rattle.vocab.specs.Formula.{body_of}
 use Rattle.vocab.specs.Limits.{bases_of, instance_count}
@@ -36,16 +38,15 @@ use Rattle.closing.proofs.SentenceLaws.{closed_prefix, closed_own_body}
 use Rattle.verdicts.specs.Claims.{HasNoRule}
 use Rattle.verdicts.specs.Laws.{is_rule_given}
 use Rattle.verdicts.proofs.WordLaws.{IsIn, in_below}
+use Rattle.verdicts.proofs.Members.{flat_map_in, map_in, filter_in}
 use Rattle.sharp_verdicts.specs.declared.instances.Cited.{Cited}
 use Rattle.sharp_verdicts.specs.Derived.{instance_name, closed_at, axiom_of, axioms_from}
 use Rattle.sharp_verdicts.specs.Instances.{same_instance, has_instance, others_than, reasons_of, is_axiom_told, core_of, is_present, count_at, values_at, number_at, cites, is_told, all_instances, instances_of, is_true_of}
 use Rattle.sharp_verdicts.specs.Right.{Pointed, satisfies_instances, is_mark, IsSharpRight}
 use Rattle.sharp_verdicts.proofs.DerivedLaws.{derived_get}
-use Rattle.sharp_verdicts.proofs.Members.{flat_map_in, map_in, filter_in}
 use Rattle.sharp_verdicts.specs.SharpJudge.{SharpConfirmed, sharp_answer}
 use Rattle.sharp_laws.specs.Laws.{HasNoRuleOfAll, SharpClaims}
 use Rattle.sharp_laws.proofs.JudgeLaws.{judge_sound}
-use Rattle.sharp_laws.proofs.MarkLaws.{there_is}
 
 -- ---- places of instances
 
@@ -70,11 +71,6 @@ place_there (d ∷ cs) c i = by (same_instance d c) refl i (place_there cs c)
     by true e i ih = ap Some (same_is d c e)
     by false e (inl same) ih = absurd (true≢false (sym (is_same d c same) ∙ e))
     by false e (inr j) ih = ih j
-
-at_place : {A : Type 0} (t : A → Bool) (xs : List A) (k : ℕ) (x : A) → list_all t xs ≡ true → slice_get xs k ≡ Some x → t x ≡ true
-at_place t [] k x h e = absurd (cc)
-at_place t (y ∷ xs) zero x h e = let same : y ≡ x = cc in subst (λ z. t z ≡ true) same (and_parts (t y) (list_all t xs) h).0
-at_place t (y ∷ xs) (suc k) x h e = at_place t xs k x (and_parts (t y) (list_all t xs) h).1 e
 
 -- ---- a story over its study, as one over the study of the instances that it cites
 
@@ -204,7 +200,7 @@ module _ (study : Question) (cs : List Cited) where
       at : (k : ℕ) → k < length cs → list_all (is_true_of study table) cs ≡ true → is_axiom_true study.size table (slice_get closed_axioms k) ≡ true
       at k lt all =
           let c = there_is cs k lt in
-          let body = closed_true table c.0 (slice_get study.axioms c.0.«axiom») (at_place (is_true_of study table) cs k c.0 all c.1) in
+          let body = closed_true table c.0 (slice_get study.axioms c.0.«axiom») (all_get (is_true_of study table) cs k c.0 all c.1) in
           subst (λ o. is_axiom_true study.size table o ≡ true) (sym (derived_get study cs k c.0 c.1)) body
 
 -- ---- what is claimed
@@ -252,15 +248,6 @@ module _ (study : Question) where
       let here = (and_parts (is_mark study whole d m) (pointwise (is_mark study whole) cs ms) h).0 in
       subst₂ (λ x n. is_mark study whole x n ≡ true) place mark here
   rule_at whole (d ∷ cs) (m ∷ ms) (suc k) c table h e f = rule_at whole cs ms k c table (and_parts (is_mark study whole d m) (pointwise (is_mark study whole) cs ms) h).1 e f
-
-  -- what holds of all items holds of those that are kept
-  all_kept : (t s : ℕ → Bool) (xs : List ℕ) → list_all t xs ≡ true → list_all t (filter s xs) ≡ true
-  all_kept t s [] h = refl
-  all_kept t s (x ∷ xs) h = let p = and_parts (t x) (list_all t xs) h in by (s x) p.0 (all_kept t s xs p.1)
-    where
-      by : (b : Bool) → t x ≡ true → list_all t (filter s xs) ≡ true → list_all t (cond b (x ∷ filter s xs) (filter s xs)) ≡ true
-      by true here rest = and_from _ _ here rest
-      by false here rest = rest
 
   -- where no rule satisfies the axioms that a story cites, none satisfies all
   none_of_axioms : (core : List ℕ) (story : List Lemma) → core ≡ core_of study story → HasNoRule study core → HasNoRule study (below (length study.axioms))

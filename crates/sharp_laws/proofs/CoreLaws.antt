@@ -63,14 +63,6 @@ filter_core t (suc n) from = by (t from) (filter_core t n (suc from))
         let moved = subst (λ (end : ℕ). is_core_from (suc from) end (filter t (up_from (suc from) n)) ≡ true) over ih in
         core_weaker (from + suc n) (suc from) from (filter t (up_from (suc from) n)) (omega arith) moved
 
-pub all_filter : {A : Type 0} (t : A → Bool) (xs : List A) → list_all t (filter t xs) ≡ true
-all_filter t [] = refl
-all_filter t (x ∷ xs) = by (t x) refl (all_filter t xs)
-  where
-    by : (b : Bool) → t x ≡ b → list_all t (filter t xs) ≡ true → list_all t (cond b (x ∷ filter t xs) (filter t xs)) ≡ true
-    by true e ih = and_from _ _ e ih
-    by false e ih = ih
-
 -- a core that has exactly the places that pass a test is these places
 abbrev HasAll : (ℕ → Bool) → ℕ → ℕ → List ℕ → Type 0
 HasAll t from end core = (k : ℕ) → from ≤ k → k < end → t k ≡ true → list_any (λ c. c == k) core ≡ true

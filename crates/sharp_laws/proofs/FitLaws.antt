@@ -15,7 +15,7 @@ use Rattle.verdicts.specs.Numbers.{number_text, read_number}
 use Rattle.verdicts.specs.Places.{AtWitnessRow, Standing}
 use Rattle.verdicts.specs.Reading.{keyed, one_word, no_word, read_axiom, read_values, read_cited, read_row}
 use Rattle.verdicts.specs.Report.{is_reason}
-use Rattle.verdicts.specs.Texts.{joined, words_of}
+use Rattle.verdicts.specs.Texts.{joined_words, words_of}
 use Rattle.verdicts.specs.Judge.{read_line}
 use Rattle.verdicts.proofs.NumberLaws.{text_read}
 use Rattle.verdicts.proofs.LineLaws.{map_is, then_is, or_is, test_is, keyed_is, one_is, none_is, cited_read, wanted_read}
@@ -143,7 +143,7 @@ module _ (study : Question) where
       → SharpFits place told l × (text ≡ sharp_line_text study l)
   short_past place told text l e =
       let r = past_read place told (words_of text) l (some_past (nat_lt 4096 (length text)) (wanted_past study place (words_of text)) e) in
-      (r.0, sym (join_with_byte-slice_split 32 text) ∙ ap joined r.1)
+      (r.0, sym (join_with_byte-slice_split 32 text) ∙ ap joined_words r.1)
     where
       some_past : (b : Bool) (o : Option SharpLine) → cond b None o ≡ Some l → o ≡ Some l
       some_past true o e = absurd (cc)

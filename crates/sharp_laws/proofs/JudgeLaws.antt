@@ -8,7 +8,7 @@ use Rattle.sharp_verdicts.specs.declared.refusals.SharpRefusal.{SharpRefusal}
 use Rattle.sharp_verdicts.specs.Right.{Pointed, is_mark}
 use Rattle.sharp_verdicts.specs.SharpLines.{SharpLine, sharp_line_text}
 use Rattle.sharp_verdicts.specs.SharpPlaces.{SharpPlace, AtSharpNothing, SharpStanding, sharp_start, read_sharp_line}
-use Rattle.sharp_verdicts.specs.SharpFaults.{listed, sharp_fault}
+use Rattle.sharp_verdicts.specs.SharpFaults.{listed_instances, sharp_fault}
 use Rattle.sharp_verdicts.specs.SharpJudge.{advance_sharp, SharpTold, SharpGood, SharpRefused, sharp_settle_at, sharp_settle, sharp_judge_from, sharp_judge, pointed_of, SharpConfirmed, at_sharp_end, sharp_conclude, sharp_answer}
 use Rattle.sharp_laws.specs.Laws.{IsSharpText}
 use Rattle.sharp_laws.proofs.FitLaws.{SharpFits, line_fits}
@@ -76,7 +76,7 @@ module _ (study : Question) where
           accepted = read.0.accepted;
           core = read.0.core;
           instances = refl;
-          marks = marks_full (is_mark study (listed study s)) (listed study s) s.marks read.0.marks read.1;
+          marks = marks_full (is_mark study (listed_instances study s)) (listed_instances study s) s.marks read.0.marks read.1;
         };
         is = ap ended r.2 ∙ ended_map r.0 ∙ ap (flat_map (λ line. sharp_line_text study line ++ 10 ∷ [])) read.2;
       }

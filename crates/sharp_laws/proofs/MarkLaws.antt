@@ -1,5 +1,5 @@
 -- The listed instances, and their marks, which are read one after the other.
-use Rattle.std.proofs.Common.{◌≡◌, refl, sym, ap, ap₂, ◌∙◌, subst, ℕ, zero, suc, ◌<◌, ◌≤◌, Bool, true, false, ◌&&◌, List, [], ◌∷◌, ◌++◌, map, length, Option, Some, None, arith, true≢false, eqb-true, eq-eqb, ltb-true, lt-ltb, append_assoc, append-nil}
+use Rattle.std.proofs.Common.{◌≡◌, refl, sym, ap, ap₂, ◌∙◌, subst, ℕ, ◌<◌, ◌≤◌, Bool, true, false, ◌&&◌, List, [], ◌∷◌, ◌++◌, map, length, Option, Some, None, arith, true≢false, eqb-true, eq-eqb, ltb-true, lt-ltb, append_assoc, append-nil}
 use Rattle.std.specs.Prelude.{◌==◌, nat_lt, slice_get}
 use Rattle.std.specs.Cmp.Lexicographic.{pointwise}
 use Rattle.std.specs.Option.{option_map_or}
@@ -16,10 +16,10 @@ use Rattle.meaning.specs.Space.{below, number_of}
 use Rattle.meaning.proofs.DigitLaws.{are_one_to_one}
 use Rattle.verdicts.specs.Lines.{sorts_of}
 use Rattle.verdicts.proofs.WordLaws.{IsIn, from_below}
+use Rattle.verdicts.proofs.Members.{in_flat_map, in_map, in_filter, in_at}
 use Rattle.sharp_verdicts.specs.declared.instances.Cited.{Cited}
 use Rattle.sharp_verdicts.specs.Instances.{count_at, is_present, values_at, number_at, cites, is_told, all_instances, instances_of}
 use Rattle.sharp_verdicts.specs.SharpLines.{reason_at, mark_lines, all_mark_lines}
-use Rattle.sharp_verdicts.proofs.Members.{in_flat_map, in_map, in_filter, in_at}
 use Rattle.sharp_laws.proofs.FitLaws.{IsCited}
 
 -- ---- marks so far
@@ -46,11 +46,6 @@ pub marks_snoc : (f : Cited → Witness → Bool) (cs : List Cited) (ms : List W
 marks_snoc f [] ms c m e h k = absurd cc
 marks_snoc f (d ∷ cs) [] c m e h k = let same : d ≡ c = cc in and_from _ _ (subst (λ x. f x m ≡ true) (sym same) k) refl
 marks_snoc f (d ∷ cs) (n ∷ ms) c m e h k = let p = and_parts (f d n) (are_marks f cs ms) h in and_from _ _ p.0 (marks_snoc f cs ms c m e p.1 k)
-
-pub there_is : {A : Type 0} (xs : List A) (n : ℕ) → n < length xs → (a : A) × (slice_get xs n ≡ Some a)
-there_is [] n lt = absurd (omega (arith, lt))
-there_is (x ∷ xs) zero lt = (x, refl)
-there_is (x ∷ xs) (suc n) lt = there_is xs n (omega (arith, lt))
 
 pub no_marks : (study : Question) (cs : List Cited) → all_mark_lines study cs [] ≡ []
 no_marks study [] = refl

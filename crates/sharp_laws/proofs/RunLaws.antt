@@ -1,11 +1,12 @@
 -- The judge finds no fault in the lines of a right sharp verdict.
-use Rattle.std.proofs.Common.{◌≡◌, refl, sym, ap, ap₂, ◌∙◌, subst, ℕ, suc, ◌+◌, ◌<◌, Bool, true, false, ◌&&◌, List, [], ◌∷◌, ◌++◌, map, length, Option, Some, None, option_map, arith, true≢false, cond, append_assoc, append-nil, length-append, eqb-true, ltb-true}
+use Rattle.std.proofs.Common.{◌≡◌, refl, sym, ap, ap₂, ◌∙◌, subst, ℕ, suc, ◌+◌, ◌<◌, Bool, true, false, ◌&&◌, List, [], ◌∷◌, ◌++◌, map, length, Option, Some, None, option_map, arith, true≢false, cond, append_assoc, append-nil, length-append, eqb-true, ltb-true, eq-eqb, ne_eqb}
 use Rattle.std.specs.Prelude.{◌==◌, nat_lt, slice_get}
 use Rattle.std.specs.List.{list_all}
 use Rattle.std.specs.Option.{option_or, option_map_or}
 use Rattle.std.specs.Cmp.Lexicographic.{pointwise}
 use Rattle.std.proofs.lemmas.Bool.{and_parts, and_from}
 use Rattle.std.proofs.lemmas.Option.{slice_get_within}
+use Rattle.lists.proofs.TestLaws.{kept_pass}
 use Rattle.vocab.specs.declared.kinds.Sort.TheVariants.{Profile}
 use Rattle.vocab.specs.declared.literals.Literal.{Literal}
 use Rattle.vocab.specs.Size.{ballot_places, outcome_count, sort_count}
@@ -31,7 +32,7 @@ use Rattle.verdicts.specs.Judge.{witness_place, advance}
 use Rattle.verdicts.proofs.FitLaws.{Fits}
 use Rattle.verdicts.proofs.RightLaws.{right_has_text}
 use Rattle.verdicts.proofs.ReportLaws.{own_allowed}
-use Rattle.verdicts.proofs.CompleteLaws.{eqb_no, eqb_yes, allowed_known, told_lines, Runs, runs_append, head_run, told_run, told, at_verdict}
+use Rattle.verdicts.proofs.CompleteLaws.{allowed_known, told_lines, Runs, runs_append, head_run, told_run, told, at_verdict}
 use Rattle.sharp_verdicts.specs.declared.instances.Cited.{Cited}
 use Rattle.sharp_verdicts.specs.declared.refusals.SharpRefusal.{SharpRefusal}
 use Rattle.sharp_verdicts.specs.declared.refusals.SharpRefusal.TheVariants.{Report, Instance}
@@ -42,7 +43,7 @@ use Rattle.sharp_verdicts.specs.SharpPlaces.{SharpPlace, AtReport, AtInstances, 
 use Rattle.sharp_verdicts.specs.SharpFaults.{unless_of, next_instance, instance_fault, instances_fault, sharp_fault}
 use Rattle.sharp_verdicts.specs.SharpJudge.{advance_sharp, pointed_of}
 use Rattle.sharp_laws.proofs.FitLaws.{IsSaid, SharpFits}
-use Rattle.sharp_laws.proofs.CoreLaws.{all_filter, cited_is_core}
+use Rattle.sharp_laws.proofs.CoreLaws.{cited_is_core}
 use Rattle.sharp_laws.proofs.TableLaws.{none_from}
 use Rattle.sharp_laws.proofs.MarkLaws.{reason_cites, next_present}
 use Rattle.sharp_laws.proofs.TextLaws.{is_sharp_plain}
@@ -104,7 +105,7 @@ opens study core = map (λ k. Open study.conflicts) core
 
 opens_right : (study : Question) (whole core : List ℕ) → pointwise (is_witness study.size study.axioms study.conflicts whole) core (opens study core) ≡ true
 opens_right study whole [] = refl
-opens_right study whole (k ∷ core) = and_from _ _ (eqb_yes study.conflicts study.conflicts refl) (opens_right study whole core)
+opens_right study whole (k ∷ core) = and_from _ _ (eq-eqb study.conflicts study.conflicts refl) (opens_right study whole core)
 
 pub open_is_right : (study : Question) (core : List ℕ) (story : List Lemma) → is_story study.size study.axioms core story ≡ true → is_core_from 0 (length study.axioms) core ≡ true
     → is_right study (Impossible core story (opens study core)) ≡ true
@@ -203,7 +204,7 @@ module _ (study : Question) (is : IsReportable study) where
       more = slice_get_within cs (length done) c next
 
       wanted_next : marked done ≡ wanting done
-      wanted_next = ap (λ b. record { place = cond b AtSharpEnd AtNeed; told = known; marks = done; rows = [] }) (eqb_no (length done) (length cs) (λ e. omega (arith, e, more)))
+      wanted_next = ap (λ b. record { place = cond b AtSharpEnd AtNeed; told = known; marks = done; rows = [] }) (ne_eqb (length done) (length cs) (λ e. omega (arith, e, more)))
 
       asked : next_instance study (wanting done) ≡ Some c
       asked = next
@@ -222,13 +223,13 @@ module _ (study : Question) (is : IsReportable study) where
       rows_run rows o [] n h e =
           let l : length (rows ++ o ∷ []) ≡ length rows + 1 = length-append rows (o ∷ []) in
           let p = and_parts (nat_lt o K) true h in
-          let last : (length rows + 1 == P) ≡ true = eqb_yes (length rows + 1) P (sym l ∙ n) in (
+          let last : (length rows + 1 == P) ≡ true = eq-eqb (length rows + 1) P (sym l ∙ n) in (
             ((let inside : length rows < P = omega (arith, n, l) in inside), ltb-true o K p.0),
             refl,
             row_fault_is rows (length rows) o
-                ∙ ap (λ b. option_or (unless_of b (Report refusal.Row)) (cond (length rows + 1 == P) (instances_fault study (rows ++ o ∷ []) (others_than cs c)) None)) (eqb_yes (length rows) (length rows) refl)
+                ∙ ap (λ b. option_or (unless_of b (Report refusal.Row)) (cond (length rows + 1 == P) (instances_fault study (rows ++ o ∷ []) (others_than cs c)) None)) (eq-eqb (length rows) (length rows) refl)
                 ∙ ap (λ b. cond b (instances_fault study (rows ++ o ∷ []) (others_than cs c)) None) last ∙ e,
-            ap (λ b. cond b (marked (done ++ Rule (rows ++ o ∷ []) ∷ [])) (in_rows done (rows ++ o ∷ []))) (eqb_yes (length (rows ++ o ∷ [])) P n),
+            ap (λ b. cond b (marked (done ++ Rule (rows ++ o ∷ []) ∷ [])) (in_rows done (rows ++ o ∷ []))) (eq-eqb (length (rows ++ o ∷ [])) P n),
           )
       rows_run rows o (u ∷ rest) n h e =
           let l : length (rows ++ o ∷ []) ≡ length rows + 1 = length-append rows (o ∷ []) in
@@ -237,12 +238,12 @@ module _ (study : Question) (is : IsReportable study) where
           let same : (rows ++ o ∷ []) ++ u ∷ rest ≡ rows ++ o ∷ u ∷ rest = append_assoc rows (o ∷ []) (u ∷ rest) in
           let later = rows_run (rows ++ o ∷ []) u rest (ap length same ∙ n) p.1 (ap (λ x. instances_fault study x (others_than cs c)) same ∙ e) in
           let moved : advance_sharp study (in_rows done rows) (Plain (Row (length rows) o)) ≡ in_rows done (rows ++ o ∷ []) =
-          ap (λ b. cond b (marked (done ++ Rule (rows ++ o ∷ []) ∷ [])) (in_rows done (rows ++ o ∷ []))) (eqb_no (length (rows ++ o ∷ [])) P (λ s. omega (arith, s, l, m, n))) in (
+          ap (λ b. cond b (marked (done ++ Rule (rows ++ o ∷ []) ∷ [])) (in_rows done (rows ++ o ∷ []))) (ne_eqb (length (rows ++ o ∷ [])) P (λ s. omega (arith, s, l, m, n))) in (
             ((let inside : length rows < P = omega (arith, n, m) in inside), ltb-true o K p.0),
             refl,
             row_fault_is rows (length rows) o
-                ∙ ap (λ b. option_or (unless_of b (Report refusal.Row)) (cond (length rows + 1 == P) (instances_fault study (rows ++ o ∷ []) (others_than cs c)) None)) (eqb_yes (length rows) (length rows) refl)
-                ∙ ap (λ b. cond b (instances_fault study (rows ++ o ∷ []) (others_than cs c)) None) (eqb_no (length rows + 1) P (λ s. omega (arith, s, m, n))),
+                ∙ ap (λ b. option_or (unless_of b (Report refusal.Row)) (cond (length rows + 1 == P) (instances_fault study (rows ++ o ∷ []) (others_than cs c)) None)) (eq-eqb (length rows) (length rows) refl)
+                ∙ ap (λ b. cond b (instances_fault study (rows ++ o ∷ []) (others_than cs c)) None) (ne_eqb (length rows + 1) P (λ s. omega (arith, s, m, n))),
             sharp_from (advance_sharp study (in_rows done rows) (Plain (Row (length rows) o))) (in_rows done (rows ++ o ∷ [])) (marked (done ++ Rule (rows ++ o ∷ u ∷ rest) ∷ [])) (map Plain (row_lines (length rows + 1) (u ∷ rest))) moved
                 (sharp_over (in_rows done (rows ++ o ∷ [])) (marked (done ++ Rule (rows ++ o ∷ u ∷ rest) ∷ [])) (map Plain (row_lines (length (rows ++ o ∷ [])) (u ∷ rest))) (map Plain (row_lines (length rows + 1) (u ∷ rest))) (ap (λ k. map Plain (row_lines k (u ∷ rest))) l)
                 (sharp_to (in_rows done (rows ++ o ∷ [])) (marked (done ++ Rule ((rows ++ o ∷ []) ++ u ∷ rest) ∷ [])) (marked (done ++ Rule (rows ++ o ∷ u ∷ rest) ∷ [])) (map Plain (row_lines (length (rows ++ o ∷ [])) (u ∷ rest))) (ap (λ x. marked (done ++ Rule x ∷ [])) same) later)),
@@ -268,7 +269,7 @@ module _ (study : Question) (is : IsReportable study) where
           sharp_from (marked done) (wanting done) (marked (done ++ Rule table ∷ [])) (mark_lines study c (Rule table)) wanted_next (
             (reason_cites study c (next_present study story (length done) c next)).0,
             refl,
-            need_fault (P == P) (Report refusal.Row) (eqb_yes P P refl),
+            need_fault (P == P) (Report refusal.Row) (eq-eqb P P refl),
             table_run table (eqb-true (length table) P q.0) q.1 (none_from study table (others_than cs c) p.1),
           )
       mark_run (Open n) h =
@@ -312,10 +313,10 @@ module _ (study : Question) (is : IsReportable study) where
         → SharpRuns (standing_at AtInstances known) ((InstancesAre (length cs) ∷ all_mark_lines study cs ms) ++ Plain End ∷ []) (ended ms)
     past_run ms cited h =
         let full : marked ms ≡ record { place = AtSharpEnd; told = known; marks = ms; rows = [] } =
-        ap (λ b. record { place = cond b AtSharpEnd AtNeed; told = known; marks = ms; rows = [] }) (eqb_yes (length ms) (length cs) (pointwise_length cs ms h)) in
+        ap (λ b. record { place = cond b AtSharpEnd AtNeed; told = known; marks = ms; rows = [] }) (eq-eqb (length ms) (length cs) (pointwise_length cs ms h)) in
         let none : sharp_fault study (standing_at AtInstances known) (InstancesAre (length cs)) ≡ None =
         ap (λ b. option_or (unless_of b (Report refusal.Core)) (unless_of (length cs == length cs) Instance)) cited
-        ∙ ap (λ b. unless_of b Instance) (eqb_yes (length cs) (length cs) refl) in
+        ∙ ap (λ b. unless_of b Instance) (eq-eqb (length cs) (length cs) refl) in
         let last : SharpRuns (marked ms) (Plain End ∷ []) (ended ms) = sharp_from (marked ms) (record { place = AtSharpEnd; told = known; marks = ms; rows = [] }) (ended ms) (Plain End ∷ []) full (tt, refl, refl, refl) in
         sharp_append (standing_at AtInstances known) (marked ms) (ended ms) (InstancesAre (length cs) ∷ all_mark_lines study cs ms) (Plain End ∷ [])
         (tt, refl, none, marks_run [] cs [] ms refl refl h) last
@@ -346,7 +347,7 @@ module _ (study : Question) (is : IsReportable study) where
   pub whole_run : (v : Pointed) → IsSharpRight study v → SharpEnds v
   whole_run v right =
       let places = right_places v right in
-      let cited : list_all (is_axiom_told v.story) v.core ≡ true = subst (λ (core : List ℕ). list_all (is_axiom_told v.story) core ≡ true) (sym right.core) (all_filter (is_axiom_told v.story) _) in
+      let cited : list_all (is_axiom_told v.story) v.core ≡ true = subst (λ (core : List ℕ). list_all (is_axiom_told v.story) core ≡ true) (sym right.core) (kept_pass (is_axiom_told v.story) _) in
       let marks = subst (λ (ds : List Cited). pointwise (is_mark study ds) ds v.marks ≡ true) right.instances right.marks in
       let run = lines_run v.core v.story right.accepted places v.marks cited marks in
       let listed : Pointed → Type 0 = λ w. SharpRuns sharp_start (sharp_lines study w) (ended v.core v.story right.accepted places v.marks) in (

@@ -5,6 +5,8 @@ use Rattle.std.specs.List.{list_all}
 use Rattle.std.specs.Option.{option_or, option_map_or}
 use Rattle.std.proofs.lemmas.Bool.{and_parts, and_from, cases_lt}
 use Rattle.std.proofs.lemmas.List.{map-append}
+use Rattle.lists.proofs.TestLaws.{all_snoc}
+use Rattle.lists.proofs.PlaceLaws.{there_is}
 use Rattle.vocab.specs.declared.kinds.Sort.TheVariants.{Profile}
 use Rattle.vocab.specs.Size.{outcome_count, sort_count}
 use Rattle.vocab.specs.Study.{Question}
@@ -23,7 +25,7 @@ use Rattle.verdicts.specs.Lines.{Line, Title, KindIs, VotersAre, AlternativesAre
 use Rattle.verdicts.specs.Places.{Place, AtTitle, AtKind, AtVoters, AtAlternatives, AtBallots, AtAbsent, AtAxioms, AtVerdict, AtLimit, AtRule, AtRow, AtCore, AtLemmas, AtLemma, AtSuppose, AtStep, AtWitness, AtWitnessRow, AtEnd, AtNothing, Standing, start}
 use Rattle.verdicts.specs.Report.{row_lines, story_lines, head_lines, all_witness_lines, verdict_lines, is_right, own_version}
 use Rattle.verdicts.specs.Judge.{witness_place, after_witness, after_lemma, advance}
-use Rattle.verdicts.proofs.PrefixLaws.{all_snoc, rows_snoc}
+use Rattle.verdicts.proofs.PrefixLaws.{rows_snoc}
 use Rattle.verdicts.proofs.FitLaws.{Fits}
 use Rattle.verdicts.proofs.SoundLaws.{printed, IsIdle, Holds, HasRead, step_read_so}
 use Rattle.sharp_verdicts.specs.declared.instances.Cited.{Cited}
@@ -33,16 +35,16 @@ use Rattle.sharp_verdicts.specs.Instances.{others_than, is_axiom_told, cites, in
 use Rattle.sharp_verdicts.specs.Right.{is_mark}
 use Rattle.sharp_verdicts.specs.SharpLines.{SharpLine, SharpTitle, Plain, InstancesAre, NeedsRule, NeedsOpen, after_first, reason_at, mark_lines, all_mark_lines}
 use Rattle.sharp_verdicts.specs.SharpPlaces.{SharpPlace, AtSharp, AtReport, AtInstances, AtNeed, AtNeedRow, AtSharpEnd, AtSharpNothing, SharpStanding, is_story_read}
-use Rattle.sharp_verdicts.specs.SharpFaults.{unless_of, next_instance, instance_fault, instances_fault, asked_of, sharp_fault}
+use Rattle.sharp_verdicts.specs.SharpFaults.{unless_of, next_instance, instance_fault, instances_fault, others_asked, sharp_fault}
 use Rattle.sharp_verdicts.specs.SharpJudge.{after_mark, after_report, advance_sharp}
 use Rattle.sharp_laws.proofs.FitLaws.{IsSaid, IsCited, SharpFits}
 use Rattle.sharp_laws.proofs.CoreLaws.{core_is_cited}
 use Rattle.sharp_laws.proofs.TableLaws.{true_from}
-use Rattle.sharp_laws.proofs.MarkLaws.{are_marks, marks_within, marks_snoc, there_is, no_marks, lines_snoc, reason_same}
+use Rattle.sharp_laws.proofs.MarkLaws.{are_marks, marks_within, marks_snoc, no_marks, lines_snoc, reason_same}
 
 -- ---- where there is no fault
 
-none_unless : (b : Bool) (w : SharpRefusal) → unless_of b w ≡ None → b ≡ true
+pub none_unless : (b : Bool) (w : SharpRefusal) → unless_of b w ≡ None → b ≡ true
 none_unless true w e = refl
 none_unless false w e = absurd (cc)
 
@@ -375,7 +377,7 @@ module _ (study : Question) where
 
       by_test : (b : Bool) → (length table == P) ≡ b → list_all (λ o. nat_lt o K) table ≡ true
           → lines ++ Plain (Row p o) ∷ [] ≡ with_marks s.told s.marks ++ NeedsRule (reason_at study c) P ∷ map Plain (row_lines 0 table)
-          → ((length table == P) ≡ true → instances_fault study table (asked_of study s) ≡ None)
+          → ((length table == P) ≡ true → instances_fault study table (others_asked study s) ≡ None)
           → HasSharpRead (cond b (after_mark study whole) after) (lines ++ Plain (Row p o) ∷ [])
       by_test true t inside all none =
           let others : instances_fault study table (others_than (listed_in s.told) c) ≡ None =

@@ -14,7 +14,7 @@ use Rattle.verdicts.specs.Lines.{Line, Row, End, line_text, reason_words}
 use Rattle.verdicts.specs.Numbers.{number_text}
 use Rattle.verdicts.specs.Places.{AtWitnessRow, Standing}
 use Rattle.verdicts.specs.Reading.{read_cited}
-use Rattle.verdicts.specs.Texts.{joined, words_of}
+use Rattle.verdicts.specs.Texts.{joined_words, words_of}
 use Rattle.verdicts.specs.Judge.{read_line}
 use Rattle.verdicts.proofs.NumberLaws.{read_text}
 use Rattle.verdicts.proofs.WordLaws.{lacks, split_joined}
@@ -61,13 +61,13 @@ module _ (study : Question) (is : IsReportable study) where
   pub sharp_words_are : (l : SharpLine) → is_sharp_plain l ≡ true → words_of (sharp_line_text study l) ≡ sharp_words study l
   sharp_words_are l h =
       let k = sharp_words_ok l h in
-      ap (λ ws. words_of (joined ws)) k.2 ∙ split_joined 32 k.0 k.1 (words_lack study is 32 (k.0 ∷ k.1) (omega arith) k.3) ∙ sym k.2
+      ap (λ ws. words_of (joined_words ws)) k.2 ∙ split_joined 32 k.0 k.1 (words_lack study is 32 (k.0 ∷ k.1) (omega arith) k.3) ∙ sym k.2
 
   -- it has no line end
   pub sharp_line_lacks : (l : SharpLine) → is_sharp_plain l ≡ true → lacks 10 (sharp_line_text study l) ≡ true
   sharp_line_lacks l h =
       let k = sharp_words_ok l h in
-      ap (λ ws. lacks 10 (joined ws)) k.2 ∙ joined_lacks study is (k.0 ∷ k.1) (words_lack study is 10 (k.0 ∷ k.1) (omega arith) k.3)
+      ap (λ ws. lacks 10 (joined_words ws)) k.2 ∙ joined_lacks study is (k.0 ∷ k.1) (words_lack study is 10 (k.0 ∷ k.1) (omega arith) k.3)
 
   -- ---- what is read again
 

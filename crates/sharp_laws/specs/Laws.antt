@@ -10,7 +10,7 @@ use Rattle.verdicts.specs.declared.refusals.Refusal.TheVariants.{Form, Fails}
 use Rattle.verdicts.specs.declared.verdicts.Verdict.{Verdict}
 use Rattle.verdicts.specs.Lines.{name_at}
 use Rattle.verdicts.specs.Judge.{has_no_end, ended, pieces, Confirmed, Faulty, answer}
-use Rattle.verdicts.specs.Laws.{IsReportable, IsShort, is_rule_given}
+use Rattle.verdicts.specs.Laws.{IsReportable, HasShortLines, is_rule_given}
 use Rattle.sharp_verdicts.specs.declared.instances.Cited.{Cited}
 use Rattle.sharp_verdicts.specs.declared.refusals.SharpRefusal.{SharpRefusal}
 use Rattle.sharp_verdicts.specs.declared.refusals.SharpRefusal.TheVariants.{Report}
@@ -42,7 +42,7 @@ IsSharpJudgeComplete =
 abbrev pub SharpLinesAreShort : Type 0
 SharpLinesAreShort =
     (study : Question) → IsReportable study → HasFewAxioms study → (v : Pointed) → IsSharpRight study v
-    → length v.story < 2 ^ 64 → IsShort (sharp_text study v)
+    → length v.story < 2 ^ 64 → HasShortLines (sharp_text study v)
 
 -- different right sharp verdicts have different texts
 abbrev pub AreSharpTextsDistinct : Type 0

@@ -1,8 +1,8 @@
 -- The words of a line, cut off its end.
-use Rattle.std.proofs.Common.{◌≡◌, ◌≢◌, refl, sym, ap, ◌∙◌, subst, ℕ, suc, ◌+◌, ◌-◌, ◌<◌, ◌≤◌, Bool, true, false, not, List, [], ◌∷◌, ◌++◌, length, take, drop, drop-cons, arith, append_assoc, length-append, true≢false}
+use Rattle.std.proofs.Common.{◌≡◌, ◌≢◌, refl, sym, ap, ◌∙◌, subst, ℕ, suc, ◌+◌, ◌-◌, ◌<◌, ◌≤◌, Bool, true, false, not, List, [], ◌∷◌, ◌++◌, length, take, drop, drop-cons, arith, append_assoc, length-append}
 use Rattle.std.specs.Prelude.{◌==◌, get_or}
 use Rattle.std.specs.List.{list_all, onto_first}
-use Rattle.std.proofs.lemmas.Bool.{and_parts, and_from}
+use Rattle.std.proofs.lemmas.Bool.{and_parts, and_from, not-true}
 use Rattle.std.proofs.lemmas.Bool.Decides.{Decides-eqb}
 use Rattle.std.proofs.lemmas.List.{take-append-drop, take_all, drop_all, length-drop}
 use Rattle.std.proofs.lemmas.List.Splits.{slice_split-cons_yes, slice_split-cons_no}
@@ -13,10 +13,6 @@ use Rattle.sharp_lines.specs.Said.{HasNoBlank, IsLastBlank}
 
 abbrev is_blank : ℕ → Bool
 is_blank b = b == 32
-
-not_true : (b : Bool) → not b ≡ true → b ≡ false
-not_true true h = absurd (true≢false (sym h))
-not_true false h = refl
 
 -- ---- the last blank
 
@@ -42,7 +38,7 @@ whole : (w : List ℕ) → HasNoBlank w → words_of w ≡ w ∷ []
 whole [] h = refl
 whole (c ∷ t) h =
     let e = and_parts (not (c == 32)) (list_all (λ b. not (b == 32)) t) h in
-    slice_split-cons_no is_blank c t (not_true (c == 32) e.0) ∙ ap (onto_first c) (whole t e.1)
+    slice_split-cons_no is_blank c t (not-true (c == 32) e.0) ∙ ap (onto_first c) (whole t e.1)
 
 onto : (c : ℕ) (w x : List ℕ) (ws xs : List (List ℕ)) → ws ≡ x ∷ xs → onto_first c (ws ++ w ∷ []) ≡ onto_first c ws ++ w ∷ []
 onto c w x ws xs e = ap (λ (v : List (List ℕ)). onto_first c (v ++ w ∷ [])) e ∙ sym (ap (λ (v : List (List ℕ)). onto_first c v ++ w ∷ []) e)

@@ -27,21 +27,21 @@ module _ (axioms : List Titled) where
   abbrev pub instance_html : Cited → Witness → List ℕ
   instance_html c mark = codes "<span>" ++ axiom_html axioms c.«axiom» ++ codes " " ++ decimal c.number ++ open_words mark ++ codes "</span>"
 
-  abbrev pub instance_of : Option Cited → Option Witness → List ℕ
-  instance_of (Some c) (Some mark) = instance_html c mark
-  instance_of _ _ = []
+  abbrev pub marked_instance_html : Option Cited → Option Witness → List ℕ
+  marked_instance_html (Some c) (Some mark) = instance_html c mark
+  marked_instance_html _ _ = []
 
-  abbrev pub instance_at : List Cited → List Witness → ℕ → List ℕ
-  instance_at instances marks place = instance_of (slice_get instances place) (slice_get marks place)
+  abbrev pub instance_html_at : List Cited → List Witness → ℕ → List ℕ
+  instance_html_at instances marks place = marked_instance_html (slice_get instances place) (slice_get marks place)
 
-  abbrev pub all_instances : List Cited → List Witness → List ℕ
-  all_instances instances marks = flat_map (instance_at instances marks) (below (length marks))
+  abbrev pub all_instances_html : List Cited → List Witness → List ℕ
+  all_instances_html instances marks = flat_map (instance_html_at instances marks) (below (length marks))
 
   -- the instances that the proof cites
   abbrev pub instances_html : List Cited → List Witness → List ℕ
   instances_html instances marks =
       codes "<h2>Without one of the instances: a rule at which all others hold</h2>\n<p>The proof cites these instances of the axioms, by their numbers (<code>explain instance STUDY AXIOM NUMBER</code> tells one), and the sharp text has such a rule for each that is not marked as open: "
-      ++ all_instances instances marks ++ codes ".</p>\n"
+      ++ all_instances_html instances marks ++ codes ".</p>\n"
 
 -- the page that claims so, of what a sharp text says: the names of the files, the version, and how the story is told
 abbrev pub sharp_html :

@@ -3,7 +3,7 @@
 ghost use Rattle.std.specs.Prelude.{◌≡◌, ◌++◌, length, OnOk};
 ghost use Rattle.std.specs.List.{flat_map};
 ghost use Rattle.vocab.specs.Range.{below};
-ghost use Rattle.sharp_pages.specs.SharpPages.{all_instances, instance_at, instance_html, instances_html, open_words};
+ghost use Rattle.sharp_pages.specs.SharpPages.{all_instances_html, instance_html_at, instance_html, instances_html, open_words};
 
 use html::{Html, put_number};
 use lists::NoMemory;
@@ -48,7 +48,7 @@ fn put_instance_at(
     marks: &[Witness],
     place: usize,
 ) -> Result<(), NoMemory>
-    ensures { OnOk result (out.new ≡ out.old ++ instance_at axioms.now instances.now marks.now place) }
+    ensures { OnOk result (out.new ≡ out.old ++ instance_html_at axioms.now instances.now marks.now place) }
 {
     match (instances.get(place), marks.get(place)) {
         (Some(cited), Some(mark)) => put_instance(out, axioms, cited, mark),
@@ -63,7 +63,7 @@ fn put_all(
     instances: &[Cited],
     marks: &[Witness],
 ) -> Result<(), NoMemory>
-    ensures { OnOk result (out.new ≡ out.old ++ all_instances axioms.now instances.now marks.now) }
+    ensures { OnOk result (out.new ≡ out.old ++ all_instances_html axioms.now instances.now marks.now) }
 {
     let count = marks.len();
     for place in 0..count {

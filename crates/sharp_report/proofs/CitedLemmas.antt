@@ -5,6 +5,7 @@ use Rattle.std.specs.List.{list_all}
 use Rattle.std.proofs.lemmas.Bool.{and_parts, and_from}
 use Rattle.std.proofs.lemmas.Grind.{flat_map-append}
 use Rattle.std.proofs.lemmas.List.{map-append}
+use Rattle.lists.proofs.TestLaws.{all_snoc}
 use Rattle.vocab.specs.declared.literals.Literal.{Literal}
 use Rattle.vocab.specs.Study.{Question}
 use Rattle.meaning.specs.declared.stories.Reason.{Reason}
@@ -19,7 +20,6 @@ use Rattle.verdicts.specs.Judge.{witness_place, after_witness, advance}
 use Rattle.verdicts.specs.declared.verdicts.Verdict.{Verdict}
 use Rattle.verdicts.specs.declared.verdicts.Verdict.TheVariants.{Impossible}
 use Rattle.verdicts.proofs.FitLaws.{Fits}
-use Rattle.verdicts.proofs.PrefixLaws.{all_snoc}
 use Rattle.report_lines.specs.Held.{held_reason, held_line}
 use Rattle.sharp_verdicts.specs.declared.instances.Cited.{Cited}
 use Rattle.sharp_verdicts.specs.Instances.{is_axiom_told, instances_of, reasons_of}

@@ -10,11 +10,11 @@ use Rattle.vocab.specs.Titled.{Titled}
 use Rattle.meaning.specs.declared.stories.Lemma.{Lemma}
 use Rattle.meaning.specs.Space.{below}
 use Rattle.verdicts.proofs.WordLaws.{IsIn, from_below}
+use Rattle.verdicts.proofs.Members.{in_filter, in_flat_map, in_map}
 use Rattle.sharp_verdicts.specs.declared.instances.Cited.{Cited}
 use Rattle.sharp_verdicts.specs.declared.refusals.SharpRefusal.{SharpRefusal}
 use Rattle.sharp_verdicts.specs.Instances.{others_than, count_at, is_present, all_instances, is_told, instances_of}
 use Rattle.sharp_verdicts.specs.SharpFaults.{instances_fault}
-use Rattle.instance_stories.proofs.Members.{in_filter, in_flat_map, in_map}
 
 module _ (study : Question) where
   pub number_within : (c : Cited) (a : Titled) → is_present study c ≡ true → slice_get study.axioms c.«axiom» ≡ Some a → c.number + 1 ≤ instance_count study.size a.sentence

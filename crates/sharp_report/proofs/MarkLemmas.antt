@@ -1,9 +1,10 @@
 -- The lines of marks.
-use Rattle.std.proofs.Common.{◌≡◌, refl, sym, ap, ap₂, ◌∙◌, subst, ℕ, ◌+◌, ◌<◌, ◌≤◌, Bool, true, false, cond, List, [], ◌∷◌, ◌++◌, length, Option, Some, None, option_map, Ok, arith, lt-ltb, length-append, inl, inr}
+use Rattle.std.proofs.Common.{◌≡◌, refl, sym, ap, ap₂, ◌∙◌, subst, ℕ, ◌+◌, ◌<◌, ◌≤◌, Bool, true, false, cond, List, [], ◌∷◌, ◌++◌, length, Option, Some, None, option_map, Ok, arith, lt-ltb, length-append, inl, inr, ne_eqb}
 use Rattle.std.specs.Prelude.{codes, nat_lt, ◌==◌, slice_get, take, drop, ◌-◌}
 use Rattle.std.specs.Option.{option_or, option_map_or}
 use Rattle.std.proofs.lemmas.Bool.{and_from}
 use Rattle.std.proofs.lemmas.Bool.Decides.{Decides-eqb}
+use Rattle.lists.proofs.TestLaws.{all_snoc}
 use Rattle.vocab.specs.declared.kinds.Sort.TheVariants.{Profile}
 use Rattle.vocab.specs.Size.{sort_count, outcome_count}
 use Rattle.vocab.specs.Study.{Question}
@@ -16,16 +17,15 @@ use Rattle.verdicts.specs.Numbers.{read_number}
 use Rattle.verdicts.specs.Places.{AtRow, AtStep}
 use Rattle.verdicts.specs.Reading.{keyed, one_word, read_cited, read_row}
 use Rattle.verdicts.proofs.FitLaws.{wanted_fits}
-use Rattle.verdicts.proofs.PrefixLaws.{all_snoc}
 use Rattle.verdicts.proofs.LineLaws.{map_is, then_is, or_is, keyed_is, one_is}
 use Rattle.report_lines.specs.declared.lines.Line.TheVariants as held
-use Rattle.report_lines.specs.Held.{held_number}
+use Rattle.report_lines.specs.Held.{held_count}
 use Rattle.report.specs.Taken.{AreOutcomes}
 use Rattle.sharp_verdicts.specs.declared.instances.Cited.{Cited}
 use Rattle.sharp_verdicts.specs.declared.refusals.SharpRefusal.{SharpRefusal}
 use Rattle.sharp_verdicts.specs.declared.refusals.SharpRefusal.TheVariants.{Report}
 use Rattle.sharp_verdicts.specs.Instances.{others_than}
-use Rattle.sharp_verdicts.specs.SharpFaults.{unless_of, listed, next_instance, instance_fault, instances_fault, asked_of, mark_row_fault, plain_fault, sharp_fault}
+use Rattle.sharp_verdicts.specs.SharpFaults.{unless_of, listed_instances, next_instance, instance_fault, instances_fault, others_asked, mark_row_fault, plain_fault, sharp_fault}
 use Rattle.sharp_verdicts.specs.SharpJudge.{after_mark, after_mark_row, advance_plain, advance_sharp}
 use Rattle.sharp_verdicts.specs.SharpLines.{SharpLine, Plain, NeedsRule, NeedsOpen}
 use Rattle.sharp_verdicts.specs.SharpPlaces.{SharpPlace, AtNeed, AtNeedRow, AtSharpEnd, AtSharpNothing, SharpStanding, read_mark, read_need, wanted_past, read_past, read_sharp_at, read_sharp_line}
@@ -33,22 +33,14 @@ use Rattle.told_instances.specs.Told.{names_instance}
 use Rattle.sharp_report.specs.declared.judging.SharpJudging.{SharpJudging}
 use Rattle.sharp_report.specs.declared.lines.SharpLine.TheVariants as said
 use Rattle.sharp_report.specs.declared.places.SharpPlace.TheVariants as place
-use Rattle.sharp_report.specs.SharpStands.{held_sharp_place, told_unless, HoldsAt, SharpStands, HasMarks, IsReadWithin, HasTable, IsSharpRead, SharpTook, TakesMark, IsSharpTaken}
+use Rattle.sharp_report.specs.SharpStands.{held_sharp_place, told_unless, HoldsAt, SharpStands, HasMarks, IsReadWithin, HasMarkTable, IsSharpRead, SharpTook, TakesMark, IsSharpTaken}
 use Rattle.sharp_report.proofs.CitedLemmas.{named_reason}
 use Rattle.sharp_report.proofs.StoryLemmas.{same_place}
 use Rattle.sharp_report.proofs.TakenLemmas.{wider}
 
--- a test of numbers that fails
-pub differs : (n m : ℕ) → (n ≡ m → ⊥) → (n == m) ≡ false
-differs n m other = by_test (n == m) refl
-  where
-    by_test : (b : Bool) → (n == m) ≡ b → b ≡ false
-    by_test true e = absurd (other ((Decides-eqb n m).0 e))
-    by_test false e = refl
-
 -- a number that is held is another, where its held one is
-pub other_number : (n m k count : ℕ) → count ≡ held_number n → m ≤ 18446744073709551614 → m ≡ k → (count ≡ m → ⊥) → (n == k) ≡ false
-other_number n m k count held few same other = differs n k (λ e. other (omega (arith, held, few, same, e)))
+pub other_number : (n m k count : ℕ) → count ≡ held_count n → m ≤ 18446744073709551614 → m ≡ k → (count ≡ m → ⊥) → (n == k) ≡ false
+other_number n m k count held few same other = ne_eqb n k (λ e. other (omega (arith, held, few, same, e)))
 
 module _ (study : Question) where
   -- ---- the first line of a mark
@@ -120,7 +112,7 @@ module _ (study : Question) where
       plain_same v w f = cc
 
   -- the table has its rows, as what reads it asks
-  pub has_table : (r : SharpJudging) (rows : List ℕ) (text : List ℕ) (p o : ℕ) → IsSharpRead study r → r.place ≡ held_sharp_place AtNeedRow → read_past study AtNeedRow text ≡ Some (Plain (Row p o)) → rows ≡ r.rows ++ o ∷ [] → length rows ≡ sort_count study.size Profile → HasTable study (record r { rows = rows })
+  pub has_table : (r : SharpJudging) (rows : List ℕ) (text : List ℕ) (p o : ℕ) → IsSharpRead study r → r.place ≡ held_sharp_place AtNeedRow → read_past study AtNeedRow text ≡ Some (Plain (Row p o)) → rows ≡ r.rows ++ o ∷ [] → length rows ≡ sort_count study.size Profile → HasMarkTable study (record r { rows = rows })
   has_table r rows text p o i e read more whole =
       let at : i.standing.place ≡ AtNeedRow = same_place i.standing.place AtNeedRow (sym i.stands.place ∙ e) in
       let holds = subst (λ p. HoldsAt study p r i.standing) at i.stands.at in
@@ -144,9 +136,9 @@ module _ (study : Question) where
     abbrev with_row : SharpStanding
     with_row = record s { rows = s.rows ++ o ∷ [] }
 
-    fault_then : (b : Bool) → p ≡ length s.rows → (length s.rows + 1 == sort_count study.size Profile) ≡ b → sharp_fault study s (Plain (Row p o)) ≡ cond b (instances_fault study (s.rows ++ o ∷ []) (asked_of study s)) None
+    fault_then : (b : Bool) → p ≡ length s.rows → (length s.rows + 1 == sort_count study.size Profile) ≡ b → sharp_fault study s (Plain (Row p o)) ≡ cond b (instances_fault study (s.rows ++ o ∷ []) (others_asked study s)) None
     fault_then b e f =
-        row_fault ∙ ap₂ (λ (x y : Bool). option_or (unless_of x (Report refusal.Row)) (cond y (instances_fault study (s.rows ++ o ∷ []) (asked_of study s)) None)) ((Decides-eqb p (length s.rows)).1 e) f
+        row_fault ∙ ap₂ (λ (x y : Bool). option_or (unless_of x (Report refusal.Row)) (cond y (instances_fault study (s.rows ++ o ∷ []) (others_asked study s)) None)) ((Decides-eqb p (length s.rows)).1 e) f
 
     same_told : (b : Bool) (t : SharpStanding) → (cond b (after_mark study (record t { marks = t.marks ++ Rule t.rows ∷ [] })) t).told ≡ t.told
     same_told true t = refl
@@ -184,8 +176,8 @@ module _ (study : Question) where
     row_taken rows e here part =
         let first : p ≡ length s.rows = here ∙ ap length h.rows in
         let size : length rows ≡ length (s.rows ++ o ∷ []) = ap length (e ∙ ap (λ (xs : List ℕ). xs ++ o ∷ []) h.rows) in
-        let more : (length s.rows + 1 == sort_count study.size Profile) ≡ false = differs (length s.rows + 1) (sort_count study.size Profile) (λ f. part (size ∙ one_longer ∙ f)) in
-        let left : (length (s.rows ++ o ∷ []) == sort_count study.size Profile) ≡ false = differs (length (s.rows ++ o ∷ [])) (sort_count study.size Profile) (λ f. part (size ∙ f)) in
+        let more : (length s.rows + 1 == sort_count study.size Profile) ≡ false = ne_eqb (length s.rows + 1) (sort_count study.size Profile) (λ f. part (size ∙ one_longer ∙ f)) in
+        let left : (length (s.rows ++ o ∷ []) == sort_count study.size Profile) ≡ false = ne_eqb (length (s.rows ++ o ∷ [])) (sort_count study.size Profile) (λ f. part (size ∙ f)) in
         taken_row (record r { rows = rows }) (fault_then false first more)
         (subst (λ (b : Bool). SharpStands study (record r { rows = rows }) (cond b (after_mark study (record with_row { marks = s.marks ++ Rule (s.rows ++ o ∷ []) ∷ [] })) with_row)) (sym left) (row_stands rows e))
 
@@ -199,10 +191,10 @@ module _ (study : Question) where
         all : length (s.rows ++ o ∷ []) ≡ sort_count study.size Profile
         all = sym size ∙ whole
 
-        found : sharp_fault study s (Plain (Row p o)) ≡ instances_fault study (s.rows ++ o ∷ []) (asked_of study s)
+        found : sharp_fault study s (Plain (Row p o)) ≡ instances_fault study (s.rows ++ o ∷ []) (others_asked study s)
         found = fault_then true (here ∙ ap length h.rows) ((Decides-eqb (length s.rows + 1) (sort_count study.size Profile)).1 (sym one_longer ∙ all))
 
-        by_fault : (f : Option SharpRefusal) → f ≡ instances_fault study (s.rows ++ o ∷ []) (asked_of study s) → (f ≡ None → SharpStands study after (after_mark_row study with_row)) → IsSharpTaken study s text after (told_unless f (said.Plain (held.Row p o)))
+        by_fault : (f : Option SharpRefusal) → f ≡ instances_fault study (s.rows ++ o ∷ []) (others_asked study s) → (f ≡ None → SharpStands study after (after_mark_row study with_row)) → IsSharpTaken study s text after (told_unless f (said.Plain (held.Row p o)))
         by_fault None e stands = taken_row after (found ∙ sym e) (stands refl)
         by_fault (Some word) e stands = ap (λ q. option_map_or (sharp_fault study s) q (Some (Report refusal.Form))) row_line ∙ found ∙ sym e
 
@@ -215,8 +207,8 @@ module _ (study : Question) where
     same_next : slice_get r.instances r.marks ≡ next_instance study s
     same_next = ap₂ (λ (cs : List Cited) (n : ℕ). slice_get cs n) table_holds.0 h.marks
 
-    pub asked_is : (next : Cited) → Some next ≡ slice_get r.instances r.marks → others_than r.instances next ≡ asked_of study s
-    asked_is next e = ap (λ (cs : List Cited). others_than cs next) table_holds.0 ∙ ap (λ o. option_map_or (others_than (listed study s)) o []) (e ∙ same_next)
+    pub asked_is : (next : Cited) → Some next ≡ slice_get r.instances r.marks → others_than r.instances next ≡ others_asked study s
+    asked_is next e = ap (λ (cs : List Cited). others_than cs next) table_holds.0 ∙ ap (λ o. option_map_or (others_than (listed_instances study s)) o []) (e ∙ same_next)
 
     pub with_rule : HasMarks study (record r { marks = r.marks + 1 }) (record s { marks = s.marks ++ Rule s.rows ∷ [] })
     with_rule = record { told = h.told; marks = (let m = h.marks in let k : length (s.marks ++ Rule s.rows ∷ []) ≡ length s.marks + 1 = length-append s.marks (Rule s.rows ∷ []) in omega (arith, m, k)); instances = table_holds.0 }

@@ -26,7 +26,7 @@ use Rattle.report.specs.Taken.{IsTaken}
 use Rattle.sharp_verdicts.specs.declared.instances.Cited.{Cited}
 use Rattle.sharp_verdicts.specs.declared.refusals.SharpRefusal.TheVariants.{Report, Instance}
 use Rattle.sharp_verdicts.specs.Instances.{is_axiom_told, instances_of}
-use Rattle.sharp_verdicts.specs.SharpFaults.{unless_of, listed, plain_fault, sharp_fault}
+use Rattle.sharp_verdicts.specs.SharpFaults.{unless_of, listed_instances, plain_fault, sharp_fault}
 use Rattle.sharp_verdicts.specs.SharpJudge.{advance_plain, after_mark}
 use Rattle.sharp_verdicts.specs.SharpLines.{SharpTitle, Plain, InstancesAre}
 use Rattle.sharp_verdicts.specs.SharpPlaces.{SharpPlace, AtSharp, AtReport, AtInstances, AtNeed, AtNeedRow, AtSharpEnd, AtSharpNothing, SharpStanding, is_story_read, not_possible, read_title, read_sharp_at}
@@ -188,12 +188,12 @@ module _ (study : Question) where
 
     -- the story does not cite each axiom of its core
     pub core_fault : (after : SharpJudging) (n : ℕ) → list_all (is_axiom_told s.told.earlier) s.told.core ≡ false → SharpTook study s (InstancesAre n) after (Some (Report Core))
-    core_fault after n e = (ap (λ (b : Bool). option_or (unless_of b (Report Core)) (unless_of (n == length (listed study s)) Instance)) (sym e), λ none. absurd (cc))
+    core_fault after n e = (ap (λ (b : Bool). option_or (unless_of b (Report Core)) (unless_of (n == length (listed_instances study s)) Instance)) (sym e), λ none. absurd (cc))
 
     -- it is another number
-    pub count_fault : (after : SharpJudging) (n : ℕ) → list_all (is_axiom_told s.told.earlier) s.told.core ≡ true → (n == length (listed study s)) ≡ false → SharpTook study s (InstancesAre n) after (Some Instance)
+    pub count_fault : (after : SharpJudging) (n : ℕ) → list_all (is_axiom_told s.told.earlier) s.told.core ≡ true → (n == length (listed_instances study s)) ≡ false → SharpTook study s (InstancesAre n) after (Some Instance)
     count_fault after n e f = (ap₂ (λ (b c : Bool). option_or (unless_of b (Report Core)) (unless_of c Instance)) (sym e) (sym f), λ none. absurd (cc))
 
     -- it is this number
-    pub count_right : (after : SharpJudging) (n : ℕ) → list_all (is_axiom_told s.told.earlier) s.told.core ≡ true → (n == length (listed study s)) ≡ true → SharpStands study after (after_mark study s) → SharpTook study s (InstancesAre n) after None
+    pub count_right : (after : SharpJudging) (n : ℕ) → list_all (is_axiom_told s.told.earlier) s.told.core ≡ true → (n == length (listed_instances study s)) ≡ true → SharpStands study after (after_mark study s) → SharpTook study s (InstancesAre n) after None
     count_right after n e f stands = (ap₂ (λ (b c : Bool). option_or (unless_of b (Report Core)) (unless_of c Instance)) (sym e) (sym f), λ _. stands)

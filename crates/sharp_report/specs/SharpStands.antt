@@ -10,7 +10,7 @@ use Rattle.report_lines.specs.Held.{held_line}
 use Rattle.report.specs.Stands.{Stands}
 use Rattle.report.specs.Taken.{AreOutcomes}
 use Rattle.sharp_verdicts.specs.declared.refusals.SharpRefusal.{SharpRefusal}
-use Rattle.sharp_verdicts.specs.SharpFaults.{listed, sharp_fault, instances_fault, asked_of}
+use Rattle.sharp_verdicts.specs.SharpFaults.{listed_instances, sharp_fault, instances_fault, others_asked}
 use Rattle.sharp_verdicts.specs.SharpJudge.{after_mark_row, advance_sharp, sharp_line_fault, SharpTold, SharpGood, SharpRefused, sharp_judge}
 use Rattle.sharp_verdicts.specs.SharpLines.{SharpLine, SharpTitle, Plain, InstancesAre, NeedsRule, NeedsOpen}
 use Rattle.sharp_verdicts.specs.SharpPlaces.{SharpPlace, AtSharp, AtReport, AtInstances, AtNeed, AtNeedRow, AtSharpEnd, AtSharpNothing, SharpStanding, read_sharp_line}
@@ -73,10 +73,10 @@ module _ (study : Question) where
   HoldsAt AtSharp r s = (s.told ≡ start) × (r.cited.items ≡ [])
   HoldsAt AtReport r s = IsTrue (is_before_story s.told.place) × Cites study r.cited.items s.told.earlier s.told.steps
   HoldsAt AtInstances r s = Cites study r.cited.items s.told.earlier []
-  HoldsAt AtNeed r s = (r.instances ≡ listed study s) × (s.rows ≡ [])
-  HoldsAt AtNeedRow r s = (r.instances ≡ listed study s) × (length s.marks < length (listed study s)) × AreOutcomes study.size s.rows
-  HoldsAt AtSharpEnd r s = r.instances ≡ listed study s
-  HoldsAt AtSharpNothing r s = r.instances ≡ listed study s
+  HoldsAt AtNeed r s = (r.instances ≡ listed_instances study s) × (s.rows ≡ [])
+  HoldsAt AtNeedRow r s = (r.instances ≡ listed_instances study s) × (length s.marks < length (listed_instances study s)) × AreOutcomes study.size s.rows
+  HoldsAt AtSharpEnd r s = r.instances ≡ listed_instances study s
+  HoldsAt AtSharpNothing r s = r.instances ≡ listed_instances study s
 
   -- what is held is what the lines so far have given
   pub record SharpStands (r : SharpJudging) (s : SharpStanding) : Type 0 where
@@ -90,7 +90,7 @@ module _ (study : Question) where
   pub record HasMarks (r : SharpJudging) (s : SharpStanding) : Type 0 where
     pub told : Stands study r.told s.told
     pub marks : r.marks ≡ length s.marks
-    pub instances : r.instances ≡ listed study s
+    pub instances : r.instances ≡ listed_instances study s
 
   -- what the lines of the report have given is what at most so many lines of a report give
   pub record IsReadWithin (count : ℕ) (s : SharpStanding) : Type 0 where
@@ -107,10 +107,10 @@ module _ (study : Question) where
     pub read : IsReadWithin count standing
 
   -- the table of a mark has all its rows, and the mark is still due
-  pub record HasTable (r : SharpJudging) : Type 0 where
+  pub record HasMarkTable (r : SharpJudging) : Type 0 where
     pub rule : IsTrue (is_rule study.size r.rows)
     pub standing : SharpStanding
-    pub instances : r.instances ≡ listed study standing
+    pub instances : r.instances ≡ listed_instances study standing
 
   -- the fault of a line is answered, and where it has none its part is held with what was held
   abbrev pub SharpTook : SharpStanding → SharpLine → SharpJudging → Option SharpRefusal → Type 0
@@ -118,7 +118,7 @@ module _ (study : Question) where
 
   -- the same of a table whose last row is read
   abbrev pub TakesMark : SharpStanding → SharpJudging → Option SharpRefusal → Type 0
-  TakesMark s r fault = (fault ≡ instances_fault study s.rows (asked_of study s)) ×
+  TakesMark s r fault = (fault ≡ instances_fault study s.rows (others_asked study s)) ×
       (length s.rows ≡ sort_count study.size Profile → fault ≡ None → SharpStands r (after_mark_row study s))
 
   -- a line of this text is taken: where it has no fault, it is told what it says, and its part is held with what was held; else its refusal is told

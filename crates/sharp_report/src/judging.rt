@@ -1,7 +1,7 @@
 //! What a checker of sharp texts keeps of the lines that it took.
 
 ghost use Rattle.std.specs.Prelude.{◌≡◌, ◌<◌, IfOk, IfSome, slice_get};
-ghost use Rattle.sharp_verdicts.specs.SharpFaults.{listed};
+ghost use Rattle.sharp_verdicts.specs.SharpFaults.{listed_instances};
 ghost use Rattle.sharp_verdicts.specs.SharpJudge.{after_mark};
 ghost use Rattle.sharp_verdicts.specs.SharpPlaces.{AtSharpNothing, SharpStanding, sharp_start};
 ghost use Rattle.sharp_report.specs.SharpStands.{held_sharp_place, SharpStands, HasMarks};
@@ -67,7 +67,7 @@ impl SharpJudging {
     /// The instances that the story cites, once all lines are read.
     pub fn instances(&self) -> &[Cited]
         ensures { (study : Question) (s : SharpStanding) → SharpStands study self.now s →
-            s.place ≡ AtSharpNothing → result.now ≡ listed study s }
+            s.place ≡ AtSharpNothing → result.now ≡ listed_instances study s }
     {
         self.instances.as_slice()
     }

@@ -1,5 +1,5 @@
 -- The marks of a sharp text, and all of it.
-use Rattle.std.proofs.Common.{◌≡◌, refl, sym, ap, ap₂, ◌∙◌, subst, ℕ, zero, suc, ◌+◌, ◌<◌, inl, inr, Bool, true, false, length, List, [], ◌∷◌, ◌++◌, map, drop, get_or, Option, Some, None, codes, add-one, append-nil, append_assoc, drop-cons, arith, ltb-true}
+use Rattle.std.proofs.Common.{◌≡◌, refl, sym, ap, ◌∙◌, ℕ, zero, suc, ◌+◌, ◌<◌, inl, inr, Bool, true, length, List, [], ◌∷◌, ◌++◌, map, drop, get_or, Option, Some, None, codes, add-one, append-nil, append_assoc, drop-cons, arith, ltb-true}
 use Rattle.std.specs.Prelude.{nat_lt, slice_get}
 use Rattle.std.specs.Cmp.Lexicographic.{pointwise}
 use Rattle.std.proofs.lemmas.Bool.{and_parts, and_from, cases_lt, false≢true}
@@ -13,22 +13,21 @@ use Rattle.vocab.specs.Study.{Question}
 use Rattle.vocab.specs.Titled.{Titled}
 use Rattle.meaning.specs.declared.cores.Witness.{Witness}
 use Rattle.meaning.specs.declared.cores.Witness.TheVariants.{Rule, Open}
-use Rattle.meaning.specs.declared.stories.Lemma.{Lemma}
 use Rattle.meaning.specs.Instances.{instance_values}
 use Rattle.meaning.proofs.DigitLaws.{are_one_to_one}
 use Rattle.verdicts.specs.declared.verdicts.Verdict.TheVariants.{Impossible}
 use Rattle.verdicts.specs.Lines.{Line, End, name_at, sorts_of, value_words}
 use Rattle.verdicts.specs.Numbers.{number_text}
 use Rattle.verdicts.specs.Report.{row_lines, own_version, all_witness_lines, verdict_lines, is_reason}
-use Rattle.verdicts.specs.Texts.{joined}
-use Rattle.report_text.specs.Pieces.{about_lines, count_text, ended, instance_text, lines_text, spaced, told_lines}
-use Rattle.report_text.proofs.ReportLemmas.{row_text, rows_spelled}
+use Rattle.verdicts.specs.Texts.{joined_words}
+use Rattle.report_text.specs.Pieces.{about_lines, count_text, ended_line, instance_text, lines_text, spaced, told_lines}
+use Rattle.report_text.proofs.ReportLemmas.{row_text, rows_spelled, no_witness}
 use Rattle.report_text.proofs.WordLemmas.{joined_spaced}
 use Rattle.texts.specs.Spelled.{spelled}
 use Rattle.sharp_verdicts.specs.declared.instances.Cited.{Cited}
 use Rattle.sharp_verdicts.specs.Instances.{count_at, is_present, values_at}
 use Rattle.sharp_verdicts.specs.Right.{Pointed}
-use Rattle.sharp_verdicts.specs.SharpLines.{SharpLine, SharpTitle, Plain, InstancesAre, NeedsRule, NeedsOpen, reason_at, mark_lines, all_mark_lines, story_part, sharp_line_text, sharp_lines, sharp_text}
+use Rattle.sharp_verdicts.specs.SharpLines.{SharpLine, SharpTitle, Plain, InstancesAre, NeedsOpen, reason_at, mark_lines, all_mark_lines, story_part, sharp_line_text, sharp_text}
 use Rattle.sharp_text.specs.Pieces.{sharp_lines_text}
 
 -- ---- instances
@@ -48,7 +47,7 @@ present_named study c h =
 
 -- an instance and two words after `needs`
 need_words : (name : List ℕ) (values : List (List ℕ)) (key word : List ℕ) →
-    joined (codes "needs" ∷ (name ∷ values) ++ key ∷ word ∷ []) ++ 10 ∷ [] ≡ codes "needs " ++ (joined (name ∷ values) ++ (32 ∷ (key ++ (32 ∷ (word ++ 10 ∷ [])))))
+    joined_words (codes "needs" ∷ (name ∷ values) ++ key ∷ word ∷ []) ++ 10 ∷ [] ≡ codes "needs " ++ (joined_words (name ∷ values) ++ (32 ∷ (key ++ (32 ∷ (word ++ 10 ∷ [])))))
 need_words name values key word =
     ap (λ (text : List ℕ). text ++ 10 ∷ []) (joined_spaced (codes "needs") ((name ∷ values) ++ key ∷ word ∷ []))
     ∙ ap (λ (rest : List ℕ). (codes "needs " ++ (name ++ rest)) ++ 10 ∷ []) (flat_map-append (λ w. 32 ∷ w) values (key ∷ word ∷ []))
@@ -61,7 +60,7 @@ need_words name values key word =
 -- lines that a report may have too
 pub plain_lines : (study : Question) (lines : List Line) → sharp_lines_text study (map Plain lines) ≡ lines_text study lines
 plain_lines study [] = refl
-plain_lines study (line ∷ lines) = ap (λ (rest : List ℕ). ended study line ++ rest) (plain_lines study lines)
+plain_lines study (line ∷ lines) = ap (λ (rest : List ℕ). ended_line study line ++ rest) (plain_lines study lines)
 
 module _ (study : Question) (size : Extent) (same : study.size ≡ size) where
   pub rule_mark : (c : Cited) (table : List ℕ) →
@@ -117,17 +116,13 @@ as_many_marks f (k ∷ instances) (m ∷ marks) h = ap suc (as_many_marks f inst
 
 -- ---- all of it
 
-no_witness : (study : Question) (core : List ℕ) → [] ≡ lines_text study (all_witness_lines study core [])
-no_witness study [] = refl
-no_witness study (k ∷ core) = refl
-
 -- what the study is after the title, and the story
 story_text : (study : Question) (v : Pointed) → lines_text study (about_lines study (own_version study)) ++ lines_text study (told_lines study v.core v.story) ≡ lines_text study (story_part study v)
 story_text study v =
     let about : List ℕ = lines_text study (about_lines study (own_version study)) in
     let told : List ℕ = lines_text study (told_lines study v.core v.story) in
-    ap (λ (rest : List ℕ). about ++ rest) (sym (append-nil told) ∙ ap (λ (rest : List ℕ). told ++ rest) (no_witness study v.core) ∙ sym (flat_map-append (ended study) (told_lines study v.core v.story) (all_witness_lines study v.core [])))
-    ∙ sym (flat_map-append (ended study) (about_lines study (own_version study)) (verdict_lines study (Impossible v.core v.story [])))
+    ap (λ (rest : List ℕ). about ++ rest) (sym (append-nil told) ∙ ap (λ (rest : List ℕ). told ++ rest) (no_witness study v.core) ∙ sym (flat_map-append (ended_line study) (told_lines study v.core v.story) (all_witness_lines study v.core [])))
+    ∙ sym (flat_map-append (ended_line study) (about_lines study (own_version study)) (verdict_lines study (Impossible v.core v.story [])))
 
 pub sharp_is : (study : Question) (v : Pointed) →
     (codes "bench sharp 1\n" ++ (lines_text study (about_lines study (own_version study)) ++ (lines_text study (told_lines study v.core v.story) ++ count_text (codes "instances ") (length v.instances))))

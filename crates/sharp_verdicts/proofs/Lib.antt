@@ -1,3 +1,2 @@
 pub mod WorkedExamples
-pub mod Members
 pub mod DerivedLaws

@@ -22,12 +22,12 @@ unless_of passes word = if passes then None else Some word
 
 module _ (study : Question) where
   -- the instances that the story cites, once it is read
-  abbrev pub listed : SharpStanding → List Cited
-  listed s = instances_of study s.told.earlier
+  abbrev pub listed_instances : SharpStanding → List Cited
+  listed_instances s = instances_of study s.told.earlier
 
   -- the instance whose mark comes next
   abbrev pub next_instance : SharpStanding → Option Cited
-  next_instance s = slice_get (listed s) (length s.marks)
+  next_instance s = slice_get (listed_instances s) (length s.marks)
 
   -- a reason does not cite the instance that comes next
   abbrev pub instance_fault : Option Cited → Reason → Option SharpRefusal
@@ -41,14 +41,14 @@ module _ (study : Question) where
       if is_true_of study table c then instances_fault table instances else Some (Report (refusal.Fails (name_at study.axioms c.«axiom») c.number))
 
   -- the others than the instance whose mark is being read
-  abbrev pub asked_of : SharpStanding → List Cited
-  asked_of s = option_map_or (others_than (listed s)) (next_instance s) []
+  abbrev pub others_asked : SharpStanding → List Cited
+  others_asked s = option_map_or (others_than (listed_instances s)) (next_instance s) []
 
   -- a row that is not the next, and then what the whole table fails
   abbrev pub mark_row_fault : SharpStanding → ℕ → ℕ → Option SharpRefusal
   mark_row_fault s p o =
       option_or (unless_of (p == length s.rows) (Report refusal.Row))
-      (if length s.rows + 1 == sort_count study.size Profile then instances_fault (s.rows ++ o ∷ []) (asked_of s) else None)
+      (if length s.rows + 1 == sort_count study.size Profile then instances_fault (s.rows ++ o ∷ []) (others_asked s) else None)
 
   -- what is wrong with a line of a report, at a place of a sharp text
   abbrev pub plain_fault : SharpPlace → SharpStanding → Line → Option SharpRefusal
@@ -60,6 +60,6 @@ module _ (study : Question) where
   sharp_fault s SharpTitle = None
   sharp_fault s (Plain line) = plain_fault s.place s line
   sharp_fault s (InstancesAre n) =
-      option_or (unless_of (list_all (is_axiom_told s.told.earlier) s.told.core) (Report refusal.Core)) (unless_of (n == length (listed s)) Instance)
+      option_or (unless_of (list_all (is_axiom_told s.told.earlier) s.told.core) (Report refusal.Core)) (unless_of (n == length (listed_instances s)) Instance)
   sharp_fault s (NeedsRule r n) = option_or (instance_fault (next_instance s) r) (unless_of (n == sort_count study.size Profile) (Report refusal.Row))
   sharp_fault s (NeedsOpen r n) = option_or (instance_fault (next_instance s) r) (unless_of (n == study.conflicts) (Report refusal.OpenMark))

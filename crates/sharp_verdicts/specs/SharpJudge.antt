@@ -14,14 +14,14 @@ use Rattle.sharp_verdicts.specs.declared.refusals.SharpRefusal.TheVariants.{Repo
 use Rattle.sharp_verdicts.specs.Right.{Pointed}
 use Rattle.sharp_verdicts.specs.SharpLines.{SharpLine, SharpTitle, Plain, InstancesAre, NeedsRule, NeedsOpen}
 use Rattle.sharp_verdicts.specs.SharpPlaces.{SharpPlace, AtReport, AtInstances, AtNeed, AtNeedRow, AtSharpEnd, AtSharpNothing, SharpStanding, sharp_start, is_story_read, read_sharp_line}
-use Rattle.sharp_verdicts.specs.SharpFaults.{listed, sharp_fault}
+use Rattle.sharp_verdicts.specs.SharpFaults.{listed_instances, sharp_fault}
 
 module _ (study : Question) where
   -- ---- where the reader stands after a line
 
   -- at the next mark, or at the end
   abbrev pub after_mark : SharpStanding → SharpStanding
-  after_mark s = record s { place = if length s.marks == length (listed study s) then AtSharpEnd else AtNeed; rows = [] }
+  after_mark s = record s { place = if length s.marks == length (listed_instances study s) then AtSharpEnd else AtNeed; rows = [] }
 
   -- after a row of a mark: the table is whole, or another row comes
   abbrev pub after_mark_row : SharpStanding → SharpStanding
@@ -78,7 +78,7 @@ module _ (study : Question) where
 
   -- what is confirmed where all is read
   abbrev pub pointed_of : SharpStanding → Pointed
-  pointed_of s = record { core = s.told.core; story = s.told.earlier; instances = listed study s; marks = s.marks }
+  pointed_of s = record { core = s.told.core; story = s.told.earlier; instances = listed_instances study s; marks = s.marks }
 
 -- ---- a whole text
 

@@ -10,7 +10,7 @@ use Rattle.meaning.specs.declared.stories.Reason.{Reason}
 use Rattle.meaning.specs.declared.stories.Reason.TheVariants.{Axiom as ByAxiom}
 use Rattle.verdicts.specs.declared.verdicts.Verdict.TheVariants.{Impossible}
 use Rattle.verdicts.specs.Numbers.{number_text}
-use Rattle.verdicts.specs.Texts.{joined}
+use Rattle.verdicts.specs.Texts.{joined_words}
 use Rattle.verdicts.specs.Lines.{Line, End, line_words, reason_words}
 use Rattle.verdicts.specs.Report.{row_lines, head_lines, verdict_lines, own_version}
 use Rattle.sharp_verdicts.specs.declared.instances.Cited.{Cited}
@@ -41,7 +41,7 @@ module _ (study : Question) where
 
   -- the text of a line, without its line end
   abbrev pub sharp_line_text : SharpLine → List ℕ
-  sharp_line_text line = joined (sharp_words line)
+  sharp_line_text line = joined_words (sharp_words line)
 
   -- the reason that cites an instance
   abbrev pub reason_at : Cited → Reason

@@ -11,8 +11,8 @@ use Rattle.sharp_verdicts.specs.declared.instances.Cited.{Cited}
 use Rattle.sharp_verdicts.specs.Instances.{all_instances}
 
 -- more than 4,000,000 clauses, or more than 60,000,000 literals
-abbrev pub is_over : Counts → Bool
-is_over counts = nat_lt 4000000 counts.clauses || nat_lt 60000000 counts.literals
+abbrev pub passes_clause_limits : Counts → Bool
+passes_clause_limits counts = nat_lt 4000000 counts.clauses || nat_lt 60000000 counts.literals
 
 module _ (study : Question) where
   -- the counts of an instance, before anything is left out

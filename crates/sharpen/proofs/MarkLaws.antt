@@ -1,12 +1,13 @@
 -- The marks of the instances that a story cites, from the witnesses of the core over which it was told.
 use Rattle.std.proofs.Common.{◌≡◌, refl, sym, ◌∙◌, ap, ap₂, subst, ℕ, zero, suc, ◌+◌, ◌<◌, ◌≤◌, Bool, true, false, ◌||◌, ◌&&◌, ◌==◌, not, ◌⊎◌, inl, inr, List, [], ◌∷◌, ◌++◌, map, filter, take, length, arith, Option, Some, None, All, true≢false, ltb-true, lt-ltb, eqb-true, eq-eqb}
-use Rattle.std.specs.Prelude.{nat_lt, nat_eq, slice_get, Any, if◌then◌else◌}
+use Rattle.std.specs.Prelude.{nat_lt, slice_get, Any, if◌then◌else◌}
 use Rattle.std.specs.Cmp.Lexicographic.{pointwise}
 use Rattle.std.specs.List.{list_all, list_any, AllByRecursion}
 use Rattle.std.proofs.lemmas.List.Elements.{All-from_recursion}
 use Rattle.std.specs.Option.{option_map_or}
-use Rattle.std.proofs.lemmas.Bool.{and_from, and_parts, cases_lt, or_cases, or_left, or_right}
+use Rattle.std.proofs.lemmas.Bool.{and_from, and_parts, cases_lt, or_cases, or_left, or_right, or_parts}
 use Rattle.std.proofs.lemmas.Option.{slice_get_within}
+use Rattle.lists.proofs.TestLaws.{all_get}
 use Rattle.vocab.specs.Size.{Extent}
 use Rattle.vocab.specs.Study.{Question, IsStudy}
 use Rattle.vocab.specs.Titled.{Titled}
@@ -17,23 +18,24 @@ use Rattle.meaning.specs.Cores.{is_witness, is_core_from}
 use Rattle.meaning.specs.Instances.{instance_values, is_instance_true}
 use Rattle.meaning.specs.Stories.{is_story}
 use Rattle.meaning.specs.Truth.{is_rule, is_axiom_true, is_true_at}
+use Rattle.meaning.proofs.InstanceLaws.{same_tests}
 use Rattle.closing.proofs.SentenceLaws.{is_instance}
-use Rattle.grounding.specs.Rising.{IsAbove, has}
+use Rattle.grounding.specs.Rising.{RisesFrom, includes}
 use Rattle.search_logs.specs.declared.logs.SearchLog.{SearchLog}
 use Rattle.search_logs.specs.Spent.{has_place, HasEvidence, HaveEvidence, IsWithout}
 use Rattle.verdicts.proofs.WordLaws.{IsIn}
+use Rattle.verdicts.proofs.Members.{in_filter, filter_in, map_in}
 use Rattle.sharp_verdicts.specs.declared.instances.Cited.{Cited}
 use Rattle.sharp_verdicts.specs.Derived.{axioms_from, closed_at}
 use Rattle.sharp_verdicts.specs.Instances.{same_instance, has_instance, others_than, is_present, is_true_of, all_instances, instances_of, is_told}
 use Rattle.sharp_verdicts.specs.Right.{is_mark}
 use Rattle.sharp_verdicts.specs.Sharpened.{chose, IsWithoutInstance, HasMarkEvidence, HaveMarkEvidence}
-use Rattle.instance_stories.specs.Codes.{code_of, AreRising}
+use Rattle.instance_stories.specs.Codes.{code_of, AreRisingInstances}
 use Rattle.instance_stories.specs.Named.{story_named}
 use Rattle.instance_stories.proofs.AllInstances.{rising_lists, filter_rises, filter_small, all_rise, all_small, counts_few, present_small}
-use Rattle.instance_studies.proofs.StudyLaws.{all_get}
-use Rattle.sharp_verdicts.proofs.Members.{in_filter, filter_in, map_in}
 use Rattle.sharp_verdicts.proofs.DerivedLaws.{derived_get}
-use Rattle.sharpen.specs.Marks.{instance_in, marks_kept}
+use Rattle.told_instances.proofs.ToldLaws.{in_has, has_in}
+use Rattle.sharpen.specs.Marks.{derived_instance, marks_kept}
 use Rattle.sharpen.proofs.ToldLaws.{told_in_core}
 
 -- ---- equal instances
@@ -50,33 +52,33 @@ same_equal c d h =
 
 -- ---- the instance at a place
 
-instance_there : (derived : List Cited) (k : ℕ) → k < length derived → slice_get derived k ≡ Some (instance_in derived k)
+instance_there : (derived : List Cited) (k : ℕ) → k < length derived → slice_get derived k ≡ Some (derived_instance derived k)
 instance_there [] k lt = absurd (omega (arith, lt))
 instance_there (c ∷ derived) zero lt = refl
 instance_there (c ∷ derived) (suc k) lt = instance_there derived k (omega (arith, lt))
 
-pub in_is : (derived : List Cited) (k : ℕ) (c : Cited) → slice_get derived k ≡ Some c → instance_in derived k ≡ c
+pub in_is : (derived : List Cited) (k : ℕ) (c : Cited) → slice_get derived k ≡ Some c → derived_instance derived k ≡ c
 in_is derived k c e =
-    let both : Some (instance_in derived k) ≡ Some c = sym (instance_there derived k (slice_get_within derived k c e)) ∙ e in
-    let same : instance_in derived k ≡ c = cc in same
+    let both : Some (derived_instance derived k) ≡ Some c = sym (instance_there derived k (slice_get_within derived k c e)) ∙ e in
+    let same : derived_instance derived k ≡ c = cc in same
 
 -- ---- each mark comes of a witness of the core
 
 -- what holds of the witnesses of a core holds of the marks that are kept
 kept_all : (instances derived : List Cited) (holds : ℕ → Witness → Bool) (right : Cited → Witness → Bool) (ks : List ℕ) (ws : List Witness) → All (λ k. k < length derived) ks
-    → ((k : ℕ) (w : Witness) → k < length derived → holds k w ≡ true → right (instance_in derived k) w ≡ true) → pointwise holds ks ws ≡ true
-    → pointwise right (filter (has_instance instances) (map (instance_in derived) ks)) (marks_kept instances (map (instance_in derived) ks) ws) ≡ true
+    → ((k : ℕ) (w : Witness) → k < length derived → holds k w ≡ true → right (derived_instance derived k) w ≡ true) → pointwise holds ks ws ≡ true
+    → pointwise right (filter (has_instance instances) (map (derived_instance derived) ks)) (marks_kept instances (map (derived_instance derived) ks) ws) ≡ true
 kept_all instances derived holds right [] [] within step h = refl
 kept_all instances derived holds right [] (w ∷ ws) within step h = refl
 kept_all instances derived holds right (k ∷ ks) [] within step h = absurd (true≢false (sym h))
 kept_all instances derived holds right (k ∷ ks) (w ∷ ws) within step h =
     let p = and_parts (holds k w) (pointwise holds ks ws) h in
-    by (has_instance instances (instance_in derived k)) (step k w (within 0 k (omega arith)) p.0) (kept_all instances derived holds right ks ws (λ j x e. within (suc j) x (omega (arith, e))) step p.1)
+    by (has_instance instances (derived_instance derived k)) (step k w (within 0 k (omega arith)) p.0) (kept_all instances derived holds right ks ws (λ j x e. within (suc j) x (omega (arith, e))) step p.1)
   where
-    by : (b : Bool) → right (instance_in derived k) w ≡ true
-        → pointwise right (filter (has_instance instances) (map (instance_in derived) ks)) (marks_kept instances (map (instance_in derived) ks) ws) ≡ true
-        → pointwise right (if b then instance_in derived k ∷ filter (has_instance instances) (map (instance_in derived) ks) else filter (has_instance instances) (map (instance_in derived) ks))
-        (if b then w ∷ marks_kept instances (map (instance_in derived) ks) ws else marks_kept instances (map (instance_in derived) ks) ws) ≡ true
+    by : (b : Bool) → right (derived_instance derived k) w ≡ true
+        → pointwise right (filter (has_instance instances) (map (derived_instance derived) ks)) (marks_kept instances (map (derived_instance derived) ks) ws) ≡ true
+        → pointwise right (if b then derived_instance derived k ∷ filter (has_instance instances) (map (derived_instance derived) ks) else filter (has_instance instances) (map (derived_instance derived) ks))
+        (if b then w ∷ marks_kept instances (map (derived_instance derived) ks) ws else marks_kept instances (map (derived_instance derived) ks) ws) ≡ true
     by true here ih = and_from _ _ here ih
     by false here ih = ih
 
@@ -91,67 +93,67 @@ module _ (study : Question) (derived : List Cited) (present : list_all (is_prese
   closed_true table c None h = absurd (true≢false (sym h))
   closed_true table c (Some a) h = sym ((is_instance study.size a c.number).true_of table) ∙ h
 
-  true_back : (table : List ℕ) (k : ℕ) → k < length derived → is_axiom_true study.size table (slice_get daxioms k) ≡ true → is_true_of study table (instance_in derived k) ≡ true
+  true_back : (table : List ℕ) (k : ℕ) → k < length derived → is_axiom_true study.size table (slice_get daxioms k) ≡ true → is_true_of study table (derived_instance derived k) ≡ true
   true_back table k lt h =
-      let there = derived_get study derived k (instance_in derived k) (instance_there derived k lt) in
-      closed_true table (instance_in derived k) (slice_get study.axioms (instance_in derived k).«axiom») (subst (λ (o : Option Titled). is_axiom_true study.size table o ≡ true) there h)
+      let there = derived_get study derived k (derived_instance derived k) (instance_there derived k lt) in
+      closed_true table (derived_instance derived k) (slice_get study.axioms (derived_instance derived k).«axiom») (subst (λ (o : Option Titled). is_axiom_true study.size table o ≡ true) there h)
 
   -- the others of a list of instances are true where the others of the core are
   others_true : (table : List ℕ) (t : Cited → Bool) (k : ℕ) (ks : List ℕ) → All (λ j. j < length derived) ks
       → list_all (λ j. is_axiom_true study.size table (slice_get daxioms j)) (filter (λ j. not (j == k)) ks) ≡ true
-      → list_all (is_true_of study table) (filter (λ d. not (same_instance d (instance_in derived k))) (filter t (map (instance_in derived) ks))) ≡ true
+      → list_all (is_true_of study table) (filter (λ d. not (same_instance d (derived_instance derived k))) (filter t (map (derived_instance derived) ks))) ≡ true
   others_true table t k [] within h = refl
-  others_true table t k (j ∷ ks) within h = by (j == k) refl (t (instance_in derived j)) h (others_true table t k ks (λ i x e. within (suc i) x (omega (arith, e))))
+  others_true table t k (j ∷ ks) within h = by (j == k) refl (t (derived_instance derived j)) h (others_true table t k ks (λ i x e. within (suc i) x (omega (arith, e))))
     where
       rest : List Cited
-      rest = filter t (map (instance_in derived) ks)
+      rest = filter t (map (derived_instance derived) ks)
 
       IsRest : Type 0
-      IsRest = list_all (is_true_of study table) (filter (λ d. not (same_instance d (instance_in derived k))) rest) ≡ true
+      IsRest = list_all (is_true_of study table) (filter (λ d. not (same_instance d (derived_instance derived k))) rest) ≡ true
 
-      put : (c : Bool) → (c ≡ false → is_true_of study table (instance_in derived j) ≡ true) → IsRest
-          → list_all (is_true_of study table) (if not c then instance_in derived j ∷ filter (λ d. not (same_instance d (instance_in derived k))) rest else filter (λ d. not (same_instance d (instance_in derived k))) rest) ≡ true
+      put : (c : Bool) → (c ≡ false → is_true_of study table (derived_instance derived j) ≡ true) → IsRest
+          → list_all (is_true_of study table) (if not c then derived_instance derived j ∷ filter (λ d. not (same_instance d (derived_instance derived k))) rest else filter (λ d. not (same_instance d (derived_instance derived k))) rest) ≡ true
       put true here there = there
       put false here there = and_from _ _ (here refl) there
 
-      keep : (b : Bool) → (same_instance (instance_in derived j) (instance_in derived k) ≡ false → is_true_of study table (instance_in derived j) ≡ true) → IsRest
-          → list_all (is_true_of study table) (filter (λ d. not (same_instance d (instance_in derived k))) (if b then instance_in derived j ∷ rest else rest)) ≡ true
-      keep true here there = put (same_instance (instance_in derived j) (instance_in derived k)) here there
+      keep : (b : Bool) → (same_instance (derived_instance derived j) (derived_instance derived k) ≡ false → is_true_of study table (derived_instance derived j) ≡ true) → IsRest
+          → list_all (is_true_of study table) (filter (λ d. not (same_instance d (derived_instance derived k))) (if b then derived_instance derived j ∷ rest else rest)) ≡ true
+      keep true here there = put (same_instance (derived_instance derived j) (derived_instance derived k)) here there
       keep false here there = there
 
       by : (e : Bool) → (j == k) ≡ e → (b : Bool)
           → list_all (λ i. is_axiom_true study.size table (slice_get daxioms i)) (if not e then j ∷ filter (λ i. not (i == k)) ks else filter (λ i. not (i == k)) ks) ≡ true
           → (list_all (λ i. is_axiom_true study.size table (slice_get daxioms i)) (filter (λ i. not (i == k)) ks) ≡ true → IsRest)
-          → list_all (is_true_of study table) (filter (λ d. not (same_instance d (instance_in derived k))) (if b then instance_in derived j ∷ rest else rest)) ≡ true
+          → list_all (is_true_of study table) (filter (λ d. not (same_instance d (derived_instance derived k))) (if b then derived_instance derived j ∷ rest else rest)) ≡ true
       by true is b g ih =
-          let here = ap (instance_in derived) (eqb-true j k is) in
-          keep b (λ differ. absurd (true≢false (sym (ap (λ (x : Cited). same_instance x (instance_in derived k)) here ∙ same_self (instance_in derived k)) ∙ differ))) (ih g)
+          let here = ap (derived_instance derived) (eqb-true j k is) in
+          keep b (λ differ. absurd (true≢false (sym (ap (λ (x : Cited). same_instance x (derived_instance derived k)) here ∙ same_self (derived_instance derived k)) ∙ differ))) (ih g)
       by false is b g ih =
           let p = and_parts (is_axiom_true study.size table (slice_get daxioms j)) (list_all (λ i. is_axiom_true study.size table (slice_get daxioms i)) (filter (λ i. not (i == k)) ks)) g in
           keep b (λ differ. true_back table j (within 0 j (omega arith)) p.0) (ih p.1)
 
-  mark_back : (instances : List Cited) (core : List ℕ) → All (λ j. j < length derived) core → instances ≡ filter (has_instance instances) (map (instance_in derived) core)
-      → (k : ℕ) (w : Witness) → is_witness study.size daxioms study.conflicts core k w ≡ true → is_mark study instances (instance_in derived k) w ≡ true
+  mark_back : (instances : List Cited) (core : List ℕ) → All (λ j. j < length derived) core → instances ≡ filter (has_instance instances) (map (derived_instance derived) core)
+      → (k : ℕ) (w : Witness) → is_witness study.size daxioms study.conflicts core k w ≡ true → is_mark study instances (derived_instance derived k) w ≡ true
   mark_back instances core within same k (Rule table) h =
       let p = and_parts (is_rule study.size table) (list_all (λ j. is_axiom_true study.size table (slice_get daxioms j)) (filter (λ c. not (c == k)) core)) h in
-      and_from _ _ p.0 (subst (λ (xs : List Cited). list_all (is_true_of study table) (others_than xs (instance_in derived k)) ≡ true) (sym same) (others_true table (has_instance instances) k core within p.1))
+      and_from _ _ p.0 (subst (λ (xs : List Cited). list_all (is_true_of study table) (others_than xs (derived_instance derived k)) ≡ true) (sym same) (others_true table (has_instance instances) k core within p.1))
   mark_back instances core within same k (Open limit) h = h
 
-  pub marks_right : (instances : List Cited) (core : List ℕ) (ws : List Witness) → All (λ j. j < length derived) core → instances ≡ filter (has_instance instances) (map (instance_in derived) core)
+  pub marks_right : (instances : List Cited) (core : List ℕ) (ws : List Witness) → All (λ j. j < length derived) core → instances ≡ filter (has_instance instances) (map (derived_instance derived) core)
       → pointwise (is_witness study.size daxioms study.conflicts core) core ws ≡ true
-      → pointwise (is_mark study instances) instances (marks_kept instances (map (instance_in derived) core) ws) ≡ true
+      → pointwise (is_mark study instances) instances (marks_kept instances (map (derived_instance derived) core) ws) ≡ true
   marks_right instances core ws within same h =
-      subst (λ (xs : List Cited). pointwise (is_mark study instances) xs (marks_kept instances (map (instance_in derived) core) ws) ≡ true) (sym same)
+      subst (λ (xs : List Cited). pointwise (is_mark study instances) xs (marks_kept instances (map (derived_instance derived) core) ws) ≡ true) (sym same)
       (kept_all instances derived (is_witness study.size daxioms study.conflicts core) (is_mark study instances) core ws within (λ k w lt e. mark_back instances core within same k w e) h)
 
 -- ---- the places of a list that rises
 
-above_at : (b : ℕ) (xs : List Cited) (j : ℕ) (c : Cited) → IsAbove b (map code_of xs) → slice_get xs j ≡ Some c → b < code_of c
+above_at : (b : ℕ) (xs : List Cited) (j : ℕ) (c : Cited) → RisesFrom b (map code_of xs) → slice_get xs j ≡ Some c → b < code_of c
 above_at b [] j c h e = absurd cc
 above_at b (x ∷ xs) zero c h e = let same : x ≡ c = cc in subst (λ (y : Cited). b < code_of y) same h.0
 above_at b (x ∷ xs) (suc j) c h e = let l = above_at (code_of x) xs j c h.1 e in omega (arith, h.0, l)
 
-one_place : (b : ℕ) (xs : List Cited) (j k : ℕ) (c : Cited) → IsAbove b (map code_of xs) → slice_get xs j ≡ Some c → slice_get xs k ≡ Some c → j ≡ k
+one_place : (b : ℕ) (xs : List Cited) (j k : ℕ) (c : Cited) → RisesFrom b (map code_of xs) → slice_get xs j ≡ Some c → slice_get xs k ≡ Some c → j ≡ k
 one_place b [] j k c h e f = absurd cc
 one_place b (x ∷ xs) zero zero c h e f = refl
 one_place b (x ∷ xs) zero (suc k) c h e f =
@@ -160,22 +162,18 @@ one_place b (x ∷ xs) (suc j) zero c h e f =
     let same : x ≡ c = cc in let l = subst (λ (y : Cited). code_of x < code_of y) (sym same) (above_at (code_of x) xs j c h.1 e) in absurd (omega (arith, l))
 one_place b (x ∷ xs) (suc j) (suc k) c h e f = ap suc (one_place (code_of x) xs j k c h.1 e f)
 
-rises_at : (b : ℕ) (xs : List Cited) (k j : ℕ) → IsAbove b (map code_of xs) → k < j → j < length xs → code_of (instance_in xs k) < code_of (instance_in xs j)
+rises_at : (b : ℕ) (xs : List Cited) (k j : ℕ) → RisesFrom b (map code_of xs) → k < j → j < length xs → code_of (derived_instance xs k) < code_of (derived_instance xs j)
 rises_at b [] k j h lt in_j = absurd (omega (arith, in_j))
 rises_at b (x ∷ xs) k zero h lt in_j = absurd (omega (arith, lt))
-rises_at b (x ∷ xs) zero (suc j) h lt in_j = above_at (code_of x) xs j (instance_in xs j) h.1 (instance_there xs j (omega (arith, in_j)))
+rises_at b (x ∷ xs) zero (suc j) h lt in_j = above_at (code_of x) xs j (derived_instance xs j) h.1 (instance_there xs j (omega (arith, in_j)))
 rises_at b (x ∷ xs) (suc k) (suc j) h lt in_j = rises_at (code_of x) xs k j h.1 (omega (arith, lt)) (omega (arith, in_j))
 
 -- ---- the evidence of the marks
 
-or_none : (a b : Bool) → (a || b) ≡ false → (a ≡ false) × (b ≡ false)
-or_none true b h = absurd (true≢false h)
-or_none false b h = (refl, h)
-
 some_map : (P Q : SearchLog → Type 0) (logs : List SearchLog) → ((log : SearchLog) → P log → Q log) → Any P logs → Any Q logs
 some_map P Q logs f a = (a.0, a.1, a.2, a.3, f a.1 a.4)
 
-module _ (study : Question) (derived : List Cited) (rising : AreRising derived) where
+module _ (study : Question) (derived : List Cited) (rising : AreRisingInstances derived) where
   apart : (c : Cited) (k p : ℕ) (o : Option Cited) → slice_get derived k ≡ Some c → slice_get derived p ≡ o → (p == k) ≡ false → option_map_or (λ d. same_instance c d) o false ≡ false
   apart c k p None e f differ = refl
   apart c k p (Some d) e f differ = by (same_instance c d) refl
@@ -187,7 +185,7 @@ module _ (study : Question) (derived : List Cited) (rising : AreRising derived) 
   not_chosen : (c : Cited) (k : ℕ) (ps : List ℕ) → slice_get derived k ≡ Some c → has_place ps k ≡ false → list_any (λ j. option_map_or (λ d. same_instance c d) (slice_get derived j) false) ps ≡ false
   not_chosen c k [] e h = refl
   not_chosen c k (p ∷ ps) e h =
-      let parts = or_none (p == k) (has_place ps k) h in
+      let parts = or_parts (p == k) (has_place ps k) h in
       ap₂ (λ (x y : Bool). x || y) (apart c k p (slice_get derived p) e refl parts.0) (not_chosen c k ps e parts.1)
 
   chosen_there : (d : Cited) (k : ℕ) (ps : List ℕ) → slice_get derived k ≡ Some d → has_place ps k ≡ true → list_any (λ j. option_map_or (λ x. same_instance d x) (slice_get derived j) false) ps ≡ true
@@ -200,19 +198,19 @@ module _ (study : Question) (derived : List Cited) (rising : AreRising derived) 
   ]
 
   rest_there : (log : SearchLog) (k : ℕ) (t : Cited → Bool) (ks : List ℕ) → All (λ j. j < length derived) ks → list_all (λ c. c == k || has_place log.chosen c) ks ≡ true
-      → list_all (λ d. same_instance d (instance_in derived k) || chose derived log d) (filter t (map (instance_in derived) ks)) ≡ true
+      → list_all (λ d. same_instance d (derived_instance derived k) || chose derived log d) (filter t (map (derived_instance derived) ks)) ≡ true
   rest_there log k t [] within h = refl
   rest_there log k t (j ∷ ks) within h =
       let p = and_parts (j == k || has_place log.chosen j) (list_all (λ c. c == k || has_place log.chosen c) ks) h in
-      by (t (instance_in derived j)) (here (or_cases (j == k) (has_place log.chosen j) p.0)) (rest_there log k t ks (λ i x e. within (suc i) x (omega (arith, e))) p.1)
+      by (t (derived_instance derived j)) (here (or_cases (j == k) (has_place log.chosen j) p.0)) (rest_there log k t ks (λ i x e. within (suc i) x (omega (arith, e))) p.1)
     where
-      here : ((j == k) ≡ true) ⊎ (has_place log.chosen j ≡ true) → (same_instance (instance_in derived j) (instance_in derived k) || chose derived log (instance_in derived j)) ≡ true
-      here (inl s) = or_left (same_instance (instance_in derived j) (instance_in derived k)) (chose derived log (instance_in derived j)) (ap (λ (i : ℕ). same_instance (instance_in derived i) (instance_in derived k)) (eqb-true j k s) ∙ same_self (instance_in derived k))
-      here (inr s) = or_right (same_instance (instance_in derived j) (instance_in derived k)) (chose derived log (instance_in derived j)) (chosen_there (instance_in derived j) j log.chosen (instance_there derived j (within 0 j (omega arith))) s)
+      here : ((j == k) ≡ true) ⊎ (has_place log.chosen j ≡ true) → (same_instance (derived_instance derived j) (derived_instance derived k) || chose derived log (derived_instance derived j)) ≡ true
+      here (inl s) = or_left (same_instance (derived_instance derived j) (derived_instance derived k)) (chose derived log (derived_instance derived j)) (ap (λ (i : ℕ). same_instance (derived_instance derived i) (derived_instance derived k)) (eqb-true j k s) ∙ same_self (derived_instance derived k))
+      here (inr s) = or_right (same_instance (derived_instance derived j) (derived_instance derived k)) (chose derived log (derived_instance derived j)) (chosen_there (derived_instance derived j) j log.chosen (instance_there derived j (within 0 j (omega arith))) s)
 
-      by : (b : Bool) → (same_instance (instance_in derived j) (instance_in derived k) || chose derived log (instance_in derived j)) ≡ true
-          → list_all (λ d. same_instance d (instance_in derived k) || chose derived log d) (filter t (map (instance_in derived) ks)) ≡ true
-          → list_all (λ d. same_instance d (instance_in derived k) || chose derived log d) (if b then instance_in derived j ∷ filter t (map (instance_in derived) ks) else filter t (map (instance_in derived) ks)) ≡ true
+      by : (b : Bool) → (same_instance (derived_instance derived j) (derived_instance derived k) || chose derived log (derived_instance derived j)) ≡ true
+          → list_all (λ d. same_instance d (derived_instance derived k) || chose derived log d) (filter t (map (derived_instance derived) ks)) ≡ true
+          → list_all (λ d. same_instance d (derived_instance derived k) || chose derived log d) (if b then derived_instance derived j ∷ filter t (map (derived_instance derived) ks) else filter t (map (derived_instance derived) ks)) ≡ true
       by true e ih = and_from _ _ e ih
       by false e ih = ih
 
@@ -220,46 +218,34 @@ module _ (study : Question) (derived : List Cited) (rising : AreRising derived) 
   none_left logs instances [] = tt
   none_left logs instances (c ∷ cs) = tt
 
-  module _ (logs : List SearchLog) (instances : List Cited) (core : List ℕ) (inside : All (λ j. j < length derived) core) (same : instances ≡ filter (has_instance instances) (map (instance_in derived) core)) where
-    log_back : (k : ℕ) → k < length derived → (log : SearchLog) → IsWithout study core k log → IsWithoutInstance derived instances (instance_in derived k) log
+  module _ (logs : List SearchLog) (instances : List Cited) (core : List ℕ) (inside : All (λ j. j < length derived) core) (same : instances ≡ filter (has_instance instances) (map (derived_instance derived) core)) where
+    log_back : (k : ℕ) → k < length derived → (log : SearchLog) → IsWithout study core k log → IsWithoutInstance derived instances (derived_instance derived k) log
     log_back k lt log w = record {
-      lacks = not_chosen (instance_in derived k) k log.chosen (instance_there derived k lt) w.lacks;
-      has_rest = subst (λ (xs : List Cited). list_all (λ d. same_instance d (instance_in derived k) || chose derived log d) xs ≡ true) (sym same) (rest_there log k (has_instance instances) core inside w.has_rest);
+      lacks = not_chosen (derived_instance derived k) k log.chosen (instance_there derived k lt) w.lacks;
+      has_rest = subst (λ (xs : List Cited). list_all (λ d. same_instance d (derived_instance derived k) || chose derived log d) xs ≡ true) (sym same) (rest_there log k (has_instance instances) core inside w.has_rest);
     }
 
-    one_back : (k : ℕ) (w : Witness) → k < length derived → HasEvidence study logs core k w → HasMarkEvidence logs derived instances (instance_in derived k) w
+    one_back : (k : ℕ) (w : Witness) → k < length derived → HasEvidence study logs core k w → HasMarkEvidence logs derived instances (derived_instance derived k) w
     one_back k (Rule table) lt h = tt
-    one_back k (Open limit) lt h = some_map (IsWithout study core k) (IsWithoutInstance derived instances (instance_in derived k)) logs (log_back k lt) h
+    one_back k (Open limit) lt h = some_map (IsWithout study core k) (IsWithoutInstance derived instances (derived_instance derived k)) logs (log_back k lt) h
 
     all_back : (ks : List ℕ) (ws : List Witness) → All (λ j. j < length derived) ks → HaveEvidence study logs core ks ws
-        → HaveMarkEvidence logs derived instances (filter (has_instance instances) (map (instance_in derived) ks)) (marks_kept instances (map (instance_in derived) ks) ws)
+        → HaveMarkEvidence logs derived instances (filter (has_instance instances) (map (derived_instance derived) ks)) (marks_kept instances (map (derived_instance derived) ks) ws)
     all_back [] ws within h = tt
-    all_back (k ∷ ks) [] within h = none_left logs instances (filter (has_instance instances) (map (instance_in derived) (k ∷ ks)))
-    all_back (k ∷ ks) (w ∷ ws) within h = by (has_instance instances (instance_in derived k)) (one_back k w (within 0 k (omega arith)) h.0) (all_back ks ws (λ i x e. within (suc i) x (omega (arith, e))) h.1)
+    all_back (k ∷ ks) [] within h = none_left logs instances (filter (has_instance instances) (map (derived_instance derived) (k ∷ ks)))
+    all_back (k ∷ ks) (w ∷ ws) within h = by (has_instance instances (derived_instance derived k)) (one_back k w (within 0 k (omega arith)) h.0) (all_back ks ws (λ i x e. within (suc i) x (omega (arith, e))) h.1)
       where
-        by : (b : Bool) → HasMarkEvidence logs derived instances (instance_in derived k) w
-            → HaveMarkEvidence logs derived instances (filter (has_instance instances) (map (instance_in derived) ks)) (marks_kept instances (map (instance_in derived) ks) ws)
-            → HaveMarkEvidence logs derived instances (if b then instance_in derived k ∷ filter (has_instance instances) (map (instance_in derived) ks) else filter (has_instance instances) (map (instance_in derived) ks))
-            (if b then w ∷ marks_kept instances (map (instance_in derived) ks) ws else marks_kept instances (map (instance_in derived) ks) ws)
+        by : (b : Bool) → HasMarkEvidence logs derived instances (derived_instance derived k) w
+            → HaveMarkEvidence logs derived instances (filter (has_instance instances) (map (derived_instance derived) ks)) (marks_kept instances (map (derived_instance derived) ks) ws)
+            → HaveMarkEvidence logs derived instances (if b then derived_instance derived k ∷ filter (has_instance instances) (map (derived_instance derived) ks) else filter (has_instance instances) (map (derived_instance derived) ks))
+            (if b then w ∷ marks_kept instances (map (derived_instance derived) ks) ws else marks_kept instances (map (derived_instance derived) ks) ws)
         by true here ih = (here, ih)
         by false here ih = ih
 
-    pub evidence_right : (ws : List Witness) → HaveEvidence study logs core core ws → HaveMarkEvidence logs derived instances instances (marks_kept instances (map (instance_in derived) core) ws)
-    evidence_right ws h = subst (λ (xs : List Cited). HaveMarkEvidence logs derived instances xs (marks_kept instances (map (instance_in derived) core) ws)) (sym same) (all_back core ws inside h)
+    pub evidence_right : (ws : List Witness) → HaveEvidence study logs core core ws → HaveMarkEvidence logs derived instances instances (marks_kept instances (map (derived_instance derived) core) ws)
+    evidence_right ws h = subst (λ (xs : List Cited). HaveMarkEvidence logs derived instances xs (marks_kept instances (map (derived_instance derived) core) ws)) (sym same) (all_back core ws inside h)
 
 -- ---- the instances that are told are those of the core that are told
-
-has_in : (xs : List Cited) (n : ℕ) → has (map code_of xs) n ≡ true → (c : Cited) × IsIn xs c × (code_of c ≡ n)
-has_in [] n h = absurd (true≢false (sym h))
-has_in (x ∷ xs) n h = elim (or_cases (nat_eq n (code_of x)) (has (map code_of xs) n) h) [
-  | inl e ↦ (x, inl refl, sym (eqb-true n (code_of x) e))
-  | inr e ↦ let r = has_in xs n e in (r.0, inr r.1, r.2)
-]
-
-in_has : (xs : List Cited) (c : Cited) → IsIn xs c → has (map code_of xs) (code_of c) ≡ true
-in_has [] c i = absurd i
-in_has (x ∷ xs) c (inl e) = or_left (nat_eq (code_of c) (code_of x)) (has (map code_of xs) (code_of c)) (eq-eqb (code_of c) (code_of x) (ap code_of (sym e)))
-in_has (x ∷ xs) c (inr i) = or_right (nat_eq (code_of c) (code_of x)) (has (map code_of xs) (code_of c)) (in_has xs c i)
 
 in_any : (xs : List Cited) (c : Cited) → IsIn xs c → has_instance xs c ≡ true
 in_any [] c i = absurd i
@@ -280,12 +266,6 @@ place_in (x ∷ ks) k h = elim (or_cases (x == k) (list_any (λ c. c == k) ks) h
   | inr e ↦ inr (place_in ks k e)
 ]
 
-both_ways : (a b : Bool) → (a ≡ true → b ≡ true) → (b ≡ true → a ≡ true) → a ≡ b
-both_ways true true f g = refl
-both_ways true false f g = sym (f refl)
-both_ways false true f g = g refl
-both_ways false false f g = refl
-
 core_by : (from end : ℕ) (core : List ℕ) → is_core_from from end core ≡ true → AllByRecursion (λ j. j < end) core
 core_by from end [] h = tt
 core_by from end (k ∷ core) h =
@@ -302,27 +282,27 @@ not_before k from h = elim (cases_lt k from) [
   | inr m ↦ omega (arith, m)
 ]
 
-core_rises : (derived : List Cited) (b from : ℕ) (core : List ℕ) → AreRising derived → ((k : ℕ) → from ≤ k → k < length derived → b < code_of (instance_in derived k)) → is_core_from from (length derived) core ≡ true
-    → IsAbove b (map code_of (map (instance_in derived) core))
+core_rises : (derived : List Cited) (b from : ℕ) (core : List ℕ) → AreRisingInstances derived → ((k : ℕ) → from ≤ k → k < length derived → b < code_of (derived_instance derived k)) → is_core_from from (length derived) core ≡ true
+    → RisesFrom b (map code_of (map (derived_instance derived) core))
 core_rises derived b from [] rising over h = record {}
 core_rises derived b from (k ∷ core) rising over h =
     let p = and_parts (not (nat_lt k from) && nat_lt k (length derived)) (is_core_from (k + 1) (length derived) core) h in
     let q = and_parts (not (nat_lt k from)) (nat_lt k (length derived)) p.0 in
     let lt = ltb-true k (length derived) q.1 in
-    (over k (not_before k from q.0) lt, core_rises derived (code_of (instance_in derived k)) (k + 1) core rising (λ j le in_j. rises_at 0 derived k j rising (omega (arith, le)) in_j) p.1)
+    (over k (not_before k from q.0) lt, core_rises derived (code_of (derived_instance derived k)) (k + 1) core rising (λ j le in_j. rises_at 0 derived k j rising (omega (arith, le)) in_j) p.1)
 
-all_there : (study : Question) (derived : List Cited) (ks : List ℕ) → list_all (is_present study) derived ≡ true → AllByRecursion (λ j. j < length derived) ks → list_all (is_present study) (map (instance_in derived) ks) ≡ true
+all_there : (study : Question) (derived : List Cited) (ks : List ℕ) → list_all (is_present study) derived ≡ true → AllByRecursion (λ j. j < length derived) ks → list_all (is_present study) (map (derived_instance derived) ks) ≡ true
 all_there study derived [] present h = refl
-all_there study derived (k ∷ ks) present h = and_from _ _ (all_get (is_present study) derived k (instance_in derived k) present (instance_there derived k h.0)) (all_there study derived ks present h.1)
+all_there study derived (k ∷ ks) present h = and_from _ _ (all_get (is_present study) derived k (derived_instance derived k) present (instance_there derived k h.0)) (all_there study derived ks present h.1)
 
-module _ (study : Question) (taken : IsStudy study) (derived : List Cited) (present : list_all (is_present study) derived ≡ true) (rising : AreRising derived) where
+module _ (study : Question) (taken : IsStudy study) (derived : List Cited) (present : list_all (is_present study) derived ≡ true) (rising : AreRisingInstances derived) where
   pub told_same : (size : Extent) (axioms : List Titled) (core : List ℕ) (story : List Lemma) → is_core_from 0 (length derived) core ≡ true → is_story size axioms core story ≡ true
-      → instances_of study (story_named study derived story) ≡ filter (has_instance (instances_of study (story_named study derived story))) (map (instance_in derived) core)
+      → instances_of study (story_named study derived story) ≡ filter (has_instance (instances_of study (story_named study derived story))) (map (derived_instance derived) core)
   told_same size axioms core story right accepted = rising_lists told kept (filter_small test (all_instances study) (all_small study (counts_few study taken)))
       (filter_small (has_instance told) cores (present_small study taken cores (all_there study derived core present (core_by 0 (length derived) core right))))
       (filter_rises test 0 (all_instances study) (all_rise study (counts_few study taken)))
       (filter_rises (has_instance told) 0 cores (core_rises derived 0 0 core rising (λ k le lt. omega arith) right))
-      (λ n. both_ways (has (map code_of told) n) (has (map code_of kept) n) (forth n) (back n))
+      (λ n. same_tests (includes (map code_of told) n) (includes (map code_of kept) n) (forth n) (back n))
     where
       test : Cited → Bool
       test = is_told study (story_named study derived story)
@@ -331,52 +311,52 @@ module _ (study : Question) (taken : IsStudy study) (derived : List Cited) (pres
       told = instances_of study (story_named study derived story)
 
       cores : List Cited
-      cores = map (instance_in derived) core
+      cores = map (derived_instance derived) core
 
       kept : List Cited
       kept = filter (has_instance told) cores
 
-      forth : (n : ℕ) → has (map code_of told) n ≡ true → has (map code_of kept) n ≡ true
+      forth : (n : ℕ) → includes (map code_of told) n ≡ true → includes (map code_of kept) n ≡ true
       forth n h =
-          let r = has_in told n h in
+          let r = in_has told n h in
           let f = in_filter test (all_instances study) r.0 r.1 in
           let c = told_in_core study derived present size axioms core r.0 story accepted f.1 in
-          let i = subst (IsIn cores) (in_is derived c.0 r.0 c.2) (map_in (instance_in derived) core c.0 (place_in core c.0 c.1)) in
-          subst (λ (m : ℕ). has (map code_of kept) m ≡ true) r.2 (in_has kept r.0 (filter_in (has_instance told) cores r.0 i (in_any told r.0 r.1)))
+          let i = subst (IsIn cores) (in_is derived c.0 r.0 c.2) (map_in (derived_instance derived) core c.0 (place_in core c.0 c.1)) in
+          subst (λ (m : ℕ). includes (map code_of kept) m ≡ true) r.2 (has_in kept r.0 (filter_in (has_instance told) cores r.0 i (in_any told r.0 r.1)))
 
-      back : (n : ℕ) → has (map code_of kept) n ≡ true → has (map code_of told) n ≡ true
+      back : (n : ℕ) → includes (map code_of kept) n ≡ true → includes (map code_of told) n ≡ true
       back n h =
-          let r = has_in kept n h in
+          let r = in_has kept n h in
           let f = in_filter (has_instance told) cores r.0 r.1 in
-          subst (λ (m : ℕ). has (map code_of told) m ≡ true) r.2 (in_has told r.0 (any_in told r.0 f.1))
+          subst (λ (m : ℕ). includes (map code_of told) m ≡ true) r.2 (has_in told r.0 (any_in told r.0 f.1))
 
 -- ---- one more mark
 
-kept_at : (instances derived : List Cited) (core : List ℕ) (ws : List Witness) (k j : ℕ) (w : Witness) (b : Bool) → slice_get core k ≡ Some j → slice_get ws k ≡ Some w → has_instance instances (instance_in derived j) ≡ b
-    → marks_kept instances (map (instance_in derived) (take (suc k) core)) (take (suc k) ws)
-    ≡ marks_kept instances (map (instance_in derived) (take k core)) (take k ws) ++ (if b then w ∷ [] else [])
+kept_at : (instances derived : List Cited) (core : List ℕ) (ws : List Witness) (k j : ℕ) (w : Witness) (b : Bool) → slice_get core k ≡ Some j → slice_get ws k ≡ Some w → has_instance instances (derived_instance derived j) ≡ b
+    → marks_kept instances (map (derived_instance derived) (take (suc k) core)) (take (suc k) ws)
+    ≡ marks_kept instances (map (derived_instance derived) (take k core)) (take k ws) ++ (if b then w ∷ [] else [])
 kept_at instances derived [] ws k j w b e f h = absurd cc
 kept_at instances derived (x ∷ core) [] k j w b e f h = absurd cc
 kept_at instances derived (x ∷ core) (y ∷ ws) zero j w b e f h =
     let same : x ≡ j = cc in
     let mark : y ≡ w = cc in
-    ap (λ (t : Bool). if t then y ∷ [] else []) (ap (λ (i : ℕ). has_instance instances (instance_in derived i)) same ∙ h) ∙ ap (λ (z : Witness). if b then z ∷ [] else []) mark
-kept_at instances derived (x ∷ core) (y ∷ ws) (suc k) j w b e f h = by (has_instance instances (instance_in derived x)) (kept_at instances derived core ws k j w b e f h)
+    ap (λ (t : Bool). if t then y ∷ [] else []) (ap (λ (i : ℕ). has_instance instances (derived_instance derived i)) same ∙ h) ∙ ap (λ (z : Witness). if b then z ∷ [] else []) mark
+kept_at instances derived (x ∷ core) (y ∷ ws) (suc k) j w b e f h = by (has_instance instances (derived_instance derived x)) (kept_at instances derived core ws k j w b e f h)
   where
     by : (t : Bool)
-        → marks_kept instances (map (instance_in derived) (take (suc k) core)) (take (suc k) ws) ≡ marks_kept instances (map (instance_in derived) (take k core)) (take k ws) ++ (if b then w ∷ [] else [])
-        → (if t then y ∷ marks_kept instances (map (instance_in derived) (take (suc k) core)) (take (suc k) ws) else marks_kept instances (map (instance_in derived) (take (suc k) core)) (take (suc k) ws))
-        ≡ (if t then y ∷ marks_kept instances (map (instance_in derived) (take k core)) (take k ws) else marks_kept instances (map (instance_in derived) (take k core)) (take k ws)) ++ (if b then w ∷ [] else [])
+        → marks_kept instances (map (derived_instance derived) (take (suc k) core)) (take (suc k) ws) ≡ marks_kept instances (map (derived_instance derived) (take k core)) (take k ws) ++ (if b then w ∷ [] else [])
+        → (if t then y ∷ marks_kept instances (map (derived_instance derived) (take (suc k) core)) (take (suc k) ws) else marks_kept instances (map (derived_instance derived) (take (suc k) core)) (take (suc k) ws))
+        ≡ (if t then y ∷ marks_kept instances (map (derived_instance derived) (take k core)) (take k ws) else marks_kept instances (map (derived_instance derived) (take k core)) (take k ws)) ++ (if b then w ∷ [] else [])
     by true ih = ap (λ (zs : List Witness). y ∷ zs) ih
     by false ih = ih
 
-pub kept_more : (instances derived : List Cited) (core : List ℕ) (ws marks new : List Witness) (k j : ℕ) (w : Witness) (b : Bool) → marks ≡ marks_kept instances (map (instance_in derived) (take k core)) (take k ws)
-    → slice_get core k ≡ Some j → slice_get ws k ≡ Some w → has_instance instances (instance_in derived j) ≡ b → new ≡ marks ++ (if b then w ∷ [] else [])
-    → new ≡ marks_kept instances (map (instance_in derived) (take (k + 1) core)) (take (k + 1) ws)
+pub kept_more : (instances derived : List Cited) (core : List ℕ) (ws marks new : List Witness) (k j : ℕ) (w : Witness) (b : Bool) → marks ≡ marks_kept instances (map (derived_instance derived) (take k core)) (take k ws)
+    → slice_get core k ≡ Some j → slice_get ws k ≡ Some w → has_instance instances (derived_instance derived j) ≡ b → new ≡ marks ++ (if b then w ∷ [] else [])
+    → new ≡ marks_kept instances (map (derived_instance derived) (take (k + 1) core)) (take (k + 1) ws)
 kept_more instances derived core ws marks new k j w b before e f h is =
     let next : suc k ≡ k + 1 = omega arith in
     is ∙ ap (λ (zs : List Witness). zs ++ (if b then w ∷ [] else [])) before ∙ sym (kept_at instances derived core ws k j w b e f h)
-    ∙ ap (λ (n : ℕ). marks_kept instances (map (instance_in derived) (take n core)) (take n ws)) next
+    ∙ ap (λ (n : ℕ). marks_kept instances (map (derived_instance derived) (take n core)) (take n ws)) next
 
 -- there is a mark where there is an instance
 pub mark_there : (ws : List Witness) (n k : ℕ) → length ws ≡ n → k < n → (w : Witness) × (slice_get ws k ≡ Some w)

@@ -15,11 +15,11 @@ use Rattle.sharp_verdicts.specs.Derived.{axioms_from, derived_study}
 use Rattle.sharp_verdicts.specs.Instances.{is_present, instances_of, core_of}
 use Rattle.sharp_verdicts.specs.Sharpened.{IsSharpened}
 use Rattle.instance_studies.proofs.StudyLaws.{length_from}
-use Rattle.instance_stories.specs.Codes.{AreRising}
+use Rattle.instance_stories.specs.Codes.{AreRisingInstances}
 use Rattle.instance_stories.specs.Named.{story_named}
 use Rattle.instance_stories.proofs.NamedLaws.{named_accepted}
 use Rattle.instance_cores.specs.Cores.{IsReducedTo}
-use Rattle.sharpen.specs.Marks.{instance_in, marks_kept}
+use Rattle.sharpen.specs.Marks.{derived_instance, marks_kept}
 use Rattle.sharpen.proofs.MarkLaws.{core_within, marks_right, evidence_right, told_same}
 
 module _ (study : Question) (derived : List Cited) (reduced : Reduced) (right : IsReducedTo (derived_study study derived) reduced) where
@@ -43,7 +43,7 @@ module _ (study : Question) (derived : List Cited) (reduced : Reduced) (right : 
   pub as_many : length reduced.refutation.witnesses ≡ length reduced.refutation.core
   as_many = same_length (is_witness study.size (axioms_from study 0 derived) study.conflicts reduced.refutation.core) reduced.refutation.core reduced.refutation.witnesses have_witnesses
 
-  module _ (taken : IsStudy study) (present : list_all (is_present study) derived ≡ true) (rising : AreRising derived) (told : List Lemma)
+  module _ (taken : IsStudy study) (present : list_all (is_present study) derived ≡ true) (rising : AreRisingInstances derived) (told : List Lemma)
       (accepted : is_story study.size (axioms_from study 0 derived) reduced.refutation.core told ≡ true) where
     abbrev story : List Lemma
     story = story_named study derived told
@@ -52,7 +52,7 @@ module _ (study : Question) (derived : List Cited) (reduced : Reduced) (right : 
     instances = instances_of study story
 
     abbrev marks : List Witness
-    marks = marks_kept instances (map (instance_in derived) reduced.refutation.core) reduced.refutation.witnesses
+    marks = marks_kept instances (map (derived_instance derived) reduced.refutation.core) reduced.refutation.witnesses
 
     abbrev sharp : Sharp
     sharp = record { core = core_of study story; story = story; instances = instances; marks = marks; derived = derived; logs = reduced.logs }
@@ -73,10 +73,10 @@ module _ (study : Question) (derived : List Cited) (reduced : Reduced) (right : 
         }
 
     pub sharpened_as : (s : Sharp) → s.story ≡ story → s.core ≡ core_of study s.story → s.instances ≡ instances_of study s.story
-        → s.marks ≡ marks_kept s.instances (map (instance_in derived) reduced.refutation.core) reduced.refutation.witnesses → s.derived ≡ derived → s.logs ≡ reduced.logs → IsSharpened study s
+        → s.marks ≡ marks_kept s.instances (map (derived_instance derived) reduced.refutation.core) reduced.refutation.witnesses → s.derived ≡ derived → s.logs ≡ reduced.logs → IsSharpened study s
     sharpened_as s story_is core_is instances_is marks_is derived_is logs_is =
         let core_same : s.core ≡ core_of study story = core_is ∙ ap (core_of study) story_is in
         let instances_same : s.instances ≡ instances = instances_is ∙ ap (instances_of study) story_is in
-        let marks_same : s.marks ≡ marks = marks_is ∙ ap (λ (xs : List Cited). marks_kept xs (map (instance_in derived) reduced.refutation.core) reduced.refutation.witnesses) instances_same in
+        let marks_same : s.marks ≡ marks = marks_is ∙ ap (λ (xs : List Cited). marks_kept xs (map (derived_instance derived) reduced.refutation.core) reduced.refutation.witnesses) instances_same in
         let whole : s ≡ sharp = λ i. record { core = core_same i; story = story_is i; instances = instances_same i; marks = marks_same i; derived = derived_is i; logs = logs_is i } in
         subst (IsSharpened study) (sym whole) is_sharpened

@@ -5,6 +5,7 @@ use Rattle.std.specs.Cmp.Lexicographic.{pointwise}
 use Rattle.std.specs.List.{list_all, list_any}
 use Rattle.std.specs.Option.{option_map_or}
 use Rattle.std.proofs.lemmas.Bool.{and_from, and_parts, or_cases, or_left, or_right}
+use Rattle.lists.proofs.TestLaws.{all_get}
 use Rattle.vocab.specs.Limits.{bases_of, instance_count}
 use Rattle.vocab.specs.Size.{Extent, sort_count}
 use Rattle.vocab.specs.Study.{Question}
@@ -23,8 +24,7 @@ use Rattle.verdicts.specs.Lines.{sorts_of}
 use Rattle.sharp_verdicts.specs.declared.instances.Cited.{Cited}
 use Rattle.sharp_verdicts.specs.Instances.{is_present, count_at, values_at, number_at, reasons_of, cites, cites_axiom, is_told}
 use Rattle.sharp_verdicts.specs.SharpLines.{reason_at}
-use Rattle.instance_studies.proofs.StudyLaws.{all_get}
-use Rattle.instance_stories.specs.Named.{reason_in, named_back, step_named, lemma_named, story_named}
+use Rattle.instance_stories.specs.Named.{reason_citing, named_back, step_named, lemma_named, story_named}
 use Rattle.told_instances.specs.Told.{names_instance, has_reasons}
 
 -- ---- the reasons of a named story name instances
@@ -55,7 +55,7 @@ module _ (study : Question) where
       sym (λ i. record { «axiom» = k i; number = n i })
 
   module _ (derived : List Cited) (present : list_all (is_present study) derived ≡ true) where
-    back_names : (k : ℕ) (o : Option Cited) → slice_get derived k ≡ o → names_instance study (reason_in study o) ≡ true
+    back_names : (k : ℕ) (o : Option Cited) → slice_get derived k ≡ o → names_instance study (reason_citing study o) ≡ true
     back_names k None e = refl
     back_names k (Some c) e = reason_names c (all_get (is_present study) derived k c present e)
 
@@ -77,7 +77,7 @@ module _ (study : Question) where
     abbrev IsFrom : Cited → (ℕ → Bool) → Type 0
     IsFrom d t = (k : ℕ) × (t k ≡ true) × (slice_get derived k ≡ Some d)
 
-    back_from : (d : Cited) (k : ℕ) (o : Option Cited) → slice_get derived k ≡ o → cites study d (reason_in study o) ≡ true → slice_get derived k ≡ Some d
+    back_from : (d : Cited) (k : ℕ) (o : Option Cited) → slice_get derived k ≡ o → cites study d (reason_citing study o) ≡ true → slice_get derived k ≡ Some d
     back_from d k None e h = absurd (true≢false (sym h))
     back_from d k (Some c) e h = e ∙ ap (λ (x : Cited). Some x) (same_cited c d (all_get (is_present study) derived k c present e) h)
 

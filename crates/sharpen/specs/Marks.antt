@@ -5,8 +5,8 @@ use Rattle.sharp_verdicts.specs.declared.instances.Cited.{Cited}
 use Rattle.sharp_verdicts.specs.Instances.{has_instance}
 
 -- the instance that is the axiom at a place of a derived study
-abbrev pub instance_in : List Cited → ℕ → Cited
-instance_in derived k = get_or derived k (record { «axiom» = 0; number = 0 })
+abbrev pub derived_instance : List Cited → ℕ → Cited
+derived_instance derived k = get_or derived k (record { «axiom» = 0; number = 0 })
 
 -- of the marks of instances those of the instances of a list
 abbrev pub marks_kept : List Cited → List Cited → List Witness → List Witness

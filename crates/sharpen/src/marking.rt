@@ -2,7 +2,7 @@
 
 ghost use Rattle.std.specs.Prelude.{◌≡◌, length, map, All, IfOk, ◌<◌};
 ghost use Rattle.sharp_verdicts.specs.Instances.{has_instance};
-ghost use Rattle.sharpen.specs.Marks.{instance_in, marks_kept};
+ghost use Rattle.sharpen.specs.Marks.{derived_instance, marks_kept};
 
 use lists::{Items, NoMemory};
 use meaning::{Witness, Witnesses};
@@ -47,7 +47,8 @@ pub fn marks_of(
     requires core { All (λ k. k < length derived.now) core.now }
     requires count { length witnesses.now ≡ length core.now }
     ensures { IfOk result
-        (λ marks. marks ≡ marks_kept instances.now (map (instance_in derived.now) core.now) witnesses.now) }
+        (λ marks. marks ≡
+        marks_kept instances.now (map (derived_instance derived.now) core.now) witnesses.now) }
 {
     let mut marks = Items::new(alloc);
     for k in 0..core.len() {

@@ -11,7 +11,7 @@ ghost use Rattle.sharp_verdicts.specs.Instances.{is_present};
 ghost use Rattle.sharp_verdicts.specs.Sharpened.{IsSharpened};
 ghost use Rattle.sharp_verdicts.specs.Totals.{IsWithinTotal};
 ghost use Rattle.std.specs.List.{list_all};
-ghost use Rattle.instance_stories.specs.Codes.{AreRising};
+ghost use Rattle.instance_stories.specs.Codes.{AreRisingInstances};
 ghost use Rattle.instance_cores.specs.Cores.{IsReducedTo};
 
 use crate::marking::marks_of;
@@ -44,7 +44,7 @@ fn tell<K: OutcomeKind>(
     requires size { study.now.size ≡ K.size kind.now }
     requires derived { made.now ≡ derived_study study.now derived }
     requires present { IsTrue (list_all (is_present study.now) derived) }
-    requires rising { AreRising derived }
+    requires rising { AreRisingInstances derived }
     requires reduced { IsReducedTo made.now reduced }
     ensures { IfOk result (IsSharpened study.now) }
 {

@@ -3,7 +3,7 @@ use Rattle.std.proofs.Common.{subst, ◌≡◌, ℕ, ◌<◌, ◌≤◌, length,
 use Rattle.std.specs.Prelude.{All, IfSome, option_and_then}
 use Rattle.cnf.specs.Signed.{Signed}
 use Rattle.propagate.specs.declared.entry.Entry.{Entry}
-use Rattle.propagate.specs.Entries.{entry_of, IsForced}
+use Rattle.propagate.specs.Entries.{entry_of, IsForcedBy}
 use Rattle.propagate.specs.TrailState.{TrailState, IsTrail}
 use Rattle.propagate.proofs.Holding.{All-entry_of}
 
@@ -21,7 +21,7 @@ HasReasonWithin t e = (k : ℕ) → e.reason ≡ Some k → k < length t.clauses
 
 reasons_within : (t : TrailState) → IsTrail t → All (HasReasonWithin t) t.entries
 reasons_within t form p d lt k e =
-    (subst (λ (o : Option ℕ). IsForced t.clauses (take p t.entries) (get_or t.entries p d).literal o) e (form.follows p d lt).forced).0
+    (subst (λ (o : Option ℕ). IsForcedBy t.clauses (take p t.entries) (get_or t.entries p d).literal o) e (form.follows p d lt).forced).0
 
 reason_of : (t : TrailState) (v k : ℕ) (o : Option Entry) → IsTrail t → entry_of t.entries v ≡ o → Some k ≡ option_and_then (λ (e : Entry). e.reason) o → k < length t.clauses
 reason_of t v k None form e h = absurd (cc)

@@ -1,12 +1,12 @@
 -- Clauses that pass tests.
-use Rattle.std.proofs.Common.{subst, ◌≡◌, ◌∙◌, ℕ, ◌<◌, ◌≤◌, ◌&&◌, Bool, true, List, [], ◌∷◌, ◌++◌, length, get_or, sym, refl, leb-true, ◌||◌, false, Option, Some, None}
-use Rattle.std.specs.Prelude.{All, IfSome, nat_le}
+use Rattle.std.proofs.Common.{subst, ◌≡◌, ℕ, ◌<◌, ◌≤◌, ◌&&◌, Bool, true, List, [], ◌∷◌, length, get_or, sym, refl, leb-true, Option, Some, None}
+use Rattle.std.specs.Prelude.{IfSome, nat_le}
 use Rattle.std.specs.List.{list_all}
-use Rattle.std.proofs.lemmas.Bool.{and_from, and_parts, le-leb}
-use Rattle.std.proofs.lemmas.List.Folds.{list_all-append, list_any_at}
-use Rattle.std.proofs.lemmas.List.Sums.{AllPass-from_list_all}
+use Rattle.std.proofs.lemmas.Bool.{and_from, and_parts, le-leb, or_right}
+use Rattle.std.proofs.lemmas.List.Folds.{list_any_at}
+use Rattle.lists.proofs.TestLaws.{all_read}
 use Rattle.cnf.specs.Signed.{Signed}
-use Rattle.cnf.specs.Sat.{Clause, contains, has_lit}
+use Rattle.cnf.specs.Sat.{Clause, contains_clause, has_lit}
 use Rattle.cnf.specs.Trimmed.{is_empty_clause}
 use Rattle.cnf.proofs.LitLaws.{all_members}
 use Rattle.cnf.specs.Fresh.{AreOver, added_by, is_over}
@@ -15,21 +15,9 @@ use Rattle.propagate.specs.Values.{StaysWithin}
 use Rattle.propagate.specs.TrailState.{TrailState}
 use Rattle.simpler_proofs.specs.Made.{EachPasses, IsMade, IsPassing, is_part, is_part_of}
 
-or_true : (a : Bool) {b : Bool} → b ≡ true → (a || b) ≡ true
-or_true true e = refl
-or_true false e = e
-
--- one more item
-pub all_more : {X : Type 0} (test : X → Bool) (xs : List X) (x : X) → list_all test xs ≡ true → test x ≡ true → list_all test (xs ++ x ∷ []) ≡ true
-all_more test xs x h e = list_all-append test xs (x ∷ []) ∙ and_from _ _ h (and_from _ _ e refl)
-
--- one of the items
-pub all_at : {X : Type 0} (test : X → Bool) (xs : List X) (i : ℕ) (d : X) → list_all test xs ≡ true → i < length xs → test (get_or xs i d) ≡ true
-all_at test xs i d h lt = AllPass-from_list_all test xs h i d lt
-
 -- the variables of a clause that is over so many
 pub stays_within : (n : ℕ) (clause : Clause) → is_over n clause ≡ true → StaysWithin n clause
-stays_within n clause h i d lt = leb-true _ _ (and_parts _ _ (all_at (λ (l : Signed). nat_le 1 l.variable && nat_le l.variable n) clause i d h lt)).1
+stays_within n clause h i d lt = leb-true _ _ (and_parts _ _ (all_read (λ (l : Signed). nat_le 1 l.variable && nat_le l.variable n) clause i d lt h)).1
 
 -- a clause of one literal
 pub over_one : (n : ℕ) (l : Signed) → 1 ≤ l.variable → l.variable ≤ n → is_over n (l ∷ []) ≡ true
@@ -48,15 +36,15 @@ passing_settled test input old new marks before lines more empty p made seen var
 
 -- a test of each clause is one of the clause at a place
 pub each_at : (test : Clause → Bool) (lines : List Line) (i : ℕ) (d : Line) → EachPasses test lines → i < length lines → test (added_by (get_or lines i d).step) ≡ true
-each_at test lines i d h lt = all_at (λ (l : Line). test (added_by l.step)) lines i d h lt
+each_at test lines i d h lt = all_read (λ (l : Line). test (added_by l.step)) lines i d lt h
 
 -- a clause of which each literal is one of a given line's, and which has no more of them
 part_of : (given : List Line) (i : ℕ) (d : Line) (part : Clause) → i < length given → length part ≤ length (added_by (get_or given i d).step) →
     ((pass : Signed → Bool) → list_all pass (added_by (get_or given i d).step) ≡ true → list_all pass part ≡ true) → is_part_of given part ≡ true
 part_of given i d part lt few h =
     let whole : Clause = added_by (get_or given i d).step in
-    let contained : contains whole part ≡ true = h (has_lit whole) (all_members (has_lit whole) whole (λ k e. e)) in
-    or_true (is_empty_clause part) (list_any_at (λ (g : Line). is_part (added_by g.step) part) given i d lt (and_from _ _ contained (le-leb (length part) (length whole) few)))
+    let contained : contains_clause whole part ≡ true = h (has_lit whole) (all_members (has_lit whole) whole (λ k e. e)) in
+    or_right (is_empty_clause part) _ (list_any_at (λ (g : Line). is_part (added_by g.step) part) given i d lt (and_from _ _ contained (le-leb (length part) (length whole) few)))
 
 -- what is left of the clause of a given line is added
 pub passing_shortened : (given : List Line) (input : List Clause) (old new : TrailState) (marks before : List Bool) (lines more : List Line) (i : ℕ) (d : Line) → i < length given → AreOver old.variables given →
@@ -75,7 +63,3 @@ passing_shortened given input old new marks before lines more i d lt over p made
 pub over_made : (o : Option (List Line)) (n : ℕ) (lines : List Line) → AreOver n lines → IfSome o (λ new. (t : Clause → Bool) → EachPasses t lines → EachPasses t new) → IfSome o (AreOver n)
 over_made None n lines h p = tt
 over_made (Some new) n lines h p = p (is_over n) h
-
--- the variables of clauses that are over so many
-pub stay_within : (n : ℕ) (clauses : List Clause) → list_all (is_over n) clauses ≡ true → All (λ (clause : Clause). All (λ (l : Signed). l.variable ≤ n) clause) clauses
-stay_within n clauses h i d lt = stays_within n (get_or clauses i d) (all_at (is_over n) clauses i d h lt)

@@ -1,7 +1,7 @@
 -- Derivations that are made in place of a given one.
 use Rattle.std.specs.Prelude.{◌≡◌, ℕ, ◌+◌, ◌-◌, ◌<◌, ◌≤◌, ◌^◌, nat_le, ◌&&◌, ◌||◌, Bool, List, length, get_or, IsPermutation, IsTrue, ◌⊎◌}
 use Rattle.std.specs.List.{list_all, list_any}
-use Rattle.cnf.specs.Sat.{Clause, contains}
+use Rattle.cnf.specs.Sat.{Clause, contains_clause}
 use Rattle.cnf.specs.Derived.{IsAccepted}
 use Rattle.cnf.specs.Fresh.{added_by, AreOver}
 use Rattle.cnf.specs.Trimmed.{is_empty_clause, is_trimmed}
@@ -21,7 +21,7 @@ is_single clause = nat_le (length clause) 1
 
 -- a clause has no literal but those of another, and no more of them
 abbrev pub is_part : Clause → Clause → Bool
-is_part whole clause = contains whole clause && nat_le (length clause) (length whole)
+is_part whole clause = contains_clause whole clause && nat_le (length clause) (length whole)
 
 -- a clause is empty, or part of one that the given lines add
 abbrev pub is_part_of : List Line → Clause → Bool

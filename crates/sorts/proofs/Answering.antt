@@ -4,7 +4,7 @@ use Rattle.std.specs.Prelude.{◌≢◌, Result, Ok, Err, IfOk, MatchResult}
 use Rattle.vocab.specs.declared.sentences.Formula.{Formula}
 use Rattle.vocab.specs.Formula.{quantifier_depth}
 use Rattle.vocab.specs.Limits as limits
-use Rattle.vocab.specs.NamedDepth.{depth, quantifiers}
+use Rattle.vocab.specs.NamedDepth.{named_depth, quantifiers}
 use Rattle.vocab.specs.NamedTree.{NamedTree}
 use Rattle.vocab.specs.Size.{Extent}
 use Rattle.vocab.specs.Sorted.{is_sorted_if}
@@ -52,7 +52,7 @@ pub whole_quantified : (size : Extent) (f : NamedTree) (r : Result Formula SortF
 whole_quantified size f (Ok t) few h = let e = ap quantifier_depth h.1 ∙ formula_quantified size [] f in omega (arith, e, few)
 whole_quantified size f (Err e) few h = tt
 
-pub whole_shallow : (size : Extent) (f : NamedTree) (r : Result Formula SortFault) → depth f ≤ 64 → IsWholeVisit size f r → IfOk r (λ t. limits.depth (tree_of t) ≤ 64)
+pub whole_shallow : (size : Extent) (f : NamedTree) (r : Result Formula SortFault) → named_depth f ≤ 64 → IsWholeVisit size f r → IfOk r (λ t. limits.depth (tree_of t) ≤ 64)
 whole_shallow size f (Ok t) few h = let e = ap limits.depth h.1 ∙ formula_as_deep size [] f h.0 in omega (arith, e, few)
 whole_shallow size f (Err e) few h = tt
 

@@ -1,20 +1,20 @@
 -- The arguments of a symbol, one after the other.
-use Rattle.std.proofs.Common.{◌≡◌, refl, sym, ◌∙◌, ap, ap₂, ℕ, zero, suc, ◌+◌, ◌≤◌, List, [], ◌∷◌, ◌++◌, length, map, drop, arith, Some, rules}
+use Rattle.std.proofs.Common.{◌≡◌, refl, sym, ◌∙◌, ap, ap₂, ℕ, zero, suc, ◌+◌, List, [], ◌∷◌, ◌++◌, length, map, drop, arith, Some}
 use Rattle.std.specs.Prelude.{◌≢◌, slice_get}
 use Rattle.vocab.specs.declared.kinds.Sort.{Sort}
-use Rattle.vocab.specs.declared.named.NamedTerm.{NamedTerm, the_lemmas}
+use Rattle.vocab.specs.declared.named.NamedTerm.{NamedTerm}
 use Rattle.vocab.specs.declared.named.Terms.{Terms}
-use Rattle.vocab.specs.NamedDepth.{term_depth, terms_depth}
 use Rattle.vocab.specs.NamedTree as tree
-use Rattle.vocab.specs.NamedTree.{NamedTermTree, NamedTermTrees}
+use Rattle.vocab.specs.NamedTree.{NamedTermTrees}
 use Rattle.vocab.specs.NamedView.{named_term_tree, named_terms_tree, arguments_of}
 use Rattle.vocab.specs.Size.{Extent}
 use Rattle.vocab.specs.Sorted.{is_option_sort}
 use Rattle.vocab.specs.Terms.{terms_of}
 use Rattle.vocab.specs.Tree.{TermTree}
+use Rattle.vocab.proofs.TermLemmas.{named_terms_tree-items}
 use Rattle.sorts.specs.declared.faults.SortFault.{SortFault}
 use Rattle.sorts.specs.declared.faults.SortFault.TheVariants as fault
-use Rattle.sorts.specs.Faults.{unless, count_of, sort_of, term_faults, argument_faults}
+use Rattle.sorts.specs.Faults.{fault_unless, argument_count, sort_of, term_faults, argument_faults}
 use Rattle.sorts.specs.Resolved.{resolved_term, resolved_terms}
 use Rattle.sorts.specs.Scope.{Scope}
 use Rattle.sorts.specs.Visits.{IsFirst}
@@ -43,9 +43,6 @@ none_of_both a b = ap₂ (λ xs ys. xs ++ ys) a b
 
 -- ---- the list of arguments
 
-pub named_terms_tree-items : (ts : Terms) → named_terms_tree ts ≡ arguments_of (map named_term_tree (terms_of ts))
-named_terms_tree-items ts = search (rules, the_lemmas)
-
 -- the arguments from a place on
 abbrev pub from : List NamedTerm → ℕ → NamedTermTrees
 from xs i = arguments_of (map named_term_tree (drop i xs))
@@ -70,28 +67,19 @@ drop_all (x ∷ xs) (suc n) h = drop_all xs n (omega (arith, h))
 pub from_end : (xs : List NamedTerm) (n : ℕ) → length xs ≡ n → from xs n ≡ tree.NoArguments
 from_end xs n h = ap (λ l. arguments_of (map named_term_tree l)) (drop_all xs n h)
 
-count_items : (xs : List NamedTerm) → count_of (arguments_of (map named_term_tree xs)) ≡ length xs
+count_items : (xs : List NamedTerm) → argument_count (arguments_of (map named_term_tree xs)) ≡ length xs
 count_items [] = refl
 count_items (x ∷ xs) = let inner = count_items xs in omega (arith, inner)
 
-pub count_of_terms : (ts : Terms) → count_of (named_terms_tree ts) ≡ length (terms_of ts)
-count_of_terms ts = ap count_of (named_terms_tree-items ts) ∙ count_items (terms_of ts)
-
-member_depth : (xs : List NamedTerm) (i : ℕ) (x : NamedTerm) → slice_get xs i ≡ Some x → term_depth (named_term_tree x) ≤ terms_depth (arguments_of (map named_term_tree xs))
-member_depth [] i x h = absurd cc
-member_depth (y ∷ xs) zero x h = let e : y ≡ x = cc in let d = ap (λ t. term_depth (named_term_tree t)) e in omega arith
-member_depth (y ∷ xs) (suc i) x h = let d = member_depth xs i x h in omega arith
-
--- an argument is no deeper than all
-pub get_depth : (ts : Terms) (i : ℕ) (x : NamedTerm) → slice_get (terms_of ts) i ≡ Some x → term_depth (named_term_tree x) ≤ terms_depth (named_terms_tree ts)
-get_depth ts i x h = rw (named_terms_tree-items ts) (member_depth (terms_of ts) i x h)
+pub count_of_terms : (ts : Terms) → argument_count (named_terms_tree ts) ≡ length (terms_of ts)
+count_of_terms ts = ap argument_count (named_terms_tree-items ts) ∙ count_items (terms_of ts)
 
 -- ---- what is wrong with them
 
 module _ (size : Extent) (scope : Scope) (symbol : List ℕ) where
   -- what is wrong with one argument, at a place
   abbrev pub one_argument : ℕ → Sort → NamedTerm → List SortFault
-  one_argument place sort x = term_faults size scope (named_term_tree x) ++ unless (is_option_sort sort (sort_of scope (named_term_tree x))) (fault.Sort symbol place)
+  one_argument place sort x = term_faults size scope (named_term_tree x) ++ fault_unless (is_option_sort sort (sort_of scope (named_term_tree x))) (fault.Sort symbol place)
 
   -- what is wrong with the arguments from one on
   abbrev pub later_arguments : List NamedTerm → ℕ → ℕ → List Sort → List SortFault

@@ -1,5 +1,5 @@
 -- What is wrong with a symbol at its arguments, once its name is known.
-use Rattle.std.proofs.Common.{◌≡◌, refl, sym, ◌∙◌, ap, ap₂, ℕ, true, false, List, [], ◌∷◌, ◌++◌, length, cond, Option, Some, eqb-true, arith}
+use Rattle.std.proofs.Common.{◌≡◌, refl, sym, ◌∙◌, ap, ap₂, ℕ, true, false, List, [], ◌∷◌, ◌++◌, length, cond, Option, Some, eqb-true, eq-eqb}
 use Rattle.std.specs.Prelude.{◌≢◌, ◌==◌, Result}
 use Rattle.vocab.specs.declared.kinds.Kind.{Kind}
 use Rattle.vocab.specs.declared.kinds.Sort.{Sort}
@@ -12,7 +12,7 @@ use Rattle.sorts.specs.declared.faults.SortFault.TheVariants as fault
 use Rattle.sorts.specs.declared.symbols.Function.{Function}
 use Rattle.sorts.specs.declared.symbols.Function.TheVariants.{With, SwapVoters, SwapAlts, Swap}
 use Rattle.sorts.specs.declared.symbols.Predicate.{Predicate}
-use Rattle.sorts.specs.Faults.{unless, function_faults, predicate_faults, argument_faults, count_of}
+use Rattle.sorts.specs.Faults.{fault_unless, function_faults, predicate_faults, argument_faults, argument_count}
 use Rattle.sorts.specs.Resolved.{applied, function_tree, predicate_tree, resolved_terms}
 use Rattle.sorts.specs.Scope.{Scope}
 use Rattle.sorts.specs.Symbols.{function_sorts, predicate_sorts, is_said_of}
@@ -20,9 +20,6 @@ use Rattle.sorts.specs.Visits.{IsFirst, IsVisit}
 use Rattle.sorts.proofs.Arguments.{Stops}
 
 -- ---- tests of numbers
-
-pub same_number : (n k : ℕ) → n ≡ k → (n == k) ≡ true
-same_number n k e = grind (arith, e)
 
 pub other_number : (n k : ℕ) → n ≢ k → (n == k) ≡ false
 other_number n k ne = elim (n == k) as (λ b. (n == k) ≡ b → b ≡ false) [
@@ -43,7 +40,7 @@ module _ (name : List ℕ) (o : Option Function) (f : Function) (known : o ≡ S
   pub called : count ≡ 3 → function_faults name o count in_arguments ≡ in_arguments (function_sorts f)
   called three =
       ap (λ q. function_faults name q count in_arguments) known
-      ∙ ap (λ b. cond b (in_arguments (function_sorts f)) (fault.Arity name ∷ [])) (same_number count (length (function_sorts f)) (three ∙ sym (three_sorts f)))
+      ∙ ap (λ b. cond b (in_arguments (function_sorts f)) (fault.Arity name ∷ [])) (eq-eqb count (length (function_sorts f)) (three ∙ sym (three_sorts f)))
 
   -- a function with another number of arguments
   pub miscalled : count ≢ 3 → function_faults name o count in_arguments ≡ fault.Arity name ∷ []
@@ -70,17 +67,17 @@ applied_tree o f ts x y z known are = ap₂ function_tree known are
 
 module _ (kind : Kind) (name : List ℕ) (o : Option Predicate) (p : Predicate) (known : o ≡ Some p) (count : ℕ) (in_arguments : List Sort → List SortFault) where
   said_as : predicate_faults kind name o count in_arguments
-      ≡ cond (count == length (predicate_sorts p)) (unless (is_said_of kind p) (fault.Kind name) ++ in_arguments (predicate_sorts p)) (fault.Arity name ∷ [])
+      ≡ cond (count == length (predicate_sorts p)) (fault_unless (is_said_of kind p) (fault.Kind name) ++ in_arguments (predicate_sorts p)) (fault.Arity name ∷ [])
   said_as = ap (λ q. predicate_faults kind name q count in_arguments) known
 
   -- a predicate with another number of arguments
   pub missaid : count ≢ length (predicate_sorts p) → predicate_faults kind name o count in_arguments ≡ fault.Arity name ∷ []
   missaid other =
-      said_as ∙ ap (λ b. cond b (unless (is_said_of kind p) (fault.Kind name) ++ in_arguments (predicate_sorts p)) (fault.Arity name ∷ [])) (other_number count (length (predicate_sorts p)) other)
+      said_as ∙ ap (λ b. cond b (fault_unless (is_said_of kind p) (fault.Kind name) ++ in_arguments (predicate_sorts p)) (fault.Arity name ∷ [])) (other_number count (length (predicate_sorts p)) other)
 
-  with_right_count : count ≡ length (predicate_sorts p) → predicate_faults kind name o count in_arguments ≡ unless (is_said_of kind p) (fault.Kind name) ++ in_arguments (predicate_sorts p)
+  with_right_count : count ≡ length (predicate_sorts p) → predicate_faults kind name o count in_arguments ≡ fault_unless (is_said_of kind p) (fault.Kind name) ++ in_arguments (predicate_sorts p)
   with_right_count right =
-      said_as ∙ ap (λ b. cond b (unless (is_said_of kind p) (fault.Kind name) ++ in_arguments (predicate_sorts p)) (fault.Arity name ∷ [])) (same_number count (length (predicate_sorts p)) right)
+      said_as ∙ ap (λ b. cond b (fault_unless (is_said_of kind p) (fault.Kind name) ++ in_arguments (predicate_sorts p)) (fault.Arity name ∷ [])) (eq-eqb count (length (predicate_sorts p)) right)
 
   -- a predicate that may not be said of rules of the kind
   pub wrong_kind : (symbol : List ℕ) → symbol ≡ name → count ≡ length (predicate_sorts p) → is_said_of kind p ≡ false → IsFirst (fault.Kind symbol) (predicate_faults kind name o count in_arguments)
@@ -89,15 +86,15 @@ module _ (kind : Kind) (name : List ℕ) (o : Option Predicate) (p : Predicate) 
 
   -- a predicate that may
   pub said : count ≡ length (predicate_sorts p) → is_said_of kind p ≡ true → predicate_faults kind name o count in_arguments ≡ in_arguments (predicate_sorts p)
-  said right may = with_right_count right ∙ ap (λ b. unless b (fault.Kind name) ++ in_arguments (predicate_sorts p)) may
+  said right may = with_right_count right ∙ ap (λ b. fault_unless b (fault.Kind name) ++ in_arguments (predicate_sorts p)) may
 
 -- what a visit of the arguments of a known predicate answers is what one of the predicate answers
 pub said_visit : (size : Extent) (scope : Scope) (name symbol : List ℕ) (ts : NamedTermTrees) (o : Option Predicate) (p : Predicate)
-    → o ≡ Some p → symbol ≡ name → count_of ts ≡ length (predicate_sorts p) → is_said_of size.kind p ≡ true
+    → o ≡ Some p → symbol ≡ name → argument_count ts ≡ length (predicate_sorts p) → is_said_of size.kind p ≡ true
     → (r : Result Atom SortFault)
     → IsVisit (argument_faults size scope symbol 1 (predicate_sorts p) ts) (λ a. atom_tree a ≡ predicate_tree (Some p) (resolved_terms size scope ts)) r
-    → IsVisit (predicate_faults size.kind name o (count_of ts) (λ sorts. argument_faults size scope name 1 sorts ts)) (λ a. atom_tree a ≡ predicate_tree o (resolved_terms size scope ts)) r
+    → IsVisit (predicate_faults size.kind name o (argument_count ts) (λ sorts. argument_faults size scope name 1 sorts ts)) (λ a. atom_tree a ≡ predicate_tree o (resolved_terms size scope ts)) r
 said_visit size scope name symbol ts o p known same right may r visit =
-    let faults = said size.kind name o p known (count_of ts) (λ sorts. argument_faults size scope name 1 sorts ts) right may
+    let faults = said size.kind name o p known (argument_count ts) (λ sorts. argument_faults size scope name 1 sorts ts) right may
     ∙ ap (λ s. argument_faults size scope s 1 (predicate_sorts p) ts) (sym same) in
     rw (faults, known) visit

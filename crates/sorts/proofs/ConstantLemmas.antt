@@ -3,6 +3,7 @@ use Rattle.std.proofs.Common.{◌≡◌, refl, sym, ◌∙◌, ap, ℕ, zero, su
 use Rattle.std.specs.Prelude.{◌≢◌, find, IfSome, IfNone}
 use Rattle.std.specs.Cmp.Lexicographic.{bytes_decides}
 use Rattle.std.specs.Str.{bytes_eq}
+use Rattle.lists.proofs.TextLaws.{differ}
 use Rattle.vocab.specs.Size.{Extent, ballot_count}
 use Rattle.meaning.specs.Space.{up_from}
 use Rattle.meaning.specs.Texts.{ballot_text}
@@ -31,12 +32,6 @@ find_none t a zero fails = refl
 find_none t a (suc n) fails =
     ap (λ r. cond r (Some a) (find t (up_from (suc a) n))) (fails a (omega arith)) ∙ find_none t (suc a) n (λ x lt. fails x (omega (arith, lt)))
 
-differs : (xs ys : List ℕ) → xs ≢ ys → bytes_eq xs ys ≡ false
-differs xs ys ne = elim (bytes_eq xs ys) as (λ r. bytes_eq xs ys ≡ r → r ≡ false) [
-  | true ↦ λ e. absurd (ne ((bytes_decides xs ys).0 e))
-  | false ↦ λ e. refl
-] refl
-
 -- a ballot that is read is the one of the letters, and where none is read there is none
 pub read_is_value : (size : Extent) (letters : List ℕ) (r : Option ℕ) → HaveTextsOfTheirOwn size
     → IfSome r (λ b. (b < ballot_count size) × (letters ≡ ballot_text size b))
@@ -49,4 +44,4 @@ read_is_value size letters (Some b) own found none =
     sym (find_only t 0 (ballot_count size) b (omega arith) lt ((bytes_decides letters (ballot_text size b)).1 found.1)
     (λ x below_it e. own.ballots x b (omega (arith, below_it)) found.0 (sym ((bytes_decides letters (ballot_text size x)).0 e) ∙ found.1)))
 read_is_value size letters None own found none =
-    sym (find_none (λ x. bytes_eq letters (ballot_text size x)) 0 (ballot_count size) (λ x lt. differs letters (ballot_text size x) (none x (omega (arith, lt)))))
+    sym (find_none (λ x. bytes_eq letters (ballot_text size x)) 0 (ballot_count size) (λ x lt. differ letters (ballot_text size x) (none x (omega (arith, lt)))))

@@ -3,7 +3,7 @@ use Rattle.std.proofs.Common.{◌≡◌, refl, ◌∙◌, ap, ap₂, ℕ, suc, �
 use Rattle.vocab.specs.declared.kinds.Sort.{Sort}
 use Rattle.vocab.specs.Formula.{prefix_of, quantifier_depth}
 use Rattle.vocab.specs.Limits as limits
-use Rattle.vocab.specs.NamedDepth.{term_depth, terms_depth, depth, quantifiers}
+use Rattle.vocab.specs.NamedDepth.{term_depth, terms_depth, named_depth, quantifiers}
 use Rattle.vocab.specs.NamedTree as tree
 use Rattle.vocab.specs.NamedTree.{NamedTermTree, NamedTermTrees, NamedTree}
 use Rattle.vocab.specs.Size.{Extent}
@@ -12,7 +12,7 @@ use Rattle.sorts.specs.declared.symbols.Function.{Function}
 use Rattle.sorts.specs.declared.symbols.Function.TheVariants.{With, SwapVoters, SwapAlts, Swap}
 use Rattle.sorts.specs.declared.symbols.Predicate.{Predicate}
 use Rattle.sorts.specs.declared.symbols.Predicate.TheVariants.{Prefers, Better, Casts, Majority, Wins, Ranks}
-use Rattle.sorts.specs.Faults.{unless, count_of, sort_of, are_same, term_faults, argument_faults, faults}
+use Rattle.sorts.specs.Faults.{fault_unless, argument_count, sort_of, are_same, term_faults, argument_faults, faults}
 use Rattle.sorts.specs.Laws.{leading_sorts}
 use Rattle.sorts.specs.Resolved.{function_tree, predicate_tree, resolved_term, resolved_terms, resolved}
 use Rattle.sorts.specs.Scope.{Scope, outermost_first}
@@ -45,7 +45,7 @@ mutual
   term_as_deep size scope (tree.Alt x) none = refl
   term_as_deep size scope (tree.Ballot letters) none = refl
   term_as_deep size scope (tree.Call name ts) none =
-      let right = function_right name (function_of name) (count_of ts) (λ sorts. argument_faults size scope name 1 sorts ts) none in
+      let right = function_right name (function_of name) (argument_count ts) (λ sorts. argument_faults size scope name 1 sorts ts) none in
       let own = are_right size scope name 1 (function_sorts right.0) ts right.2 right.3 in
       let are = terms_sorted size scope (function_sorts right.0) ts own in
       ap (λ o. limits.term_depth (function_tree o (resolved_terms size scope ts))) right.1
@@ -63,15 +63,15 @@ both_as_deep a b c d h k = omega (arith, h, k)
 one_as_deep : (a c : ℕ) → a ≡ c → a + 1 ≡ suc c
 one_as_deep a c h = omega (arith, h)
 
-pub formula_as_deep : (size : Extent) (scope : Scope) (f : NamedTree) → faults size scope f ≡ [] → limits.depth (resolved size scope f) ≡ depth f
+pub formula_as_deep : (size : Extent) (scope : Scope) (f : NamedTree) → faults size scope f ≡ [] → limits.depth (resolved size scope f) ≡ named_depth f
 formula_as_deep size scope (tree.Pred name ts) none =
-    let right = predicate_right size.kind name (predicate_of name) (count_of ts) (λ sorts. argument_faults size scope name 1 sorts ts) none in
+    let right = predicate_right size.kind name (predicate_of name) (argument_count ts) (λ sorts. argument_faults size scope name 1 sorts ts) none in
     let own = are_right size scope name 1 (predicate_sorts right.0) ts right.2 right.4 in
     let are = terms_sorted size scope (predicate_sorts right.0) ts own in
     ap (λ o. limits.atom_depth (predicate_tree o (resolved_terms size scope ts))) right.1
     ∙ predicate_depth size (outermost_first scope) right.0 (resolved_terms size scope ts) are ∙ ap suc (terms_as_deep size scope (predicate_sorts right.0) ts own)
 formula_as_deep size scope (tree.Equal s t) none =
-    let terms = none_left _ (unless (are_same (sort_of scope s) (sort_of scope t)) _) none in
+    let terms = none_left _ (fault_unless (are_same (sort_of scope s) (sort_of scope t)) _) none in
     both_as_deep _ _ _ _ (term_as_deep size scope s (none_left _ (term_faults size scope t) terms)) (term_as_deep size scope t (none_right (term_faults size scope s) _ terms))
 formula_as_deep size scope (tree.Not f) none = one_as_deep _ _ (formula_as_deep size scope f none)
 formula_as_deep size scope (tree.Both f g) none = both_as_deep _ _ _ _ (formula_as_deep size scope f (none_left _ (faults size scope g) none)) (formula_as_deep size scope g (none_right (faults size scope f) _ none))

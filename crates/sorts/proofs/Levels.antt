@@ -3,6 +3,7 @@ use Rattle.std.proofs.Common.{◌≡◌, refl, sym, ◌∙◌, ap, ap₂, ℕ, z
 use Rattle.std.specs.Prelude.{slice_get, slice_index}
 use Rattle.std.specs.Map.{lookup}
 use Rattle.std.specs.Str.{bytes_eq}
+use Rattle.lists.proofs.PlaceLaws.{get_index}
 use Rattle.vocab.specs.declared.kinds.Sort.{Sort}
 use Rattle.sorts.specs.Scope.{Scope, sort_in, level_in, outermost_first, names_of}
 
@@ -62,11 +63,6 @@ bound_too {A} {B} name (p ∷ xs) (q ∷ ys) a same h =
       | false ↦ λ e. bound_too name xs ys a rest (sym (ap (λ t. cond t (Some p.1) (lookup (bytes_eq name) xs)) (sym (ap (bytes_eq name) head) ∙ e)) ∙ h)
     ] refl
 
-index_from_get : (xs : List ℕ) (n v : ℕ) → slice_get xs n ≡ Some v → slice_index xs n ≡ v
-index_from_get [] n v h = absurd cc
-index_from_get (x ∷ xs) zero v h = cc
-index_from_get (x ∷ xs) (suc n) v h = index_from_get xs n v h
-
 -- the value of a bound name stands at its level
 pub value_at_level : (name : List ℕ) (scope : Scope) (s : Sort) (values : List (List ℕ × ℕ)) → names_of values ≡ names_of scope → sort_in name scope ≡ Some s
     → (v : ℕ) × (lookup (bytes_eq name) values ≡ Some v) × (slice_index (outermost_first values) (level_in name scope) ≡ v)
@@ -74,4 +70,4 @@ unfolding sort_in
 value_at_level name scope s values same h =
     let found = bound_too name scope values s same h in
     let level : level_in name scope ≡ level_by_names name (names_of values) = level_is name scope ∙ ap (level_by_names name) (sym same) in
-    (found.0, found.1, ap (slice_index (outermost_first values)) level ∙ index_from_get (outermost_first values) (level_by_names name (names_of values)) found.0 (at_level name values found.0 found.1))
+    (found.0, found.1, ap (slice_index (outermost_first values)) level ∙ get_index (outermost_first values) (level_by_names name (names_of values)) found.0 (at_level name values found.0 found.1))

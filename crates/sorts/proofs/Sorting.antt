@@ -1,10 +1,10 @@
 -- A sentence without faults resolves to a well-sorted tree of its shape.
 use Rattle.std.proofs.Common.{◌≡◌, refl, sym, ◌∙◌, ap, ℕ, zero, suc, ◌+◌, ◌-◌, ◌<◌, Bool, true, false, List, [], ◌∷◌, ◌++◌, length, cond, arith, Option, Some, None, lt-ltb, ltb-true, leb-true, eqb-true}
-use Rattle.std.specs.Prelude.{◌==◌, ◌&&◌, ◌||◌, option_map, nat_lt, nat_le, find}
+use Rattle.std.specs.Prelude.{◌==◌, ◌&&◌, option_map, nat_lt, nat_le, find}
 use Rattle.std.specs.List.{list_any}
 use Rattle.std.specs.Option.{unwrap_or}
 use Rattle.std.specs.Str.{bytes_eq}
-use Rattle.std.proofs.lemmas.Bool.{and_parts, and_from}
+use Rattle.std.proofs.lemmas.Bool.{and_parts, and_from, or_right, or_left}
 use Rattle.vocab.specs.declared.kinds.Kind.{Kind}
 use Rattle.vocab.specs.declared.kinds.Sort.{Sort}
 use Rattle.vocab.specs.declared.kinds.Sort.TheVariants.{Voter, Alt, Ballot, Profile}
@@ -13,7 +13,8 @@ use Rattle.vocab.specs.NamedTree.{NamedTermTree, NamedTermTrees, NamedTree}
 use Rattle.vocab.specs.Size.{Extent, sort_count, ballot_count}
 use Rattle.vocab.specs.Sorted.{same_sort, all_sorts, is_option_sort, is_of_sort_if, is_atom_sorted_if, is_sorted_if}
 use Rattle.vocab.specs.Tree as plain
-use Rattle.vocab.specs.Tree.{TermTree, AtomTree, Tree}
+use Rattle.vocab.specs.Tree.{TermTree}
+use Rattle.vocab.proofs.SortLaws.{same_sort_is}
 use Rattle.meaning.specs.Space.{up_from}
 use Rattle.meaning.specs.Texts.{ballot_text}
 use Rattle.sorts.specs.declared.faults.SortFault.{SortFault}
@@ -22,7 +23,7 @@ use Rattle.sorts.specs.declared.symbols.Function.TheVariants.{With, SwapVoters, 
 use Rattle.sorts.specs.declared.symbols.Predicate.{Predicate}
 use Rattle.sorts.specs.declared.symbols.Predicate.TheVariants.{Prefers, Better, Casts, Majority, Wins, Ranks}
 use Rattle.sorts.specs.Constants.{voter_value, alternative_value, ballot_value}
-use Rattle.sorts.specs.Faults.{unless, where_none, count_of, sort_of, are_same, function_faults, predicate_faults, term_faults, argument_faults, faults}
+use Rattle.sorts.specs.Faults.{fault_unless, where_none, argument_count, sort_of, are_same, function_faults, predicate_faults, term_faults, argument_faults, faults}
 use Rattle.sorts.specs.Resolved.{function_tree, predicate_tree, resolved_term, resolved_terms, resolved}
 use Rattle.sorts.specs.Scope.{Scope, sort_in, outermost_first}
 use Rattle.sorts.proofs.Levels.{sort_at_level}
@@ -40,7 +41,7 @@ none_right [] ys h = h
 none_right (x ∷ xs) ys h = absurd cc
 
 -- a test that gives no fault holds
-pub holds_unless : (b : Bool) (e : SortFault) → unless b e ≡ [] → b ≡ true
+pub holds_unless : (b : Bool) (e : SortFault) → fault_unless b e ≡ [] → b ≡ true
 holds_unless true e h = refl
 holds_unless false e h = absurd cc
 
@@ -67,7 +68,7 @@ pub predicate_right : (kind : Kind) (name : List ℕ) (o : Option Predicate) (co
 predicate_right kind name None count K h = absurd cc
 predicate_right kind name (Some p) count K h =
     elim (count == length (predicate_sorts p)) as (λ b. (count == length (predicate_sorts p)) ≡ b
-    → cond b (unless (is_said_of kind p) (Rattle.sorts.specs.declared.faults.SortFault.TheVariants.Kind name) ++ K (predicate_sorts p)) (Rattle.sorts.specs.declared.faults.SortFault.TheVariants.Arity name ∷ []) ≡ []
+    → cond b (fault_unless (is_said_of kind p) (Rattle.sorts.specs.declared.faults.SortFault.TheVariants.Kind name) ++ K (predicate_sorts p)) (Rattle.sorts.specs.declared.faults.SortFault.TheVariants.Arity name ∷ []) ≡ []
     → (q : Predicate) × (Some p ≡ Some q) × (count ≡ length (predicate_sorts q)) × (is_said_of kind q ≡ true) × (K (predicate_sorts q) ≡ [])) [
       | true ↦ λ e k. (p, refl, eqb-true count (length (predicate_sorts p)) e, holds_unless (is_said_of kind p) _ (none_left _ _ k), none_right _ _ k)
       | false ↦ λ e k. absurd cc
@@ -82,7 +83,7 @@ AreRight size scope [] (tree.Argument t ts) = ⊥
 AreRight size scope (s ∷ sorts) tree.NoArguments = ⊥
 AreRight size scope (s ∷ sorts) (tree.Argument t ts) = (term_faults size scope t ≡ []) × (is_option_sort s (sort_of scope t) ≡ true) × AreRight size scope sorts ts
 
-pub are_right : (size : Extent) (scope : Scope) (symbol : List ℕ) (place : ℕ) (sorts : List Sort) (ts : NamedTermTrees) → count_of ts ≡ length sorts
+pub are_right : (size : Extent) (scope : Scope) (symbol : List ℕ) (place : ℕ) (sorts : List Sort) (ts : NamedTermTrees) → argument_count ts ≡ length sorts
     → argument_faults size scope symbol place sorts ts ≡ [] → AreRight size scope sorts ts
 are_right size scope symbol place [] tree.NoArguments n h = tt
 are_right size scope symbol place [] (tree.Argument t ts) n h = absurd (omega (arith, n))
@@ -134,29 +135,11 @@ AreOfSorts size around [] (t ∷ ts) = ⊥
 AreOfSorts size around (s ∷ sorts) [] = ⊥
 AreOfSorts size around (s ∷ sorts) (t ∷ ts) = (is_of_sort_if true size around s t ≡ true) × AreOfSorts size around sorts ts
 
-same_true : (s t : Sort) → same_sort s t ≡ true → s ≡ t
-same_true Voter Voter h = refl
-same_true Voter Alt h = absurd cc
-same_true Voter Ballot h = absurd cc
-same_true Voter Profile h = absurd cc
-same_true Alt Voter h = absurd cc
-same_true Alt Alt h = refl
-same_true Alt Ballot h = absurd cc
-same_true Alt Profile h = absurd cc
-same_true Ballot Voter h = absurd cc
-same_true Ballot Alt h = absurd cc
-same_true Ballot Ballot h = refl
-same_true Ballot Profile h = absurd cc
-same_true Profile Voter h = absurd cc
-same_true Profile Alt h = absurd cc
-same_true Profile Ballot h = absurd cc
-same_true Profile Profile h = refl
-
 -- a constant is of the sort that it has a number of
 constant_of : (size : Extent) (around : List Sort) (s t : Sort) (v : ℕ) (o : Option ℕ) → same_sort s t ≡ true → v < sort_count size t → o ≡ Some v
     → is_of_sort_if true size around s (plain.Const (unwrap_or o 0)) ≡ true
 constant_of size around s t v o same lt known =
-    rw (same_true s t same, known) (lt-ltb v (sort_count size t) lt)
+    rw (same_sort_is s t same, known) (lt-ltb v (sort_count size t) lt)
 
 -- what holds of any two, three or four terms of some sorts holds of the terms
 pub two_terms : (size : Extent) (around : List Sort) (a b : Sort) (P : List TermTree → Type 0)
@@ -212,7 +195,7 @@ mutual
   term_sorted size scope s (tree.Alt x) none h = let found = has_value (alternative_value size x) _ none in constant_of size (outermost_first scope) s Alt found.0 _ h (alternative_below size x found.0 found.1) found.1
   term_sorted size scope s (tree.Ballot letters) none h = let found = has_value (ballot_value size letters) _ none in constant_of size (outermost_first scope) s Ballot found.0 _ h (ballot_below size letters found.0 found.1) found.1
   term_sorted size scope s (tree.Call name ts) none h =
-      let right = function_right name (function_of name) (count_of ts) (λ sorts. argument_faults size scope name 1 sorts ts) none in
+      let right = function_right name (function_of name) (argument_count ts) (λ sorts. argument_faults size scope name 1 sorts ts) none in
       let are = terms_sorted size scope (function_sorts right.0) ts (are_right size scope name 1 (function_sorts right.0) ts right.2 right.3) in
       ap (λ o. is_of_sort_if true size (outermost_first scope) s (function_tree o (resolved_terms size scope ts))) right.1
       ∙ function_of_sort size (outermost_first scope) s right.0 (resolved_terms size scope ts) are (given_of s (function_of name) right.0 right.1 h)
@@ -232,14 +215,6 @@ same_self Alt = refl
 same_self Ballot = refl
 same_self Profile = refl
 
-or_left : (a b : Bool) → a ≡ true → (a || b) ≡ true
-or_left true b h = refl
-or_left false b h = absurd cc
-
-or_right : (a b : Bool) → b ≡ true → (a || b) ≡ true
-or_right true b h = refl
-or_right false b h = h
-
 some_sort : (g : Sort → Bool) (s : Sort) → g s ≡ true → list_any g all_sorts ≡ true
 some_sort g Voter h = or_left (g Voter) _ h
 some_sort g Alt h = or_right (g Voter) _ (or_left (g Alt) _ h)
@@ -253,12 +228,12 @@ common_sort (Some s) q h = (s, same_self s, h)
 -- a formula without faults is well sorted
 pub formula_sorted : (size : Extent) (scope : Scope) (f : NamedTree) → faults size scope f ≡ [] → is_sorted_if true size (outermost_first scope) (resolved size scope f) ≡ true
 formula_sorted size scope (tree.Pred name ts) none =
-    let right = predicate_right size.kind name (predicate_of name) (count_of ts) (λ sorts. argument_faults size scope name 1 sorts ts) none in
+    let right = predicate_right size.kind name (predicate_of name) (argument_count ts) (λ sorts. argument_faults size scope name 1 sorts ts) none in
     let are = terms_sorted size scope (predicate_sorts right.0) ts (are_right size scope name 1 (predicate_sorts right.0) ts right.2 right.4) in
     ap (λ o. is_atom_sorted_if true size (outermost_first scope) (predicate_tree o (resolved_terms size scope ts))) right.1
     ∙ predicate_sorted size (outermost_first scope) right.0 (resolved_terms size scope ts) are right.3
 formula_sorted size scope (tree.Equal s t) none =
-    let terms = none_left _ (unless (are_same (sort_of scope s) (sort_of scope t)) _) none in
+    let terms = none_left _ (fault_unless (are_same (sort_of scope s) (sort_of scope t)) _) none in
     let same = common_sort (sort_of scope s) (sort_of scope t) (holds_unless _ _ (none_right (term_faults size scope s ++ term_faults size scope t) _ none)) in
     some_sort (λ sort. is_of_sort_if true size (outermost_first scope) sort (resolved_term size scope s) && is_of_sort_if true size (outermost_first scope) sort (resolved_term size scope t)) same.0
     (and_from _ _ (term_sorted size scope same.0 s (none_left _ (term_faults size scope t) terms) same.1) (term_sorted size scope same.0 t (none_right (term_faults size scope s) _ terms) same.2))

@@ -16,7 +16,7 @@ use Rattle.sorts.specs.declared.symbols.Function.{Function}
 use Rattle.sorts.specs.declared.symbols.Function.TheVariants.{With, SwapVoters, SwapAlts, Swap}
 use Rattle.sorts.specs.declared.symbols.Predicate.{Predicate}
 use Rattle.sorts.specs.declared.symbols.Predicate.TheVariants.{Prefers, Better, Casts, Majority, Wins, Ranks}
-use Rattle.sorts.specs.Faults.{unless, count_of, sort_of, are_same, term_faults, argument_faults, faults}
+use Rattle.sorts.specs.Faults.{fault_unless, argument_count, sort_of, are_same, term_faults, argument_faults, faults}
 use Rattle.sorts.specs.NamedTruth.{Assignment, function_value, is_said_truly, named_value, named_values, is_named_true}
 use Rattle.sorts.specs.Resolved.{function_tree, predicate_tree, resolved_term, resolved_terms, resolved}
 use Rattle.sorts.specs.Scope.{Scope, sort_in, outermost_first, names_of}
@@ -54,7 +54,7 @@ module _ (size : Extent) where
     term_value scope assignment same (tree.Alt x) none = refl
     term_value scope assignment same (tree.Ballot letters) none = refl
     term_value scope assignment same (tree.Call name ts) none =
-        let right = function_right name (function_of name) (count_of ts) (λ sorts. argument_faults size scope name 1 sorts ts) none in
+        let right = function_right name (function_of name) (argument_count ts) (λ sorts. argument_faults size scope name 1 sorts ts) none in
         let own = are_right size scope name 1 (function_sorts right.0) ts right.2 right.3 in
         let are = terms_sorted size scope (function_sorts right.0) ts own in
         ap (λ o. value size (outermost_first assignment) (function_tree o (resolved_terms size scope ts))) right.1
@@ -70,14 +70,14 @@ module _ (size : Extent) where
   pub same_truth : (table : List ℕ) (scope : Scope) (assignment : Assignment) → names_of assignment ≡ names_of scope → (f : NamedTree) → faults size scope f ≡ []
       → is_true_at size table (resolved size scope f) (outermost_first assignment) ≡ is_named_true size table assignment f
   same_truth table scope assignment same (tree.Pred name ts) none =
-      let right = predicate_right size.kind name (predicate_of name) (count_of ts) (λ sorts. argument_faults size scope name 1 sorts ts) none in
+      let right = predicate_right size.kind name (predicate_of name) (argument_count ts) (λ sorts. argument_faults size scope name 1 sorts ts) none in
       let own = are_right size scope name 1 (predicate_sorts right.0) ts right.2 right.4 in
       let are = terms_sorted size scope (predicate_sorts right.0) ts own in
       ap (λ o. is_atom_true size table (outermost_first assignment) (predicate_tree o (resolved_terms size scope ts))) right.1
       ∙ truth_of_predicate size (outermost_first scope) table (outermost_first assignment) right.0 (resolved_terms size scope ts) are
       ∙ ap₂ (is_said_truly size table) (sym right.1) (term_values scope assignment same (predicate_sorts right.0) ts own)
   same_truth table scope assignment same (tree.Equal s t) none =
-      let terms = none_left _ (unless (are_same (sort_of scope s) (sort_of scope t)) _) none in
+      let terms = none_left _ (fault_unless (are_same (sort_of scope s) (sort_of scope t)) _) none in
       ap₂ (λ a b. a == b) (term_value scope assignment same s (none_left _ (term_faults size scope t) terms)) (term_value scope assignment same t (none_right (term_faults size scope s) _ terms))
   same_truth table scope assignment same (tree.Not f) none = ap not (same_truth table scope assignment same f none)
   same_truth table scope assignment same (tree.Both f g) none =

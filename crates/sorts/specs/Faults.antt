@@ -16,8 +16,8 @@ use Rattle.sorts.specs.Scope.{Scope, sort_in}
 use Rattle.sorts.specs.Symbols.{function_of, predicate_of, function_sorts, predicate_sorts, given_sort, is_said_of}
 
 -- a fault where a test fails
-abbrev pub unless : Bool → SortFault → List SortFault
-unless holds wrong = if holds then [] else wrong ∷ []
+abbrev pub fault_unless : Bool → SortFault → List SortFault
+fault_unless holds wrong = if holds then [] else wrong ∷ []
 
 -- a fault where there is no value
 abbrev pub where_none : {A : Type 0} → Option A → SortFault → List SortFault
@@ -25,9 +25,9 @@ where_none None wrong = wrong ∷ []
 where_none (Some value) wrong = []
 
 -- how many arguments there are
-abbrev pub count_of : NamedTermTrees → ℕ
-count_of tree.NoArguments = 0
-count_of (tree.Argument t ts) = suc (count_of ts)
+abbrev pub argument_count : NamedTermTrees → ℕ
+argument_count tree.NoArguments = 0
+argument_count (tree.Argument t ts) = suc (argument_count ts)
 
 -- the sort of a term: that of the quantifier that binds a variable, that of a constant, or what a function gives
 abbrev pub sort_of : Scope → NamedTermTree → Option Sort
@@ -47,7 +47,7 @@ function_faults name (Some f) count in_arguments =
 abbrev pub predicate_faults : Kind → List ℕ → Option Predicate → ℕ → (List Sort → List SortFault) → List SortFault
 predicate_faults kind name None count in_arguments = fault.Symbol name ∷ []
 predicate_faults kind name (Some p) count in_arguments =
-    if count == length (predicate_sorts p) then unless (is_said_of kind p) (fault.Kind name) ++ in_arguments (predicate_sorts p) else fault.Arity name ∷ []
+    if count == length (predicate_sorts p) then fault_unless (is_said_of kind p) (fault.Kind name) ++ in_arguments (predicate_sorts p) else fault.Arity name ∷ []
 
 -- two sorts are there and are the same
 abbrev pub are_same : Option Sort → Option Sort → Bool
@@ -62,19 +62,19 @@ module _ (size : Extent) where
     term_faults scope (tree.Voter i) = where_none (voter_value size i) (fault.Constant (voter_text i))
     term_faults scope (tree.Alt x) = where_none (alternative_value size x) (fault.Constant (alternative_text x))
     term_faults scope (tree.Ballot letters) = where_none (ballot_value size letters) (fault.Constant (ballot_constant_text letters))
-    term_faults scope (tree.Call name ts) = function_faults name (function_of name) (count_of ts) (λ sorts. argument_faults scope name 1 sorts ts)
+    term_faults scope (tree.Call name ts) = function_faults name (function_of name) (argument_count ts) (λ sorts. argument_faults scope name 1 sorts ts)
 
     -- each argument's own faults, and then its sort, with the symbol and the argument's place from 1
     pub argument_faults : Scope → List ℕ → ℕ → List Sort → NamedTermTrees → List SortFault
     argument_faults scope symbol place sorts tree.NoArguments = []
     argument_faults scope symbol place [] (tree.Argument t ts) = []
     argument_faults scope symbol place (sort ∷ sorts) (tree.Argument t ts) =
-        term_faults scope t ++ unless (is_option_sort sort (sort_of scope t)) (fault.Sort symbol place) ++ argument_faults scope symbol (place + 1) sorts ts
+        term_faults scope t ++ fault_unless (is_option_sort sort (sort_of scope t)) (fault.Sort symbol place) ++ argument_faults scope symbol (place + 1) sorts ts
 
   -- the faults of a formula under some quantifiers; an equation's two terms are visited and then compared
   abbrev pub faults : Scope → NamedTree → List SortFault
-  faults scope (tree.Pred name ts) = predicate_faults size.kind name (predicate_of name) (count_of ts) (λ sorts. argument_faults scope name 1 sorts ts)
-  faults scope (tree.Equal s t) = term_faults scope s ++ term_faults scope t ++ unless (are_same (sort_of scope s) (sort_of scope t)) (fault.Sort (codes "=") 2)
+  faults scope (tree.Pred name ts) = predicate_faults size.kind name (predicate_of name) (argument_count ts) (λ sorts. argument_faults scope name 1 sorts ts)
+  faults scope (tree.Equal s t) = term_faults scope s ++ term_faults scope t ++ fault_unless (are_same (sort_of scope s) (sort_of scope t)) (fault.Sort (codes "=") 2)
   faults scope (tree.Not f) = faults scope f
   faults scope (tree.Both f g) = faults scope f ++ faults scope g
   faults scope (tree.Either f g) = faults scope f ++ faults scope g

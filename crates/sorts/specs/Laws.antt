@@ -3,7 +3,7 @@ use Rattle.std.specs.Prelude.{◌≡◌, ℕ, true, List, [], ◌∷◌, IsTrue}
 use Rattle.vocab.specs.declared.kinds.Sort.{Sort}
 use Rattle.vocab.specs.Formula.{prefix_of, quantifier_depth}
 use Rattle.vocab.specs.Limits as limits
-use Rattle.vocab.specs.NamedDepth.{depth, quantifiers}
+use Rattle.vocab.specs.NamedDepth.{named_depth, quantifiers}
 use Rattle.vocab.specs.NamedTree as tree
 use Rattle.vocab.specs.NamedTree.{NamedTree}
 use Rattle.vocab.specs.Size.{Extent}
@@ -23,7 +23,7 @@ leading_sorts _ = []
 -- a tree is of the size and of the shape of a sentence: it is closed and well sorted, but may exchange alternatives in a profile at every size, is as deep, has as many quantifiers on one path and the same leading universals
 pub record HasShapeOf (size : Extent) (scope : Scope) (f : NamedTree) (t : Tree) : Type 0 where
   pub sorted : IsTrue (is_sorted_if true size (outermost_first scope) t)
-  pub as_deep : limits.depth t ≡ depth f
+  pub as_deep : limits.depth t ≡ named_depth f
   pub quantified : quantifier_depth t ≡ quantifiers f
   pub leading : prefix_of t ≡ leading_sorts f
 

@@ -22,8 +22,8 @@ abbrev pub Assignment : Type 0
 Assignment = List (List ℕ × ℕ)
 
 -- the value of a name
-abbrev pub value_in : List ℕ → Assignment → ℕ
-value_in name assignment = unwrap_or (lookup (bytes_eq name) assignment) 0
+abbrev pub value_named : List ℕ → Assignment → ℕ
+value_named name assignment = unwrap_or (lookup (bytes_eq name) assignment) 0
 
 module _ (size : Extent) where
   -- what a function gives at some values
@@ -47,7 +47,7 @@ module _ (size : Extent) where
   abbrev mutual
     -- the value of a term under an assignment
     pub named_value : Assignment → NamedTermTree → ℕ
-    named_value assignment (tree.Var name) = value_in name assignment
+    named_value assignment (tree.Var name) = value_named name assignment
     named_value assignment (tree.Voter i) = unwrap_or (voter_value size i) 0
     named_value assignment (tree.Alt x) = unwrap_or (alternative_value size x) 0
     named_value assignment (tree.Ballot letters) = unwrap_or (ballot_value size letters) 0

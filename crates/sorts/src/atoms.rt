@@ -4,7 +4,7 @@ ghost use Rattle.std.specs.Prelude.{◌≡◌, ◌≤◌, [], ◌∷◌, ◌++�
 ghost use Rattle.vocab.specs.NamedView.{named_term_tree, named_terms_tree};
 ghost use Rattle.vocab.specs.Terms.{terms_of};
 ghost use Rattle.vocab.specs.Tree.{atom_tree, term_tree, Equal};
-ghost use Rattle.sorts.specs.Faults.{unless, are_same, predicate_faults, term_faults, argument_faults, count_of, sort_of};
+ghost use Rattle.sorts.specs.Faults.{fault_unless, are_same, predicate_faults, term_faults, argument_faults, argument_count, sort_of};
 ghost use Rattle.sorts.specs.Resolved.{resolved_term, resolved_terms, predicate_tree, said_of_three};
 ghost use Rattle.sorts.specs.ScopeView.{scope_of};
 ghost use Rattle.sorts.specs.Symbols.{predicate_of, predicate_sorts};
@@ -29,7 +29,7 @@ pub fn predicate(
 ) -> Result<Atom, SortFault>
     requires { length (scope_of scope.now) ≤ 12 }
     ensures { IsVisit (predicate_faults space.now.kind name.now (predicate_of name.now)
-        (count_of (named_terms_tree arguments.now))
+        (argument_count (named_terms_tree arguments.now))
         (λ sorts. argument_faults space.now (scope_of scope.now) name.now 1 sorts
         (named_terms_tree arguments.now)))
         (λ a. atom_tree a ≡ predicate_tree (predicate_of name.now)
@@ -211,7 +211,7 @@ pub fn equality(
     requires { length (scope_of scope.now) ≤ 12 }
     ensures { IsVisit (term_faults space.now (scope_of scope.now) (named_term_tree left.now)
         ++ term_faults space.now (scope_of scope.now) (named_term_tree right.now)
-        ++ unless (are_same (sort_of (scope_of scope.now) (named_term_tree left.now))
+        ++ fault_unless (are_same (sort_of (scope_of scope.now) (named_term_tree left.now))
         (sort_of (scope_of scope.now) (named_term_tree right.now))) (SortFault.Sort (codes "=") 2))
         (λ a. atom_tree a ≡ Equal (resolved_term space.now (scope_of scope.now) (named_term_tree left.now))
         (resolved_term space.now (scope_of scope.now) (named_term_tree right.now))) result }

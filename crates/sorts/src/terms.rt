@@ -4,7 +4,7 @@ ghost use Rattle.std.specs.Prelude.{◌≡◌, ◌≢◌, ◌<◌, ◌≤◌, �
 ghost use Rattle.vocab.specs.NamedView.{named_term_tree, named_terms_tree};
 ghost use Rattle.vocab.specs.Terms.{terms_of};
 ghost use Rattle.vocab.specs.Tree.{term_tree, Var};
-ghost use Rattle.sorts.specs.Faults.{where_none, unless, function_faults, term_faults, argument_faults, count_of, sort_of};
+ghost use Rattle.sorts.specs.Faults.{where_none, fault_unless, function_faults, term_faults, argument_faults, argument_count, sort_of};
 ghost use Rattle.sorts.specs.Resolved.{resolved_term, resolved_terms, applied, function_tree};
 ghost use Rattle.sorts.specs.Scope.{sort_in, level_in};
 ghost use Rattle.sorts.specs.ScopeView.{scope_of};
@@ -114,7 +114,7 @@ fn call(
 ) -> Result<Term, SortFault>
     requires { length (scope_of scope.now) ≤ 12 }
     ensures { IsVisit (function_faults name.now (function_of name.now)
-        (count_of (named_terms_tree arguments.now))
+        (argument_count (named_terms_tree arguments.now))
         (λ sorts. argument_faults space.now (scope_of scope.now) name.now 1 sorts
         (named_terms_tree arguments.now)))
         (λ t. term_tree t ≡ function_tree (function_of name.now)
@@ -171,7 +171,7 @@ pub fn argument(
 ) -> Result<Term, SortFault>
     requires { length (scope_of scope.now) ≤ 12 }
     ensures { IsVisit (term_faults space.now (scope_of scope.now) (named_term_tree given.now)
-        ++ unless (is_option_sort sort (sort_of (scope_of scope.now) (named_term_tree given.now)))
+        ++ fault_unless (is_option_sort sort (sort_of (scope_of scope.now) (named_term_tree given.now)))
         (SortFault.Sort symbol place))
         (λ t. term_tree t ≡ resolved_term space.now (scope_of scope.now) (named_term_tree given.now)) result }
 {

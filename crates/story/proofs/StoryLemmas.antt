@@ -1,9 +1,10 @@
 -- The lemmas of a story, one after another.
-use Rattle.std.proofs.Common.{◌≡◌, sym, ◌∙◌, ap, ap₂, refl, subst, ℕ, zero, suc, ◌+◌, ◌<◌, Bool, true, false, List, [], ◌∷◌, ◌++◌, take, drop, length, arith, Option, Some, None, Result, Ok, Err}
+use Rattle.std.proofs.Common.{◌≡◌, sym, ◌∙◌, ap, ap₂, subst, ℕ, ◌+◌, ◌<◌, Bool, true, false, List, [], ◌∷◌, ◌++◌, take, drop, length, arith, Option, Some, None, Result, Ok, Err}
 use Rattle.std.specs.Prelude.{slice_get, OnOk}
 use Rattle.std.specs.Option.{option_map, option_or}
 use Rattle.std.proofs.lemmas.List.{drop_more, take_more, drop_all}
 use Rattle.std.proofs.lemmas.Option.{get_or_from_slice_get}
+use Rattle.lists.proofs.PlaceLaws.{there_is}
 use Rattle.vocab.specs.Size.{Extent}
 use Rattle.vocab.specs.Titled.{Titled}
 use Rattle.meaning.specs.declared.stories.Lemma.{Lemma}
@@ -11,16 +12,10 @@ use Rattle.meaning.specs.declared.stories.PlacedFault.{PlacedFault}
 use Rattle.meaning.specs.declared.stories.StoryRefusal.{StoryRefusal}
 use Rattle.meaning.specs.declared.stories.StoryRefusal.TheVariants.{Lemma as InLemma}
 use Rattle.meaning.specs.StoryFaults.{lemma_fault, next_refusal, refusal_from}
-use Rattle.story.specs.Answers.{Answers}
-
--- there is an item at each place
-pub item_at : {A : Type 0} (xs : List A) (i : ℕ) → i < length xs → (x : A) × (slice_get xs i ≡ Some x)
-item_at [] i lt = absurd (omega arith)
-item_at (x ∷ xs) zero lt = (x, refl)
-item_at (x ∷ xs) (suc i) lt = item_at xs i (omega arith)
+use Rattle.story.specs.Answers.{AnswersFault}
 
 -- an answer Ok says that there is no fault
-pub on_ok : {T E : Type 0} (r : Result T E) (fault : Option E) (P : Type 0) → Answers r fault → (fault ≡ None → P) → OnOk r P
+pub on_ok : {T E : Type 0} (r : Result T E) (fault : Option E) (P : Type 0) → AnswersFault r fault → (fault ≡ None → P) → OnOk r P
 on_ok (Ok x) fault P h give = give h
 on_ok (Err e) fault P h give = tt
 
@@ -55,7 +50,7 @@ module _ (size : Extent) (axioms : List Titled) (core : List ℕ) (story : List 
   two_left : place + 1 < length story → (lemma : Lemma) → slice_get story place ≡ Some lemma
       → rest_of (drop place story) ≡ option_or (next_refusal size axioms core (take place story) false lemma) (refusal_from size axioms core (take (place + 1) story) (drop (place + 1) story))
   two_left lt lemma at =
-      let next = item_at story (place + 1) lt in
+      let next = there_is story (place + 1) lt in
       let after : drop (place + 1) story ≡ next.0 ∷ drop (place + 1 + 1) story = left story (place + 1) next.0 lt next.1 in
       ap rest_of (left story place lemma (omega arith) at ∙ ap (λ ls. lemma ∷ ls) after)
       ∙ ap₂ (λ earlier ls. option_or (next_refusal size axioms core (take place story) false lemma) (refusal_from size axioms core earlier ls)) (sym (up_to story place lemma (omega arith) at)) (sym after)
@@ -63,20 +58,20 @@ module _ (size : Extent) (axioms : List Titled) (core : List ℕ) (story : List 
   -- a lemma without fault before the last
   pub followed : place + 1 < length story → OfNext false (λ o. o ≡ None) → rest_of (drop place story) ≡ refusal_from size axioms core (take (place + 1) story) (drop (place + 1) story)
   followed lt none =
-      let lemma = item_at story place (omega arith) in
+      let lemma = there_is story place (omega arith) in
       two_left lt lemma.0 lemma.1 ∙ ap (λ o. option_or o (refusal_from size axioms core (take (place + 1) story) (drop (place + 1) story))) (none lemma.0 lemma.1)
 
   -- one with a fault
   pub refused : place + 1 < length story → (r : StoryRefusal) → OfNext false (λ o. o ≡ Some r) → rest_of (drop place story) ≡ Some r
   refused lt r some =
-      let lemma = item_at story place (omega arith) in
+      let lemma = there_is story place (omega arith) in
       two_left lt lemma.0 lemma.1 ∙ ap (λ o. option_or o (refusal_from size axioms core (take (place + 1) story) (drop (place + 1) story))) (some lemma.0 lemma.1)
 
   -- the last one
-  pub ended : {T : Type 0} (r : Result T StoryRefusal) → place + 1 ≡ length story → OfNext true (λ o. Answers r o) → Answers r (rest_of (drop place story))
+  pub ended : {T : Type 0} (r : Result T StoryRefusal) → place + 1 ≡ length story → OfNext true (λ o. AnswersFault r o) → AnswersFault r (rest_of (drop place story))
   ended r is answer =
-      let lemma = item_at story place (omega arith) in
+      let lemma = there_is story place (omega arith) in
       let none : drop (place + 1) story ≡ [] = drop_all (place + 1) story (omega arith) in
       let whole : rest_of (drop place story) ≡ next_refusal size axioms core (take place story) true lemma.0
       = ap rest_of (left story place lemma.0 (omega arith) lemma.1 ∙ ap (λ ls. lemma.0 ∷ ls) none) in
-      subst (λ o. Answers r o) (sym whole) (answer lemma.0 lemma.1)
+      subst (λ o. AnswersFault r o) (sym whole) (answer lemma.0 lemma.1)

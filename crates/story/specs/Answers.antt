@@ -2,6 +2,6 @@
 use Rattle.std.specs.Prelude.{◌≡◌, Result, Ok, Err, Option, Some, None}
 
 -- Ok where there is no fault, and else exactly this fault
-abbrev pub Answers : {T E : Type 0} → Result T E → Option E → Type 0
-Answers (Ok x) fault = fault ≡ None
-Answers (Err e) fault = fault ≡ Some e
+abbrev pub AnswersFault : {T E : Type 0} → Result T E → Option E → Type 0
+AnswersFault (Ok x) fault = fault ≡ None
+AnswersFault (Err e) fault = fault ≡ Some e

@@ -5,7 +5,7 @@ ghost use Rattle.std.specs.List.{list_all};
 ghost use Rattle.meaning.specs.Literals.{is_literal};
 ghost use Rattle.meaning.specs.Stories.{has_literals};
 ghost use Rattle.meaning.specs.StoryFaults.{suppose_fault, steps_fault, lemma_fault};
-ghost use Rattle.story.specs.Answers.{Answers};
+ghost use Rattle.story.specs.Answers.{AnswersFault};
 ghost use Rattle.story.specs.Conditions.{has_places, is_short, IsCheckable, IsClear};
 
 use crate::grounds::Grounds;
@@ -34,7 +34,7 @@ pub fn check_lemma<K: OutcomeKind>(
     requires earlier { IsTrue (list_all (has_literals (K.size kind.now)) earlier.now) }
     requires literals { IsTrue (has_literals (K.size kind.now) lemma.now) }
     requires short { IsTrue (is_short lemma.now) }
-    ensures fault { Answers result (lemma_fault (K.size kind.now) study.now.axioms core.now earlier.now
+    ensures fault { AnswersFault result (lemma_fault (K.size kind.now) study.now.axioms core.now earlier.now
         final_one lemma.now) }
     ensures size { board.new.size ≡ board.old.size }
     ensures cleared { board.new.literals ≡ [] }
@@ -58,7 +58,7 @@ impl<K: OutcomeKind> Grounds<'_, K> {
     ) -> Result<(), PlacedFault>
         requires board { IsClear (K.size self.now.setting.now.kind.now) board.old }
         requires lemma { IsCheckable (K.size self.now.setting.now.kind.now) lemma.now }
-        ensures fault { Answers result (lemma_fault (K.size self.now.setting.now.kind.now)
+        ensures fault { AnswersFault result (lemma_fault (K.size self.now.setting.now.kind.now)
             self.now.setting.now.study.now.axioms self.now.core.now self.now.lemmas.now final_one lemma.now) }
         ensures size { board.new.size ≡ board.old.size }
         ensures cleared { board.new.literals ≡ [] }
@@ -77,7 +77,7 @@ impl<K: OutcomeKind> Grounds<'_, K> {
     ) -> Result<(), PlacedFault>
         requires board { IsClear (K.size self.now.setting.now.kind.now) board.old }
         requires lemma { IsCheckable (K.size self.now.setting.now.kind.now) lemma.now }
-        ensures fault { Answers result (lemma_fault (K.size self.now.setting.now.kind.now)
+        ensures fault { AnswersFault result (lemma_fault (K.size self.now.setting.now.kind.now)
             self.now.setting.now.study.now.axioms self.now.core.now self.now.lemmas.now final_one lemma.now) }
         ensures size { board.new.size ≡ board.old.size }
     {
@@ -90,7 +90,7 @@ impl<K: OutcomeKind> Grounds<'_, K> {
         requires board { board.old.size ≡ K.size self.now.setting.now.kind.now }
         requires supposed { board.old.literals ≡ lemma.now.suppose }
         requires lemma { IsCheckable (K.size self.now.setting.now.kind.now) lemma.now }
-        ensures fault { Answers result (steps_fault (K.size self.now.setting.now.kind.now)
+        ensures fault { AnswersFault result (steps_fault (K.size self.now.setting.now.kind.now)
             self.now.setting.now.study.now.axioms self.now.core.now self.now.lemmas.now lemma.now.last
             (length lemma.now.suppose + 1) lemma.now.suppose lemma.now.steps) }
         ensures size { board.new.size ≡ board.old.size }
@@ -116,7 +116,7 @@ fn suppose_all(final_one: bool, board: &mut Board, literals: &[Literal]) -> Resu
     requires cleared { board.old.literals ≡ [] }
     requires literals { IsTrue (list_all (is_literal board.old.size) literals.now) }
     requires short { length literals.now < 4294967295 }
-    ensures fault { Answers result (suppose_fault final_one 1 [] literals.now) }
+    ensures fault { AnswersFault result (suppose_fault final_one 1 [] literals.now) }
     ensures size { board.new.size ≡ board.old.size }
     ensures ok { OnOk result (board.new.literals ≡ literals.now) }
 {

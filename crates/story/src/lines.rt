@@ -6,7 +6,7 @@ ghost use Rattle.vocab.specs.Literal.{opposite_of};
 ghost use Rattle.meaning.specs.Literals.{is_literal};
 ghost use Rattle.meaning.specs.Stories.{is_decided, has_literals};
 ghost use Rattle.meaning.specs.StoryFaults.{reason_fault};
-ghost use Rattle.story.specs.Answers.{Answers};
+ghost use Rattle.story.specs.Answers.{AnswersFault};
 ghost use Rattle.story.specs.Conditions.{has_places};
 ghost use Rattle.story.specs.Lines.{supposition_fault, step_fault};
 
@@ -21,7 +21,7 @@ use worlds::Board;
 /// stay. No memory is taken.
 pub fn suppose(final_one: bool, board: &mut Board, literal: &Literal) -> Result<(), StoryFault>
     requires { IsTrue (is_literal board.old.size literal.now) }
-    ensures fault { Answers result (supposition_fault final_one board.old.literals literal.now) }
+    ensures fault { AnswersFault result (supposition_fault final_one board.old.literals literal.now) }
     ensures size { board.new.size ≡ board.old.size }
     ensures ok { OnOk result (board.new.literals ≡ board.old.literals ++ literal.now ∷ []) }
     ensures err { OnErr result (board.new.literals ≡ board.old.literals) }
@@ -52,7 +52,7 @@ pub fn take_step<K: OutcomeKind>(
     requires core { IsTrue (has_places study.now.axioms core.now) }
     requires earlier { IsTrue (list_all (has_literals (K.size kind.now)) earlier.now) }
     requires literal { IsTrue (is_literal (K.size kind.now) step.now.literal) }
-    ensures fault { Answers result (step_fault (K.size kind.now) study.now.axioms core.now earlier.now
+    ensures fault { AnswersFault result (step_fault (K.size kind.now) study.now.axioms core.now earlier.now
         board.old.literals step.now) }
     ensures size { board.new.size ≡ board.old.size }
     ensures ok { OnOk result (board.new.literals ≡ board.old.literals ++ step.now.literal ∷ []) }
@@ -72,7 +72,7 @@ impl<K: OutcomeKind> Grounds<'_, K> {
     pub(crate) fn take_step(&self, board: &mut Board, step: &StoryStep) -> Result<(), StoryFault>
         requires board { board.old.size ≡ K.size self.now.setting.now.kind.now }
         requires literal { IsTrue (is_literal (K.size self.now.setting.now.kind.now) step.now.literal) }
-        ensures fault { Answers result (step_fault (K.size self.now.setting.now.kind.now)
+        ensures fault { AnswersFault result (step_fault (K.size self.now.setting.now.kind.now)
             self.now.setting.now.study.now.axioms self.now.core.now self.now.lemmas.now
             board.old.literals step.now) }
         ensures size { board.new.size ≡ board.old.size }
@@ -92,7 +92,7 @@ impl<K: OutcomeKind> Grounds<'_, K> {
         requires board { board.old.size ≡ K.size self.now.setting.now.kind.now }
         requires literal { IsTrue (is_literal (K.size self.now.setting.now.kind.now) step.now.literal) }
         requires fresh { IsFalse (is_decided board.old.literals step.now.literal) }
-        ensures fault { Answers result (reason_fault (K.size self.now.setting.now.kind.now)
+        ensures fault { AnswersFault result (reason_fault (K.size self.now.setting.now.kind.now)
             self.now.setting.now.study.now.axioms self.now.core.now self.now.lemmas.now
             (board.old.literals ++ opposite_of step.now.literal ∷ []) step.now.reason) }
         ensures size { board.new.size ≡ board.old.size }

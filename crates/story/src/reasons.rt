@@ -11,10 +11,10 @@ ghost use Rattle.vocab.specs.Study.{is_sentence};
 ghost use Rattle.vocab.specs.Tree.{tree_of};
 ghost use Rattle.meaning.specs.Kleene.{partial_truth};
 ghost use Rattle.meaning.specs.Literals.{is_literal};
-ghost use Rattle.meaning.specs.Stories.{is_false, are_false, claim_of, has_literals, is_claim_false, is_instance_false, is_outcome_excluded, refutes};
+ghost use Rattle.meaning.specs.Stories.{is_false, are_false, lemma_claim, has_literals, is_claim_false, is_instance_false, is_outcome_excluded, refutes};
 ghost use Rattle.meaning.specs.StoryFaults.{unless, reason_fault};
 ghost use Rattle.meaning.specs.Written.{write_out};
-ghost use Rattle.story.specs.Answers.{Answers};
+ghost use Rattle.story.specs.Answers.{AnswersFault};
 ghost use Rattle.story.specs.Conditions.{has_places};
 
 use crate::grounds::Grounds;
@@ -39,7 +39,7 @@ pub fn refutes<K: OutcomeKind>(
     requires board { board.now.size ≡ K.size kind.now }
     requires core { IsTrue (has_places study.now.axioms core.now) }
     requires earlier { IsTrue (list_all (has_literals (K.size kind.now)) earlier.now) }
-    ensures fault { Answers result (reason_fault (K.size kind.now) study.now.axioms core.now earlier.now
+    ensures fault { AnswersFault result (reason_fault (K.size kind.now) study.now.axioms core.now earlier.now
         board.now.literals reason.now) }
     ensures ok { OnOk result (IsTrue (refutes (K.size kind.now) study.now.axioms core.now earlier.now
         board.now.literals reason.now)) }
@@ -59,7 +59,7 @@ impl<K: OutcomeKind> Grounds<'_, K> {
     /// Whether the reason refutes the literals of the board.
     pub(crate) fn refutes(&self, board: &Board, reason: &Reason) -> Result<(), StoryFault>
         requires { board.now.size ≡ K.size self.now.setting.now.kind.now }
-        ensures { Answers result (reason_fault (K.size self.now.setting.now.kind.now)
+        ensures { AnswersFault result (reason_fault (K.size self.now.setting.now.kind.now)
             self.now.setting.now.study.now.axioms self.now.core.now self.now.lemmas.now
             board.now.literals reason.now) }
     {
@@ -76,7 +76,7 @@ impl<K: OutcomeKind> Grounds<'_, K> {
     /// Whether an instance of an axiom of the core is false.
     fn by_axiom(&self, board: &Board, place: u32, values: &Env) -> Result<(), StoryFault>
         requires { board.now.size ≡ K.size self.now.setting.now.kind.now }
-        ensures { Answers result (reason_fault (K.size self.now.setting.now.kind.now)
+        ensures { AnswersFault result (reason_fault (K.size self.now.setting.now.kind.now)
             self.now.setting.now.study.now.axioms self.now.core.now self.now.lemmas.now
             board.now.literals (Reason.Axiom place values.now)) }
     {
@@ -93,7 +93,7 @@ impl<K: OutcomeKind> Grounds<'_, K> {
 
 /// Ok where a test passes, and else the fault.
 fn unless(passes: bool, fault: StoryFault) -> Result<(), StoryFault>
-    ensures { Answers result (unless passes fault) }
+    ensures { AnswersFault result (unless passes fault) }
 {
     if passes { Ok(()) } else { Err(fault) }
 }
@@ -146,7 +146,7 @@ fn are_in_range(size: Size, formula: &Formula, values: &Env, level: u8) -> bool
 /// Whether the lemma at a place is an earlier one whose claim is false.
 fn by_lemma(earlier: &[Lemma], board: &Board, place: u32) -> Result<(), StoryFault>
     requires { IsTrue (list_all (has_literals board.now.size) earlier.now) }
-    ensures { Answers result (option_or (unless (nat_lt place (length earlier.now)) StoryFault.Later)
+    ensures { AnswersFault result (option_or (unless (nat_lt place (length earlier.now)) StoryFault.Later)
         (unless (is_claim_false board.now.literals (slice_get earlier.now place)) StoryFault.NotForced)) }
 {
     if place as usize >= earlier.len() {
@@ -161,7 +161,7 @@ fn by_lemma(earlier: &[Lemma], board: &Board, place: u32) -> Result<(), StoryFau
 /// Whether the opposite of each literal of a lemma's claim is on the board: all that it supposes.
 fn is_claim_false(board: &Board, lemma: &Lemma) -> bool
     requires { IsTrue (has_literals board.now.size lemma.now) }
-    ensures { result ≡ are_false board.now.literals (claim_of lemma.now) }
+    ensures { result ≡ are_false board.now.literals (lemma_claim lemma.now) }
 {
     has_all(board, lemma.suppose.as_slice())
 }

@@ -6,7 +6,7 @@ ghost use Rattle.meaning.specs.Stories.{has_literals, is_story};
 ghost use Rattle.meaning.specs.StoryFaults.{next_refusal, story_refusal};
 ghost use Rattle.meaning.specs.Truth.{satisfies};
 ghost use Rattle.meaning.specs.declared.stories.Lemma.{Lemma};
-ghost use Rattle.story.specs.Answers.{Answers};
+ghost use Rattle.story.specs.Answers.{AnswersFault};
 ghost use Rattle.story.specs.Conditions.{has_places, is_short, AreShortAndFew, IsClear};
 
 use crate::grounds::Grounds;
@@ -36,7 +36,7 @@ pub fn check_story<K: OutcomeKind>(
     requires short { IsTrue (list_all is_short story.now) }
     requires few { length story.now ≤ 4294967295 }
     ensures answer { (result ≡ Err StoryRefusal.NoMemory) ⊎
-        Answers result (story_refusal (K.size kind.now) study.now.axioms core.now story.now) }
+        AnswersFault result (story_refusal (K.size kind.now) study.now.axioms core.now story.now) }
     ensures accepted { OnOk result (IsTrue (is_story (K.size kind.now) study.now.axioms core.now story.now)) }
     ensures no_rule { OnOk result ((table : List ℕ) →
         ¬ IsTrue (satisfies (K.size kind.now) study.now.axioms core.now table)) }
@@ -60,7 +60,7 @@ impl<K: OutcomeKind> Grounds<'_, K> {
     fn check_lemmas(&self, board: &mut Board) -> Result<(), StoryRefusal>
         requires board { IsClear (K.size self.now.setting.now.kind.now) board.old }
         requires numbered { AreShortAndFew self.now.lemmas.now }
-        ensures { Answers result (story_refusal (K.size self.now.setting.now.kind.now)
+        ensures { AnswersFault result (story_refusal (K.size self.now.setting.now.kind.now)
             self.now.setting.now.study.now.axioms self.now.core.now self.now.lemmas.now) }
     {
         if self.lemmas.is_empty() {
@@ -87,7 +87,7 @@ impl<K: OutcomeKind> Grounds<'_, K> {
         requires numbered { AreShortAndFew self.now.lemmas.now }
         requires place { place < length self.now.lemmas.now }
         ensures fault { (lemma : Lemma) → slice_get self.now.lemmas.now place ≡ Some lemma →
-            Answers result (next_refusal (K.size self.now.setting.now.kind.now)
+            AnswersFault result (next_refusal (K.size self.now.setting.now.kind.now)
             self.now.setting.now.study.now.axioms self.now.core.now (take place self.now.lemmas.now)
             final_one lemma) }
         ensures size { board.new.size ≡ board.old.size }

@@ -1,16 +1,17 @@
 -- Where lemmas stand in a story.
-use Rattle.std.proofs.Common.{◌≡◌, refl, sym, ap, ◌∙◌, subst, ℕ, zero, suc, ◌+◌, ◌<◌, ◌==◌, nat_lt, Bool, true, false, cond, List, [], ◌∷◌, ◌++◌, if◌then◌else◌, ◌&&◌, codes, length, take, arith, Option, Some, None, slice_get, count_by, eqb-true, eq-eqb, true≢false}
-use Rattle.std.specs.List.{flat_map, list_all}
+use Rattle.std.proofs.Common.{◌≡◌, refl, sym, ap, subst, ℕ, suc, ◌+◌, ◌<◌, ◌==◌, nat_lt, Bool, true, false, cond, List, [], ◌∷◌, ◌++◌, if◌then◌else◌, ◌&&◌, codes, length, take, arith, Option, Some, None, slice_get, count_by, eqb-true, eq-eqb, true≢false}
+use Rattle.std.specs.List.{flat_map}
 use Rattle.std.proofs.lemmas.Bool.{and_parts}
 use Rattle.std.proofs.lemmas.List.Sums.{sum_by-cons}
 use Rattle.std.proofs.lemmas.Option.{slice_get_within}
+use Rattle.lists.proofs.TestLaws.{all_get}
 use Rattle.vocab.specs.Range.{below}
 use Rattle.vocab.specs.Size.{Extent}
 use Rattle.vocab.specs.Titled.{Titled}
 use Rattle.meaning.specs.declared.stories.Reason.{Reason}
 use Rattle.meaning.specs.declared.stories.Reason.TheVariants.{Axiom as ByAxiom, Outcome as ByOutcome, Lemma as ByLemma}
 use Rattle.meaning.specs.declared.stories.Lemma.{Lemma}
-use Rattle.tellings.specs.Tellings.{home_of, names, mentions, takes_in, is_alone, says, are_said, IsStoryTold}
+use Rattle.tellings.specs.Tellings.{home_of, names_lemma, mentions, takes_in, is_alone, says_step, are_said, IsStoryTold}
 use Rattle.tellings.specs.declared.tellings.Placed.{Placed}
 use Rattle.tellings.specs.declared.tellings.Passage.{Passage}
 use Rattle.tellings.specs.declared.tellings.Sentence.{Sentence}
@@ -19,7 +20,7 @@ use Rattle.tellings.specs.declared.tellings.StoryTelling.{StoryTelling}
 use Rattle.story_pages.specs.Ends.{end_html}
 use Rattle.story_pages.specs.Forced.{list_html, forced_html}
 use Rattle.story_pages.specs.Homes.{stands_alone, inner_body, inner_html, inner_at, held_at, held_by, held_in, outer_item, outer_items, outer_body, outer_html, outer_at, lemma_at, story_html}
-use Rattle.story_pages.specs.Laws.{StandsIn, IsWritten, ForcedFactsStand, LemmasStand}
+use Rattle.story_pages.specs.Laws.{StandsIn, IsLemmaWritten, ForcedFactsStand, LemmasStand}
 use Rattle.story_pages.specs.Lemmas.{claimed_html, title_html, suppose_html, columns_of, table_html}
 use Rattle.story_pages.specs.Sentences.{sentence_at, item_at, items_html}
 use Rattle.story_pages.proofs.StandLemmas.{whole, in_front, behind, between, within, in_map, in_below, is_some}
@@ -34,18 +35,13 @@ found p (y ∷ ys) h = cases (found p ys) (p y) refl (sum_by-cons (λ z. cond (p
     cases ih true e all = (0, y, refl, e)
     cases ih false e all = let f = ih (omega (arith, all, h)) in (suc f.0, f.1, f.2, f.3)
 
-passes : {X : Type 0} (p : X → Bool) (xs : List X) (i : ℕ) (x : X) → slice_get xs i ≡ Some x → list_all p xs ≡ true → p x ≡ true
-passes p [] i x h e = absurd (cc)
-passes p (y ∷ ys) zero x h e = let same : y ≡ x = cc in ap p (sym same) ∙ (and_parts (p y) (list_all p ys) e).0
-passes p (y ∷ ys) (suc i) x h e = passes p ys i x h (and_parts (p y) (list_all p ys) e).1
-
 sentence_is_there : (size : Extent) (axioms : List Titled) (core : List ℕ) (earlier : List Lemma) (passage : Passage) (i : ℕ) (placed : Placed) →
     slice_get passage.steps i ≡ Some placed → are_said size axioms core earlier passage ≡ true → placed.sentence < length passage.sentences
 sentence_is_there size axioms core earlier passage i placed at said =
     cases (slice_get passage.sentences placed.sentence) refl
-    (passes (λ placed. says size axioms core earlier (slice_get passage.sentences placed.sentence) placed.step) passage.steps i placed at said)
+    (all_get (λ placed. says_step size axioms core earlier (slice_get passage.sentences placed.sentence) placed.step) passage.steps i placed said at)
   where
-    cases : (o : Option Sentence) → slice_get passage.sentences placed.sentence ≡ o → says size axioms core earlier o placed.step ≡ true →
+    cases : (o : Option Sentence) → slice_get passage.sentences placed.sentence ≡ o → says_step size axioms core earlier o placed.step ≡ true →
         placed.sentence < length passage.sentences
     cases None e s = absurd (true≢false (sym s))
     cases (Some sentence) e s = slice_get_within passage.sentences placed.sentence sentence e
@@ -81,7 +77,7 @@ module _ (size : Extent) (axioms : List Titled) (story : List Lemma) (told : Sto
   abbrev forced : List Placed
   forced = told.forced.steps
 
-  written_in : (lemma : Lemma) (telling : Telling) (one two : List ℕ) → IsWritten size axioms forced lemma telling one → StandsIn one two → IsWritten size axioms forced lemma telling two
+  written_in : (lemma : Lemma) (telling : Telling) (one two : List ℕ) → IsLemmaWritten size axioms forced lemma telling one → StandsIn one two → IsLemmaWritten size axioms forced lemma telling two
   written_in lemma telling one two w s = record {
     supposed = within (suppose_html size lemma.suppose) one two w.supposed s;
     sentences = λ k lt. within (sentence_at size axioms telling.passage k) one two (w.sentences k lt) s;
@@ -125,7 +121,7 @@ module _ (size : Extent) (axioms : List Titled) (story : List Lemma) (told : Sto
         (in_front (sentence k) (codes "<ol>\n" ++ items ++ codes "</ol>\n<div class=e>") last
         (in_front (sentence k) (codes "<ol>\n" ++ items) (codes "</ol>\n<div class=e>") (behind (sentence k) (codes "<ol>\n") items (in_items size axioms telling.passage k lt))))
 
-    inner_written : IsWritten size axioms forced lemma telling (inner_html size axioms forced (j + 1) lemma telling)
+    inner_written : IsLemmaWritten size axioms forced lemma telling (inner_html size axioms forced (j + 1) lemma telling)
     inner_written = record {
       supposed = in_front supposed (head ++ body ++ table) (codes "</div>\n")
           (in_front supposed (head ++ body) table (between supposed claim supposed body (whole supposed)));
@@ -169,7 +165,7 @@ module _ (size : Extent) (axioms : List Titled) (story : List Lemma) (told : Sto
     abbrev held_first : ℕ → List ℕ
     held_first k = flat_map (held_in size axioms story told j k) telling.passage.steps
 
-    outer_written : IsWritten size axioms forced lemma telling (outer_html size axioms story told j lemma telling)
+    outer_written : IsLemmaWritten size axioms forced lemma telling (outer_html size axioms story told j lemma telling)
     outer_written = record {
       supposed = in_front supposed (front ++ outer ++ table) (codes "</section>\n")
           (in_front supposed (front ++ outer) table (between supposed title supposed outer (whole supposed)));
@@ -209,7 +205,7 @@ module _ (size : Extent) (axioms : List Titled) (story : List Lemma) (told : Sto
 
   -- ---- which of the two
 
-  held_is : (h j : ℕ) → home_of told.homes j ≡ Some h → (reason : Reason) → names j reason ≡ true →
+  held_is : (h j : ℕ) → home_of told.homes j ≡ Some h → (reason : Reason) → names_lemma j reason ≡ true →
       held_by size axioms story told h reason ≡ inner_at size axioms story told j
   held_is h j home (ByAxiom k values) e = absurd (true≢false (sym e))
   held_is h j home (ByOutcome p) e = absurd (true≢false (sym e))
@@ -233,7 +229,7 @@ module _ (size : Extent) (axioms : List Titled) (story : List Lemma) (told : Sto
     taken_in : (h j : ℕ) (lemma : Lemma) (telling : Telling) → home_of told.homes j ≡ Some h → slice_get story h ≡ Some lemma →
         slice_get told.lemmas h ≡ Some telling → 0 < mentions j lemma telling →
         StandsIn (inner_at size axioms story told j) (outer_body size axioms story told h lemma telling)
-    taken_in h j lemma telling home a b more = cases (names j lemma.last) refl
+    taken_in h j lemma telling home a b more = cases (names_lemma j lemma.last) refl
       where
         outer' : List ℕ
         outer' = outer_body size axioms story told h lemma telling
@@ -241,21 +237,21 @@ module _ (size : Extent) (axioms : List Titled) (story : List Lemma) (told : Sto
         said : are_said size axioms core (take h story) telling.passage ≡ true
         said = (right.each h lemma telling a b).said
 
-        by_step : 0 < count_by (λ placed. names j placed.step.reason) telling.passage.steps → StandsIn (inner_at size axioms story told j) outer'
+        by_step : 0 < count_by (λ placed. names_lemma j placed.step.reason) telling.passage.steps → StandsIn (inner_at size axioms story told j) outer'
         by_step some =
-            let f = found (λ placed. names j placed.step.reason) telling.passage.steps some in
+            let f = found (λ placed. names_lemma j placed.step.reason) telling.passage.steps some in
             subst (λ t. StandsIn t outer') (held_is h j home f.1.step.reason f.3)
             (step_held h lemma telling f.0 f.1 f.2 (sentence_is_there size axioms core (take h story) telling.passage f.0 f.1 f.2 said))
 
-        cases : (last : Bool) → names j lemma.last ≡ last → StandsIn (inner_at size axioms story told j) outer'
+        cases : (last : Bool) → names_lemma j lemma.last ≡ last → StandsIn (inner_at size axioms story told j) outer'
         cases true e = subst (λ t. StandsIn t outer') (held_is h j home lemma.last e) (last_held h lemma telling)
         cases false e = by_step (omega (arith, fewer))
           where
-            fewer : 0 < count_by (λ placed. names j placed.step.reason) telling.passage.steps + (if false then 1 else 0)
+            fewer : 0 < count_by (λ placed. names_lemma j placed.step.reason) telling.passage.steps + (if false then 1 else 0)
             fewer = rw e at more
 
     written : (j : ℕ) (lemma : Lemma) (telling : Telling) → slice_get story j ≡ Some lemma → slice_get told.lemmas j ≡ Some telling →
-        IsWritten size axioms forced lemma telling page
+        IsLemmaWritten size axioms forced lemma telling page
     written j lemma telling a b = cases (home_of told.homes j) refl
       where
         outer_is : (m : ℕ) (l : Lemma) (t : Telling) → slice_get story m ≡ Some l → slice_get told.lemmas m ≡ Some t →
@@ -270,7 +266,7 @@ module _ (size : Extent) (axioms : List Titled) (story : List Lemma) (told : Sto
         alone_written m l t c d e = subst (λ text. StandsIn text page) (outer_is m l t c d) (alone_in m (slice_get_within story m l c) e)
 
         held_written : (h : ℕ) → home_of told.homes j ≡ Some h → (l : Option Lemma) (t : Option Telling) → slice_get story h ≡ l → slice_get told.lemmas h ≡ t →
-            takes_in told.homes h j l t ≡ true → IsWritten size axioms forced lemma telling page
+            takes_in told.homes h j l t ≡ true → IsLemmaWritten size axioms forced lemma telling page
         held_written h e None t c d taken = absurd (true≢false (sym taken))
         held_written h e (Some l) None c d taken = absurd (true≢false (sym taken))
         held_written h e (Some l) (Some t) c d taken =
@@ -282,7 +278,7 @@ module _ (size : Extent) (axioms : List Titled) (story : List Lemma) (told : Sto
             (subst (λ text. StandsIn text page) inner_is
             (within (inner_at size axioms story told j) (outer_body size axioms story told h l t) page (taken_in h j l t e c d (omega (arith, once))) by_home))
 
-        cases : (o : Option ℕ) → home_of told.homes j ≡ o → IsWritten size axioms forced lemma telling page
+        cases : (o : Option ℕ) → home_of told.homes j ≡ o → IsLemmaWritten size axioms forced lemma telling page
         cases None e = written_in lemma telling (outer_html size axioms story told j lemma telling) page (outer_written j lemma telling) (alone_written j lemma telling a b (ap is_alone e))
         cases (Some h) e = held_written h e (slice_get story h) (slice_get told.lemmas h) refl refl (right.placed.within j h e)
 

@@ -11,7 +11,7 @@ use Rattle.vocab.specs.Size.{Extent}
 use Rattle.meaning.specs.Literals.{is_literal, is_literal_of}
 use Rattle.tellings.specs.declared.tellings.Placed.{Placed}
 use Rattle.story_pages.specs.Claims.{is_alike, is_stated, winning_html, above_html, claims_html, some_html, phrase_html, at_html, said_html, listed_html, held_html, facts_html, alone_html, alone_claims_html, placed_html, stated_html, stated_facts_html}
-use Rattle.story_pages.specs.Laws.{StandsIn, IsSaid}
+use Rattle.story_pages.specs.Laws.{StandsIn, IsFactSaid}
 use Rattle.story_pages.proofs.StandLemmas.{whole, in_front, behind, within, in_map, in_below, some_pass, is_some}
 
 -- the claim of a fact, at the first profile
@@ -88,7 +88,7 @@ module _ (size : Extent) (facts : List Literal) (k : ℕ) (l : Literal) (at : sl
   listed : listed_html size count (bare l) l ≡ at_html size count l
   listed = rw (bare_alike l) refl
 
-  pub fact_said : IsSaid size l (facts_html size facts)
+  pub fact_said : IsFactSaid size l (facts_html size facts)
   fact_said = record {
     count = count;
     profiles = profiles;
@@ -125,7 +125,7 @@ module _ (size : Extent) (steps : List Placed) (k : ℕ) (placed : Placed) (at :
   placed_at : placed_html size times number (bare l) placed ≡ at_html size times l
   placed_at = rw stated_by refl
 
-  pub stated_said : IsSaid size l (stated_facts_html size steps number)
+  pub stated_said : IsFactSaid size l (stated_facts_html size steps number)
   stated_said = record {
     count = times;
     profiles = places;

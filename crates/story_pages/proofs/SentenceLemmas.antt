@@ -14,12 +14,12 @@ use Rattle.tellings.specs.declared.tellings.Placed.{Placed}
 use Rattle.story_pages.specs.Claims.{said_html, facts_html, alone_claims_html, stated_facts_html}
 use Rattle.story_pages.specs.Ends.{reason_html}
 use Rattle.story_pages.specs.Known.{grey_mark, supposed_mark, forced_mark, numbered_mark, stated_mark, known_html}
-use Rattle.story_pages.specs.Sentences.{axiom_html, facts_fold, there_html, many_html, named_html, rests_html, grounds_html, since_html, given_html, given_by, by_axiom_html, by_outcome_html, by_html, sentence_html}
-use Rattle.story_pages.specs.Laws.{StandsIn, IsSaid, IsNamed, IsStated, SentencesNameFacts, EndsNameFacts, SentencesStateFacts, CellsHaveFacts}
+use Rattle.story_pages.specs.Sentences.{axiom_html, facts_fold, there_html, many_html, facts_or_many_html, rests_html, grounds_html, since_html, given_html, given_by, by_axiom_html, by_outcome_html, by_html, sentence_html}
+use Rattle.story_pages.specs.Laws.{StandsIn, IsFactSaid, IsNamed, IsStated, SentencesNameFacts, EndsNameFacts, SentencesStateFacts, CellsHaveFacts}
 use Rattle.story_pages.proofs.StandLemmas.{whole, in_front, behind, between, within, in_map, is_some}
 use Rattle.story_pages.proofs.SaidLemmas.{fact_said, claim_said, stated_said}
 
-said_in : (size : Extent) (l : Literal) (one two : List ℕ) → IsSaid size l one → StandsIn one two → IsSaid size l two
+said_in : (size : Extent) (l : Literal) (one two : List ℕ) → IsFactSaid size l one → StandsIn one two → IsFactSaid size l two
 said_in size l one two s t = record { count = s.count; profiles = s.profiles; claim = within _ one two s.claim t; profile = s.profile }
 
 -- ---- what a sentence rests on
@@ -28,7 +28,7 @@ module _ (size : Extent) (rests : List Literal) where
   abbrev facts : List ℕ
   facts = facts_html size rests
 
-  facts_named : StandsIn facts (named_html size rests)
+  facts_named : StandsIn facts (facts_or_many_html size rests)
   facts_named = cases (nat_lt 30 (length rests))
     where
       cases : (b : Bool) → StandsIn facts (if b then many_html size rests else facts)
@@ -48,8 +48,8 @@ module _ (size : Extent) (rests : List Literal) where
         (between (rests_html size by rests) (codes "<div class=s>since ") (rests_html size by rests) (codes "</div>, ") (whole (rests_html size by rests)))
 
     module _ (ours : is_literal size l ≡ true) (text : List ℕ) where
-      fact_named : StandsIn (named_html size rests) text → IsSaid size l text
-      fact_named s = said_in size l facts text (fact_said size rests k l at ours) (within facts (named_html size rests) text facts_named s)
+      fact_named : StandsIn (facts_or_many_html size rests) text → IsFactSaid size l text
+      fact_named s = said_in size l facts text (fact_said size rests k l at ours) (within facts (facts_or_many_html size rests) text facts_named s)
 
       is_named : (by : By) → StandsIn (rests_html size by rests) text → IsNamed size by l text
       is_named (Axiom a) s = fact_named s

@@ -42,8 +42,8 @@ module _ (alternatives : ℕ) (phrase : Literal → List ℕ) where
 abbrev pub unfolded_html : ℕ → List ℕ
 unfolded_html count = codes " <details><summary>" ++ decimal count ++ codes " profiles</summary><code>"
 
-abbrev pub fold_html : ℕ → List ℕ
-fold_html count = if nat_lt 6 count then unfolded_html count else []
+abbrev pub begin_fold_html : ℕ → List ℕ
+begin_fold_html count = if nat_lt 6 count then unfolded_html count else []
 
 abbrev pub end_fold_html : ℕ → List ℕ
 end_fold_html count = if nat_lt 6 count then codes "</code></details></div>" else codes "</div>"
@@ -51,7 +51,7 @@ end_fold_html count = if nat_lt 6 count then codes "</code></details></div>" els
 module _ (size : Extent) where
   -- a claim that is made so often, with the profiles
   abbrev pub start_html : Literal → ℕ → List ℕ
-  start_html head count = codes "<div>" ++ claim_html size.kind head ++ codes " at" ++ fold_html count
+  start_html head count = codes "<div>" ++ claim_html size.kind head ++ codes " at" ++ begin_fold_html count
 
   abbrev pub some_html : Literal → ℕ → List ℕ → List ℕ
   some_html head count profiles = start_html head count ++ profiles ++ end_fold_html count
@@ -60,12 +60,12 @@ module _ (size : Extent) where
   phrase_html head count profiles = if count == 0 then [] else some_html head count profiles
 
   -- a profile, by itself or in a fold
-  abbrev pub spot_html : ℕ → ℕ → List ℕ
-  spot_html count p = if nat_lt 6 count then ballots_html size p else profile_html size p
+  abbrev pub profile_or_ballots_html : ℕ → ℕ → List ℕ
+  profile_or_ballots_html count p = if nat_lt 6 count then ballots_html size p else profile_html size p
 
   -- the profile of a fact, of so many that make a claim
   abbrev pub at_html : ℕ → Literal → List ℕ
-  at_html count l = codes " " ++ spot_html count (profile_of l)
+  at_html count l = codes " " ++ profile_or_ballots_html count (profile_of l)
 
   -- ---- facts in a list
 

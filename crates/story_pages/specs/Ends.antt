@@ -19,8 +19,8 @@ use Rattle.story_pages.specs.Sentences.{axiom_html, since_html}
 abbrev pub mark_html : ℕ → List ℕ
 mark_html level = if level == 0 then codes " for " else codes ", "
 
-abbrev pub voter_html : ℕ → List ℕ
-voter_html i = codes "voter " ++ decimal (i + 1)
+abbrev pub voter_label : ℕ → List ℕ
+voter_label i = codes "voter " ++ decimal (i + 1)
 
 -- an earlier claim that is contradicted
 abbrev pub against_claim : ℕ → List ℕ
@@ -35,7 +35,7 @@ module _ (size : Extent) where
   profile_value_html p = codes "profile " ++ profile_html size p
 
   abbrev pub value_html : Sort → ℕ → List ℕ
-  value_html Voter i = voter_html i
+  value_html Voter i = voter_label i
   value_html Alt x = alternative_html x
   value_html Ballot b = ballot_value_html b
   value_html Profile p = profile_value_html p

@@ -29,7 +29,7 @@ pub record StandsIn (part whole : List ℕ) : Type 0 where
   pub is : whole ≡ before ++ (part ++ after)
 
 -- the claim of a fact is said in a text, and the fact's profile stands among those where it is made
-pub record IsSaid (size : Extent) (fact : Literal) (text : List ℕ) : Type 0 where
+pub record IsFactSaid (size : Extent) (fact : Literal) (text : List ℕ) : Type 0 where
   pub count : ℕ
   pub profiles : List ℕ
   pub claim : StandsIn (some_html size fact count profiles) text
@@ -38,14 +38,14 @@ pub record IsSaid (size : Extent) (fact : Literal) (text : List ℕ) : Type 0 wh
 module _ (size : Extent) where
   -- a fact that is rested on is said; by what is left its claim alone, at the profiles of what is stated
   abbrev pub IsNamed : By → Literal → List ℕ → Type 0
-  IsNamed (Axiom k) fact text = IsSaid size fact text
+  IsNamed (Axiom k) fact text = IsFactSaid size fact text
   IsNamed Outcome fact text = StandsIn (said_html size fact) text
-  IsNamed Earlier fact text = IsSaid size fact text
+  IsNamed Earlier fact text = IsFactSaid size fact text
 
   -- the fact of a step is said; by an earlier claim with the claim's number
   abbrev pub IsStated : By → Placed → List ℕ → Type 0
-  IsStated (Axiom k) placed text = IsSaid size placed.step.literal text
-  IsStated Outcome placed text = IsSaid size placed.step.literal text
+  IsStated (Axiom k) placed text = IsFactSaid size placed.step.literal text
+  IsStated Outcome placed text = IsFactSaid size placed.step.literal text
   IsStated Earlier placed text = StandsIn (given_html size placed) text
 
 -- each sentence names each fact that it rests on, however many these are
@@ -91,7 +91,7 @@ ForcedFactsStand =
     StandsIn (sentence_at size axioms told.forced k) (story_html size axioms story told)
 
 -- all that is told of a lemma stands in a text: what it supposes, its sentences, what it is against, its table
-pub record IsWritten (size : Extent) (axioms : List Titled) (forced : List Placed) (lemma : Lemma)
+pub record IsLemmaWritten (size : Extent) (axioms : List Titled) (forced : List Placed) (lemma : Lemma)
     (telling : Telling) (text : List ℕ) : Type 0 where
   pub supposed : StandsIn (suppose_html size lemma.suppose) text
   pub sentences : (k : ℕ) → k < length telling.passage.sentences →
@@ -105,4 +105,4 @@ LemmasStand =
     (size : Extent) (axioms : List Titled) (core : List ℕ) (story : List Lemma) (told : StoryTelling) →
     IsStoryTold size axioms core story told → (j : ℕ) (lemma : Lemma) (telling : Telling) →
     slice_get story j ≡ Some lemma → slice_get told.lemmas j ≡ Some telling →
-    IsWritten size axioms told.forced.steps lemma telling (story_html size axioms story told)
+    IsLemmaWritten size axioms told.forced.steps lemma telling (story_html size axioms story told)

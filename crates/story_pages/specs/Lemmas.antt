@@ -54,11 +54,11 @@ module _ (size : Extent) where
   columns_of suppose = first_columns (slice_get suppose 0)
 
   -- a table, if there are two voters: of more than six ballots it is folded, and of more than 24 there is none
-  abbrev pub folded_html : (ℕ → List ℕ) → List ℕ
-  folded_html cell = codes "<details class=k><summary>Table: what is known at each profile</summary><div>\n" ++ grid_html size cell ++ codes "</div></details>\n"
+  abbrev pub folded_table_html : (ℕ → List ℕ) → List ℕ
+  folded_table_html cell = codes "<details class=k><summary>Table: what is known at each profile</summary><div>\n" ++ grid_html size cell ++ codes "</div></details>\n"
 
   abbrev pub wide_html : (ℕ → List ℕ) → List ℕ
-  wide_html cell = if is_gridded size 25 then folded_html cell else []
+  wide_html cell = if is_gridded size 25 then folded_table_html cell else []
 
   abbrev pub fitted_html : (ℕ → List ℕ) → List ℕ
   fitted_html cell = if is_gridded size 7 then grid_html size cell else wide_html cell

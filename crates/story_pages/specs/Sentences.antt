@@ -19,11 +19,11 @@ use Rattle.html.specs.Facts.{fact_html}
 use Rattle.story_pages.specs.Claims.{alone_claims_html, facts_html, stated_facts_html}
 
 -- the axiom at a place of the study, by its name
-abbrev pub name_html : List Titled → ℕ → List ℕ
-name_html axioms k = escaped (name_at axioms k)
+abbrev pub axiom_name_html : List Titled → ℕ → List ℕ
+axiom_name_html axioms k = escaped (name_at axioms k)
 
 abbrev pub axiom_html : List Titled → ℕ → List ℕ
-axiom_html axioms k = codes "<i>" ++ name_html axioms k ++ codes "</i>"
+axiom_html axioms k = codes "<i>" ++ axiom_name_html axioms k ++ codes "</i>"
 
 -- so many facts, in a fold
 abbrev pub facts_fold : ℕ → List ℕ
@@ -47,13 +47,13 @@ module _ (size : Extent) where
   abbrev pub many_html : List Literal → List ℕ
   many_html rests = facts_fold (length rests) ++ facts_html size rests ++ codes "</details>"
 
-  abbrev pub named_html : List Literal → List ℕ
-  named_html rests = if nat_lt 30 (length rests) then many_html rests else facts_html size rests
+  abbrev pub facts_or_many_html : List Literal → List ℕ
+  facts_or_many_html rests = if nat_lt 30 (length rests) then many_html rests else facts_html size rests
 
   abbrev pub rests_html : By → List Literal → List ℕ
-  rests_html (Axiom k) rests = named_html rests
+  rests_html (Axiom k) rests = facts_or_many_html rests
   rests_html Outcome rests = there_html rests
-  rests_html Earlier rests = named_html rests
+  rests_html Earlier rests = facts_or_many_html rests
 
   abbrev pub grounds_html : By → List Literal → List ℕ
   grounds_html by rests = codes "<div class=s>since " ++ rests_html by rests ++ codes "</div>, "

@@ -4,7 +4,7 @@ ghost use Rattle.std.specs.Prelude.{◌≡◌, ◌++◌, ℕ, List, count_by, On
 ghost use Rattle.std.specs.List.{flat_map};
 ghost use Rattle.vocab.specs.declared.literals.Literal.{Literal};
 ghost use Rattle.vocab.specs.Range.{below};
-ghost use Rattle.story_pages.specs.Claims.{is_alike, is_stated, above_html, winning_html, claims_html, unfolded_html, fold_html, end_fold_html, start_html, some_html, spot_html, at_html, listed_html, some_held, held_html, facts_html, said_html, alone_html, alone_claims_html, placed_html, some_stated, stated_html, stated_facts_html};
+ghost use Rattle.story_pages.specs.Claims.{is_alike, is_stated, above_html, winning_html, claims_html, unfolded_html, begin_fold_html, end_fold_html, start_html, some_html, profile_or_ballots_html, at_html, listed_html, some_held, held_html, facts_html, said_html, alone_html, alone_claims_html, placed_html, some_stated, stated_html, stated_facts_html};
 
 use html::{Html, profile_of, put_ballots, put_claim, put_number, put_profile};
 use lists::NoMemory;
@@ -108,7 +108,7 @@ fn put_unfolded(out: &mut Html, count: usize) -> Result<(), NoMemory>
 
 /// Adds the head of so many profiles: more than six are folded.
 fn put_fold(out: &mut Html, count: usize) -> Result<(), NoMemory>
-    ensures { OnOk result (out.new ≡ out.old ++ fold_html count) }
+    ensures { OnOk result (out.new ≡ out.old ++ begin_fold_html count) }
 {
     if count > 6 {
         return put_unfolded(out, count);
@@ -139,7 +139,7 @@ fn put_start(out: &mut Html, space: &Space, head: &Literal, count: usize) -> Res
 
 /// Adds a profile: one of more than six stands in a fold.
 fn put_spot(out: &mut Html, space: &Space, count: usize, p: u32) -> Result<(), NoMemory>
-    ensures { OnOk result (out.new ≡ out.old ++ spot_html space.now count p) }
+    ensures { OnOk result (out.new ≡ out.old ++ profile_or_ballots_html space.now count p) }
 {
     if count > 6 {
         return put_ballots(out, space, p);

@@ -7,7 +7,7 @@ ghost use Rattle.vocab.specs.Range.{below};
 ghost use Rattle.vocab.specs.Tree.{tree_of};
 ghost use Rattle.tellings.specs.Tellings.{by_of};
 ghost use Rattle.html.specs.Facts.{alternative_html};
-ghost use Rattle.story_pages.specs.Ends.{mark_html, voter_html, against_claim, ballot_value_html, profile_value_html, value_html, valued_html, value_at, prefixed_html, values_html, against_html, nothing_left, reason_html, end_html};
+ghost use Rattle.story_pages.specs.Ends.{mark_html, voter_label, against_claim, ballot_value_html, profile_value_html, value_html, valued_html, value_at, prefixed_html, values_html, against_html, nothing_left, reason_html, end_html};
 
 use crate::sentences::{put_axiom, put_since};
 use html::{Html, put_alternative, put_ballot, put_number, put_profile};
@@ -29,7 +29,7 @@ fn put_mark(out: &mut Html, level: u8) -> Result<(), NoMemory>
 
 /// Adds a voter.
 fn put_voter(out: &mut Html, i: u32) -> Result<(), NoMemory>
-    ensures { OnOk result (out.new ≡ out.old ++ voter_html i) }
+    ensures { OnOk result (out.new ≡ out.old ++ voter_label i) }
 {
     out.append(b"voter ")?;
     put_number(out, i as u64 + 1)?;

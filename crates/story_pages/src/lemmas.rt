@@ -2,7 +2,7 @@
 
 ghost use Rattle.std.specs.Prelude.{◌≡◌, ◌++◌, length, OnOk};
 ghost use Rattle.std.specs.List.{flat_map};
-ghost use Rattle.story_pages.specs.Lemmas.{many_claims, claims_words, fact_item, opposite_html, claimed_html, title_html, supposed_html, suppose_html, columns_of, folded_html, wide_html, fitted_html, table_html};
+ghost use Rattle.story_pages.specs.Lemmas.{many_claims, claims_words, fact_item, opposite_html, claimed_html, title_html, supposed_html, suppose_html, columns_of, folded_table_html, wide_html, fitted_html, table_html};
 
 use crate::known::KnownCells;
 use html::{
@@ -148,7 +148,7 @@ pub(crate) fn put_columns_of(out: &mut Html, space: &Space, lemma: &Lemma) -> Re
 
 /// Adds a table in a fold.
 fn put_folded<C: Cells>(out: &mut Html, space: &Space, cells: &C) -> Result<(), NoMemory>
-    ensures { OnOk result (out.new ≡ out.old ++ folded_html space.now (C.cell cells.now)) }
+    ensures { OnOk result (out.new ≡ out.old ++ folded_table_html space.now (C.cell cells.now)) }
 {
     out.append(b"<details class=k><summary>Table: what is known at each profile</summary><div>\n")?;
     put_grid(out, space, cells)?;

@@ -2,7 +2,7 @@
 
 ghost use Rattle.std.specs.Prelude.{◌≡◌, ◌++◌, Some, OnOk};
 ghost use Rattle.std.specs.List.{flat_map};
-ghost use Rattle.story_pages.specs.Sentences.{name_html, axiom_html, facts_fold, claim_number_html, cited_html, there_html, many_html, named_html, rests_html, grounds_html, since_html, given_html, given_by, by_axiom_html, by_outcome_html, by_html, sentence_html, sentence_at, item_at, items_html};
+ghost use Rattle.story_pages.specs.Sentences.{axiom_name_html, axiom_html, facts_fold, claim_number_html, cited_html, there_html, many_html, facts_or_many_html, rests_html, grounds_html, since_html, given_html, given_by, by_axiom_html, by_outcome_html, by_html, sentence_html, sentence_at, item_at, items_html};
 
 use crate::claims::{put_alone_claims, put_facts, put_stated_facts};
 use html::{Html, put_fact, put_number, put_text};
@@ -14,7 +14,7 @@ use vocab::{Axiom, Literal};
 
 /// Adds the name of the axiom at a place of the study, if there is one.
 fn put_name(out: &mut Html, axioms: &[Axiom], place: u32) -> Result<(), NoMemory>
-    ensures { OnOk result (out.new ≡ out.old ++ name_html axioms.now place) }
+    ensures { OnOk result (out.new ≡ out.old ++ axiom_name_html axioms.now place) }
 {
     match axioms.get(place as usize) {
         Some(axiom) => put_text(out, axiom.name().bytes()),
@@ -54,7 +54,7 @@ fn put_many(out: &mut Html, space: &Space, rests: &[Literal]) -> Result<(), NoMe
 
 /// Adds the facts that are rested on, each with its profile: more than thirty are folded.
 fn put_named(out: &mut Html, space: &Space, rests: &[Literal]) -> Result<(), NoMemory>
-    ensures { OnOk result (out.new ≡ out.old ++ named_html space.now rests.now) }
+    ensures { OnOk result (out.new ≡ out.old ++ facts_or_many_html space.now rests.now) }
 {
     if rests.len() > 30 {
         return put_many(out, space, rests);

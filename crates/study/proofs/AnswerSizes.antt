@@ -5,7 +5,7 @@ use Rattle.vocab.specs.Size.{Extent}
 use Rattle.vocab.specs.Study.{Question}
 use Rattle.study.specs.declared.limits.Limit.TheVariants.{Instances, Body, Work}
 use Rattle.study.specs.declared.listing.Listing.{Listing}
-use Rattle.study.specs.Reading.{IsAnswer, refused, read}
+use Rattle.study.specs.Reading.{IsListingAnswer, refused, read}
 use Rattle.study.specs.Sentences.{Worded, resolved_all, opened, within, study_of}
 use Rattle.study.proofs.Listings.{came_from, ok_once}
 
@@ -24,6 +24,6 @@ study_size size conflicts sentences q e =
     ap (λ (x : Question). x.size) (sym (ok_once work.after))
 
 -- what a listing gives is over its size
-pub answer_size : (listing : Listing) (q : Question) → IsAnswer listing (Ok q) → q.size ≡ listing.size
+pub answer_size : (listing : Listing) (q : Question) → IsListingAnswer listing (Ok q) → q.size ≡ listing.size
 answer_size listing q (refused name reason unread e) = absurd (cc)
 answer_size listing q (read sentences all e) = study_size listing.size listing.conflicts sentences q (sym e)

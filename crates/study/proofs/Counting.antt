@@ -8,7 +8,7 @@ use Rattle.vocab.specs.Size.{Extent}
 use Rattle.vocab.specs.Titled.{Titled}
 use Rattle.study.specs.declared.limits.Limit.{Limit}
 use Rattle.study.specs.declared.limits.Limit.TheVariants.{Instances, Body, Work}
-use Rattle.study.specs.Sentences.{told, most_of, count_of, refusal_of, within}
+use Rattle.study.specs.Sentences.{told_count, limit_number, count_of, limit_refusal, within}
 
 -- a sum of told counts, told, is the sum told
 pub told_plus : (a b : ℕ) → min (min a 18446744073709551615 + min b 18446744073709551615) 18446744073709551615 ≡ min (a + b) 18446744073709551615
@@ -32,28 +32,28 @@ pub told_times : (a b : ℕ) → min (a * min b 18446744073709551615) 1844674407
 told_times zero b = omega arith
 told_times (suc a) b = times_at a b (nat_le b 18446744073709551615) refl
 
-most_small : (limit : Limit) → most_of limit < 18446744073709551615
+most_small : (limit : Limit) → limit_number limit < 18446744073709551615
 most_small Instances = omega arith
 most_small Body = omega arith
 most_small Work = omega arith
 
 within_at : (size : Extent) (limit : Limit) (axioms : List Titled) (place : ℕ) (a : Titled) → place < length axioms → a ≡ get_or axioms place a
     → within size limit (drop place axioms)
-    ≡ (if nat_le (count_of size limit a.sentence) (most_of limit) then within size limit (drop (place + 1) axioms) else Err (refusal_of limit a.name (told (count_of size limit a.sentence))))
+    ≡ (if nat_le (count_of size limit a.sentence) (limit_number limit) then within size limit (drop (place + 1) axioms) else Err (limit_refusal limit a.name (told_count (count_of size limit a.sentence))))
 within_at size limit axioms place a below is = rw (drop_more axioms place a below, ← is) refl
 
 -- an axiom that passes a limit
-pub within_stops : (size : Extent) (limit : Limit) (axioms : List Titled) (place n : ℕ) (a : Titled) → place < length axioms → a ≡ get_or axioms place a → n ≡ told (count_of size limit a.sentence) → most_of limit < n
-    → within size limit (drop place axioms) ≡ Err (refusal_of limit a.name n)
+pub within_stops : (size : Extent) (limit : Limit) (axioms : List Titled) (place n : ℕ) (a : Titled) → place < length axioms → a ≡ get_or axioms place a → n ≡ told_count (count_of size limit a.sentence) → limit_number limit < n
+    → within size limit (drop place axioms) ≡ Err (limit_refusal limit a.name n)
 within_stops size limit axioms place n a below is counted passed =
     let small = most_small limit in
-    let over : nat_le (count_of size limit a.sentence) (most_of limit) ≡ false = grind (arith, nat_tests) in
+    let over : nat_le (count_of size limit a.sentence) (limit_number limit) ≡ false = grind (arith, nat_tests) in
     within_at size limit axioms place a below is ∙ rw (over, ← counted) refl
 
 -- one that does not
-pub within_goes_on : (size : Extent) (limit : Limit) (axioms : List Titled) (place n : ℕ) (a : Titled) → place < length axioms → a ≡ get_or axioms place a → n ≡ told (count_of size limit a.sentence) → n ≤ most_of limit
+pub within_goes_on : (size : Extent) (limit : Limit) (axioms : List Titled) (place n : ℕ) (a : Titled) → place < length axioms → a ≡ get_or axioms place a → n ≡ told_count (count_of size limit a.sentence) → n ≤ limit_number limit
     → within size limit (drop (place + 1) axioms) ≡ within size limit (drop place axioms)
 within_goes_on size limit axioms place n a below is counted kept =
     let small = most_small limit in
-    let under : nat_le (count_of size limit a.sentence) (most_of limit) ≡ true = grind (arith, nat_tests) in
+    let under : nat_le (count_of size limit a.sentence) (limit_number limit) ≡ true = grind (arith, nat_tests) in
     sym (within_at size limit axioms place a below is ∙ rw under refl)

@@ -14,8 +14,8 @@ use Rattle.sorts.specs.Answers.{answer_of}
 use Rattle.axiom_library.specs.Library.{Entry}
 use Rattle.study.specs.declared.limits.Limit.{Limit}
 use Rattle.study.specs.declared.limits.Limit.TheVariants.{Instances, Body, Work}
-use Rattle.study.specs.Sentences.{Worded, AreReadAs, resolved_all, most_of, count_of, within, opened, study_of}
-use Rattle.study.specs.Reading.{IsAnswer, read}
+use Rattle.study.specs.Sentences.{Worded, AreReadAs, resolved_all, limit_number, count_of, within, opened, study_of}
+use Rattle.study.specs.Reading.{IsListingAnswer, read}
 
 -- ---- an axiom at a size
 
@@ -26,11 +26,11 @@ pub record Fits (size : Extent) (e : Entry) : Type 0 where
   pub sentence : Tree
   pub resolves : answer_of size tree ≡ Ok sentence
   pub askable : is_askable size sentence ≡ true
-  pub few : (limit : Limit) → nat_le (count_of size limit sentence) (most_of limit) ≡ true
+  pub few : (limit : Limit) → nat_le (count_of size limit sentence) (limit_number limit) ≡ true
 
 -- it is within a limit
 abbrev pub is_few : Extent → Limit → Tree → Bool
-is_few size limit f = nat_le (count_of size limit f) (most_of limit)
+is_few size limit f = nat_le (count_of size limit f) (limit_number limit)
 
 -- a tree without names may be asked and is within the limits
 abbrev pub is_fit : Extent → Result Tree SortFault → Bool
@@ -76,7 +76,7 @@ module _ (size : Extent) where
   }
 
   -- so the listing of these has a study
-  pub study_given : (conflicts : ℕ) (entries : List Entry) → AreFit size entries → (study : Question) × IsAnswer (record { size = size; conflicts = conflicts; axioms = entries }) (Ok study)
+  pub study_given : (conflicts : ℕ) (entries : List Entry) → AreFit size entries → (study : Question) × IsListingAnswer (record { size = size; conflicts = conflicts; axioms = entries }) (Ok study)
   unfolding study_of
   study_given conflicts entries all = (record { size = size; conflicts = conflicts; axioms = all.axioms }, read all.sentences all.reads (sym given))
     where

@@ -4,17 +4,19 @@ use Rattle.std.specs.Prelude.{◌==◌}
 use Rattle.std.specs.Int.{bit_at, w128}
 use Rattle.std.specs.List.{list_any}
 use Rattle.std.specs.Str.{bytes_eq}
-use Rattle.std.specs.Cmp.Lexicographic.{same_text}
-use Rattle.std.proofs.lemmas.Bool.{and_from, cases_eq, eq-eqb, false_from_ne_true, ne_eqb, not_from_false, or_from, or_left, or_right}
+use Rattle.std.proofs.lemmas.Bool.{and_from, cases_eq, eq-eqb, ne_eqb, not_from_false, or_from, or_left, or_right}
 use Rattle.std.proofs.lemmas.Slice.Eq.{bytes_eq-Decides}
 use Rattle.std.proofs.lemmas.List.{drop_all, drop_more, take_all, take_more}
 use Rattle.std.proofs.lemmas.List.Folds.{list_any-append}
 use Rattle.std.proofs.lemmas.Nat.{one_shl, or_lt, pow_below, pow_pos}
 use Rattle.std.proofs.lemmas.Nat.Bits.{bit_at-zero, bit_at_set_other, bit_at_set_same}
+use Rattle.lists.proofs.TextLaws.{differ}
 use Rattle.vocab.specs.Range.{up_from}
 use Rattle.vocab.specs.Size.{factorial, is_digit_set}
 use Rattle.vocab.proofs.DigitNumbers.{same_digits}
 use Rattle.meaning.specs.Texts.{ranking_text}
+use Rattle.meaning.proofs.TestLaws.{or-false}
+use Rattle.meaning.proofs.SpaceLaws.{factorial_small}
 use Rattle.profiles.specs.Weights.{rank_of}
 use Rattle.profiles.proofs.TableLemmas.{rank-ranking}
 use Rattle.study.specs.declared.faults.StudyFault.TheVariants as fault
@@ -22,10 +24,6 @@ use Rattle.study.specs.Ballots.{is_ranking, own_rankings, is_listed, listed_digi
 use Rattle.study.specs.Refusing.{and_then}
 
 -- ---- one more digit
-
-or_none : (b : Bool) → (b || false) ≡ b
-or_none true = refl
-or_none false = refl
 
 and_none : (b : Bool) → (b && not true) ≡ false
 and_none true = refl
@@ -39,7 +37,7 @@ digit_added a place j h = elim (cases_eq j place) [
       ap (λ d. d == 1) here ∙ sym (or_right (is_digit_set a j) (j == place) (eq-eqb j place same))
   | inr other ↦
       let kept : bit_at (bit_or a (1 * 2 ^ place % 2 ^ 128)) j ≡ bit_at a j = bit_at_set_other w128 a place h j other in
-      ap (λ d. d == 1) kept ∙ sym (ap (λ b. is_digit_set a j || b) (ne_eqb j place other) ∙ or_none (is_digit_set a j))
+      ap (λ d. d == 1) kept ∙ sym (ap (λ b. is_digit_set a j || b) (ne_eqb j place other) ∙ or-false (is_digit_set a j))
 ]
 
 digit_fits : (n a place : ℕ) → n ≤ 128 → a < 2 ^ n → place < n → bit_or a (1 * 2 ^ place % 2 ^ 128) < 2 ^ n
@@ -48,15 +46,6 @@ digit_fits n a place most small h =
     subst (λ d. bit_or a d < 2 ^ n) (sym (one_shl place 128 within)) (or_lt n a (2 ^ place) small (pow_below place n h))
 
 -- ---- the rankings of a text
-
-pub few_rankings : (m : ℕ) → m ≤ 5 → factorial m ≤ 120
-few_rankings zero h = omega arith
-few_rankings (suc zero) h = omega arith
-few_rankings (suc (suc zero)) h = omega arith
-few_rankings (suc (suc (suc zero))) h = omega arith
-few_rankings (suc (suc (suc (suc zero)))) h = omega arith
-few_rankings (suc (suc (suc (suc (suc zero))))) h = omega arith
-few_rankings (suc (suc (suc (suc (suc (suc m)))))) h = absurd (omega arith)
 
 any_below : (p : ℕ → Bool) (n a place : ℕ) → a ≤ place → place < a + n → p place ≡ true → list_any p (up_from a n) ≡ true
 any_below p zero a place low high h = absurd (omega arith)
@@ -72,9 +61,6 @@ none_below p (suc n) a h = or_from (p a) (list_any p (up_from (suc a) n)) (h a (
 text_tested : (xs ys : List ℕ) → xs ≡ ys → bytes_eq xs ys ≡ true
 text_tested xs ys e = (bytes_eq-Decides xs ys).1 e
 
-text_refused : (xs ys : List ℕ) → xs ≢ ys → bytes_eq xs ys ≡ false
-text_refused xs ys other = false_from_ne_true (bytes_eq xs ys) (λ h. other (same_text xs ys (sym h)))
-
 -- a text that is that of a ranking, and one that is that of none
 pub ranking_found : (m place : ℕ) (text : List ℕ) → place < factorial m → text ≡ ranking_text m place → is_ranking m text ≡ true
 ranking_found m place text h e =
@@ -82,14 +68,14 @@ ranking_found m place text h e =
 
 pub ranking_missed : (m : ℕ) (text : List ℕ) → ((place : ℕ) → place < factorial m → text ≢ ranking_text m place) → is_ranking m text ≡ false
 ranking_missed m text none =
-    none_below (λ k. bytes_eq text (ranking_text m k)) (factorial m) 0 (λ k l. text_refused text (ranking_text m k) (none k (omega arith)))
+    none_below (λ k. bytes_eq text (ranking_text m k)) (factorial m) 0 (λ k l. differ text (ranking_text m k) (none k (omega arith)))
 
 -- rankings have texts of their own
 ranking_tested : (m j place : ℕ) → 1 ≤ m → m ≤ 5 → j < factorial m → place < factorial m → bytes_eq (ranking_text m j) (ranking_text m place) ≡ (j == place)
 ranking_tested m j place some few h l = elim (cases_eq j place) [
   | inl same ↦ text_tested (ranking_text m j) (ranking_text m place) (ap (ranking_text m) same) ∙ sym (eq-eqb j place same)
   | inr other ↦
-      text_refused (ranking_text m j) (ranking_text m place) (λ e. other (sym (rank-ranking m j some few h) ∙ ap rank_of e ∙ rank-ranking m place some few l))
+      differ (ranking_text m j) (ranking_text m place) (λ e. other (sym (rank-ranking m j some few h) ∙ ap rank_of e ∙ rank-ranking m place some few l))
       ∙ sym (ne_eqb j place other)
 ]
 
@@ -136,10 +122,10 @@ module _ (m : ℕ) (texts : List (List ℕ)) where
   pub taken_more : (i ballots place : ℕ) (text : List ℕ) → 1 ≤ m → m ≤ 5 → i < length texts → text ≡ get_or texts i text → AreTaken i ballots → place < factorial m → text ≡ ranking_text m place → is_digit_set ballots place ≡ false
       → AreTaken (i + 1) (bit_or ballots (1 * 2 ^ place % 2 ^ 128))
   taken_more i ballots place text some few within is taken h spelled new =
-      let few_places = few_rankings m few in
+      let few_places = factorial_small m few in
       let own : is_own i text ≡ true = and_from _ _ (ranking_found m place text h spelled) (not_from_false _ (earlier_text i ballots place text taken h spelled ∙ new)) in
       let next : take (i + 1) texts ≡ take i texts ++ text ∷ [] = take_more texts i text within ∙ ap (λ t. take i texts ++ t ∷ []) (sym is) in
-      let last : (j : ℕ) → j < factorial m → is_listed m (text ∷ []) j ≡ (j == place) = λ j l. or_none (bytes_eq (ranking_text m j) text) ∙ ap (bytes_eq (ranking_text m j)) spelled ∙ ranking_tested m j place some few l h in
+      let last : (j : ℕ) → j < factorial m → is_listed m (text ∷ []) j ≡ (j == place) = λ j l. or-false (bytes_eq (ranking_text m j) text) ∙ ap (bytes_eq (ranking_text m j)) spelled ∙ ranking_tested m j place some few l h in
       record {
         so_far = sym (own_at i text within is ∙ rw own refl) ∙ taken.so_far;
         digits = λ j l.

@@ -13,13 +13,13 @@ use Rattle.study.specs.declared.faults.StudyFault.{StudyFault}
 use Rattle.study.specs.declared.faults.StudyFault.TheVariants as fault
 use Rattle.study.specs.declared.listing.Listing.{Listing}
 use Rattle.study.specs.Ballots.{sized}
-use Rattle.study.specs.Listing.{limit_of, few_of, text_of, entry_of, listed, is_in_both, once, listing_of, have_own_names, IsListing}
+use Rattle.study.specs.Listing.{limit_of, few_of, text_under_name, named_entry, listed, is_in_both, once, listing_of, have_own_names, IsListing}
 use Rattle.study.specs.Refusing.{and_then, refused_as}
 
 -- the entries of names, after those before
 abbrev pub listed_after : Kind → List Entry → List Entry → List (List ℕ) → Result (List Entry) StudyFault
 listed_after kind own before [] = Ok before
-listed_after kind own before (name ∷ names) = and_then (λ e. listed_after kind own (before ++ e ∷ []) names) (entry_of name (text_of kind own name))
+listed_after kind own before (name ∷ names) = and_then (λ e. listed_after kind own (before ++ e ∷ []) names) (named_entry name (text_under_name kind own name))
 
 more_entries : (before : List Entry) (e : Entry) (found : Result (List Entry) StudyFault)
     → and_then (λ entries. Ok ((before ++ e ∷ []) ++ entries)) found ≡ and_then (λ entries. Ok (before ++ entries)) (and_then (λ entries. Ok (e ∷ entries)) found)
@@ -35,7 +35,7 @@ one_entry before gather found goes_on (Ok e) = goes_on (before ++ e ∷ []) ∙ 
 listed_each : (kind : Kind) (own : List Entry) (names : List (List ℕ)) (before : List Entry) → listed_after kind own before names ≡ and_then (λ entries. Ok (before ++ entries)) (listed kind own names)
 listed_each kind own [] before = rw append-nil
 listed_each kind own (name ∷ names) before =
-    one_entry before (λ others. listed_after kind own others names) (listed kind own names) (listed_each kind own names) (entry_of name (text_of kind own name))
+    one_entry before (λ others. listed_after kind own others names) (listed kind own names) (listed_each kind own names) (named_entry name (text_under_name kind own name))
 
 all_entries : (found : Result (List Entry) StudyFault) → and_then (λ entries. Ok ([] ++ entries)) found ≡ found
 all_entries (Err f) = refl
@@ -77,7 +77,7 @@ few_within names false u few e = absurd cc
 listed_length : (kind : Kind) (own : List Entry) (names : List (List ℕ)) (entries : List Entry) → listed kind own names ≡ Ok entries → length entries ≡ length names
 listed_length kind own [] entries e = ap length (sym (ok_once e))
 listed_length kind own (name ∷ names) entries e =
-    let one = came_from (λ e. and_then (λ entries. Ok (e ∷ entries)) (listed kind own names)) (entry_of name (text_of kind own name)) entries e in
+    let one = came_from (λ e. and_then (λ entries. Ok (e ∷ entries)) (listed kind own names)) (named_entry name (text_under_name kind own name)) entries e in
     let rest = came_from (λ entries. Ok (one.value ∷ entries)) (listed kind own names) entries one.after in
     ap length (sym (ok_once rest.after)) ∙ ap suc (listed_length kind own names rest.value rest.first)
 

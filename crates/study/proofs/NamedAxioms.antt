@@ -11,7 +11,7 @@ use Rattle.axiom_library.specs.Library.{Entry, text_among, text_under}
 use Rattle.axiom_library.proofs.Entries.{under_name, text_readable}
 use Rattle.study.specs.declared.drafts.Draft.{Draft}
 use Rattle.study.specs.Document.{axioms_of, own_sentence, sentences_in, sentences_of, known_keys, head_of, draft_of}
-use Rattle.study.specs.Listing.{or_own, entry_of, text_of, listed}
+use Rattle.study.specs.Listing.{or_own, named_entry, text_under_name, listed}
 use Rattle.study.specs.Refusing.{and_then}
 use Rattle.study.proofs.Listings.{came_from, ok_once}
 
@@ -53,7 +53,7 @@ known_or_own : (kind : Kind) (own : List Entry) (name text : List ℕ) (known : 
 known_or_own kind own name text (Some library_text) named is h = (text_readable kind name library_text is).is_name
 known_or_own kind own name text None named is h = under_name (λ n t. IsTrue (is_name n)) own named name text h
 
-entry_if_text : (kind : Kind) (own : List Entry) (name : List ℕ) (text : Option (List ℕ)) (e : Entry) → AreNamed own → text_of kind own name ≡ text → entry_of name text ≡ Ok e → IsTrue (is_name e.name)
+entry_if_text : (kind : Kind) (own : List Entry) (name : List ℕ) (text : Option (List ℕ)) (e : Entry) → AreNamed own → text_under_name kind own name ≡ text → named_entry name text ≡ Ok e → IsTrue (is_name e.name)
 entry_if_text kind own name None e named is h = absurd cc
 entry_if_text kind own name (Some text) e named is h =
     subst (λ x. IsTrue (is_name x.name)) (ok_once h) (known_or_own kind own name text (text_under kind name) named refl is)
@@ -62,9 +62,9 @@ entry_if_text kind own name (Some text) e named is h =
 pub listed_named : (kind : Kind) (own : List Entry) (names : List (List ℕ)) (entries : List Entry) → AreNamed own → listed kind own names ≡ Ok entries → AreNamed entries
 listed_named kind own [] entries named h = subst AreNamed (ok_once h) tt
 listed_named kind own (name ∷ names) entries named h =
-    let one = came_from (λ e. and_then (λ entries. Ok (e ∷ entries)) (listed kind own names)) (entry_of name (text_of kind own name)) entries h in
+    let one = came_from (λ e. and_then (λ entries. Ok (e ∷ entries)) (listed kind own names)) (named_entry name (text_under_name kind own name)) entries h in
     let rest = came_from (λ entries. Ok (one.value ∷ entries)) (listed kind own names) entries one.after in
-    subst AreNamed (ok_once rest.after) (entry_if_text kind own name (text_of kind own name) one.value named refl one.first, listed_named kind own names rest.value named rest.first)
+    subst AreNamed (ok_once rest.after) (entry_if_text kind own name (text_under_name kind own name) one.value named refl one.first, listed_named kind own names rest.value named rest.first)
 
 -- axioms under the names of named entries have names
 pub axioms_named : (entries : List Entry) (axioms : List Titled) → AreNamed entries → map (λ a. a.name) axioms ≡ map (λ e. e.name) entries → list_all (λ a. is_name a.name) axioms ≡ true

@@ -1,5 +1,6 @@
 -- Bytes have one answer.
 use Rattle.std.proofs.Common.{◌≡◌, ◌≢◌, ℕ, List, [], ◌∷◌, ◌++◌, Result, Ok, Err, refl, sym, ap, ◌∙◌, subst}
+use Rattle.lists.proofs.PlaceLaws.{head_same, tail_same}
 use Rattle.vocab.specs.NamedTree.{NamedTree}
 use Rattle.vocab.specs.Study.{Question}
 use Rattle.syntax.specs.declared.faults.SyntaxFault.{SyntaxFault}
@@ -12,7 +13,7 @@ use Rattle.study.specs.declared.faults.StudyFault.TheVariants as fault
 use Rattle.study.specs.Document.{document_of}
 use Rattle.study.specs.declared.listing.Listing.{Listing}
 use Rattle.study.specs.Sentences.{Worded, AreReadAs, study_of}
-use Rattle.study.specs.Reading.{listing_in, IsUnread, IsAnswer, refused, read, IsAnswered, IsStudyOf}
+use Rattle.study.specs.Reading.{listing_in, IsUnread, IsListingAnswer, refused, read, AnswersListing, IsStudyOf}
 
 -- the first of some texts that read reads
 head_reads : (e : Entry) (entries : List Entry) (ws : List Worded) → AreReadAs (e ∷ entries) ws → (f : NamedTree) × IsSentence e.text f
@@ -50,12 +51,6 @@ same_sentences (e ∷ entries) (w ∷ ws) (v ∷ vs) r s =
     let rest : ws ≡ vs = same_sentences entries ws vs r.2 s.2 in
     λ k. first k ∷ rest k
 
-same_head : {A : Type 0} {x y : A} {xs ys : List A} → x ∷ xs ≡ y ∷ ys → x ≡ y
-same_head e = cc
-
-same_tail : {A : Type 0} {x y : A} {xs ys : List A} → x ∷ xs ≡ y ∷ ys → xs ≡ ys
-same_tail e = cc
-
 -- a text with a fault, for a reason other than want of memory
 record HasFault (text : List ℕ) (reason : SyntaxFault) : Type 0 where
   unread : IsFault text reason
@@ -67,17 +62,17 @@ same_reason s t p q e a b = let same = one_answer t (Err p) (Err q) (subst (λ t
 -- the first text that does not read is one
 first_once : (before later : List Entry) (d e : Entry) (after rest : List Entry) (ws vs : List Worded) (p q : SyntaxFault) → before ++ d ∷ after ≡ later ++ e ∷ rest
     → AreReadAs before ws → AreReadAs later vs → HasFault d.text p → HasFault e.text q → (d.name ≡ e.name) × (p ≡ q)
-first_once [] [] d e after rest ws vs p q same r s a b = let one = same_head same in (ap (λ x. x.name) one, same_reason d.text e.text p q (ap (λ x. x.text) one) a b)
+first_once [] [] d e after rest ws vs p q same r s a b = let one = head_same _ _ _ _ same in (ap (λ x. x.name) one, same_reason d.text e.text p q (ap (λ x. x.text) one) a b)
 first_once [] (y ∷ later) d e after rest ws vs p q same r s a b =
     let (f, reads) = head_reads y later vs s in
-    absurd (never_both d.text f p (subst (λ x. IsSentence x.text f) (sym (same_head same)) reads) a.unread a.not_memory)
+    absurd (never_both d.text f p (subst (λ x. IsSentence x.text f) (sym (head_same _ _ _ _ same)) reads) a.unread a.not_memory)
 first_once (x ∷ before) [] d e after rest ws vs p q same r s a b =
     let (f, reads) = head_reads x before ws r in
-    absurd (never_both e.text f q (subst (λ x. IsSentence x.text f) (same_head same) reads) b.unread b.not_memory)
+    absurd (never_both e.text f q (subst (λ x. IsSentence x.text f) (head_same _ _ _ _ same) reads) b.unread b.not_memory)
 first_once (x ∷ before) (y ∷ later) d e after rest ws vs p q same r s a b =
     let (us, front) = tail_reads x before ws r in
     let (ts, back) = tail_reads y later vs s in
-    first_once before later d e after rest us ts p q (same_tail same) front back a b
+    first_once before later d e after rest us ts p q (tail_same _ _ _ _ same) front back a b
 
 read_or_unread : (entries : List Entry) (name : List ℕ) (reason : SyntaxFault) (ws : List Worded) → IsUnread entries name reason → AreReadAs entries ws → ⊥
 read_or_unread entries name reason ws u r =
@@ -90,7 +85,7 @@ refused_once entries name other p q u v =
     (record { unread = u.unread; not_memory = u.not_memory }) (record { unread = v.unread; not_memory = v.not_memory })
 
 -- a listing has at most one answer
-pub one_of_listing : (listing : Listing) (a b : Result Question StudyFault) → IsAnswer listing a → IsAnswer listing b → a ≡ b
+pub one_of_listing : (listing : Listing) (a b : Result Question StudyFault) → IsListingAnswer listing a → IsListingAnswer listing b → a ≡ b
 one_of_listing listing a b (refused name p u e) (refused other q v d) =
     let (names, reasons) = refused_once listing.axioms name other p q u v in
     let same : fault.Syntax name p ≡ fault.Syntax other q = λ k. fault.Syntax (names k) (reasons k) in
@@ -99,7 +94,7 @@ one_of_listing listing a b (refused name p u e) (read ws r d) = absurd (read_or_
 one_of_listing listing a b (read ws r e) (refused name p u d) = absurd (read_or_unread listing.axioms name p ws u r)
 one_of_listing listing a b (read ws r e) (read vs s d) = e ∙ ap (study_of listing.size listing.conflicts) (same_sentences listing.axioms ws vs r s) ∙ sym d
 
-one_answered : (listing : Result Listing StudyFault) (a b : Result Question StudyFault) → IsAnswered listing a → IsAnswered listing b → a ≡ b
+one_answered : (listing : Result Listing StudyFault) (a b : Result Question StudyFault) → AnswersListing listing a → AnswersListing listing b → a ≡ b
 one_answered (Ok listing) a b h k = one_of_listing listing a b h k
 one_answered (Err e) a b h k = h ∙ sym k
 

@@ -10,7 +10,7 @@ use Rattle.study.specs.declared.faults.StudyFault.{StudyFault}
 use Rattle.study.specs.declared.sentences.Unresolved.{Unresolved}
 use Rattle.study.specs.Refusing.{and_then}
 use Rattle.study.specs.Sentences.{AreReadAs, resolved_one, resolved_all}
-use Rattle.study.specs.Unresolved.{worded_of, IsReadAs, IsRefused, IsFirstRefused, IsSmall, AreSmall, is_sound}
+use Rattle.study.specs.Unresolved.{worded_of, IsReadAs, IsTextRefused, IsFirstRefused, IsSmall, AreSmall, is_sound}
 
 -- one more text that reads
 read_more : (before : List Entry) (e : Entry) (ws : List Unresolved) (w : Unresolved) → AreReadAs before (map worded_of ws) → IsReadAs e (worded_of w) → AreReadAs (before ++ e ∷ []) (map worded_of (ws ++ w ∷ []))
@@ -24,7 +24,7 @@ pub read_next : (entries : List Entry) (place : ℕ) (e : Entry) (ws : List Unre
 read_next entries place e ws w within is r one = rw (take_more entries place e within, ← is) (read_more (take place entries) e ws w r one)
 
 -- the first that does not
-pub read_stops : (entries : List Entry) (place : ℕ) (e : Entry) (ws : List Unresolved) (refusal : StudyFault) → place < length entries → e ≡ get_or entries place e → AreReadAs (take place entries) (map worded_of ws) → IsRefused e refusal
+pub read_stops : (entries : List Entry) (place : ℕ) (e : Entry) (ws : List Unresolved) (refusal : StudyFault) → place < length entries → e ≡ get_or entries place e → AreReadAs (take place entries) (map worded_of ws) → IsTextRefused e refusal
     → IsFirstRefused entries refusal
 read_stops entries place e ws refusal within is r one = record {
   name = e.name;

@@ -10,10 +10,10 @@ use Rattle.study.specs.declared.faults.StudyFault.{StudyFault}
 use Rattle.study.specs.declared.faults.StudyFault.TheVariants as fault
 use Rattle.study.specs.declared.listing.Listing.{Listing}
 use Rattle.study.specs.Ballots.{sized}
-use Rattle.study.specs.Document.{kind_of, integer_of, absent_of, conflicts_of, ballots_of, axioms_of, sentences_of, known_keys, head_of, draft_of}
+use Rattle.study.specs.Document.{document_kind, integer_of, absent_of, conflicts_of, ballots_of, axioms_of, sentences_of, known_keys, head_of, draft_of}
 use Rattle.study.specs.Laws.{HasBallotsOf, HaveBallots}
 use Rattle.study.specs.Listing.{limit_of, few_of, listed, once, listing_of}
-use Rattle.study.specs.Reading.{IsAnswered, listing_in}
+use Rattle.study.specs.Reading.{AnswersListing, listing_in}
 use Rattle.study.specs.Refusing.{refused_as}
 use Rattle.study.proofs.Listings.{came_from, known, ok_once}
 use Rattle.study.proofs.AnswerSizes.{answer_size, some_value}
@@ -27,7 +27,7 @@ record SaysOf (document : Members) (head : Head) : Type 0 where
 head_says : (document : Members) (h : Head) → head_of document ≡ Ok h → SaysOf document h
 unfolding head_of
 head_says document h e =
-    let kind = came_from _ (ok_or (kind_of (get_member (codes "kind") document)) (codes "kind")) h e in
+    let kind = came_from _ (ok_or (document_kind (get_member (codes "kind") document)) (codes "kind")) h e in
     let voters = came_from _ (ok_or (integer_of (get_member (codes "voters") document)) (codes "voters")) h kind.after in
     let alternatives = came_from _ (ok_or (integer_of (get_member (codes "alternatives") document)) (codes "alternatives")) h voters.after in
     let ballots = came_from _ (ballots_of (get_member (codes "ballots") document)) h alternatives.after in
@@ -62,10 +62,10 @@ size_has document head size says e = record {
   absent = says.absent ∙ ap (λ (x : Extent). Some x.absent) (sym (sized_by head size e).same);
 }
 
-document_has : (document : Members) (q : Question) → IsAnswered (listing_in (Some document)) (Ok q) → HasBallotsOf document q.size
+document_has : (document : Members) (q : Question) → AnswersListing (listing_in (Some document)) (Ok q) → HasBallotsOf document q.size
 document_has document q h = cases (listing_in (Some document)) refl h
   where
-    cases : (r : Result Listing StudyFault) → listing_in (Some document) ≡ r → IsAnswered r (Ok q) → HasBallotsOf document q.size
+    cases : (r : Result Listing StudyFault) → listing_in (Some document) ≡ r → AnswersListing r (Ok q) → HasBallotsOf document q.size
     cases (Err e) is given = absurd (cc)
     cases (Ok listing) is given =
         let draft = came_from listing_of (refused_as fault.Key (draft_of document)) listing is in
@@ -74,4 +74,4 @@ document_has document q h = cases (listing_in (Some document)) refl h
 
 -- a study has the ballots of the document that gives it
 pub ballots_had : HaveBallots
-ballots_had bytes document q is h = document_has document q (subst (λ o. IsAnswered (listing_in o) (Ok q)) is h)
+ballots_had bytes document q is h = document_has document q (subst (λ o. AnswersListing (listing_in o) (Ok q)) is h)

@@ -23,9 +23,9 @@ use Rattle.study.specs.declared.limits.Limit.TheVariants.{Instances, Body, Work}
 use Rattle.study.specs.declared.listing.Listing.{Listing}
 use Rattle.study.specs.Document.{document_of, draft_of}
 use Rattle.study.specs.Listing.{have_own_names, listing_of, IsListing}
-use Rattle.study.specs.Reading.{listing_in, IsAnswer, refused, IsAnswered}
+use Rattle.study.specs.Reading.{listing_in, IsListingAnswer, refused, AnswersListing}
 use Rattle.study.specs.Refusing.{and_then, refused_as}
-use Rattle.study.specs.Sentences.{Worded, AreReadAs, resolved_one, resolved_all, told, most_of, count_of, refusal_of, opened, within}
+use Rattle.study.specs.Sentences.{Worded, AreReadAs, resolved_one, resolved_all, told_count, limit_number, count_of, limit_refusal, opened, within}
 use Rattle.study.specs.Unresolved.{AreSmall, IsFirstRefused, is_sound}
 use Rattle.study.proofs.Listings.{came_from, ok_once, listing_whole}
 
@@ -82,8 +82,8 @@ length_names : {A : Type 0} (f : A → List ℕ) (xs : List A) → length (map f
 length_names f [] = refl
 length_names f (x ∷ xs) = ap suc (length_names f xs)
 
-within_first : (size : Extent) (limit : Limit) (a : Titled) (axioms : List Titled) (b : Bool) → nat_le (count_of size limit a.sentence) (most_of limit) ≡ b
-    → (if b then within size limit axioms else Err (refusal_of limit a.name (told (count_of size limit a.sentence)))) ≡ Ok tt → (b ≡ true) × (within size limit axioms ≡ Ok tt)
+within_first : (size : Extent) (limit : Limit) (a : Titled) (axioms : List Titled) (b : Bool) → nat_le (count_of size limit a.sentence) (limit_number limit) ≡ b
+    → (if b then within size limit axioms else Err (limit_refusal limit a.name (told_count (count_of size limit a.sentence)))) ≡ Ok tt → (b ≡ true) × (within size limit axioms ≡ Ok tt)
 within_first size limit a axioms true is e = (refl, e)
 within_first size limit a axioms false is e = absurd cc
 
@@ -132,7 +132,7 @@ whole_study listing ws axioms whole r resolved sound open_to instances body work
     }
 
 -- bytes that are a document, and bytes that are none
-document_ok : (bytes : List ℕ) (document : Members) → IsUtf8 bytes → parse_document bytes ≡ Some document → document_of bytes ≡ Some document
+pub document_ok : (bytes : List ℕ) (document : Members) → IsUtf8 bytes → parse_document bytes ≡ Some document → document_of bytes ≡ Some document
 document_ok bytes document text parsed = rw (is_utf8-from_IsUtf8 bytes text) parsed
 
 pub bytes_listed : (bytes : List ℕ) (document : Members) → IsUtf8 bytes → parse_document bytes ≡ Some document → listing_in (document_of bytes) ≡ and_then listing_of (refused_as fault.Key (draft_of document))
@@ -153,12 +153,12 @@ listing_in_whole (Some document) listing e =
     listing_whole one.value listing one.after
 
 -- an answer of a listing is one of bytes that list so
-pub answered : (right : Result Listing StudyFault) (listing : Listing) (answer : Result Question StudyFault) → right ≡ Ok listing → IsAnswer listing answer → IsAnswered right answer
-answered right listing answer e h = subst (λ r. IsAnswered r answer) (sym e) h
+pub answered : (right : Result Listing StudyFault) (listing : Listing) (answer : Result Question StudyFault) → right ≡ Ok listing → IsListingAnswer listing answer → AnswersListing right answer
+answered right listing answer e h = subst (λ r. AnswersListing r answer) (sym e) h
 
-pub answered_refused : (right : Result Listing StudyFault) (refusal : StudyFault) → right ≡ Err refusal → IsAnswered right (Err refusal)
-answered_refused right refusal e = subst (λ r. IsAnswered r (Err refusal)) (sym e) refl
+pub answered_refused : (right : Result Listing StudyFault) (refusal : StudyFault) → right ≡ Err refusal → AnswersListing right (Err refusal)
+answered_refused right refusal e = subst (λ r. AnswersListing r (Err refusal)) (sym e) refl
 
 -- an answer of a listing: the first text that does not read, or the study of what all read as
-pub first_refused : (listing : Listing) (refusal : StudyFault) → IsFirstRefused listing.axioms refusal → IsAnswer listing (Err refusal)
+pub first_refused : (listing : Listing) (refusal : StudyFault) → IsFirstRefused listing.axioms refusal → IsListingAnswer listing (Err refusal)
 first_refused listing refusal first = refused first.name first.reason first.unread (ap Err first.told)

@@ -14,7 +14,7 @@ use Rattle.study.specs.Document.{document_of, draft_of}
 use Rattle.study.specs.Laws.{AreWhole}
 use Rattle.study.specs.Ballots.{sized}
 use Rattle.study.specs.Listing.{limit_of, few_of, listed, once, listing_of, IsListing}
-use Rattle.study.specs.Reading.{IsAnswered, IsAnswer, refused, read, listing_in}
+use Rattle.study.specs.Reading.{AnswersListing, IsListingAnswer, refused, read, listing_in}
 use Rattle.study.specs.Refusing.{refused_as}
 use Rattle.study.specs.Sentences.{Worded, AreReadAs, resolved_all, opened, within, study_of}
 use Rattle.study.proofs.Listings.{came_from, known, ok_once, listing_whole}
@@ -35,7 +35,7 @@ study_names size conflicts sentences q e =
     let work = came_from _ (within size Work axioms.value) q body.after in
     ap (λ (x : Question). map (λ a. a.name) x.axioms) (sym (ok_once work.after)) ∙ resolved_names size sentences axioms.value axioms.first
 
-pub answer_names : (listing : Listing) (q : Question) → IsAnswer listing (Ok q) → map (λ a. a.name) q.axioms ≡ map (λ e. e.name) listing.axioms
+pub answer_names : (listing : Listing) (q : Question) → IsListingAnswer listing (Ok q) → map (λ a. a.name) q.axioms ≡ map (λ e. e.name) listing.axioms
 answer_names listing q (refused name reason unread e) = absurd (cc)
 answer_names listing q (read sentences all e) = study_names listing.size listing.conflicts sentences q (sym e) ∙ read_names listing.axioms sentences all
 
@@ -81,15 +81,15 @@ listing_study listing sentences study is all e =
       subst (λ n. n ≤ 40) (axioms_listed listing sentences axioms.value all axioms.first) is.whole.few_axioms,
     )
 
-answer_study : (listing : Listing) (study : Question) → IsNamedListing listing → IsAnswer listing (Ok study) → IsWhole study
+answer_study : (listing : Listing) (study : Question) → IsNamedListing listing → IsListingAnswer listing (Ok study) → IsWhole study
 answer_study listing study is (refused name reason unread e) = absurd (cc)
 answer_study listing study is (read sentences all e) = listing_study listing sentences study is all (sym e)
 
-document_study : (document : Option Members) (study : Question) → IsAnswered (listing_in document) (Ok study) → IsWhole study
+document_study : (document : Option Members) (study : Question) → AnswersListing (listing_in document) (Ok study) → IsWhole study
 document_study None study h = absurd (let e : Ok study ≡ Err fault.Toml = h in cc)
 document_study (Some document) study h = cases (listing_in (Some document)) refl h
   where
-    cases : (r : Result Listing StudyFault) → listing_in (Some document) ≡ r → IsAnswered r (Ok study) → IsWhole study
+    cases : (r : Result Listing StudyFault) → listing_in (Some document) ≡ r → AnswersListing r (Ok study) → IsWhole study
     cases (Err e) is given = absurd (cc)
     cases (Ok listing) is given =
         let draft = came_from listing_of (refused_as fault.Key (draft_of document)) listing is in

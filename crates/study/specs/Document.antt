@@ -17,9 +17,9 @@ abbrev pub document_of : List ℕ → Option Members
 document_of bytes = if is_utf8 bytes then parse_document bytes else None
 
 -- `kind`: the string `choice`, `ranking` or `sets`
-abbrev pub kind_of : Option Data → Option Kind
-kind_of (Some (string text)) = if bytes_eq text (codes "choice") then Some Choice else if bytes_eq text (codes "ranking") then Some Ranking else if bytes_eq text (codes "sets") then Some Sets else None
-kind_of _ = None
+abbrev pub document_kind : Option Data → Option Kind
+document_kind (Some (string text)) = if bytes_eq text (codes "choice") then Some Choice else if bytes_eq text (codes "ranking") then Some Ranking else if bytes_eq text (codes "sets") then Some Sets else None
+document_kind _ = None
 
 -- `voters`, `alternatives`: an integer
 abbrev pub integer_of : Option Data → Option ℤ
@@ -84,7 +84,7 @@ known_keys (member key value rest) = if is_key key then known_keys rest else Err
 -- the kind, the numbers, the ballots and the word on absence that a document says, or its first key that has not its form
 unfoldable pub head_of : Members → Result Head (List ℕ)
 head_of document = do
-  kind ← ok_or (kind_of (get_member (codes "kind") document)) (codes "kind")
+  kind ← ok_or (document_kind (get_member (codes "kind") document)) (codes "kind")
   voters ← ok_or (integer_of (get_member (codes "voters") document)) (codes "voters")
   alternatives ← ok_or (integer_of (get_member (codes "alternatives") document)) (codes "alternatives")
   ballots ← ballots_of (get_member (codes "ballots") document)

@@ -16,8 +16,8 @@ use Rattle.study.specs.Reading.{IsStudyOf}
 use Rattle.study.specs.Refusing.{refused_as}
 
 -- two answers of the same bytes are the same
-abbrev pub HaveOneAnswer : Type 0
-HaveOneAnswer = (bytes : List ℕ) (a b : Result Question StudyFault) → IsStudyOf bytes a → IsStudyOf bytes b → a ≡ b
+abbrev pub ListingsHaveOneAnswer : Type 0
+ListingsHaveOneAnswer = (bytes : List ℕ) (a b : Result Question StudyFault) → IsStudyOf bytes a → IsStudyOf bytes b → a ≡ b
 
 -- each study that bytes give is one that the bench takes, at a size, and its axioms have names and are few
 abbrev pub AreWhole : Type 0

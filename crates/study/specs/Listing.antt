@@ -26,19 +26,19 @@ or_own (Some text) own = Some text
 or_own None own = own
 
 -- a name with its text, if it has one
-abbrev pub entry_of : List ℕ → Option (List ℕ) → Result Entry StudyFault
-entry_of name None = Err (fault.Unknown name)
-entry_of name (Some text) = Ok (record { name = name; text = text })
+abbrev pub named_entry : List ℕ → Option (List ℕ) → Result Entry StudyFault
+named_entry name None = Err (fault.Unknown name)
+named_entry name (Some text) = Ok (record { name = name; text = text })
 
 module _ (kind : Kind) (own : List Entry) where
   -- the text under a name: the library's for the kind, or else one of the study's own sentences
-  abbrev pub text_of : List ℕ → Option (List ℕ)
-  text_of name = or_own (text_under kind name) (text_among own name)
+  abbrev pub text_under_name : List ℕ → Option (List ℕ)
+  text_under_name name = or_own (text_under kind name) (text_among own name)
 
   -- each name with its text, or the first that has none
   abbrev pub listed : List (List ℕ) → Result (List Entry) StudyFault
   listed [] = Ok []
-  listed (name ∷ names) = entry_of name (text_of name) >>= (λ e. listed names >>= (λ entries. Ok (e ∷ entries)))
+  listed (name ∷ names) = named_entry name (text_under_name name) >>= (λ e. listed names >>= (λ entries. Ok (e ∷ entries)))
 
   -- a name is in the library for the kind and among the study's own sentences
   abbrev pub is_in_both : List ℕ → Bool

@@ -31,15 +31,15 @@ pub record IsUnread (entries : List Entry) (name : List ℕ) (reason : SyntaxFau
   pub not_memory : reason ≢ syntax_fault.NoMemory
 
 -- what is answered of a listing: the first text that does not read, or what all texts read as
-pub data IsAnswer (listing : Listing) (answer : Result Question StudyFault) : Type 0 where
-  refused : (name : List ℕ) (reason : SyntaxFault) → IsUnread listing.axioms name reason → answer ≡ Err (fault.Syntax name reason) → IsAnswer listing answer
-  read : (sentences : List Worded) → AreReadAs listing.axioms sentences → answer ≡ study_of listing.size listing.conflicts sentences → IsAnswer listing answer
+pub data IsListingAnswer (listing : Listing) (answer : Result Question StudyFault) : Type 0 where
+  refused : (name : List ℕ) (reason : SyntaxFault) → IsUnread listing.axioms name reason → answer ≡ Err (fault.Syntax name reason) → IsListingAnswer listing answer
+  read : (sentences : List Worded) → AreReadAs listing.axioms sentences → answer ≡ study_of listing.size listing.conflicts sentences → IsListingAnswer listing answer
 
 -- what is answered of a listing that may have been refused
-abbrev pub IsAnswered : Result Listing StudyFault → Result Question StudyFault → Type 0
-IsAnswered (Ok listing) answer = IsAnswer listing answer
-IsAnswered (Err e) answer = answer ≡ Err e
+abbrev pub AnswersListing : Result Listing StudyFault → Result Question StudyFault → Type 0
+AnswersListing (Ok listing) answer = IsListingAnswer listing answer
+AnswersListing (Err e) answer = answer ≡ Err e
 
 -- the bytes give this study, or this refusal
 abbrev pub IsStudyOf : List ℕ → Result Question StudyFault → Type 0
-IsStudyOf bytes answer = IsAnswered (listing_in (document_of bytes)) answer
+IsStudyOf bytes answer = AnswersListing (listing_in (document_of bytes)) answer

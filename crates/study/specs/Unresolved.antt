@@ -1,6 +1,6 @@
 -- What the program's sentences are to a contract, and what is known of each.
 use Rattle.std.specs.Prelude.{◌≡◌, ◌≢◌, ℕ, ◌≤◌, Bool, true, ◌&&◌, nat_le, List, [], ◌∷◌}
-use Rattle.vocab.specs.NamedDepth.{depth, quantifiers}
+use Rattle.vocab.specs.NamedDepth.{named_depth, quantifiers}
 use Rattle.vocab.specs.NamedView.{named_tree}
 use Rattle.vocab.specs.Limits as limits
 use Rattle.vocab.specs.Size.{Extent}
@@ -27,7 +27,7 @@ pub record IsReadAs (e : Entry) (w : Worded) : Type 0 where
   pub sentence : IsSentence e.text w.sentence
 
 -- a text is refused
-pub record IsRefused (e : Entry) (refusal : StudyFault) : Type 0 where
+pub record IsTextRefused (e : Entry) (refusal : StudyFault) : Type 0 where
   pub reason : SyntaxFault
   pub unread : IsFault e.text reason
   pub not_memory : reason ≢ syntax_fault.NoMemory
@@ -42,7 +42,7 @@ pub record IsFirstRefused (entries : List Entry) (refusal : StudyFault) : Type 0
 
 -- a sentence has depth at most 64, and at most 12 quantifiers on one path
 pub record IsSmall (w : Worded) : Type 0 where
-  pub shallow : depth w.sentence ≤ 64
+  pub shallow : named_depth w.sentence ≤ 64
   pub few_quantifiers : quantifiers w.sentence ≤ 12
 
 -- each of some sentences has

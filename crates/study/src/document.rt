@@ -4,7 +4,7 @@ ghost use Rattle.std.specs.Option.{ok_or};
 ghost use Rattle.std.specs.Prelude.{◌≡◌, ◌≢◌, IfOk, codes, option_map, string_bytes};
 ghost use Rattle.toml.specs.Data.{get_member};
 ghost use Rattle.toml.specs.View.{view, items_view, table_view};
-ghost use Rattle.study.specs.Document.{kind_of, integer_of, absent_of, conflicts_of, texts_in, ballots_of, axioms_of, own_sentence, sentences_in, sentences_of, is_key, known_keys, head_of, draft_of};
+ghost use Rattle.study.specs.Document.{document_kind, integer_of, absent_of, conflicts_of, texts_in, ballots_of, axioms_of, own_sentence, sentences_in, sentences_of, is_key, known_keys, head_of, draft_of};
 ghost use Rattle.study.specs.Refusing.{refused_as, Gives};
 ghost use Rattle.study.specs.Steps.{last_of};
 
@@ -34,8 +34,8 @@ fn value_at<'a>(table: &'a Table, key: &str) -> Option<&'a Value>
 }
 
 /// The kind of a rule.
-fn kind_of(value: Option<&Value>) -> Option<Kind>
-    ensures { result ≡ kind_of (option_map (λ value. view value.now) value.entry) }
+fn document_kind(value: Option<&Value>) -> Option<Kind>
+    ensures { result ≡ document_kind (option_map (λ value. view value.now) value.entry) }
 {
     match value {
         Some(Value::String(text)) if text.as_str() == "choice" => Some(Kind::Choice),
@@ -112,7 +112,7 @@ fn ballots_of(alloc: Global, value: Option<&Value>) -> Result<Option<Texts>, Stu
 fn head_of(alloc: Global, table: &Table) -> Result<Head, StudyFault>
     ensures { Gives (refused_as StudyFault.Key (head_of (table_view table.now))) result }
 {
-    let Some(kind) = kind_of(value_at(table, "kind")) else {
+    let Some(kind) = document_kind(value_at(table, "kind")) else {
         return Err(key_fault(alloc, "kind"));
     };
     let Some(voters) = integer_of(value_at(table, "voters")) else {

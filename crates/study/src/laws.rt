@@ -1,11 +1,11 @@
 //! What holds of all bytes.
 
-ghost use Rattle.study.specs.Laws.{ArePlain, AreWhole, HaveBallots, HaveOneAnswer};
+ghost use Rattle.study.specs.Laws.{ArePlain, AreWhole, HaveBallots, ListingsHaveOneAnswer};
 
 /// Bytes have at most one answer, want of memory aside. So each refusal comes exactly where it is the first
 /// that holds.
 pub fn studies_have_one_answer()
-    ensures { HaveOneAnswer }
+    ensures { ListingsHaveOneAnswer }
 {}
 
 /// Each study that bytes give is one that the bench takes, at a size; its axioms have names, at most 40.

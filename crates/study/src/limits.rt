@@ -4,7 +4,7 @@ ghost use Rattle.std.specs.Prelude.{◌≡◌};
 ghost use Rattle.vocab.specs.Limits.{instance_count, atom_count};
 ghost use Rattle.vocab.specs.Tree.{tree_of};
 ghost use Rattle.study.specs.Refusing.{Gives};
-ghost use Rattle.study.specs.Sentences.{told, most_of, count_of, refusal_of, opened, within};
+ghost use Rattle.study.specs.Sentences.{told_count, limit_number, count_of, limit_refusal, opened, within};
 ghost use Rattle.study.specs.Steps.{fitting};
 
 use crate::faults::StudyFault;
@@ -22,7 +22,7 @@ enum Limit {
 /// How many instances a sentence has, at most 2^64 - 1.
 #[tactic(auto, using(crate::proofs::Counting::told_times))]
 pub fn instances(size: Size, sentence: &Formula) -> u64
-    ensures { result ≡ told (instance_count size (tree_of sentence.now)) }
+    ensures { result ≡ told_count (instance_count size (tree_of sentence.now)) }
 {
     match sentence {
         Formula::All(sort, inner) => {
@@ -36,7 +36,7 @@ pub fn instances(size: Size, sentence: &Formula) -> u64
 /// How many atoms a formula has, quantifiers written out, at most 2^64 - 1.
 #[tactic(auto, using(crate::proofs::Counting::told_times, crate::proofs::Counting::told_plus))]
 pub fn atoms(size: Size, formula: &Formula) -> u64
-    ensures { result ≡ told (atom_count size (tree_of formula.now)) }
+    ensures { result ≡ told_count (atom_count size (tree_of formula.now)) }
 {
     match formula {
         Formula::Leaf(_) => 1,
@@ -54,7 +54,7 @@ pub fn atoms(size: Size, formula: &Formula) -> u64
 
 /// The most that is allowed.
 fn most(limit: Limit) -> u64
-    ensures { result ≡ most_of limit }
+    ensures { result ≡ limit_number limit }
 {
     match limit {
         Limit::Instances => 40_000_000,
@@ -65,7 +65,7 @@ fn most(limit: Limit) -> u64
 
 /// What is limited, counted.
 fn count(limit: Limit, size: Size, sentence: &Formula) -> u64
-    ensures { result ≡ told (count_of size limit (tree_of sentence.now)) }
+    ensures { result ≡ told_count (count_of size limit (tree_of sentence.now)) }
 {
     match limit {
         Limit::Instances => instances(size, sentence),
@@ -76,7 +76,7 @@ fn count(limit: Limit, size: Size, sentence: &Formula) -> u64
 
 /// What is refused where the limit is passed.
 fn refusal(limit: Limit, name: Name, count: u64) -> StudyFault
-    ensures { result ≡ refusal_of limit name count }
+    ensures { result ≡ limit_refusal limit name count }
 {
     match limit {
         Limit::Instances => StudyFault::Instances(name, count),

@@ -1,7 +1,7 @@
 //! The size, the limit and the axioms' texts of a study.
 
 ghost use Rattle.std.specs.Prelude.{◌≡◌, ◌≢◌, []};
-ghost use Rattle.study.specs.Listing.{limit_of, few_of, text_of, entry_of, listed, is_in_both, once, listing_of};
+ghost use Rattle.study.specs.Listing.{limit_of, few_of, text_under_name, named_entry, listed, is_in_both, once, listing_of};
 ghost use Rattle.study.specs.Refusing.{Gives};
 ghost use Rattle.study.specs.Steps.{listed_once};
 
@@ -68,8 +68,8 @@ fn unknown(alloc: Global, name: &[u8]) -> StudyFault
 }
 
 /// A name with its text: the library's for the kind, or else the study's own.
-fn entry_of(alloc: Global, kind: Kind, own: &ByName, name: &Text) -> Result<Entry, StudyFault>
-    ensures { Gives (entry_of name.now (text_of kind own.now.entries.now name.now)) result }
+fn named_entry(alloc: Global, kind: Kind, own: &ByName, name: &Text) -> Result<Entry, StudyFault>
+    ensures { Gives (named_entry name.now (text_under_name kind own.now.entries.now name.now)) result }
 {
     let bytes = name.as_slice();
     if let Some(text) = text_under(kind, bytes) {
@@ -89,7 +89,7 @@ fn listed(alloc: Global, kind: Kind, own: &ByName, names: &Texts) -> Result<Entr
 {
     let mut entries = Entries::new(alloc);
     for name in names.as_slice() {
-        let entry = entry_of(alloc, kind, own, name)?;
+        let entry = named_entry(alloc, kind, own, name)?;
         entries.push(entry)?;
     }
     Ok(entries)

@@ -3,7 +3,7 @@
 ghost use Rattle.std.specs.Prelude.{◌≡◌, ◌≢◌, Ok, Err, IfOk, IfErr, map};
 ghost use Rattle.study.specs.Document.{document_of};
 ghost use Rattle.study.specs.Listing.{IsListing};
-ghost use Rattle.study.specs.Reading.{listing_in, IsAnswer, IsStudyOf};
+ghost use Rattle.study.specs.Reading.{listing_in, IsListingAnswer, IsStudyOf};
 ghost use Rattle.study.specs.Refusing.{Gives};
 ghost use Rattle.study.specs.Sentences.{AreReadAs, study_of};
 ghost use Rattle.study.specs.Unresolved.{worded_of};
@@ -35,8 +35,9 @@ fn study_of(alloc: Global, listing: &Listing, sentences: &[Unresolved]) -> Resul
 /// sentence.
 pub fn answer_of(alloc: Global, listing: &Listing) -> Result<Study, StudyFault>
     requires { IsListing listing.now }
-    ensures ok { IfOk result (λ study. IsAnswer listing.now (Ok study)) }
-    ensures refused { IfErr result (λ fault. fault ≢ StudyFault.NoMemory → IsAnswer listing.now (Err fault)) }
+    ensures ok { IfOk result (λ study. IsListingAnswer listing.now (Ok study)) }
+    ensures refused { IfErr result
+        (λ fault. fault ≢ StudyFault.NoMemory → IsListingAnswer listing.now (Err fault)) }
 {
     let sentences = match read_all(alloc, listing.axioms.as_slice()) {
         Ok(sentences) => sentences,

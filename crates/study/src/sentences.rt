@@ -4,7 +4,7 @@ ghost use Rattle.std.specs.Prelude.{◌≢◌, map, IsTrue, IfOk, IfErr};
 ghost use Rattle.std.specs.List.{list_all};
 ghost use Rattle.study.specs.Refusing.{Gives};
 ghost use Rattle.study.specs.Sentences.{AreReadAs, resolved_one, resolved_all};
-ghost use Rattle.study.specs.Unresolved.{worded_of, IsReadAs, IsRefused, IsFirstRefused, IsSmall, AreSmall, is_sound};
+ghost use Rattle.study.specs.Unresolved.{worded_of, IsReadAs, IsTextRefused, IsFirstRefused, IsSmall, AreSmall, is_sound};
 
 use crate::entries::Entry;
 use crate::faults::StudyFault;
@@ -34,7 +34,7 @@ impl Drop for Unresolved {
 /// The sentence of a text, or why it has none.
 fn read_one(alloc: Global, entry: &Entry) -> Result<Unresolved, StudyFault>
     ensures read { IfOk result (λ w. IsReadAs entry.now (worded_of w)) }
-    ensures refused { IfErr result (λ fault. fault ≢ StudyFault.NoMemory → IsRefused entry.now fault) }
+    ensures refused { IfErr result (λ fault. fault ≢ StudyFault.NoMemory → IsTextRefused entry.now fault) }
 {
     let name = entry.name();
     match read(alloc, entry.text().as_slice()) {

@@ -55,17 +55,17 @@ IsPlacedIn (Some text) name said =
     (offset : ℕ) × (next : List LexemeKind) × IsFurthest text offset next × (said ≡ place_lines name text offset next)
 
 -- the same, where the study lists its axioms
-abbrev pub IsPlaced : Result Listing StudyFault → (name said : List ℕ) → Type 0
-IsPlaced (Err e) name said = said ≡ []
-IsPlaced (Ok listing) name said = IsPlacedIn (text_in listing.axioms name) name said
+abbrev pub IsPlacedInListing : Result Listing StudyFault → (name said : List ℕ) → Type 0
+IsPlacedInListing (Err e) name said = said ≡ []
+IsPlacedInListing (Ok listing) name said = IsPlacedIn (text_in listing.axioms name) name said
 
 -- this helps with a fault of the bytes of a study, where so much has to be looked at
-abbrev pub IsSaid : (bytes : List ℕ) → Asked → StudyFault → (said : List ℕ) → Type 0
-IsSaid bytes (ask.Place name) reason said = IsPlaced (listing_in (document_of bytes)) name said
-IsSaid bytes (ask.Values fault) reason said = said ≡ sort_words_in (listing_in (document_of bytes)) fault
-IsSaid bytes ask.Axioms reason said = said ≡ axiom_words (document_of bytes)
-IsSaid bytes ask.Words reason said = said ≡ fixed_words reason
+abbrev pub HelpsWith : (bytes : List ℕ) → Asked → StudyFault → (said : List ℕ) → Type 0
+HelpsWith bytes (ask.Place name) reason said = IsPlacedInListing (listing_in (document_of bytes)) name said
+HelpsWith bytes (ask.Values fault) reason said = said ≡ sort_words_in (listing_in (document_of bytes)) fault
+HelpsWith bytes ask.Axioms reason said = said ≡ axiom_words (document_of bytes)
+HelpsWith bytes ask.Words reason said = said ≡ fixed_words reason
 
 -- this is said to help with a fault of the bytes of a study
 abbrev pub IsHelp : (bytes : List ℕ) → StudyFault → (said : List ℕ) → Type 0
-IsHelp bytes reason said = IsSaid bytes (asked_of reason) reason said
+IsHelp bytes reason said = HelpsWith bytes (asked_of reason) reason said

@@ -2,7 +2,7 @@
 use Rattle.std.specs.Prelude.{ℕ, ◌-◌, ◌&&◌, nat_lt, nat_le, List, [], ◌∷◌, ◌++◌, length, map, take, drop, codes, decimal, if◌then◌else◌}
 use Rattle.std.specs.List.{flat_map}
 use Rattle.sentence_fronts.specs.declared.lexeme_kinds.LexemeKind.{LexemeKind}
-use Rattle.sentence_fronts.specs.LexemeKinds.{kind_text}
+use Rattle.sentence_fronts.specs.LexemeKinds.{lexeme_kind_text}
 
 -- a byte of a line: one that is printed in ASCII, or a blank
 abbrev pub shown_byte : ℕ → ℕ
@@ -27,12 +27,12 @@ there_text (c ∷ cs) = quoted (first_bytes (c ∷ cs))
 
 -- one kind more
 abbrev pub more_text : LexemeKind → List ℕ
-more_text k = codes ", " ++ kind_text k
+more_text k = codes ", " ++ lexeme_kind_text k
 
 -- what may stand there, one after the other
 abbrev pub kinds_text : List LexemeKind → List ℕ
 kinds_text [] = []
-kinds_text (k ∷ ks) = kind_text k ++ flat_map more_text ks
+kinds_text (k ∷ ks) = lexeme_kind_text k ++ flat_map more_text ks
 
 -- the lines of the place: its offset, what reads before it, what stands there, and what may
 abbrev pub offset_line : (name : List ℕ) → (offset : ℕ) → List ℕ

@@ -5,7 +5,7 @@ ghost use Rattle.std.specs.Prelude.{◌≡◌, ◌<◌, length, option_map, Some
 ghost use Rattle.std.specs.Str.{bytes_eq};
 ghost use Rattle.study.specs.Document.{document_of};
 ghost use Rattle.study.specs.Reading.{listing_in};
-ghost use Rattle.study_help.specs.Help.{IsHelp, IsPlaced, IsPlacedIn, asked_of, asked_of_text, text_in};
+ghost use Rattle.study_help.specs.Help.{IsHelp, IsPlacedInListing, IsPlacedIn, asked_of, asked_of_text, text_in};
 
 use crate::places::put_place;
 use edge::Bytes;
@@ -103,7 +103,7 @@ fn place_in(alloc: Global, name: &Name, text: &[u8]) -> Result<Bytes, NoMemory>
 
 /// The furthest place of the text of an axiom of a listing.
 fn placed(alloc: Global, listing: &Listing, name: &Name) -> Result<Bytes, NoMemory>
-    ensures { IfOk result (IsPlaced (Ok listing.now) name.now) }
+    ensures { IfOk result (IsPlacedInListing (Ok listing.now) name.now) }
 {
     match text_in(listing.axioms.as_slice(), name.bytes()) {
         Some(text) => place_in(alloc, name, text.as_slice()),
@@ -113,7 +113,7 @@ fn placed(alloc: Global, listing: &Listing, name: &Name) -> Result<Bytes, NoMemo
 
 /// The same for bytes.
 fn placed_in(alloc: Global, bytes: &[u8], name: &Name) -> Result<Bytes, NoMemory>
-    ensures { IfOk result (IsPlaced (listing_in (document_of bytes.now)) name.now) }
+    ensures { IfOk result (IsPlacedInListing (listing_in (document_of bytes.now)) name.now) }
 {
     match listing_in(alloc, bytes) {
         Ok(listing) => placed(alloc, &listing, name),

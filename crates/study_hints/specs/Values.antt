@@ -9,7 +9,7 @@ use Rattle.vocab.specs.Size.{Extent, sort_count}
 use Rattle.meaning.specs.Texts.{ballot_text, kind_text}
 use Rattle.sorts.specs.Constants.{ballot_constant_text, ballot_value}
 use Rattle.axiom_library.specs.Library.{Entry, library}
-use Rattle.study.specs.Document.{kind_of}
+use Rattle.study.specs.Document.{document_kind}
 
 -- ---- a variable that nothing binds
 
@@ -82,7 +82,7 @@ library_line (Some kind) = codes "help axioms of " ++ kind_text kind ++ codes ":
 
 -- the axioms that a document may list
 abbrev pub document_lines : Members → List ℕ
-document_lines document = library_line (kind_of (get_member (codes "kind") document)) ++ own_line (get_member (codes "sentences") document)
+document_lines document = library_line (document_kind (get_member (codes "kind") document)) ++ own_line (get_member (codes "sentences") document)
 
 -- the same of a document that may be missing
 abbrev pub axiom_words : Option Members → List ℕ

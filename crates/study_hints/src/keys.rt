@@ -5,7 +5,7 @@ ghost use Rattle.meaning.specs.Texts.{kind_text};
 ghost use Rattle.axiom_library.specs.Library.{library};
 ghost use Rattle.toml.specs.Data.{get_member};
 ghost use Rattle.toml.specs.View.{view, table_view};
-ghost use Rattle.study.specs.Document.{kind_of};
+ghost use Rattle.study.specs.Document.{document_kind};
 ghost use Rattle.study_hints.specs.Values.{document_lines, keys_in, library_line, library_names, name_text, own_line, own_names};
 
 use axiom_library::{count, name_at};
@@ -22,8 +22,8 @@ fn value_at<'a>(table: &'a Table, key: &str) -> Option<&'a Value>
 }
 
 /// The kind of a rule.
-fn kind_of(value: Option<&Value>) -> Option<Kind>
-    ensures { result ≡ kind_of (option_map (λ value. view value.now) value.entry) }
+fn document_kind(value: Option<&Value>) -> Option<Kind>
+    ensures { result ≡ document_kind (option_map (λ value. view value.now) value.entry) }
 {
     match value {
         Some(Value::String(text)) if text.as_str() == "choice" => Some(Kind::Choice),
@@ -122,7 +122,7 @@ fn put_own_line(out: &mut Bytes, value: Option<&Value>) -> Result<(), NoMemory>
 pub(crate) fn put_document(out: &mut Bytes, table: &Table) -> Result<(), NoMemory>
     ensures { OnOk result (out.new ≡ out.old ++ document_lines (table_view table.now)) }
 {
-    put_library_line(out, kind_of(value_at(table, "kind")))?;
+    put_library_line(out, document_kind(value_at(table, "kind")))?;
     put_own_line(out, value_at(table, "sentences"))?;
     Ok(())
 }

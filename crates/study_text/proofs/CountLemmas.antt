@@ -10,7 +10,7 @@ use Rattle.std.proofs.lemmas.Option.{get_or_from_slice_get, slice_get_within}
 use Rattle.meaning.specs.declared.clauses.Origin.{Origin}
 use Rattle.meaning.specs.StudyClauses.{Sourced}
 use Rattle.clause_form.specs.Sources.{origins_in}
-use Rattle.study.specs.Sentences.{told}
+use Rattle.study.specs.Sentences.{told_count}
 use Rattle.study_text.specs.Shares.{is_from, kept_of}
 
 -- one clause more
@@ -39,7 +39,7 @@ count_whole place k kept sources end so_far =
     ∙ ap (count_by (is_from place)) (take-length (origins_in sources))
 
 -- a count within the limits is told as it is
-pub told_whole : (r n : ℕ) → r ≡ told n → n ≤ 200000000 → r ≡ n
+pub told_whole : (r n : ℕ) → r ≡ told_count n → n ≤ 200000000 → r ≡ n
 told_whole r n e few = let held : r ≡ min n 18446744073709551615 = e in omega (arith, few, held)
 
 -- a product that a machine holds

@@ -11,7 +11,7 @@ use Rattle.vocab.specs.Study.{Question}
 use Rattle.vocab.specs.Titled.{Titled}
 use Rattle.meaning.specs.StudyClauses.{Sourced, study_clauses}
 use Rattle.meaning.specs.Variables.{variable_count}
-use Rattle.syntax.specs.Canonical.{text_of}
+use Rattle.syntax.specs.Canonical.{canonical_text}
 use Rattle.instance_text.specs.Bodies.{named_sentence}
 use Rattle.report_text.specs.Pieces.{about_lines, lines_text}
 use Rattle.search_logs.specs.Spent.{all_places}
@@ -19,7 +19,7 @@ use Rattle.verdicts.specs.Report.{own_version}
 use Rattle.study_text.specs.declared.look.Look.{Look}
 use Rattle.study_text.specs.declared.shares.Share.{Share}
 use Rattle.study_text.specs.declared.shares.Share.TheVariants as share
-use Rattle.study_text.specs.Shares.{all_shares, count_of, kept_of, literals_of, most_of, nearest}
+use Rattle.study_text.specs.Shares.{all_shares, share_count, kept_of, kept_literal_count, share_limit, nearest}
 
 -- ---- counts and limits
 
@@ -38,7 +38,7 @@ word_of (share.Literals count) = codes "literals"
 
 -- a count beside its limit
 abbrev pub share_line : Share → List ℕ
-share_line s = word_of s ++ codes " " ++ decimal (count_of s) ++ codes " of " ++ decimal (most_of s) ++ codes "\n"
+share_line s = word_of s ++ codes " " ++ decimal (share_count s) ++ codes " of " ++ decimal (share_limit s) ++ codes "\n"
 
 -- the axiom of a count, as a refusal names it
 abbrev pub owner_text : Share → List ℕ
@@ -62,7 +62,7 @@ kept_line count = if count == 0 then codes "asks nothing\n" else number_line (co
 
 -- the name of an axiom and its sentence
 abbrev pub title_lines : Extent → Titled → List ℕ
-title_lines size a = codes "axiom " ++ a.name ++ codes "\nsentence " ++ text_of (named_sentence size a.sentence) ++ codes "\n"
+title_lines size a = codes "axiom " ++ a.name ++ codes "\nsentence " ++ canonical_text (named_sentence size a.sentence) ++ codes "\n"
 
 -- the lines of an axiom of which so many clauses are kept
 abbrev pub axiom_lines : Extent → (count : ℕ) → Titled → List ℕ
@@ -84,7 +84,7 @@ module _ (study : Question) (kept : List Sourced) where
   abbrev pub last_lines : List ℕ
   last_lines =
       share_line (share.Clauses (length kept))
-      ++ share_line (share.Literals (literals_of kept))
+      ++ share_line (share.Literals (kept_literal_count kept))
       ++ nearest_line (nearest (all_shares study kept))
       ++ codes "end\n"
 

@@ -26,28 +26,28 @@ abbrev pub kept_of : (place : ℕ) → List Sourced → ℕ
 kept_of place kept = count_by (is_from place) (origins_in kept)
 
 -- how many literals the kept clauses have
-abbrev pub literals_of : List Sourced → ℕ
-literals_of kept = sum_by length (clauses_in kept)
+abbrev pub kept_literal_count : List Sourced → ℕ
+kept_literal_count kept = sum_by length (clauses_in kept)
 
 -- ---- limits
 
 -- the count
-abbrev pub count_of : Share → ℕ
-count_of (share.Profiles count) = count
-count_of (share.Instances name count) = count
-count_of (share.Body name count) = count
-count_of (share.Work name count) = count
-count_of (share.Clauses count) = count
-count_of (share.Literals count) = count
+abbrev pub share_count : Share → ℕ
+share_count (share.Profiles count) = count
+share_count (share.Instances name count) = count
+share_count (share.Body name count) = count
+share_count (share.Work name count) = count
+share_count (share.Clauses count) = count
+share_count (share.Literals count) = count
 
 -- the limits of the bench
-abbrev pub most_of : Share → ℕ
-most_of (share.Profiles count) = 20000
-most_of (share.Instances name count) = 40000000
-most_of (share.Body name count) = 1000000
-most_of (share.Work name count) = 200000000
-most_of (share.Clauses count) = 4000000
-most_of (share.Literals count) = 60000000
+abbrev pub share_limit : Share → ℕ
+share_limit (share.Profiles count) = 20000
+share_limit (share.Instances name count) = 40000000
+share_limit (share.Body name count) = 1000000
+share_limit (share.Work name count) = 200000000
+share_limit (share.Clauses count) = 4000000
+share_limit (share.Literals count) = 60000000
 
 -- what is limited of an axiom: its instances, the atoms of its body, and those of the whole
 abbrev pub shares_of : Extent → Titled → List Share
@@ -61,13 +61,13 @@ abbrev pub all_shares : Question → List Sourced → List Share
 all_shares study kept =
     share.Profiles (sort_count study.size Profile) ∷ []
     ++ flat_map (shares_of study.size) study.axioms
-    ++ share.Clauses (length kept) ∷ share.Literals (literals_of kept) ∷ []
+    ++ share.Clauses (length kept) ∷ share.Literals (kept_literal_count kept) ∷ []
 
 -- ---- the nearest
 
 -- the first is a greater part of its limit than the second
 unfoldable pub is_nearer : Share → Share → Bool
-is_nearer s t = nat_lt (count_of t * most_of s) (count_of s * most_of t)
+is_nearer s t = nat_lt (share_count t * share_limit s) (share_count s * share_limit t)
 
 -- one of them is a greater part of its limit
 abbrev pub is_passed : List Share → Share → Bool

@@ -1,7 +1,7 @@
 //! Kept clauses, counted.
 
 ghost use Rattle.std.specs.Prelude.{◌≡◌, ◌≤◌, length};
-ghost use Rattle.study_text.specs.Shares.{is_from, kept_of, literals_of};
+ghost use Rattle.study_text.specs.Shares.{is_from, kept_of, kept_literal_count};
 
 use clause_form::Ground;
 use meaning::Origin;
@@ -36,8 +36,8 @@ pub(crate) fn kept_of(ground: &Ground, place: u32) -> u32
 }
 
 /// How many literals they have.
-pub(crate) fn literals_of(ground: &Ground) -> u32
-    ensures value { result ≡ literals_of ground.now }
+pub(crate) fn kept_literal_count(ground: &Ground) -> u32
+    ensures value { result ≡ kept_literal_count ground.now }
     ensures few { result ≤ 60000000 }
 {
     let clauses = ground.clauses();

@@ -7,7 +7,7 @@ ghost use Rattle.search_logs.specs.Spent.{all_places};
 ghost use Rattle.texts.specs.Page.{Pours};
 ghost use Rattle.study_text.specs.LookText.{last_lines, made_text, study_text};
 
-use crate::kept::{count_all, literals_of};
+use crate::kept::{count_all, kept_literal_count};
 use crate::lines::{put_axioms, put_nearest, put_number_line, put_share};
 use crate::shares::{Share, all_shares, nearest};
 use clause_form::Ground;
@@ -47,7 +47,7 @@ fn put_last(
 {
     let shares = all_shares(alloc, space, study, ground)?;
     put_share(out, &Share::Clauses(count_all(ground)))?;
-    put_share(out, &Share::Literals(literals_of(ground)))?;
+    put_share(out, &Share::Literals(kept_literal_count(ground)))?;
     put_nearest(out, nearest(shares.as_slice()))?;
     out.append(b"end\n")?;
     Ok(())

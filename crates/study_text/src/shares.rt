@@ -4,9 +4,9 @@ ghost use Rattle.std.specs.Prelude.{◌≡◌, ◌*◌, ◌<◌, ◌≤◌, ◌+
 ghost use Rattle.std.specs.List.{flat_map, position};
 ghost use Rattle.vocab.specs.Limits.{instance_count, atom_count};
 ghost use Rattle.vocab.specs.Formula.{body_of};
-ghost use Rattle.study_text.specs.Shares.{all_shares, count_of, is_nearer, is_nearest, is_passed, most_of, nearest, shares_of};
+ghost use Rattle.study_text.specs.Shares.{all_shares, share_count, is_nearer, is_nearest, is_passed, share_limit, nearest, shares_of};
 
-use crate::kept::{count_all, literals_of};
+use crate::kept::{count_all, kept_literal_count};
 use clause_form::Ground;
 use lists::{Items, NoMemory};
 use profiles::Space;
@@ -29,7 +29,7 @@ pub(crate) enum Share {
 impl Share {
     /// The count.
     pub(crate) fn count(&self) -> u32
-        ensures { result ≡ count_of self.now }
+        ensures { result ≡ share_count self.now }
     {
         match self {
             Share::Profiles(count) => *count,
@@ -43,7 +43,7 @@ impl Share {
 
     /// The most that is allowed.
     pub(crate) fn most(&self) -> u32
-        ensures value { result ≡ most_of self.now }
+        ensures value { result ≡ share_limit self.now }
         ensures few { result ≤ 200000000 }
     {
         match self {
@@ -137,7 +137,7 @@ pub(crate) fn all_shares(
     shares.push(Share::Profiles(space.count()))?;
     add_axioms(&mut shares, study)?;
     shares.push(Share::Clauses(count_all(ground)))?;
-    shares.push(Share::Literals(literals_of(ground)))?;
+    shares.push(Share::Literals(kept_literal_count(ground)))?;
     Ok(shares)
 }
 

@@ -7,15 +7,10 @@ use Rattle.vocab.specs.NamedView.{named_term_tree, named_terms_tree, arguments_o
 use Rattle.vocab.specs.declared.named.NamedTerm.{NamedTerm}
 use Rattle.vocab.specs.declared.named.Terms.{Terms}
 use Rattle.vocab.specs.NamedDepth.{term_depth, terms_depth}
-use Rattle.syntax.proofs.Views.{named_terms_tree-items}
+use Rattle.vocab.proofs.TermLemmas.{member_depth, named_terms_tree-items}
 
 abbrev pub list_depth : List NamedTerm → ℕ
 list_depth xs = terms_depth (arguments_of (map named_term_tree xs))
-
-pub member_depth : (xs : List NamedTerm) (i : ℕ) (x : NamedTerm) → slice_get xs i ≡ Some x → term_depth (named_term_tree x) ≤ list_depth xs
-member_depth [] i x h = absurd cc
-member_depth (y ∷ xs) zero x h = let e : y ≡ x = cc in let d = ap (λ t. term_depth (named_term_tree t)) e in omega arith
-member_depth (y ∷ xs) (suc i) x h = let d = member_depth xs i x h in omega arith
 
 take_depth : (xs : List NamedTerm) (i m : ℕ) (x : NamedTerm) → slice_get xs i ≡ Some x → list_depth (take i xs) ≤ m → term_depth (named_term_tree x) ≤ m → list_depth (take (suc i) xs) ≤ m
 take_depth [] i m x h a b = absurd cc

@@ -1,9 +1,10 @@
 -- Lexemes of a text, one after another.
-use Rattle.std.proofs.Common.{◌≡◌, ℕ, ◌+◌, ◌-◌, ◌≤◌, ◌<◌, Bool, true, false, List, [], ◌∷◌, ◌++◌, length, refl, sym, ap, ◌∙◌, subst, arith, append_assoc, append-nil, length-append, None, ◌||◌, ◌==◌, ◌⊎◌, inl, inr}
-use Rattle.syntax.proofs.Starting.{none_starts, one_start, equal_bytes}
+use Rattle.std.proofs.Common.{◌≡◌, ℕ, ◌+◌, ◌-◌, ◌≤◌, ◌<◌, true, false, List, [], ◌∷◌, ◌++◌, length, refl, sym, ap, ◌∙◌, subst, arith, append_assoc, append-nil, length-append, None, ◌||◌, ◌==◌, inl, inr, eqb-true}
+use Rattle.std.proofs.lemmas.Bool.{or_cases}
+use Rattle.syntax.proofs.Starting.{none_starts, one_start}
 use Rattle.syntax.specs.declared.lexemes.Lexeme.{Lexeme}
 use Rattle.syntax.specs.declared.lexemes.Lexeme.TheVariants as lexeme
-use Rattle.syntax.specs.Lexemes.{IsSpelled, Starts, NoLexeme, Lexes, no_more, blank, one_more, is_blank, IsStuck, IsLexed}
+use Rattle.syntax.specs.Lexemes.{IsSpelled, Starts, NoLexeme, Lexes, no_more, blank, one_more, is_white_space, IsStuck, IsLexed}
 use Rattle.syntax.specs.Scanning.{lexeme_at}
 use Rattle.syntax.specs.Sentence.{AreFew}
 
@@ -18,7 +19,7 @@ pub record SoFar (text : List ℕ) (kept : List Lexeme) (count : ℕ) (rest : Li
 pub so_far_none : (text : List ℕ) → SoFar text [] 0 text
 so_far_none text = record { before = []; lexed = λ ls end d. d; counted = refl; all_kept = λ h. refl; within = omega arith }
 
-pub so_far_blank : (text rest more : List ℕ) (kept : List Lexeme) (count c : ℕ) → SoFar text kept count rest → rest ≡ c ∷ more → is_blank c ≡ true → SoFar text kept count more
+pub so_far_blank : (text rest more : List ℕ) (kept : List Lexeme) (count c : ℕ) → SoFar text kept count rest → rest ≡ c ∷ more → is_white_space c ≡ true → SoFar text kept count more
 so_far_blank text rest more kept count c s e b = record {
   before = s.before;
   lexed = λ ls end d. s.lexed ls end (subst (λ r. Lexes r ls end) (sym e) (blank b d));
@@ -59,7 +60,7 @@ few_lexed text kept count rest s e h =
 pub many_lexed : (text : List ℕ) (kept : List Lexeme) (count : ℕ) (rest : List ℕ) → SoFar text kept count rest → rest ≡ [] → 600 < count → (ls : List Lexeme) × IsLexed text ls × (length ls ≡ count) × (600 < count)
 many_lexed text kept count rest s e h = (s.before, lexed_all text kept count rest s e, s.counted, h)
 
-pub stuck : (text : List ℕ) (kept : List Lexeme) (count : ℕ) (rest more : List ℕ) (c : ℕ) → SoFar text kept count rest → rest ≡ c ∷ more → is_blank c ≡ false → lexeme_at rest ≡ None → IsStuck text (length text - length rest)
+pub stuck : (text : List ℕ) (kept : List Lexeme) (count : ℕ) (rest more : List ℕ) (c : ℕ) → SoFar text kept count rest → rest ≡ c ∷ more → is_white_space c ≡ false → lexeme_at rest ≡ None → IsStuck text (length text - length rest)
 stuck text kept count rest more c s e b h =
     let w = s.within in
     record {
@@ -78,24 +79,20 @@ empty_of (x ∷ xs) h = absurd (omega arith)
 
 -- ---- a text has one list of lexemes
 
-or_true : (a b : Bool) → (a || b) ≡ true → (a ≡ true) ⊎ (b ≡ true)
-or_true true b h = inl refl
-or_true false b h = inr h
-
 none_at : (c d : ℕ) (bytes : List ℕ) → (c == d) ≡ true → lexeme_at (d ∷ bytes) ≡ None → lexeme_at (c ∷ bytes) ≡ None
-none_at c d bytes h k = ap (λ b. lexeme_at (b ∷ bytes)) (equal_bytes c d h) ∙ k
+none_at c d bytes h k = ap (λ b. lexeme_at (b ∷ bytes)) (eqb-true c d h) ∙ k
 
-none_at_blank : (c : ℕ) (bytes : List ℕ) → is_blank c ≡ true → lexeme_at (c ∷ bytes) ≡ None
+none_at_blank : (c : ℕ) (bytes : List ℕ) → is_white_space c ≡ true → lexeme_at (c ∷ bytes) ≡ None
 none_at_blank c bytes b =
-    elim (or_true (c == 9 || c == 10 || c == 13) (c == 32) b) [
-      | inl b1 ↦ elim (or_true (c == 9 || c == 10) (c == 13) b1) [
-        | inl b2 ↦ elim (or_true (c == 9) (c == 10) b2) [ inl h ↦ none_at c 9 bytes h refl | inr h ↦ none_at c 10 bytes h refl ]
+    elim (or_cases (c == 9 || c == 10 || c == 13) (c == 32) b) [
+      | inl b1 ↦ elim (or_cases (c == 9 || c == 10) (c == 13) b1) [
+        | inl b2 ↦ elim (or_cases (c == 9) (c == 10) b2) [ inl h ↦ none_at c 9 bytes h refl | inr h ↦ none_at c 10 bytes h refl ]
         | inr h ↦ none_at c 13 bytes h refl
       ]
       | inr h ↦ none_at c 32 bytes h refl
     ]
 
-starts_not_blank : (c : ℕ) (bytes more : List ℕ) (l : Lexeme) → is_blank c ≡ true → Starts (c ∷ bytes) l more → ⊥
+pub starts_not_blank : (c : ℕ) (bytes more : List ℕ) (l : Lexeme) → is_white_space c ≡ true → Starts (c ∷ bytes) l more → ⊥
 starts_not_blank c bytes more l b s = none_starts (c ∷ bytes) (none_at_blank c bytes b) l more s
 
 pub one_lexing : {text : List ℕ} {ks ls : List Lexeme} → Lexes text ks [] → Lexes text ls [] → ks ≡ ls
@@ -115,9 +112,9 @@ one_lexing {text} (one_more {more = m} {l = k} s d) (one_more {more = n} {l = l}
 -- nothing more is lexed there
 abbrev pub Halts : List ℕ → Type 0
 Halts [] = Unit {0}
-Halts (c ∷ bytes) = (is_blank c ≡ false) × NoLexeme (c ∷ bytes)
+Halts (c ∷ bytes) = (is_white_space c ≡ false) × NoLexeme (c ∷ bytes)
 
-halt_blank : (c : ℕ) (bytes : List ℕ) → Halts (c ∷ bytes) → is_blank c ≡ true → ⊥
+halt_blank : (c : ℕ) (bytes : List ℕ) → Halts (c ∷ bytes) → is_white_space c ≡ true → ⊥
 halt_blank c bytes h b = let p = h.0 in cc
 
 halt_starts : (bytes more : List ℕ) (l : Lexeme) → Halts bytes → Starts bytes l more → ⊥

@@ -7,7 +7,7 @@ use Rattle.syntax.specs.declared.faults.SyntaxFault.TheVariants as fault
 use Rattle.syntax.specs.Lexemes.{IsLexed, IsStuck}
 use Rattle.syntax.specs.Grammar.{Reads}
 use Rattle.syntax.specs.Sentence.{AreFew, HasReading, IsAnswer}
-use Rattle.vocab.specs.NamedDepth.{depth, quantifiers}
+use Rattle.vocab.specs.NamedDepth.{named_depth, quantifiers}
 use Rattle.syntax.proofs.Unique.{one_reading}
 use Rattle.syntax.proofs.Lexings.{one_halt}
 
@@ -38,8 +38,8 @@ one_answer text (Ok f1) (Ok f2) h k = ap Ok (same_tree text f1 f2 h.reading k.re
 one_answer text (Ok f1) (Err (fault.Lexeme n2)) h k = absurd (stuck_or_lexed text n2 h.reading.lexemes k.0 h.reading.are.lexed)
 one_answer text (Ok f1) (Err (fault.Long n2)) h k = absurd (let many : 600 < length k.0.0 = let e = k.0.2 in let m = k.0.3 in omega arith in few_or_many text h.reading.lexemes k.0.0 h.reading.are k.0.1 many)
 one_answer text (Ok f1) (Err fault.NoReading) h k = absurd (read_or_not text k.0.0 f1 k.0.1 k.0.2 h.reading)
-one_answer text (Ok f1) (Err fault.Deep) h k = absurd (let e = same_tree text f1 k.0.0 h.reading k.0.1 in let d = ap depth e in let n = ap quantifiers e in let x1 = h.shallow in let y1 = h.few_variables in let x2 = k.0.2 in omega arith)
-one_answer text (Ok f1) (Err fault.Variables) h k = absurd (let e = same_tree text f1 k.0.0 h.reading k.0.1 in let d = ap depth e in let n = ap quantifiers e in let x1 = h.shallow in let y1 = h.few_variables in let x2 = k.0.2 in let y2 = k.0.3 in omega arith)
+one_answer text (Ok f1) (Err fault.Deep) h k = absurd (let e = same_tree text f1 k.0.0 h.reading k.0.1 in let d = ap named_depth e in let n = ap quantifiers e in let x1 = h.shallow in let y1 = h.few_variables in let x2 = k.0.2 in omega arith)
+one_answer text (Ok f1) (Err fault.Variables) h k = absurd (let e = same_tree text f1 k.0.0 h.reading k.0.1 in let d = ap named_depth e in let n = ap quantifiers e in let x1 = h.shallow in let y1 = h.few_variables in let x2 = k.0.2 in let y2 = k.0.3 in omega arith)
 one_answer text (Err (fault.Lexeme n1)) (Ok f2) h k = absurd (stuck_or_lexed text n1 k.reading.lexemes h.0 k.reading.are.lexed)
 one_answer text (Err (fault.Lexeme n1)) (Err (fault.Lexeme n2)) h k = ap (λ n. Err (fault.Lexeme n)) (same_place text n1 n2 h.0 k.0)
 one_answer text (Err (fault.Lexeme n1)) (Err (fault.Long n2)) h k = absurd (stuck_or_lexed text n1 k.0.0 h.0 k.0.1)
@@ -58,17 +58,17 @@ one_answer text (Err fault.NoReading) (Err (fault.Long n2)) h k = absurd (let ma
 one_answer text (Err fault.NoReading) (Err fault.NoReading) h k = refl
 one_answer text (Err fault.NoReading) (Err fault.Deep) h k = absurd (read_or_not text h.0.0 k.0.0 h.0.1 h.0.2 k.0.1)
 one_answer text (Err fault.NoReading) (Err fault.Variables) h k = absurd (read_or_not text h.0.0 k.0.0 h.0.1 h.0.2 k.0.1)
-one_answer text (Err fault.Deep) (Ok f2) h k = absurd (let e = same_tree text h.0.0 f2 h.0.1 k.reading in let d = ap depth e in let n = ap quantifiers e in let x1 = h.0.2 in let x2 = k.shallow in let y2 = k.few_variables in omega arith)
+one_answer text (Err fault.Deep) (Ok f2) h k = absurd (let e = same_tree text h.0.0 f2 h.0.1 k.reading in let d = ap named_depth e in let n = ap quantifiers e in let x1 = h.0.2 in let x2 = k.shallow in let y2 = k.few_variables in omega arith)
 one_answer text (Err fault.Deep) (Err (fault.Lexeme n2)) h k = absurd (stuck_or_lexed text n2 h.0.1.lexemes k.0 h.0.1.are.lexed)
 one_answer text (Err fault.Deep) (Err (fault.Long n2)) h k = absurd (let many : 600 < length k.0.0 = let e = k.0.2 in let m = k.0.3 in omega arith in few_or_many text h.0.1.lexemes k.0.0 h.0.1.are k.0.1 many)
 one_answer text (Err fault.Deep) (Err fault.NoReading) h k = absurd (read_or_not text k.0.0 h.0.0 k.0.1 k.0.2 h.0.1)
 one_answer text (Err fault.Deep) (Err fault.Deep) h k = refl
-one_answer text (Err fault.Deep) (Err fault.Variables) h k = absurd (let e = same_tree text h.0.0 k.0.0 h.0.1 k.0.1 in let d = ap depth e in let n = ap quantifiers e in let x1 = h.0.2 in let x2 = k.0.2 in let y2 = k.0.3 in omega arith)
-one_answer text (Err fault.Variables) (Ok f2) h k = absurd (let e = same_tree text h.0.0 f2 h.0.1 k.reading in let d = ap depth e in let n = ap quantifiers e in let x1 = h.0.2 in let y1 = h.0.3 in let x2 = k.shallow in let y2 = k.few_variables in omega arith)
+one_answer text (Err fault.Deep) (Err fault.Variables) h k = absurd (let e = same_tree text h.0.0 k.0.0 h.0.1 k.0.1 in let d = ap named_depth e in let n = ap quantifiers e in let x1 = h.0.2 in let x2 = k.0.2 in let y2 = k.0.3 in omega arith)
+one_answer text (Err fault.Variables) (Ok f2) h k = absurd (let e = same_tree text h.0.0 f2 h.0.1 k.reading in let d = ap named_depth e in let n = ap quantifiers e in let x1 = h.0.2 in let y1 = h.0.3 in let x2 = k.shallow in let y2 = k.few_variables in omega arith)
 one_answer text (Err fault.Variables) (Err (fault.Lexeme n2)) h k = absurd (stuck_or_lexed text n2 h.0.1.lexemes k.0 h.0.1.are.lexed)
 one_answer text (Err fault.Variables) (Err (fault.Long n2)) h k = absurd (let many : 600 < length k.0.0 = let e = k.0.2 in let m = k.0.3 in omega arith in few_or_many text h.0.1.lexemes k.0.0 h.0.1.are k.0.1 many)
 one_answer text (Err fault.Variables) (Err fault.NoReading) h k = absurd (read_or_not text k.0.0 h.0.0 k.0.1 k.0.2 h.0.1)
-one_answer text (Err fault.Variables) (Err fault.Deep) h k = absurd (let e = same_tree text h.0.0 k.0.0 h.0.1 k.0.1 in let d = ap depth e in let n = ap quantifiers e in let x1 = h.0.2 in let y1 = h.0.3 in let x2 = k.0.2 in omega arith)
+one_answer text (Err fault.Variables) (Err fault.Deep) h k = absurd (let e = same_tree text h.0.0 k.0.0 h.0.1 k.0.1 in let d = ap named_depth e in let n = ap quantifiers e in let x1 = h.0.2 in let y1 = h.0.3 in let x2 = k.0.2 in omega arith)
 one_answer text (Err fault.Variables) (Err fault.Variables) h k = refl
 one_answer text (Err fault.NoMemory) b h k = absurd (h.1 refl)
 one_answer text a (Err fault.NoMemory) h k = absurd (k.1 refl)

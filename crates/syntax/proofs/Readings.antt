@@ -4,7 +4,7 @@ use Rattle.vocab.specs.NamedTree as tree
 use Rattle.vocab.specs.NamedTree.{NamedTermTree, NamedTermTrees, NamedTree}
 use Rattle.syntax.specs.declared.lexemes.Lexeme.{Lexeme}
 use Rattle.syntax.specs.declared.lexemes.Lexeme.TheVariants as lexeme
-use Rattle.syntax.specs.Grammar.{IsFree, IsTerm, IsTerms, variable, call, voter, alternative, ballot, last_term, more_terms, IsAtom, pred, equal, atom, IsFormula, quantified, negation, group, IsChain, last_part, more_parts, Chains, mark_of, joined, bound, word_of_quantifier, word_of_sort}
+use Rattle.syntax.specs.Grammar.{IsFree, IsTerm, IsTerms, variable, call, voter, alternative, ballot, last_term, more_terms, IsAtom, pred, equal, atom, IsFormula, quantified, negation, group, IsChain, last_part, more_parts, Chains, joint_lexeme, joined_by, bound, word_of_quantifier, word_of_sort}
 use Rattle.syntax.specs.Fronts.{ends_term, ends_formula, BinderAt, NoBinder, AtomAt, NoAtom, FormulaAt, NoFormula, NoChain, TermAt, NoTerm, ListAt, NoTerms}
 use Rattle.std.specs.Borrow.{Bor}
 use Rattle.syntax.specs.declared.parser.Stop.{Stop}
@@ -236,46 +236,46 @@ no_formula_quantified q rest body name s b never g ys d h = no_body q refl b nev
 
 -- ---- groups
 
-only_group : {ls ms end ys : List Lexeme} {j : Joint} {f f' g : NamedTree} → FormulaAt ls f (mark_of j ∷ ms) → IsChain j ms f' end → IsFormula (lexeme.Open ∷ ls) g ys → (g ≡ joined j f f') × (ys ≡ end)
+only_group : {ls ms end ys : List Lexeme} {j : Joint} {f f' g : NamedTree} → FormulaAt ls f (joint_lexeme j ∷ ms) → IsChain j ms f' end → IsFormula (lexeme.Open ∷ ls) g ys → (g ≡ joined_by j f f') × (ys ≡ end)
 only_group {ms} {ys} {j} at c (group {ms = m} {f = k} {g = k'} l d b) =
-    let first = at.only k (mark_of l ∷ m) d (mark_ends l m) in
-    let joints : l ≡ j = let marks : mark_of l ≡ mark_of j = cc in mark_once l j marks in
+    let first = at.only k (joint_lexeme l ∷ m) d (mark_ends l m) in
+    let joints : l ≡ j = let marks : joint_lexeme l ≡ joint_lexeme j = cc in mark_once l j marks in
     let lists : m ≡ ms = cc in
     let later = one_chain (subst (λ o. IsChain o ms k' ys) joints (subst (λ o. IsChain l o k' ys) lists b)) c in
     (cc, later.1)
 only_group at c (atom (equal d e)) = absurd (no_term_at_open d)
 
-pub formula_at_group : (inner rest more end : List Lexeme) (mark : Lexeme) (j : Joint) (f g : NamedTree) → FormulaAt inner f rest → rest ≡ mark ∷ more → mark ≡ mark_of j → IsChain j more g end → FormulaAt (lexeme.Open ∷ inner) (joined j f g) end
+pub formula_at_group : (inner rest more end : List Lexeme) (mark : Lexeme) (j : Joint) (f g : NamedTree) → FormulaAt inner f rest → rest ≡ mark ∷ more → mark ≡ joint_lexeme j → IsChain j more g end → FormulaAt (lexeme.Open ∷ inner) (joined_by j f g) end
 formula_at_group inner rest more end mark j f g at e m c =
-    let at' : FormulaAt inner f (mark_of j ∷ more) = subst (λ l. FormulaAt inner f l) (front e m) at in
+    let at' : FormulaAt inner f (joint_lexeme j ∷ more) = subst (λ l. FormulaAt inner f l) (front e m) at in
     record { spelled = group j at'.spelled c; only = λ k ys d h. only_group at' c d }
 
 no_left : {ls ys : List Lexeme} {g : NamedTree} → NoFormula ls → IsFormula (lexeme.Open ∷ ls) g ys → ⊥
-no_left never (group {ms = m} {f = k} l d b) = never k (mark_of l ∷ m) d (mark_ends l m)
+no_left never (group {ms = m} {f = k} l d b) = never k (joint_lexeme l ∷ m) d (mark_ends l m)
 no_left never (atom (equal d e)) = no_term_at_open d
 
 pub no_group_left : (inner : List Lexeme) → NoFormula inner → NoFormula (lexeme.Open ∷ inner)
 no_group_left inner never g ys d h = no_left never d
 
-no_joint : {ls rest ys : List Lexeme} {f g : NamedTree} → FormulaAt ls f rest → ((j : Joint) (more : List Lexeme) → rest ≡ mark_of j ∷ more → ⊥) → IsFormula (lexeme.Open ∷ ls) g ys → ⊥
-no_joint at never (group {ms = m} {f = k} l d b) = never l m (sym (at.only k (mark_of l ∷ m) d (mark_ends l m)).1)
+no_joint : {ls rest ys : List Lexeme} {f g : NamedTree} → FormulaAt ls f rest → ((j : Joint) (more : List Lexeme) → rest ≡ joint_lexeme j ∷ more → ⊥) → IsFormula (lexeme.Open ∷ ls) g ys → ⊥
+no_joint at never (group {ms = m} {f = k} l d b) = never l m (sym (at.only k (joint_lexeme l ∷ m) d (mark_ends l m)).1)
 no_joint at never (atom (equal d e)) = no_term_at_open d
 
 pub no_group_end : (inner rest : List Lexeme) (f : NamedTree) → FormulaAt inner f rest → rest ≡ [] → NoFormula (lexeme.Open ∷ inner)
 no_group_end inner rest f at empty g ys d h = no_joint at (λ j more e. cc) d
 
-pub no_group_mark : (inner rest more : List Lexeme) (mark : Lexeme) (f : NamedTree) → FormulaAt inner f rest → rest ≡ mark ∷ more → ((j : Joint) → mark ≡ mark_of j → ⊥) → NoFormula (lexeme.Open ∷ inner)
-no_group_mark inner rest more mark f at e never g ys d h = no_joint at (λ j l e'. never j (let same : mark ≡ mark_of j = cc in same)) d
+pub no_group_mark : (inner rest more : List Lexeme) (mark : Lexeme) (f : NamedTree) → FormulaAt inner f rest → rest ≡ mark ∷ more → ((j : Joint) → mark ≡ joint_lexeme j → ⊥) → NoFormula (lexeme.Open ∷ inner)
+no_group_mark inner rest more mark f at e never g ys d h = no_joint at (λ j l e'. never j (let same : mark ≡ joint_lexeme j = cc in same)) d
 
-no_right : {ls ms ys : List Lexeme} {j : Joint} {f g : NamedTree} → FormulaAt ls f (mark_of j ∷ ms) → NoChain j ms → IsFormula (lexeme.Open ∷ ls) g ys → ⊥
+no_right : {ls ms ys : List Lexeme} {j : Joint} {f g : NamedTree} → FormulaAt ls f (joint_lexeme j ∷ ms) → NoChain j ms → IsFormula (lexeme.Open ∷ ls) g ys → ⊥
 no_right {ms} {ys} {j} at never (group {ms = m} {f = k} {g = k'} l d b) =
-    let first = at.only k (mark_of l ∷ m) d (mark_ends l m) in
-    let joints : l ≡ j = let marks : mark_of l ≡ mark_of j = cc in mark_once l j marks in
+    let first = at.only k (joint_lexeme l ∷ m) d (mark_ends l m) in
+    let joints : l ≡ j = let marks : joint_lexeme l ≡ joint_lexeme j = cc in mark_once l j marks in
     let lists : m ≡ ms = cc in
     never k' ys (subst (λ o. IsChain o ms k' ys) joints (subst (λ o. IsChain l o k' ys) lists b))
 no_right at never (atom (equal d e)) = no_term_at_open d
 
-pub no_group_right : (inner rest more : List Lexeme) (mark : Lexeme) (j : Joint) (f : NamedTree) → FormulaAt inner f rest → rest ≡ mark ∷ more → mark ≡ mark_of j → NoChain j more → NoFormula (lexeme.Open ∷ inner)
+pub no_group_right : (inner rest more : List Lexeme) (mark : Lexeme) (j : Joint) (f : NamedTree) → FormulaAt inner f rest → rest ≡ mark ∷ more → mark ≡ joint_lexeme j → NoChain j more → NoFormula (lexeme.Open ∷ inner)
 no_group_right inner rest more mark j f at e m never g ys d h = no_right (subst (λ l. FormulaAt inner f l) (front e m) at) never d
 
 -- ---- chains
@@ -283,24 +283,24 @@ no_group_right inner rest more mark j f at e m never g ys d h = no_right (subst 
 pub chain_last : (ls rest end : List Lexeme) (j : Joint) (f : NamedTree) → FormulaAt ls f rest → rest ≡ lexeme.Close ∷ end → IsChain j ls f end
 chain_last ls rest end j f at e = last_part (subst (λ l. IsFormula ls f l) e at.spelled)
 
-pub chain_more : (ls rest more end : List Lexeme) (mark : Lexeme) (j : Joint) (f g : NamedTree) → FormulaAt ls f rest → Chains j → rest ≡ mark ∷ more → mark ≡ mark_of j → IsChain j more g end → IsChain j ls (joined j f g) end
+pub chain_more : (ls rest more end : List Lexeme) (mark : Lexeme) (j : Joint) (f g : NamedTree) → FormulaAt ls f rest → Chains j → rest ≡ mark ∷ more → mark ≡ joint_lexeme j → IsChain j more g end → IsChain j ls (joined_by j f g) end
 chain_more ls rest more end mark j f g at o e m c = more_parts o (subst (λ l. IsFormula ls f l) (front e m) at.spelled) c
 
 pub no_chain : (ls : List Lexeme) (j : Joint) → NoFormula ls → NoChain j ls
 no_chain ls j never g ys (last_part {rest = r} {f = k} d) = never k (lexeme.Close ∷ r) d refl
-no_chain ls j never g ys (more_parts {ms = m} {f = k} o d c) = never k (mark_of j ∷ m) d (mark_ends j m)
+no_chain ls j never g ys (more_parts {ms = m} {f = k} o d c) = never k (joint_lexeme j ∷ m) d (mark_ends j m)
 
-pub no_chain_end : (ls rest : List Lexeme) (j : Joint) (f : NamedTree) → FormulaAt ls f rest → ((l : List Lexeme) → rest ≡ lexeme.Close ∷ l → ⊥) → (Chains j → (l : List Lexeme) → rest ≡ mark_of j ∷ l → ⊥) → NoChain j ls
+pub no_chain_end : (ls rest : List Lexeme) (j : Joint) (f : NamedTree) → FormulaAt ls f rest → ((l : List Lexeme) → rest ≡ lexeme.Close ∷ l → ⊥) → (Chains j → (l : List Lexeme) → rest ≡ joint_lexeme j ∷ l → ⊥) → NoChain j ls
 no_chain_end ls rest j f at a b g ys (last_part {rest = r} {f = k} d) = a r (sym (at.only k (lexeme.Close ∷ r) d refl).1)
-no_chain_end ls rest j f at a b g ys (more_parts {ms = m} {f = k} o d c) = b o m (sym (at.only k (mark_of j ∷ m) d (mark_ends j m)).1)
+no_chain_end ls rest j f at a b g ys (more_parts {ms = m} {f = k} o d c) = b o m (sym (at.only k (joint_lexeme j ∷ m) d (mark_ends j m)).1)
 
-pub no_chain_more : (ls rest more : List Lexeme) (mark : Lexeme) (j : Joint) (f : NamedTree) → FormulaAt ls f rest → rest ≡ mark ∷ more → mark ≡ mark_of j → NoChain j more → NoChain j ls
+pub no_chain_more : (ls rest more : List Lexeme) (mark : Lexeme) (j : Joint) (f : NamedTree) → FormulaAt ls f rest → rest ≡ mark ∷ more → mark ≡ joint_lexeme j → NoChain j more → NoChain j ls
 no_chain_more ls rest more mark j f at e m never g ys (last_part {rest = r} {f = k} d) =
     let same = (at.only k (lexeme.Close ∷ r) d refl).1 in
-    let bad : mark_of j ≡ lexeme.Close = cc in
+    let bad : joint_lexeme j ≡ lexeme.Close = cc in
     not_close j bad
 no_chain_more ls rest more mark j f at e m never g ys (more_parts {ms = n} {f = k} {g = k'} o d c) =
-    let same = (at.only k (mark_of j ∷ n) d (mark_ends j n)).1 in
+    let same = (at.only k (joint_lexeme j ∷ n) d (mark_ends j n)).1 in
     let lists : n ≡ more = cc in
     never k' ys (subst (λ l. IsChain j l k' ys) lists c)
 

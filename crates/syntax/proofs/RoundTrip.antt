@@ -1,10 +1,8 @@
 -- A tree that some text reads as is read again from its canonical text.
-use Rattle.std.proofs.Common.{◌≡◌, ℕ, ◌+◌, ◌-◌, ◌/◌, ◌%◌, ◌^◌, ◌≤◌, ◌<◌, Bool, true, false, not, ◌&&◌, List, [], ◌∷◌, ◌++◌, length, refl, sym, ◌∙◌, ap, subst, ltb-true, arith, append_assoc, append-nil, codes, decimal, nat_le, nat_lt, ◌||◌, ◌==◌}
-use Rattle.std.proofs.lemmas.Bool.{ltb-false}
+use Rattle.std.proofs.Common.{◌≡◌, ℕ, ◌+◌, ◌-◌, ◌/◌, ◌%◌, ◌^◌, ◌≤◌, ◌<◌, Bool, true, false, not, ◌&&◌, List, [], ◌∷◌, ◌++◌, length, refl, sym, ◌∙◌, ap, subst, ltb-true, arith, append_assoc, append-nil, codes, decimal, nat_le, nat_lt, ◌||◌, ◌==◌, leb-true}
+use Rattle.std.proofs.lemmas.Bool.{ltb-false, and_parts}
 use Rattle.std.proofs.lemmas.Bool.Decides.{nat_tests}
 use Rattle.std.proofs.lemmas.Fmt.{decimal_digit, decimal_step}
-use Rattle.syntax.proofs.Runs.{and_true}
-use Rattle.syntax.proofs.Starting.{le_from_test}
 use Rattle.vocab.specs.Name.{is_lower, is_digit, is_name_byte, has_name_shape}
 use Rattle.vocab.specs.NamedTree as tree
 use Rattle.vocab.specs.NamedTree.{NamedTermTree, NamedTermTrees, NamedTree}
@@ -16,11 +14,12 @@ use Rattle.syntax.specs.declared.lexemes.Quantifier.{Quantifier}
 use Rattle.syntax.specs.declared.lexemes.Quantifier.TheVariants as quantifier
 use Rattle.syntax.specs.declared.lexemes.Lexeme.{Lexeme}
 use Rattle.syntax.specs.declared.lexemes.Lexeme.TheVariants as lexeme
-use Rattle.syntax.specs.Grammar.{IsFree, IsTerm, IsTerms, variable, call, voter, alternative, ballot, last_term, more_terms, pred, equal, IsFormula, quantified, negation, group, atom, IsChain, last_part, more_parts, joined, bound, word_of_sort}
+use Rattle.syntax.specs.Grammar.{IsFree, IsTerm, IsTerms, variable, call, voter, alternative, ballot, last_term, more_terms, pred, equal, IsFormula, quantified, negation, group, atom, IsChain, last_part, more_parts, joined_by, bound, word_of_sort}
 use Rattle.syntax.specs.Lexemes.{IsLexed, IsSpelled, IsVoterText, IsBallotText, IsRunEnd, Lexes, no_more, blank, one_more, starts_without}
 use Rattle.syntax.specs.Sentence.{IsSentence}
-use Rattle.vocab.specs.NamedDepth.{depth, quantifiers}
-use Rattle.syntax.specs.Canonical.{term_text, more_text, text_of}
+use Rattle.vocab.specs.NamedDepth.{named_depth, quantifiers}
+use Rattle.vocab.proofs.DigitLaws.{digit_from, digit_range}
+use Rattle.syntax.specs.Canonical.{term_text, more_text, canonical_text}
 
 -- ---- trees of which each part has a spelling
 
@@ -126,26 +125,23 @@ are_writable : (ts : NamedTermTrees) → IsWritableList ts → AreWritable ts
 are_writable tree.NoArguments w = absurd w
 are_writable (tree.Argument t ts) w = w
 
-digit_small : (c : ℕ) → is_digit c ≡ true → (48 ≤ c) × (c ≤ 57)
-digit_small c h = let p = and_true (nat_le 48 c) (nat_le c 57) h in (le_from_test 48 c p.0, le_from_test c 57 p.1)
-
 -- a number of at most three digits is below 1000
 voter_small : (n : ℕ) (digits : List ℕ) → IsVoterText n digits → n < 1000
 voter_small n [] v = let e = v.number in omega arith
-voter_small n (a ∷ []) v = let p = and_true (is_digit a) true v.each in let x = digit_small a p.0 in let e = v.number in omega arith
+voter_small n (a ∷ []) v = let p = and_parts (is_digit a) true v.each in let x = digit_range a p.0 in let e = v.number in omega arith
 voter_small n (a ∷ b ∷ []) v =
-    let p = and_true (is_digit a) (is_digit b && true) v.each in
-    let q = and_true (is_digit b) true p.1 in
-    let x = digit_small a p.0 in let y = digit_small b q.0 in let e = v.number in omega arith
+    let p = and_parts (is_digit a) (is_digit b && true) v.each in
+    let q = and_parts (is_digit b) true p.1 in
+    let x = digit_range a p.0 in let y = digit_range b q.0 in let e = v.number in omega arith
 voter_small n (a ∷ b ∷ c ∷ []) v =
-    let p = and_true (is_digit a) (is_digit b && (is_digit c && true)) v.each in
-    let q = and_true (is_digit b) (is_digit c && true) p.1 in
-    let r = and_true (is_digit c) true q.1 in
-    let x = digit_small a p.0 in let y = digit_small b q.0 in let z = digit_small c r.0 in let e = v.number in omega arith
+    let p = and_parts (is_digit a) (is_digit b && (is_digit c && true)) v.each in
+    let q = and_parts (is_digit b) (is_digit c && true) p.1 in
+    let r = and_parts (is_digit c) true q.1 in
+    let x = digit_range a p.0 in let y = digit_range b q.0 in let z = digit_range c r.0 in let e = v.number in omega arith
 voter_small n (a ∷ b ∷ c ∷ d ∷ more) v = absurd (let few = v.few in omega arith)
 
 alternative_small : (a c : ℕ) → is_lower c ≡ true → a ≡ c - 97 → a < 26
-alternative_small a c low e = let p = and_true (nat_le 97 c) (nat_le c 122) low in let x = le_from_test 97 c p.0 in let y = le_from_test c 122 p.1 in omega arith
+alternative_small a c low e = let p = and_parts (nat_le 97 c) (nat_le c 122) low in let x = leb-true 97 c p.0 in let y = leb-true c 122 p.1 in omega arith
 
 mutual
   term_writable : {ls rest : List Lexeme} {t : NamedTermTree} → IsTerm ls t rest → AreSpelled ls → IsWritableTerm t × AreSpelled rest
@@ -167,7 +163,7 @@ word_lexed n tail ls end w stop d = one_more (record { text = n; whole = refl; s
 negation_lexed : (text tail : List ℕ) (ls : List Lexeme) (end : List ℕ) → Lexes text ls end → Lexes (33 ∷ text) (lexeme.Not ∷ ls) end
 negation_lexed text tail ls end d = one_more (record { text = 33 ∷ []; whole = refl; spelled = refl; longest = tt }) d
 
-joined_writable : (j : Joint) (f g : NamedTree) → IsWritable f → IsWritable g → IsWritable (joined j f g)
+joined_writable : (j : Joint) (f g : NamedTree) → IsWritable f → IsWritable g → IsWritable (joined_by j f g)
 joined_writable joint.Both f g w v = (w, v)
 joined_writable joint.Either f g w v = (w, v)
 joined_writable joint.Implies f g w v = (w, v)
@@ -202,12 +198,9 @@ between l text more ls end spelled stop d = blank refl (mark_lexed l text (32 �
 regroup : (a m b tail : List ℕ) → ((((40 ∷ []) ++ a) ++ m) ++ b) ++ (41 ∷ []) ++ tail ≡ 40 ∷ (a ++ (m ++ (b ++ 41 ∷ tail)))
 regroup a m b tail = simp append_assoc
 
-digit_ok : (k : ℕ) → k < 10 → is_digit (48 + k) ≡ true
-digit_ok k h = let a : nat_le 48 (48 + k) ≡ true = grind (arith, nat_tests) in let b : nat_le (48 + k) 57 ≡ true = grind (arith, nat_tests) in rw (a, b) refl
-
 one_digit : (n : ℕ) → n < 10 → IsVoterText n (decimal n)
 one_digit n high =
-    let first = digit_ok n high in
+    let first = digit_from n high in
     rw (decimal_digit n high) (record { each = rw first refl; some = omega arith; few = omega arith; number = omega arith })
 
 two_places : (n : ℕ) → 10 ≤ n → n < 100 → decimal n ≡ (48 + n / 10) ∷ (48 + n % 10) ∷ []
@@ -218,8 +211,8 @@ two_places n low high =
 
 two_digits : (n : ℕ) → 10 ≤ n → n < 100 → IsVoterText n (decimal n)
 two_digits n low high =
-    let first = digit_ok (n / 10) (omega (arith, high)) in
-    let second = digit_ok (n % 10) (omega arith) in
+    let first = digit_from (n / 10) (omega (arith, high)) in
+    let second = digit_from (n % 10) (omega arith) in
     rw (two_places n low high) (record { each = rw (first, second) refl; some = omega arith; few = omega arith; number = omega arith })
 
 three_digits : (n : ℕ) → 100 ≤ n → n < 1000 → IsVoterText n (decimal n)
@@ -228,9 +221,9 @@ three_digits n low high =
     let two : 10 ≤ n = omega (arith, low) in
     let front = two_places (n / 10) (omega (arith, low)) (omega (arith, high)) in
     let text : decimal n ≡ (48 + n / 10 / 10) ∷ (48 + n / 10 % 10) ∷ (48 + n % 10) ∷ [] = decimal_step n two fits ∙ ap (λ (ds : List ℕ). ds ++ (48 + n % 10) ∷ []) front in
-    let first = digit_ok (n / 10 / 10) (omega (arith, high)) in
-    let second = digit_ok (n / 10 % 10) (omega arith) in
-    let third = digit_ok (n % 10) (omega arith) in
+    let first = digit_from (n / 10 / 10) (omega (arith, high)) in
+    let second = digit_from (n / 10 % 10) (omega arith) in
+    let third = digit_from (n % 10) (omega arith) in
     rw text (record { each = rw (first, second, third) refl; some = omega arith; few = omega arith; number = omega arith })
 
 decimal_at : (n : ℕ) → n < 1000 → (b c : Bool) → nat_lt n 10 ≡ b → nat_lt n 100 ≡ c → IsVoterText n (decimal n)
@@ -326,54 +319,54 @@ bound_lexed q n f tail s ls end wq wn d =
     let named = word_lexed n (58 ∷ 32 ∷ (word_of_sort s ++ (46 ∷ 32 ∷ (f ++ tail)))) (lexeme.Colon ∷ lexeme.Word (word_of_sort s) ∷ lexeme.Dot ∷ ls) end wn refl colon in
     word_lexed q (32 ∷ (n ++ (58 ∷ 32 ∷ (word_of_sort s ++ (46 ∷ 32 ∷ (f ++ tail)))))) (lexeme.Word n ∷ lexeme.Colon ∷ lexeme.Word (word_of_sort s) ∷ lexeme.Dot ∷ ls) end wq refl (blank refl named)
 
-tree_lexed : (f : NamedTree) (tail : List ℕ) (ls : List Lexeme) (end : List ℕ) → IsWritable f → starts_without is_name_byte tail ≡ true → Lexes tail ls end → Lexes (text_of f ++ tail) (tree_lexemes f ls) end
+tree_lexed : (f : NamedTree) (tail : List ℕ) (ls : List Lexeme) (end : List ℕ) → IsWritable f → starts_without is_name_byte tail ≡ true → Lexes tail ls end → Lexes (canonical_text f ++ tail) (tree_lexemes f ls) end
 tree_lexed (tree.Pred n ts) tail ls end w stop d = term_lexed (tree.Call n ts) tail ls end w stop d
 tree_lexed (tree.Equal s t) tail ls end w stop d =
     let right = term_lexed t tail ls end w.1 stop d in
     let middle = between lexeme.Equals (61 ∷ []) (term_text t ++ tail) (term_lexemes t ls) end refl tt right in
     let whole = term_lexed s (32 ∷ 61 ∷ 32 ∷ (term_text t ++ tail)) (lexeme.Equals ∷ term_lexemes t ls) end w.0 refl middle in
     subst (λ x. Lexes x (term_lexemes s (lexeme.Equals ∷ term_lexemes t ls)) end) (sym (equal_text (term_text s) (term_text t) tail)) whole
-tree_lexed (tree.Not f) tail ls end w stop d = mark_lexed lexeme.Not (33 ∷ []) (text_of f ++ tail) (tree_lexemes f ls) end refl tt (tree_lexed f tail ls end w stop d)
+tree_lexed (tree.Not f) tail ls end w stop d = mark_lexed lexeme.Not (33 ∷ []) (canonical_text f ++ tail) (tree_lexemes f ls) end refl tt (tree_lexed f tail ls end w stop d)
 tree_lexed (tree.Both f g) tail ls end w stop d =
-    subst (λ x. Lexes x (tree_lexemes (tree.Both f g) ls) end) (sym (group_text (text_of f) (codes " & ") (text_of g) tail))
-    (group_lexed lexeme.And (codes "&") (text_of f) (text_of g) tail (tree_lexemes f) (tree_lexemes g) ls end refl tt d
+    subst (λ x. Lexes x (tree_lexemes (tree.Both f g) ls) end) (sym (group_text (canonical_text f) (codes " & ") (canonical_text g) tail))
+    (group_lexed lexeme.And (codes "&") (canonical_text f) (canonical_text g) tail (tree_lexemes f) (tree_lexemes g) ls end refl tt d
     (λ c. tree_lexed g (41 ∷ tail) (lexeme.Close ∷ ls) end w.1 refl c)
-    (λ c. tree_lexed f (32 ∷ (codes "&" ++ 32 ∷ (text_of g ++ 41 ∷ tail))) (lexeme.And ∷ tree_lexemes g (lexeme.Close ∷ ls)) end w.0 refl c))
+    (λ c. tree_lexed f (32 ∷ (codes "&" ++ 32 ∷ (canonical_text g ++ 41 ∷ tail))) (lexeme.And ∷ tree_lexemes g (lexeme.Close ∷ ls)) end w.0 refl c))
 tree_lexed (tree.Either f g) tail ls end w stop d =
-    subst (λ x. Lexes x (tree_lexemes (tree.Either f g) ls) end) (sym (group_text (text_of f) (codes " | ") (text_of g) tail))
-    (group_lexed lexeme.Or (codes "|") (text_of f) (text_of g) tail (tree_lexemes f) (tree_lexemes g) ls end refl tt d
+    subst (λ x. Lexes x (tree_lexemes (tree.Either f g) ls) end) (sym (group_text (canonical_text f) (codes " | ") (canonical_text g) tail))
+    (group_lexed lexeme.Or (codes "|") (canonical_text f) (canonical_text g) tail (tree_lexemes f) (tree_lexemes g) ls end refl tt d
     (λ c. tree_lexed g (41 ∷ tail) (lexeme.Close ∷ ls) end w.1 refl c)
-    (λ c. tree_lexed f (32 ∷ (codes "|" ++ 32 ∷ (text_of g ++ 41 ∷ tail))) (lexeme.Or ∷ tree_lexemes g (lexeme.Close ∷ ls)) end w.0 refl c))
+    (λ c. tree_lexed f (32 ∷ (codes "|" ++ 32 ∷ (canonical_text g ++ 41 ∷ tail))) (lexeme.Or ∷ tree_lexemes g (lexeme.Close ∷ ls)) end w.0 refl c))
 tree_lexed (tree.Implies f g) tail ls end w stop d =
-    subst (λ x. Lexes x (tree_lexemes (tree.Implies f g) ls) end) (sym (group_text (text_of f) (codes " -> ") (text_of g) tail))
-    (group_lexed lexeme.Implies (codes "->") (text_of f) (text_of g) tail (tree_lexemes f) (tree_lexemes g) ls end refl tt d
+    subst (λ x. Lexes x (tree_lexemes (tree.Implies f g) ls) end) (sym (group_text (canonical_text f) (codes " -> ") (canonical_text g) tail))
+    (group_lexed lexeme.Implies (codes "->") (canonical_text f) (canonical_text g) tail (tree_lexemes f) (tree_lexemes g) ls end refl tt d
     (λ c. tree_lexed g (41 ∷ tail) (lexeme.Close ∷ ls) end w.1 refl c)
-    (λ c. tree_lexed f (32 ∷ (codes "->" ++ 32 ∷ (text_of g ++ 41 ∷ tail))) (lexeme.Implies ∷ tree_lexemes g (lexeme.Close ∷ ls)) end w.0 refl c))
+    (λ c. tree_lexed f (32 ∷ (codes "->" ++ 32 ∷ (canonical_text g ++ 41 ∷ tail))) (lexeme.Implies ∷ tree_lexemes g (lexeme.Close ∷ ls)) end w.0 refl c))
 tree_lexed (tree.Same f g) tail ls end w stop d =
-    subst (λ x. Lexes x (tree_lexemes (tree.Same f g) ls) end) (sym (group_text (text_of f) (codes " <-> ") (text_of g) tail))
-    (group_lexed lexeme.Same (codes "<->") (text_of f) (text_of g) tail (tree_lexemes f) (tree_lexemes g) ls end refl tt d
+    subst (λ x. Lexes x (tree_lexemes (tree.Same f g) ls) end) (sym (group_text (canonical_text f) (codes " <-> ") (canonical_text g) tail))
+    (group_lexed lexeme.Same (codes "<->") (canonical_text f) (canonical_text g) tail (tree_lexemes f) (tree_lexemes g) ls end refl tt d
     (λ c. tree_lexed g (41 ∷ tail) (lexeme.Close ∷ ls) end w.1 refl c)
-    (λ c. tree_lexed f (32 ∷ (codes "<->" ++ 32 ∷ (text_of g ++ 41 ∷ tail))) (lexeme.Same ∷ tree_lexemes g (lexeme.Close ∷ ls)) end w.0 refl c))
+    (λ c. tree_lexed f (32 ∷ (codes "<->" ++ 32 ∷ (canonical_text g ++ 41 ∷ tail))) (lexeme.Same ∷ tree_lexemes g (lexeme.Close ∷ ls)) end w.0 refl c))
 tree_lexed (tree.All n s f) tail ls end w stop d =
-    subst (λ x. Lexes x (tree_lexemes (tree.All n s f) ls) end) (sym (bound_text (codes "all ") n (word_of_sort s) (text_of f) tail))
-    (bound_lexed (codes "all") n (text_of f) tail s (tree_lexemes f ls) end all_word w.1 (tree_lexed f tail ls end w.2 stop d))
+    subst (λ x. Lexes x (tree_lexemes (tree.All n s f) ls) end) (sym (bound_text (codes "all ") n (word_of_sort s) (canonical_text f) tail))
+    (bound_lexed (codes "all") n (canonical_text f) tail s (tree_lexemes f ls) end all_word w.1 (tree_lexed f tail ls end w.2 stop d))
 tree_lexed (tree.Exists n s f) tail ls end w stop d =
-    subst (λ x. Lexes x (tree_lexemes (tree.Exists n s f) ls) end) (sym (bound_text (codes "some ") n (word_of_sort s) (text_of f) tail))
-    (bound_lexed (codes "some") n (text_of f) tail s (tree_lexemes f ls) end some_word w.1 (tree_lexed f tail ls end w.2 stop d))
+    subst (λ x. Lexes x (tree_lexemes (tree.Exists n s f) ls) end) (sym (bound_text (codes "some ") n (word_of_sort s) (canonical_text f) tail))
+    (bound_lexed (codes "some") n (canonical_text f) tail s (tree_lexemes f ls) end some_word w.1 (tree_lexed f tail ls end w.2 stop d))
 
 -- the canonical text is the canonical lexemes
-pub text_lexed : (f : NamedTree) → IsWritable f → IsLexed (text_of f) (tree_lexemes f [])
-text_lexed f w = subst (λ x. Lexes x (tree_lexemes f []) []) (append-nil (text_of f)) (tree_lexed f [] [] [] w refl no_more)
+pub text_lexed : (f : NamedTree) → IsWritable f → IsLexed (canonical_text f) (tree_lexemes f [])
+text_lexed f w = subst (λ x. Lexes x (tree_lexemes f []) []) (append-nil (canonical_text f)) (tree_lexed f [] [] [] w refl no_more)
 
 -- a tree of which each part has a spelling is read from its canonical text, where it is within the limits
-pub writable_read : (f : NamedTree) → IsWritable f → length (tree_lexemes f []) ≤ 600 → depth f ≤ 64 → quantifiers f ≤ 12 → IsSentence (text_of f) f
+pub writable_read : (f : NamedTree) → IsWritable f → length (tree_lexemes f []) ≤ 600 → named_depth f ≤ 64 → quantifiers f ≤ 12 → IsSentence (canonical_text f) f
 writable_read f w few shallow few_variables = record {
   reading = record { lexemes = tree_lexemes f []; are = record { lexed = text_lexed f w; few = few }; reads = tree_derived f [] w };
   shallow = shallow;
   few_variables = few_variables;
 }
 
-pub round_trip : (text : List ℕ) (f : NamedTree) → IsSentence text f → ((ls : List Lexeme) → IsLexed (text_of f) ls → length ls ≤ 600) → IsSentence (text_of f) f
+pub round_trip : (text : List ℕ) (f : NamedTree) → IsSentence text f → ((ls : List Lexeme) → IsLexed (canonical_text f) ls → length ls ≤ 600) → IsSentence (canonical_text f) f
 round_trip text f s few =
     let w = (tree_writable s.reading.reads (spelled_lexed s.reading.are.lexed)).0 in
     writable_read f w (few (tree_lexemes f []) (text_lexed f w)) s.shallow s.few_variables

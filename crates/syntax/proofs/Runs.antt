@@ -1,10 +1,11 @@
 -- Runs of bytes.
-use Rattle.std.proofs.Common.{◌≡◌, ℕ, ◌≤◌, Bool, true, false, cond, ◌&&◌, List, [], ◌∷◌, length, take, refl, ap, arith, IsTrue, nat_le}
+use Rattle.std.proofs.Common.{◌≡◌, ℕ, ◌≤◌, Bool, true, false, cond, List, [], ◌∷◌, length, take, refl, ap, arith, IsTrue, nat_le}
 use Rattle.std.specs.List.{list_all, take_while}
 use Rattle.std.proofs.lemmas.List.Sums.{take_while-cons}
 use Rattle.vocab.specs.Name.{is_lower, is_name_byte, has_name_shape, is_name}
 use Rattle.std.proofs.lemmas.List.Folds.{length-prefix_len}
 use Rattle.std.proofs.lemmas.Bool.Decides.{nat_tests}
+use Rattle.std.proofs.lemmas.Bool.{and_parts}
 use Rattle.syntax.specs.Scanning.{run_length}
 
 each_if : (p : ℕ → Bool) (b : Bool) (x : ℕ) (xs : List ℕ) → p x ≡ b → list_all p xs ≡ true → list_all p (cond b (x ∷ xs) []) ≡ true
@@ -18,19 +19,14 @@ take_while_each p (x ∷ xs) = rw (take_while-cons p x xs) (each_if p (p x) x (t
 pub lower_goes_on : (c : ℕ) → is_lower c ≡ true → is_name_byte c ≡ true
 lower_goes_on c h = rw h refl
 
-pub and_true : (a b : Bool) → (a && b) ≡ true → (a ≡ true) × (b ≡ true)
-and_true true true h = (refl, refl)
-and_true true false h = cc
-and_true false b h = cc
-
 pub lower_names : (xs : List ℕ) → list_all is_lower xs ≡ true → list_all is_name_byte xs ≡ true
 lower_names [] h = refl
-lower_names (x ∷ xs) h = let p = and_true (is_lower x) (list_all is_lower xs) h in rw (lower_goes_on x p.0, lower_names xs p.1) refl
+lower_names (x ∷ xs) h = let p = and_parts (is_lower x) (list_all is_lower xs) h in rw (lower_goes_on x p.0, lower_names xs p.1) refl
 
 pub letters_are_name : (xs : List ℕ) → list_all is_lower xs ≡ true → 1 ≤ length xs → length xs ≤ 8 → IsTrue (is_name xs)
 letters_are_name [] h some few = absurd (omega arith)
 letters_are_name (x ∷ xs) h some few =
-    let p = and_true (is_lower x) (list_all is_lower xs) h in
+    let p = and_parts (is_lower x) (list_all is_lower xs) h in
     let q = lower_names xs p.1 in
     let n : nat_le (length (x ∷ xs)) 32 ≡ true = grind (arith, nat_tests) in
     rw (p.0, q, n) refl

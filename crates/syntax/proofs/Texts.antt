@@ -7,12 +7,10 @@ use Rattle.vocab.specs.NamedView.{named_term_tree, named_terms_tree, arguments_o
 use Rattle.vocab.specs.declared.named.NamedTerm.{NamedTerm}
 use Rattle.vocab.specs.declared.named.Terms.{Terms}
 use Rattle.syntax.specs.Canonical.{term_text, list_text, more_text}
-use Rattle.vocab.specs.NamedDepth.{term_depth, terms_depth}
 use Rattle.std.specs.Result.{IsErr}
+use Rattle.vocab.proofs.TermLemmas.{named_terms_tree-items}
 use Rattle.texts.specs.Page.{Pours}
 use Rattle.texts.proofs.PourLemmas.{Added, added_nothing, stops, goes_on, ends, renamed}
-use Rattle.syntax.proofs.Views.{named_terms_tree-items}
-use Rattle.syntax.proofs.Depths.{member_depth}
 use Rattle.syntax.proofs.Pouring.{cut}
 
 -- the terms after the first ones, each after a comma
@@ -94,6 +92,3 @@ no_list_text ts h = ap list_text (named_terms_tree-items ts) ∙ empty_text (ter
 
 pub empty_list : {T E : Type 0} (ts : Terms) (t : Option (List ℕ)) (h : List ℕ) (f : ℕ) (d : T) → length (terms_of ts) ≡ 0 → Pours {T = T} {E = E} t t h h f f (Ok d) (list_text (named_terms_tree ts))
 empty_list ts t h f d none = ends t t h h f f [] (added_nothing t h f) d (list_text (named_terms_tree ts)) (sym (no_list_text ts none))
-
-pub get_depth : (ts : Terms) (i : ℕ) (x : NamedTerm) → slice_get (terms_of ts) i ≡ Some x → term_depth (named_term_tree x) ≤ terms_depth (named_terms_tree ts)
-get_depth ts i x h = rw (named_terms_tree-items ts) (member_depth (terms_of ts) i x h)

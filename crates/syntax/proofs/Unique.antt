@@ -10,7 +10,7 @@ use Rattle.syntax.specs.declared.lexemes.Joint.{Joint}
 use Rattle.syntax.specs.declared.lexemes.Joint.TheVariants as joint
 use Rattle.syntax.specs.declared.lexemes.Quantifier.{Quantifier}
 use Rattle.syntax.specs.declared.lexemes.Quantifier.TheVariants as quantifier
-use Rattle.syntax.specs.Grammar.{IsAtom, atom, mark_of, word_of_quantifier, word_of_sort, IsFree, IsFormula, IsChain, quantified, negation, group, pred, equal, last_part, more_parts, Reads, IsTerm, IsTerms, variable, call, voter, alternative, ballot, last_term, more_terms}
+use Rattle.syntax.specs.Grammar.{IsAtom, atom, joint_lexeme, word_of_quantifier, word_of_sort, IsFree, IsFormula, IsChain, quantified, negation, group, pred, equal, last_part, more_parts, Reads, IsTerm, IsTerms, variable, call, voter, alternative, ballot, last_term, more_terms}
 use Rattle.syntax.specs.Fronts.{ends_term, ends_formula}
 
 mutual
@@ -42,23 +42,23 @@ joint_of lexeme.Implies = Some joint.Implies
 joint_of lexeme.Same = Some joint.Same
 joint_of _ = None
 
-joint_of-mark_of : (j : Joint) → joint_of (mark_of j) ≡ Some j
+joint_of-mark_of : (j : Joint) → joint_of (joint_lexeme j) ≡ Some j
 unfolding joint_of
 joint_of-mark_of joint.Both = refl
 joint_of-mark_of joint.Either = refl
 joint_of-mark_of joint.Implies = refl
 joint_of-mark_of joint.Same = refl
 
-pub mark_once : (j k : Joint) → mark_of j ≡ mark_of k → j ≡ k
+pub mark_once : (j k : Joint) → joint_lexeme j ≡ joint_lexeme k → j ≡ k
 mark_once j k h = let a = joint_of-mark_of j in let b = joint_of-mark_of k in let c = ap joint_of h in cc
 
-pub mark_ends : (j : Joint) (ls : List Lexeme) → ends_formula (mark_of j ∷ ls) ≡ true
+pub mark_ends : (j : Joint) (ls : List Lexeme) → ends_formula (joint_lexeme j ∷ ls) ≡ true
 mark_ends joint.Both ls = refl
 mark_ends joint.Either ls = refl
 mark_ends joint.Implies ls = refl
 mark_ends joint.Same ls = refl
 
-pub not_close : (j : Joint) → mark_of j ≡ lexeme.Close → ⊥
+pub not_close : (j : Joint) → joint_lexeme j ≡ lexeme.Close → ⊥
 not_close joint.Both h = cc
 not_close joint.Either h = cc
 not_close joint.Implies h = cc
@@ -125,7 +125,7 @@ mutual
   one_formula (negation d) (atom (equal e e')) h k = absurd (no_term_at_not e)
   one_formula {xs} {ys} (group {ms = m} {f = f} {g = g} j d c) (group {ms = n} {f = f'} {g = g'} l e b) h k =
       let first = one_formula d e (mark_ends j m) (mark_ends l n) in
-      let joints : l ≡ j = let marks : mark_of l ≡ mark_of j = cc in mark_once l j marks in
+      let joints : l ≡ j = let marks : joint_lexeme l ≡ joint_lexeme j = cc in mark_once l j marks in
       let lists : n ≡ m = cc in
       let later = one_chain c (subst (λ o. IsChain o m g' ys) joints (subst (λ o. IsChain l o g' ys) lists b)) in
       (cc, later.1)
@@ -137,8 +137,8 @@ mutual
 
   pub one_chain : {j : Joint} {ls : List Lexeme} {f g : NamedTree} {xs ys : List Lexeme} → IsChain j ls f xs → IsChain j ls g ys → (f ≡ g) × (xs ≡ ys)
   one_chain (last_part d) (last_part e) = let both = one_formula d e refl refl in (both.0, cc)
-  one_chain {j} (last_part d) (more_parts {ms = n} o e b) = let both = one_formula d e refl (mark_ends j n) in let bad : mark_of j ≡ lexeme.Close = cc in absurd (not_close j bad)
-  one_chain {j} (more_parts {ms = m} o d c) (last_part e) = let both = one_formula d e (mark_ends j m) refl in let bad : mark_of j ≡ lexeme.Close = cc in absurd (not_close j bad)
+  one_chain {j} (last_part d) (more_parts {ms = n} o e b) = let both = one_formula d e refl (mark_ends j n) in let bad : joint_lexeme j ≡ lexeme.Close = cc in absurd (not_close j bad)
+  one_chain {j} (more_parts {ms = m} o d c) (last_part e) = let both = one_formula d e (mark_ends j m) refl in let bad : joint_lexeme j ≡ lexeme.Close = cc in absurd (not_close j bad)
   one_chain {j} {ys} (more_parts {ms = m} o d c) (more_parts {ms = n} {g = g'} p e b) =
       let first = one_formula d e (mark_ends j m) (mark_ends j n) in
       let lists : n ≡ m = cc in

@@ -1,7 +1,7 @@
 -- What a value of each variant stands for.
 use Rattle.std.proofs.Common.{◌≡◌, ℕ, List, [], ◌∷◌, ◌++◌, ap, ◌∙◌, sym, refl, rules, map}
 use Rattle.vocab.specs.NamedTree as tree
-use Rattle.vocab.specs.NamedTree.{NamedTermTree, NamedTermTrees, NamedTree}
+use Rattle.vocab.specs.NamedTree.{NamedTermTree, NamedTermTrees}
 use Rattle.vocab.specs.Terms.{terms_of}
 use Rattle.syntax.specs.Fronts.{before}
 use Rattle.vocab.specs.NamedView.{named_term_tree, named_terms_tree, named_tree, arguments_of}
@@ -10,6 +10,7 @@ use Rattle.vocab.specs.declared.named.NamedTerm.TheVariants as variant
 use Rattle.vocab.specs.declared.named.Terms as named
 use Rattle.vocab.specs.declared.named.Named.{the_lemmas as named_lemmas}
 use Rattle.vocab.specs.declared.named.Named.TheVariants as form
+use Rattle.vocab.proofs.TermLemmas.{named_terms_tree-items}
 
 pub named_term_tree-Var : (n : List ℕ) → named_term_tree (variant.Var n) ≡ tree.Var n
 named_term_tree-Var n = search (rules, the_lemmas)
@@ -25,9 +26,6 @@ named_term_tree-Ballot n = search (rules, the_lemmas)
 
 pub named_term_tree-Call : (n : List ℕ) (ts : named.Terms) → named_term_tree (variant.Call n ts) ≡ tree.Call n (named_terms_tree ts)
 named_term_tree-Call n ts = search (rules, the_lemmas)
-
-pub named_terms_tree-items : (ts : named.Terms) → named_terms_tree ts ≡ arguments_of (map named_term_tree (terms_of ts))
-named_terms_tree-items ts = search (rules, the_lemmas)
 
 pub named_terms_tree-none : (ts : named.Terms) → terms_of ts ≡ [] → named_terms_tree ts ≡ tree.NoArguments
 named_terms_tree-none ts e = named_terms_tree-items ts ∙ ap (λ l. arguments_of (map named_term_tree l)) e

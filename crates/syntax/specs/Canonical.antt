@@ -22,13 +22,13 @@ abbrev mutual
   more_text (tree.Argument t ts) = codes ", " ++ term_text t ++ more_text ts
 
 -- the canonical text of a sentence
-abbrev pub text_of : NamedTree → List ℕ
-text_of (tree.Pred n ts) = n ++ codes "(" ++ list_text ts ++ codes ")"
-text_of (tree.Equal s t) = term_text s ++ codes " = " ++ term_text t
-text_of (tree.Not f) = codes "!" ++ text_of f
-text_of (tree.Both f g) = codes "(" ++ text_of f ++ codes " & " ++ text_of g ++ codes ")"
-text_of (tree.Either f g) = codes "(" ++ text_of f ++ codes " | " ++ text_of g ++ codes ")"
-text_of (tree.Implies f g) = codes "(" ++ text_of f ++ codes " -> " ++ text_of g ++ codes ")"
-text_of (tree.Same f g) = codes "(" ++ text_of f ++ codes " <-> " ++ text_of g ++ codes ")"
-text_of (tree.All n s f) = codes "all " ++ n ++ codes ": " ++ word_of_sort s ++ codes ". " ++ text_of f
-text_of (tree.Exists n s f) = codes "some " ++ n ++ codes ": " ++ word_of_sort s ++ codes ". " ++ text_of f
+abbrev pub canonical_text : NamedTree → List ℕ
+canonical_text (tree.Pred n ts) = n ++ codes "(" ++ list_text ts ++ codes ")"
+canonical_text (tree.Equal s t) = term_text s ++ codes " = " ++ term_text t
+canonical_text (tree.Not f) = codes "!" ++ canonical_text f
+canonical_text (tree.Both f g) = codes "(" ++ canonical_text f ++ codes " & " ++ canonical_text g ++ codes ")"
+canonical_text (tree.Either f g) = codes "(" ++ canonical_text f ++ codes " | " ++ canonical_text g ++ codes ")"
+canonical_text (tree.Implies f g) = codes "(" ++ canonical_text f ++ codes " -> " ++ canonical_text g ++ codes ")"
+canonical_text (tree.Same f g) = codes "(" ++ canonical_text f ++ codes " <-> " ++ canonical_text g ++ codes ")"
+canonical_text (tree.All n s f) = codes "all " ++ n ++ codes ": " ++ word_of_sort s ++ codes ". " ++ canonical_text f
+canonical_text (tree.Exists n s f) = codes "some " ++ n ++ codes ": " ++ word_of_sort s ++ codes ". " ++ canonical_text f

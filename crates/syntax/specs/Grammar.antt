@@ -48,18 +48,18 @@ mutual
     more_terms : {ls ms rest : List Lexeme} {t : NamedTermTree} {ts : NamedTermTrees} → IsTerm ls t (lexeme.Comma ∷ ms) → IsTerms ms ts rest → IsTerms ls (tree.Argument t ts) rest
 
 -- what stands between the parts of a group
-abbrev pub mark_of : Joint → Lexeme
-mark_of joint.Both = lexeme.And
-mark_of joint.Either = lexeme.Or
-mark_of joint.Implies = lexeme.Implies
-mark_of joint.Same = lexeme.Same
+abbrev pub joint_lexeme : Joint → Lexeme
+joint_lexeme joint.Both = lexeme.And
+joint_lexeme joint.Either = lexeme.Or
+joint_lexeme joint.Implies = lexeme.Implies
+joint_lexeme joint.Same = lexeme.Same
 
 -- the tree of two parts
-abbrev pub joined : Joint → NamedTree → NamedTree → NamedTree
-joined joint.Both = tree.Both
-joined joint.Either = tree.Either
-joined joint.Implies = tree.Implies
-joined joint.Same = tree.Same
+abbrev pub joined_by : Joint → NamedTree → NamedTree → NamedTree
+joined_by joint.Both = tree.Both
+joined_by joint.Either = tree.Either
+joined_by joint.Implies = tree.Implies
+joined_by joint.Same = tree.Same
 
 -- the joints that may stand between more than two formulas
 pub data Chains : Joint → Type 0 where
@@ -77,13 +77,13 @@ mutual
     quantified : {word name sort_word : List ℕ} {ls rest : List Lexeme} {f : NamedTree} → (q : Quantifier) (s : Sort) → word ≡ word_of_quantifier q → IsFree name → sort_word ≡ word_of_sort s → IsFormula ls f rest
         → IsFormula (lexeme.Word word ∷ lexeme.Word name ∷ lexeme.Colon ∷ lexeme.Word sort_word ∷ lexeme.Dot ∷ ls) (bound q name s f) rest
     negation : {ls rest : List Lexeme} {f : NamedTree} → IsFormula ls f rest → IsFormula (lexeme.Not ∷ ls) (tree.Not f) rest
-    group : {ls ms rest : List Lexeme} {f g : NamedTree} → (j : Joint) → IsFormula ls f (mark_of j ∷ ms) → IsChain j ms g rest → IsFormula (lexeme.Open ∷ ls) (joined j f g) rest
+    group : {ls ms rest : List Lexeme} {f g : NamedTree} → (j : Joint) → IsFormula ls f (joint_lexeme j ∷ ms) → IsChain j ms g rest → IsFormula (lexeme.Open ∷ ls) (joined_by j f g) rest
     atom : {ls rest : List Lexeme} {f : NamedTree} → IsAtom ls f rest → IsFormula ls f rest
 
   -- What follows a joint in a group: a formula and ")", or for `&` and `|` a formula, the joint again and what follows that.
   pub data IsChain : Joint → List Lexeme → NamedTree → List Lexeme → Type 0 where
     last_part : {j : Joint} {ls rest : List Lexeme} {f : NamedTree} → IsFormula ls f (lexeme.Close ∷ rest) → IsChain j ls f rest
-    more_parts : {j : Joint} {ls ms rest : List Lexeme} {f g : NamedTree} → Chains j → IsFormula ls f (mark_of j ∷ ms) → IsChain j ms g rest → IsChain j ls (joined j f g) rest
+    more_parts : {j : Joint} {ls ms rest : List Lexeme} {f g : NamedTree} → Chains j → IsFormula ls f (joint_lexeme j ∷ ms) → IsChain j ms g rest → IsChain j ls (joined_by j f g) rest
 
 -- the lexemes are a sentence, and this is its tree
 abbrev pub Reads : List Lexeme → NamedTree → Type 0

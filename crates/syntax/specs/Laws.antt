@@ -3,7 +3,7 @@ use Rattle.std.specs.Prelude.{◌≡◌, ℕ, ◌≤◌, List, length, Result}
 use Rattle.vocab.specs.NamedTree.{NamedTree}
 use Rattle.syntax.specs.declared.faults.SyntaxFault.{SyntaxFault}
 use Rattle.syntax.specs.declared.lexemes.Lexeme.{Lexeme}
-use Rattle.syntax.specs.Canonical.{text_of}
+use Rattle.syntax.specs.Canonical.{canonical_text}
 use Rattle.syntax.specs.Lexemes.{IsLexed}
 use Rattle.syntax.specs.Sentence.{HasReading, IsAnswer, IsSentence}
 
@@ -17,4 +17,4 @@ HaveOneAnswer = (text : List ℕ) (a b : Result NamedTree SyntaxFault) → IsAns
 
 -- the canonical text of what a text reads as reads as the same, where it has few lexemes
 abbrev pub AreReadBack : Type 0
-AreReadBack = (text : List ℕ) (f : NamedTree) → IsSentence text f → ((ls : List Lexeme) → IsLexed (text_of f) ls → length ls ≤ 600) → IsSentence (text_of f) f
+AreReadBack = (text : List ℕ) (f : NamedTree) → IsSentence text f → ((ls : List Lexeme) → IsLexed (canonical_text f) ls → length ls ≤ 600) → IsSentence (canonical_text f) f

@@ -6,16 +6,16 @@ use Rattle.syntax.specs.declared.lexemes.Lexeme.{Lexeme}
 use Rattle.syntax.specs.declared.lexemes.Lexeme.TheVariants as lexeme
 
 -- the number that the digits stand for, after those of n
-abbrev pub number_from : ℕ → List ℕ → ℕ
-number_from n [] = n
-number_from n (c ∷ digits) = number_from (10 * n + (c - 48)) digits
+abbrev pub continued_number : ℕ → List ℕ → ℕ
+continued_number n [] = n
+continued_number n (c ∷ digits) = continued_number (10 * n + (c - 48)) digits
 
 -- one to three digits, and the number that they stand for
 pub record IsVoterText (n : ℕ) (digits : List ℕ) : Type 0 where
   pub each : list_all is_digit digits ≡ true
   pub some : 1 ≤ length digits
   pub few : length digits ≤ 3
-  pub number : n ≡ number_from 0 digits
+  pub number : n ≡ continued_number 0 digits
 
 -- one to eight letters
 pub record IsBallotText (letters : List ℕ) : Type 0 where
@@ -65,13 +65,13 @@ abbrev pub NoLexeme : List ℕ → Type 0
 NoLexeme bytes = (l : Lexeme) (rest : List ℕ) → Starts bytes l rest → ⊥
 
 -- a tab, a line feed, a carriage return or a space
-abbrev pub is_blank : ℕ → Bool
-is_blank c = c == 9 || c == 10 || c == 13 || c == 32
+abbrev pub is_white_space : ℕ → Bool
+is_white_space c = c == 9 || c == 10 || c == 13 || c == 32
 
 -- The bytes are these lexemes, with blanks among them, and then the rest.
 pub data Lexes : List ℕ → List Lexeme → List ℕ → Type 0 where
   no_more : {rest : List ℕ} → Lexes rest [] rest
-  blank : {c : ℕ} {bytes rest : List ℕ} {ls : List Lexeme} → is_blank c ≡ true → Lexes bytes ls rest → Lexes (c ∷ bytes) ls rest
+  blank : {c : ℕ} {bytes rest : List ℕ} {ls : List Lexeme} → is_white_space c ≡ true → Lexes bytes ls rest → Lexes (c ∷ bytes) ls rest
   one_more : {bytes more rest : List ℕ} {l : Lexeme} {ls : List Lexeme} → Starts bytes l more → Lexes more ls rest → Lexes bytes (l ∷ ls) rest
 
 -- the text is these lexemes, with blanks among them
@@ -84,6 +84,6 @@ pub record IsStuck (text : List ℕ) (offset : ℕ) : Type 0 where
   pub byte : ℕ
   pub more : List ℕ
   pub lexed : Lexes text before (byte ∷ more)
-  pub not_blank : is_blank byte ≡ false
+  pub not_blank : is_white_space byte ≡ false
   pub none : NoLexeme (byte ∷ more)
   pub place : offset + length (byte ∷ more) ≡ length text

@@ -4,7 +4,7 @@ use Rattle.std.specs.List.{take_while}
 use Rattle.vocab.specs.Name.{is_lower, is_digit, is_name_byte}
 use Rattle.syntax.specs.declared.lexemes.Lexeme.{Lexeme}
 use Rattle.syntax.specs.declared.lexemes.Lexeme.TheVariants as lexeme
-use Rattle.syntax.specs.Lexemes.{number_from, starts_without}
+use Rattle.syntax.specs.Lexemes.{continued_number, starts_without}
 
 -- how long the run of such bytes at the front is
 abbrev pub run_length : (ℕ → Bool) → List ℕ → ℕ
@@ -16,7 +16,7 @@ word_at bytes = let k = run_length is_name_byte bytes in if nat_le k 16 then Som
 
 -- the voter constant, after a `#`
 abbrev pub voter_at : List ℕ → Option (Lexeme × List ℕ)
-voter_at bytes = let k = run_length is_digit bytes in if nat_le 1 k && nat_le k 3 then Some (lexeme.Voter (number_from 0 (take k bytes)), drop k bytes) else None
+voter_at bytes = let k = run_length is_digit bytes in if nat_le 1 k && nat_le k 3 then Some (lexeme.Voter (continued_number 0 (take k bytes)), drop k bytes) else None
 
 -- the alternative constant, after a `@`
 abbrev pub alternative_at : List ℕ → Option (Lexeme × List ℕ)
@@ -24,13 +24,13 @@ alternative_at [] = None
 alternative_at (c ∷ bytes) = if is_lower c && starts_without is_name_byte bytes then Some (lexeme.Alt (c - 97), bytes) else None
 
 -- the ballot constant of these letters, if a `>` follows
-abbrev pub closed : List ℕ → List ℕ → Option (Lexeme × List ℕ)
-closed letters [] = None
-closed letters (c ∷ rest) = if c == 62 && nat_le 1 (length letters) && nat_le (length letters) 8 then Some (lexeme.Ballot letters, rest) else None
+abbrev pub closed_ballot : List ℕ → List ℕ → Option (Lexeme × List ℕ)
+closed_ballot letters [] = None
+closed_ballot letters (c ∷ rest) = if c == 62 && nat_le 1 (length letters) && nat_le (length letters) 8 then Some (lexeme.Ballot letters, rest) else None
 
 -- the ballot constant, after a `<`
 abbrev pub ballot_at : List ℕ → Option (Lexeme × List ℕ)
-ballot_at bytes = let k = run_length is_lower bytes in closed (take k bytes) (drop k bytes)
+ballot_at bytes = let k = run_length is_lower bytes in closed_ballot (take k bytes) (drop k bytes)
 
 -- the arrow that a `>` completes, after a `-` or after `<-`
 abbrev pub arrow_at : Lexeme → List ℕ → Option (Lexeme × List ℕ)

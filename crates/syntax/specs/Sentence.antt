@@ -5,7 +5,7 @@ use Rattle.syntax.specs.declared.lexemes.Lexeme.{Lexeme}
 use Rattle.syntax.specs.declared.faults.SyntaxFault.{SyntaxFault}
 use Rattle.syntax.specs.declared.faults.SyntaxFault.TheVariants as fault
 use Rattle.syntax.specs.Lexemes.{IsLexed, IsStuck}
-use Rattle.vocab.specs.NamedDepth.{depth, quantifiers}
+use Rattle.vocab.specs.NamedDepth.{named_depth, quantifiers}
 use Rattle.syntax.specs.Grammar.{Reads}
 
 -- the text's lexemes, where there are few enough
@@ -24,14 +24,14 @@ abbrev pub IsFault : List ℕ → SyntaxFault → Type 0
 IsFault text (fault.Lexeme offset) = IsStuck text offset
 IsFault text (fault.Long count) = (ls : List Lexeme) × IsLexed text ls × (length ls ≡ count) × (600 < count)
 IsFault text fault.NoReading = (ls : List Lexeme) × AreFew text ls × ((f : NamedTree) → Reads ls f → ⊥)
-IsFault text fault.Deep = (f : NamedTree) × HasReading text f × (64 < depth f)
-IsFault text fault.Variables = (f : NamedTree) × HasReading text f × (depth f ≤ 64) × (12 < quantifiers f)
+IsFault text fault.Deep = (f : NamedTree) × HasReading text f × (64 < named_depth f)
+IsFault text fault.Variables = (f : NamedTree) × HasReading text f × (named_depth f ≤ 64) × (12 < quantifiers f)
 IsFault text fault.NoMemory = Unit {0}
 
 -- The text reads as this tree, which is within the limits.
 pub record IsSentence (text : List ℕ) (f : NamedTree) : Type 0 where
   pub reading : HasReading text f
-  pub shallow : depth f ≤ 64
+  pub shallow : named_depth f ≤ 64
   pub few_variables : quantifiers f ≤ 12
 
 -- the faults of a text's lexemes, and want of memory

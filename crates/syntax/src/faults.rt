@@ -33,9 +33,9 @@ impl From<NoMemory> for SyntaxFault {
 }
 
 impl From<Stop> for SyntaxFault {
-    ghost use Rattle.syntax.specs.Stops.{fault_of};
+    ghost use Rattle.syntax.specs.Stops.{stop_fault};
 
-    ghost from_gives = { λ stop fault. fault ≡ fault_of stop };
+    ghost from_gives = { λ stop fault. fault ≡ stop_fault stop };
 
     fn from(stop: Stop) -> Self {
         match stop {

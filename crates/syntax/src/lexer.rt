@@ -6,7 +6,7 @@ ghost use Rattle.vocab.specs.Name.{is_lower, is_digit, is_name_byte, has_name_sh
 ghost use Rattle.syntax.specs.declared.lexemes.Lexeme.{Lexeme as Lex};
 ghost use Rattle.syntax.specs.Sentence.{AreFew, IsFault, IsLexFault};
 ghost use Rattle.syntax.specs.Scanning.{lexeme_at, word_at, voter_at, alternative_at, ballot_at, arrow_at, angle_at, mark_at, run_length, room_for};
-ghost use Rattle.syntax.specs.Lexemes.{number_from, starts_without, is_blank};
+ghost use Rattle.syntax.specs.Lexemes.{continued_number, starts_without, is_white_space};
 
 use crate::SyntaxFault;
 use crate::lexemes::Lexeme;
@@ -40,7 +40,7 @@ fn goes_on(c: u8) -> bool
 
 /// Whether a byte is a tab, a line feed, a carriage return or a space.
 pub fn is_blank_byte(c: u8) -> bool
-    ensures { result ≡ is_blank c }
+    ensures { result ≡ is_white_space c }
 {
     c == b'\t' || c == b'\n' || c == b'\r' || c == b' '
 }
@@ -119,7 +119,7 @@ fn ends_name(bytes: &[u8]) -> bool
 fn number_after(n: u16, digits: &[u8]) -> u16
     requires each { list_all is_digit digits.now ≡ true }
     requires room { n < room_for digits.now }
-    ensures { result ≡ number_from n digits.now }
+    ensures { result ≡ continued_number n digits.now }
 {
     match digits.split_first() {
         None => n,

@@ -2,7 +2,7 @@
 
 ghost use Rattle.std.specs.Prelude.{◌≡◌, ◌≤◌, nat_le};
 ghost use Rattle.vocab.specs.NamedView.{named_term_tree, named_terms_tree, named_tree};
-ghost use Rattle.vocab.specs.NamedDepth.{term_depth, terms_depth, depth, quantifiers};
+ghost use Rattle.vocab.specs.NamedDepth.{term_depth, terms_depth, named_depth, quantifiers};
 
 use vocab::{Named, NamedTerm, Terms};
 
@@ -34,7 +34,7 @@ fn terms_fit(terms: &Terms, most: u8) -> bool
 
 /// Whether the sentence is at most so deep.
 pub fn fits(sentence: &Named, most: u8) -> bool
-    ensures { result ≡ nat_le (depth (named_tree sentence.now)) most }
+    ensures { result ≡ nat_le (named_depth (named_tree sentence.now)) most }
 {
     if most == 0 {
         return false;

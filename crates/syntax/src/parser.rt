@@ -10,7 +10,7 @@ ghost use Rattle.syntax.specs.declared.lexemes.Joint.{Joint as JointOf};
 ghost use Rattle.syntax.specs.declared.lexemes.Lexeme.{Lexeme as Lex};
 ghost use Rattle.vocab.specs.NamedTree as trees;
 ghost use Rattle.syntax.specs.Opening.{Opens};
-ghost use Rattle.syntax.specs.Grammar.{IsFree, Reads, IsChain, Chains, mark_of, joined, word_of_sort, word_of_quantifier, bound};
+ghost use Rattle.syntax.specs.Grammar.{IsFree, Reads, IsChain, Chains, joint_lexeme, joined_by, word_of_sort, word_of_quantifier, bound};
 ghost use Rattle.syntax.specs.Fronts.{TermAt, NoTerm, ListAt, NoTerms, AtomAt, NoAtom, BinderAt, NoBinder, FormulaAt, NoFormula, NoChain};
 
 use crate::lexemes::{Joint, Lexeme, Quantifier};
@@ -207,7 +207,7 @@ fn binder(lexemes: &[Lexeme]) -> Option<(Variable, &[Lexeme])>
 }
 
 fn joint_of(mark: Lexeme) -> Option<Joint>
-    ensures { MatchOption result ((j : JointOf) → mark ≡ mark_of j → ⊥) (λ j. mark ≡ mark_of j) }
+    ensures { MatchOption result ((j : JointOf) → mark ≡ joint_lexeme j → ⊥) (λ j. mark ≡ joint_lexeme j) }
 {
     match mark {
         Lexeme::And => Some(Joint::Both),
@@ -219,7 +219,7 @@ fn joint_of(mark: Lexeme) -> Option<Joint>
 }
 
 fn mark(joint: Joint) -> Lexeme
-    ensures { result ≡ mark_of joint }
+    ensures { result ≡ joint_lexeme joint }
 {
     match joint {
         Joint::Both => Lexeme::And,
@@ -242,7 +242,7 @@ fn join(
     right: Box<Named>,
 ) -> Result<Box<Named>, NoMemory>
     ensures { IfOk result
-        (λ b. named_tree b.value ≡ joined joint (named_tree left.value) (named_tree right.value)) }
+        (λ b. named_tree b.value ≡ joined_by joint (named_tree left.value) (named_tree right.value)) }
 {
     match joint {
         Joint::Both => boxed(alloc, Named::Both(left, right)),

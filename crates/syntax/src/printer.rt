@@ -6,7 +6,7 @@ ghost use Rattle.edge.specs.Faults.{HasCause};
 ghost use Rattle.edge.specs.Told.{TellsAsBefore, AppendsPrefix};
 ghost use Rattle.texts.specs.Page.{Pours};
 ghost use Rattle.vocab.specs.NamedView.{named_term_tree, named_terms_tree, named_tree};
-ghost use Rattle.syntax.specs.Canonical.{term_text, list_text, text_of};
+ghost use Rattle.syntax.specs.Canonical.{term_text, list_text, canonical_text};
 ghost use Rattle.syntax.specs.Grammar.{word_of_sort};
 
 use edge::{Failed, Sink};
@@ -20,9 +20,9 @@ use vocab::{Name, Named, NamedTerm, Sort, Terms};
 /// as the byte that follows `a` by that many, after 255 again from 0.
 pub fn print<K: Sink>(sentence: &Named, out: &mut K) -> Result<(), Failed>
     ensures ok { OnOk result (Appends (K.taken out.old) (K.taken out.new)
-        (text_of (named_tree sentence.now))) }
+        (canonical_text (named_tree sentence.now))) }
     ensures err { OnErr result (AppendsPrefix (K.taken out.old) (K.taken out.new)
-        (text_of (named_tree sentence.now))) }
+        (canonical_text (named_tree sentence.now))) }
     ensures tells { TellsAsBefore (K.taken out.old) (K.taken out.new) }
     ensures cause { HasCause (K.faults out.old) (K.faults out.new) result }
 {
@@ -36,7 +36,7 @@ struct SentenceText<'a>(&'a Named);
 impl Text for SentenceText<'_> {
     ghost can = { λ _. Unit {0} };
 
-    ghost text = { λ sentence. text_of (named_tree sentence.0.now) };
+    ghost text = { λ sentence. canonical_text (named_tree sentence.0.now) };
 
     fn pour<K: Sink>(&self, page: &mut Page, out: &mut K) -> Result<(), Failed> {
         pour_formula(self.0, page, out)
@@ -74,7 +74,7 @@ fn pour_binder<K: Sink>(
 #[cycle(pour_formulas)]
 fn pour_formula<K: Sink>(formula: &Named, page: &mut Page, out: &mut K) -> Result<(), Failed>
     ensures { Pours (K.taken out.old) (K.taken out.new) page.old page.new
-        (K.faults out.old) (K.faults out.new) result (text_of (named_tree formula.now)) }
+        (K.faults out.old) (K.faults out.new) result (canonical_text (named_tree formula.now)) }
 {
     match formula {
         Named::Pred(name, arguments) => pour_call(name, arguments, page, out),
@@ -94,7 +94,7 @@ fn pour_formula<K: Sink>(formula: &Named, page: &mut Page, out: &mut K) -> Resul
 #[cycle(pour_formulas)]
 fn pour_negation<K: Sink>(inner: &Named, page: &mut Page, out: &mut K) -> Result<(), Failed>
     ensures { Pours (K.taken out.old) (K.taken out.new) page.old page.new
-        (K.faults out.old) (K.faults out.new) result (codes "!" ++ text_of (named_tree inner.now)) }
+        (K.faults out.old) (K.faults out.new) result (codes "!" ++ canonical_text (named_tree inner.now)) }
 {
     page.put(out, b"!")?;
     pour_formula(inner, page, out)
@@ -112,7 +112,7 @@ fn pour_quantified<K: Sink>(
     ensures { Pours (K.taken out.old) (K.taken out.new) page.old page.new
         (K.faults out.old) (K.faults out.new) result
         (quantifier.now ++ name.now ++ codes ": " ++ word_of_sort sort ++ codes ". "
-        ++ text_of (named_tree inner.now)) }
+        ++ canonical_text (named_tree inner.now)) }
 {
     pour_binder(quantifier, name, sort, page, out)?;
     pour_formula(inner, page, out)
@@ -129,8 +129,8 @@ fn pour_group<K: Sink>(
 ) -> Result<(), Failed>
     ensures { Pours (K.taken out.old) (K.taken out.new) page.old page.new
         (K.faults out.old) (K.faults out.new) result
-        (codes "(" ++ text_of (named_tree left.now) ++ joint.now
-        ++ text_of (named_tree right.now) ++ codes ")") }
+        (codes "(" ++ canonical_text (named_tree left.now) ++ joint.now
+        ++ canonical_text (named_tree right.now) ++ codes ")") }
 {
     page.put(out, b"(")?;
     pour_formula(left, page, out)?;

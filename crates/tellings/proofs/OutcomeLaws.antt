@@ -5,7 +5,6 @@ use Rattle.std.specs.List.{list_all, list_any}
 use Rattle.std.proofs.lemmas.Bool.{and_parts}
 use Rattle.std.proofs.lemmas.List.Elements.{filter-append}
 use Rattle.vocab.specs.declared.literals.Literal.{Literal}
-use Rattle.vocab.specs.declared.literals.Literal.TheVariants.{Wins, Loses, Above}
 use Rattle.vocab.specs.Literal.{opposite_of, profile_of}
 use Rattle.vocab.specs.Size.{Extent, outcome_count}
 use Rattle.vocab.specs.Titled.{Titled}
@@ -16,9 +15,10 @@ use Rattle.meaning.specs.declared.stories.Lemma.{Lemma}
 use Rattle.meaning.specs.Space.{below}
 use Rattle.meaning.specs.Stories.{is_outcome_excluded, refutes}
 use Rattle.meaning.specs.Truth.{holds_of}
+use Rattle.meaning.proofs.LiteralLaws.{profile_of-opposite}
 use Rattle.tellings.specs.declared.tellings.Sentence.{Sentence}
 use Rattle.tellings.specs.Laws.{facts_at}
-use Rattle.tellings.specs.Tellings.{by_of, is_by, says, stand_there}
+use Rattle.tellings.specs.Tellings.{by_of, is_by, says_step, stand_there}
 
 -- no outcome makes all these facts hold, which are of one profile
 abbrev pub leave_nothing : Extent → List Literal → Bool
@@ -32,11 +32,6 @@ twice t (x ∷ xs) = cases (t x) refl (twice t xs)
     cases true here ih = ap (λ (c : Bool). cond c (x ∷ filter t (filter t xs)) (filter t (filter t xs))) here ∙ ap (λ (ys : List Literal). x ∷ ys) ih
     cases false here ih = ih
 
-its_profile : (l : Literal) → profile_of (opposite_of l) ≡ profile_of l
-its_profile (Wins x p) = refl
-its_profile (Loses x p) = refl
-its_profile (Above x y p) = refl
-
 -- beside facts of a profile, those of others are none
 pub own_facts : (p : ℕ) (rests others : List Literal) → facts_at p (facts_at p rests ++ others) ≡ facts_at p (rests ++ others)
 own_facts p rests others =
@@ -45,7 +40,7 @@ own_facts p rests others =
     ∙ sym (filter-append (λ (l : Literal). profile_of l == p) rests others)
 
 module _ (size : Extent) (axioms : List Titled) (core : List ℕ) (earlier : List Lemma) (sentence : Sentence) (step : StoryStep) (p : ℕ) (is : step.reason ≡ ByOutcome p)
-    (h : says size axioms core earlier (Some sentence) step ≡ true) where
+    (h : says_step size axioms core earlier (Some sentence) step ≡ true) where
   -- the step's opposite
   abbrev other : List Literal
   other = opposite_of step.literal ∷ []
@@ -61,7 +56,7 @@ module _ (size : Extent) (axioms : List Titled) (core : List ℕ) (earlier : Lis
       cases : (b : Bool) → (profile_of step.literal == p) ≡ b → (b || is_outcome_excluded size sentence.rests p) ≡ true
       cases true here = refl
       cases false here =
-          let none : facts_at p other ≡ [] = ap (λ (c : Bool). cond c other []) (ap (λ (q : ℕ). q == p) (its_profile step.literal) ∙ here) in
+          let none : facts_at p other ≡ [] = ap (λ (c : Bool). cond c other []) (ap (λ (q : ℕ). q == p) (profile_of-opposite step.literal) ∙ here) in
           let same : facts_at p (sentence.rests ++ other) ≡ facts_at p sentence.rests =
           filter-append (λ (l : Literal). profile_of l == p) sentence.rests other ∙ ap (λ (ls : List Literal). facts_at p sentence.rests ++ ls) none ∙ append-nil (facts_at p sentence.rests) in
           subst (λ (ls : List Literal). leave_nothing size ls ≡ true) same nothing_left

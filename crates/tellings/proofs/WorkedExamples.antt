@@ -6,7 +6,7 @@ use Rattle.meaning.specs.declared.stories.Reason.TheVariants.{Outcome as ByOutco
 use Rattle.meaning.specs.declared.stories.StoryStep.{StoryStep}
 use Rattle.meaning.proofs.WorkedExamples.{choice}
 use Rattle.tellings.specs.declared.tellings.By.TheVariants.{Outcome}
-use Rattle.tellings.specs.Tellings.{says}
+use Rattle.tellings.specs.Tellings.{says_step}
 
 -- b wins at the profile, since it is what is left there
 abbrev wins_at : ℕ → StoryStep
@@ -14,7 +14,7 @@ wins_at p = record { literal = Wins 1 p; reason = ByOutcome p }
 
 -- which of the steps at profiles 1 and 2 a sentence says that rests on these facts
 abbrev said_by : List Literal → List Bool
-said_by rests = map (λ (p : ℕ). says (choice 2 2) [] [] [] (Some (record { by = Outcome; rests = rests })) (wins_at p)) (1 ∷ 2 ∷ [])
+said_by rests = map (λ (p : ℕ). says_step (choice 2 2) [] [] [] (Some (record { by = Outcome; rests = rests })) (wins_at p)) (1 ∷ 2 ∷ [])
 
 sentence_says_two_profiles : said_by (Loses 0 1 ∷ Loses 0 2 ∷ []) ≡ true ∷ true ∷ []
 sentence_says_two_profiles = refl
@@ -23,12 +23,12 @@ facts_of_one_profile_are_left_out : said_by (Loses 0 1 ∷ []) ≡ true ∷ fals
 facts_of_one_profile_are_left_out = refl
 
 -- a step at profile 2 whose reason is profile 1 is said by no facts that leave an outcome at profile 1
-step_of_another_profile : says (choice 2 2) [] [] [] (Some (record { by = Outcome; rests = Loses 0 1 ∷ Loses 0 2 ∷ [] })) (record { literal = Wins 1 2; reason = ByOutcome 1 }) ≡ false
+step_of_another_profile : says_step (choice 2 2) [] [] [] (Some (record { by = Outcome; rests = Loses 0 1 ∷ Loses 0 2 ∷ [] })) (record { literal = Wins 1 2; reason = ByOutcome 1 }) ≡ false
 step_of_another_profile = refl
 
 -- of three alternatives: a and b lose at profile 1, a and c at profile 2. What loses at the one does not at the other
-claims_differ : says (choice 2 3) [] [] [] (Some (record { by = Outcome; rests = Loses 0 1 ∷ Loses 1 1 ∷ Loses 0 2 ∷ Loses 2 2 ∷ [] })) (record { literal = Wins 2 1; reason = ByOutcome 1 }) ≡ false
+claims_differ : says_step (choice 2 3) [] [] [] (Some (record { by = Outcome; rests = Loses 0 1 ∷ Loses 1 1 ∷ Loses 0 2 ∷ Loses 2 2 ∷ [] })) (record { literal = Wins 2 1; reason = ByOutcome 1 }) ≡ false
 claims_differ = refl
 
-claims_are_the_same : says (choice 2 3) [] [] [] (Some (record { by = Outcome; rests = Loses 0 1 ∷ Loses 1 1 ∷ Loses 1 2 ∷ Loses 0 2 ∷ [] })) (record { literal = Wins 2 1; reason = ByOutcome 1 }) ≡ true
+claims_are_the_same : says_step (choice 2 3) [] [] [] (Some (record { by = Outcome; rests = Loses 0 1 ∷ Loses 1 1 ∷ Loses 1 2 ∷ Loses 0 2 ∷ [] })) (record { literal = Wins 2 1; reason = ByOutcome 1 }) ≡ true
 claims_are_the_same = refl

@@ -9,7 +9,7 @@ use Rattle.meaning.specs.declared.stories.StoryStep.{StoryStep}
 use Rattle.meaning.specs.declared.stories.Lemma.{Lemma}
 use Rattle.meaning.specs.Stories.{is_outcome_excluded, refutes}
 use Rattle.tellings.specs.declared.tellings.Sentence.{Sentence}
-use Rattle.tellings.specs.Tellings.{says}
+use Rattle.tellings.specs.Tellings.{says_step}
 
 -- the facts of a profile
 abbrev pub facts_at : ℕ → List Literal → List Literal
@@ -19,6 +19,6 @@ facts_at p facts = filter (λ l. profile_of l == p) facts
 -- that leave nothing there; and the facts of that profile are enough for it
 pub record OutcomesAreOfTheirProfiles : Type 0 where
   pub own : (size : Extent) (axioms : List Titled) (core : List ℕ) (earlier : List Lemma) (sentence : Sentence) (step : StoryStep) (p : ℕ) → step.reason ≡ ByOutcome p →
-      IsTrue (says size axioms core earlier (Some sentence) step) → IsTrue (profile_of step.literal == p || is_outcome_excluded size sentence.rests p)
+      IsTrue (says_step size axioms core earlier (Some sentence) step) → IsTrue (profile_of step.literal == p || is_outcome_excluded size sentence.rests p)
   pub enough : (size : Extent) (axioms : List Titled) (core : List ℕ) (earlier : List Lemma) (sentence : Sentence) (step : StoryStep) (p : ℕ) → step.reason ≡ ByOutcome p →
-      IsTrue (says size axioms core earlier (Some sentence) step) → IsTrue (refutes size axioms core earlier (facts_at p sentence.rests ++ opposite_of step.literal ∷ []) step.reason)
+      IsTrue (says_step size axioms core earlier (Some sentence) step) → IsTrue (refutes size axioms core earlier (facts_at p sentence.rests ++ opposite_of step.literal ∷ []) step.reason)

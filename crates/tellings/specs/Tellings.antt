@@ -75,18 +75,18 @@ AllSay passage = (k : ℕ) → k < length passage.sentences → IsTrue (list_any
 module _ (size : Extent) (axioms : List Titled) (core : List ℕ) (earlier : List Lemma) where
   -- a sentence says a step: it names what the step's reason does, which refutes the facts that it rests on together with the opposite of the fact that the step states;
   -- where that is what is left at a profile, it claims of that profile all that it rests on
-  abbrev pub says : Option Sentence → StoryStep → Bool
-  says None step = false
-  says (Some sentence) step = is_by sentence.by (by_of step.reason) && stand_there sentence.rests step.reason && refutes size axioms core earlier (sentence.rests ++ opposite_of step.literal ∷ []) step.reason
+  abbrev pub says_step : Option Sentence → StoryStep → Bool
+  says_step None step = false
+  says_step (Some sentence) step = is_by sentence.by (by_of step.reason) && stand_there sentence.rests step.reason && refutes size axioms core earlier (sentence.rests ++ opposite_of step.literal ∷ []) step.reason
 
   -- each step stands in one sentence, which says it
   abbrev pub are_said : Passage → Bool
-  are_said passage = list_all (λ placed. says (slice_get passage.sentences placed.sentence) placed.step) passage.steps
+  are_said passage = list_all (λ placed. says_step (slice_get passage.sentences placed.sentence) placed.step) passage.steps
 
   -- a lemma is told right, where some facts are forced: each of its steps stands in exactly one sentence, which says it, but for
   -- those whose facts are forced; each sentence says a step; each fact that a sentence rests on was forced or supposed, or is stated by an earlier sentence;
   -- and the last reason refutes facts that were forced or supposed, or are stated
-  pub record IsTold (forced : List Literal) (lemma : Lemma) (telling : Telling) : Type 0 where
+  pub record IsTellingRight (forced : List Literal) (lemma : Lemma) (telling : Telling) : Type 0 where
     pub steps : map (λ placed. placed.step) telling.passage.steps ≡ filter (λ step. not (has forced step.literal)) lemma.steps
     pub said : IsTrue (are_said telling.passage)
     pub all_say : AllSay telling.passage
@@ -97,13 +97,13 @@ module _ (size : Extent) (axioms : List Titled) (core : List ℕ) (earlier : Lis
 -- ---- where lemmas stand
 
 -- a reason names the lemma at a place
-abbrev pub names : ℕ → Reason → Bool
-names j (ByLemma k) = k == j
-names j _ = false
+abbrev pub names_lemma : ℕ → Reason → Bool
+names_lemma j (ByLemma k) = k == j
+names_lemma j _ = false
 
 -- how often a lemma that is told so names the one at a place
 abbrev pub mentions : ℕ → Lemma → Telling → ℕ
-mentions j lemma telling = count_by (λ placed. names j placed.step.reason) telling.passage.steps + (if names j lemma.last then 1 else 0)
+mentions j lemma telling = count_by (λ placed. names_lemma j placed.step.reason) telling.passage.steps + (if names_lemma j lemma.last then 1 else 0)
 
 -- the later lemma within which the one at a place stands; none for one that stands by itself
 abbrev pub home_in : Option (Option ℕ) → Option ℕ
@@ -168,5 +168,5 @@ module _ (size : Extent) (axioms : List Titled) (core : List ℕ) where
     pub whole : IsTrue (list_all (λ lemma. list_all (is_covered (facts_of told.forced.steps)) lemma.steps) story)
     pub all : length told.lemmas ≡ length story
     pub each : (j : ℕ) (lemma : Lemma) (telling : Telling) → slice_get story j ≡ Some lemma → slice_get told.lemmas j ≡ Some telling →
-        IsTold size axioms core (take j story) (facts_of told.forced.steps) lemma telling
+        IsTellingRight size axioms core (take j story) (facts_of told.forced.steps) lemma telling
     pub placed : AreHomes story told.lemmas told.homes

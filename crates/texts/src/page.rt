@@ -64,13 +64,13 @@ pub struct Page {
 
 impl Model for Page {
     ghost use Rattle.std.specs.Prelude.{ℕ, List, ◌≤◌, drop, take, length};
-    ghost use Rattle.texts.specs.Page.{IsWithin};
+    ghost use Rattle.texts.specs.Page.{IsWithinPage};
 
     ghost Value = { List ℕ };
 
     ghost view = { λ page. drop page.from (take page.end page.bytes) };
 
-    ghost invariant = { λ page. IsWithin page.from page.end page.bytes };
+    ghost invariant = { λ page. IsWithinPage page.from page.end page.bytes };
 }
 
 impl Page {

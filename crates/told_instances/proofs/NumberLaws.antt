@@ -20,7 +20,7 @@ use Rattle.verdicts.specs.Lines.{sorts_of}
 use Rattle.sharp_verdicts.specs.declared.instances.Cited.{Cited}
 use Rattle.sharp_verdicts.specs.Instances.{number_at}
 use Rattle.instance_stories.specs.Codes.{code_of}
-use Rattle.told_instances.specs.Told.{names_instance, codes_in, instance_in}
+use Rattle.told_instances.specs.Told.{names_instance, codes_in, cited_instance}
 use Rattle.told_instances.specs.Numbered.{number_from, IsNumbered}
 
 -- the numbers on the way fit, and the last is that of the values
@@ -95,12 +95,12 @@ within study k values h few =
 
 -- ---- by the instance that is cited
 
-pub code_is : (study : Question) (r : Reason) (c : Cited) (code : ℕ) → instance_in study r ≡ Some c → code ≡ code_of c → codes_in study r ≡ code ∷ []
+pub code_is : (study : Question) (r : Reason) (c : Cited) (code : ℕ) → cited_instance study r ≡ Some c → code ≡ code_of c → codes_in study r ≡ code ∷ []
 code_is study (ByAxiom k values) c code e f = let same : record { «axiom» = k; number = number_at study k values } ≡ c = cc in ap (λ (d : Cited). code_of d ∷ []) same ∙ ap (λ (n : ℕ). n ∷ []) (sym f)
 code_is study (ByOutcome p) c code e f = absurd cc
 code_is study (ByLemma j) c code e f = absurd cc
 
-pub no_code : (study : Question) (r : Reason) → instance_in study r ≡ None → codes_in study r ≡ []
+pub no_code : (study : Question) (r : Reason) → cited_instance study r ≡ None → codes_in study r ≡ []
 no_code study (ByAxiom k values) e = absurd cc
 no_code study (ByOutcome p) e = refl
 no_code study (ByLemma j) e = refl

@@ -11,42 +11,42 @@ use Rattle.vocab.specs.Limits.{bases_of, instance_count}
 use Rattle.vocab.specs.Size.{sort_count}
 use Rattle.vocab.specs.Study.{Question, IsStudy}
 use Rattle.vocab.specs.Titled.{Titled}
+use Rattle.vocab.proofs.Ranges.{below_more}
 use Rattle.meaning.specs.declared.stories.Reason.{Reason}
 use Rattle.meaning.specs.declared.stories.Reason.TheVariants.{Axiom as ByAxiom, Outcome as ByOutcome, Lemma as ByLemma}
 use Rattle.meaning.specs.declared.stories.Lemma.{Lemma}
 use Rattle.meaning.specs.declared.stories.StoryStep.{StoryStep}
 use Rattle.meaning.proofs.TestLaws.{list_any-map, or-false}
-use Rattle.search_logs.proofs.PlaceLaws.{below_more}
 use Rattle.meaning.specs.Space.{below, number_of}
 use Rattle.meaning.proofs.DigitLaws.{are_one_to_one}
 use Rattle.meaning.proofs.InstanceLaws.{same_tests}
 use Rattle.verdicts.specs.Lines.{sorts_of}
-use Rattle.verdicts.proofs.WordLaws.{IsIn}
-use Rattle.grounding.specs.Rising.{has}
+use Rattle.verdicts.proofs.WordLaws.{IsIn, in_below}
+use Rattle.grounding.specs.Rising.{includes}
+use Rattle.verdicts.proofs.Members.{map_in, flat_map_in, in_filter, filter_in}
 use Rattle.sharp_verdicts.specs.declared.instances.Cited.{Cited}
 use Rattle.sharp_verdicts.specs.Instances.{cites_axiom, is_axiom_told, reasons_of, count_at, number_at, is_present, cites, is_told, all_instances, instances_of}
-use Rattle.instance_stories.specs.Codes.{code_of, AreRising, AreSmall}
+use Rattle.instance_stories.specs.Codes.{code_of, AreRisingInstances, HaveAxiomRoom}
 use Rattle.instance_stories.proofs.AllInstances.{has-append, all_rise, all_small, filter_rises, filter_small, counts_few, rising_lists}
-use Rattle.sharp_verdicts.proofs.Members.{map_in, flat_map_in, in_below, in_filter, filter_in}
 use Rattle.told_instances.specs.Told.{codes_in, codes_by, codes_told, names_instance, has_reasons}
 
 -- ---- numbers that are in a list
 
-has_in : (cs : List Cited) (c : Cited) → IsIn cs c → has (map code_of cs) (code_of c) ≡ true
+pub has_in : (cs : List Cited) (c : Cited) → IsIn cs c → includes (map code_of cs) (code_of c) ≡ true
 has_in [] c i = absurd i
 has_in (d ∷ cs) c (inl e) = or_left _ _ (eq-eqb (code_of c) (code_of d) (ap code_of (sym e)))
 has_in (d ∷ cs) c (inr i) = or_right (nat_eq (code_of c) (code_of d)) _ (has_in cs c i)
 
-in_has : (cs : List Cited) (k : ℕ) → has (map code_of cs) k ≡ true → (c : Cited) × IsIn cs c × (code_of c ≡ k)
+pub in_has : (cs : List Cited) (k : ℕ) → includes (map code_of cs) k ≡ true → (c : Cited) × IsIn cs c × (code_of c ≡ k)
 in_has [] k h = absurd cc
-in_has (d ∷ cs) k h = elim (or_cases (nat_eq k (code_of d)) (has (map code_of cs) k) h) [
+in_has (d ∷ cs) k h = elim (or_cases (nat_eq k (code_of d)) (includes (map code_of cs) k) h) [
   | inl e ↦ (d, inl refl, sym (eqb-true k (code_of d) e))
   | inr e ↦ let r = in_has cs k e in (r.0, inr r.1, r.2)
 ]
 
-has_flat : {X : Type 0} (f : X → List ℕ) (xs : List X) (k : ℕ) → has (flat_map f xs) k ≡ list_any (λ x. has (f x) k) xs
+has_flat : {X : Type 0} (f : X → List ℕ) (xs : List X) (k : ℕ) → includes (flat_map f xs) k ≡ list_any (λ x. includes (f x) k) xs
 has_flat f [] k = refl
-has_flat f (x ∷ xs) k = has-append (f x) (flat_map f xs) k ∙ ap (λ b. has (f x) k || b) (has_flat f xs k)
+has_flat f (x ∷ xs) k = has-append (f x) (flat_map f xs) k ∙ ap (λ b. includes (f x) k || b) (has_flat f xs k)
 
 pub any_mapped : {X : Type 0} (s t : X → Bool) (xs : List X) → ((x : X) → s x ≡ true → t x ≡ true) → list_any s xs ≡ true → list_any t xs ≡ true
 any_mapped s t [] f h = absurd cc
@@ -72,7 +72,7 @@ module _ (study : Question) where
 
   -- ---- what is cited has its number
 
-  reason_code : (c : Cited) (r : Reason) → cites study c r ≡ true → has (codes_in study r) (code_of c) ≡ true
+  reason_code : (c : Cited) (r : Reason) → cites study c r ≡ true → includes (codes_in study r) (code_of c) ≡ true
   reason_code c (ByAxiom k values) h =
       let e = and_parts (c.«axiom» == k) (c.number == number_at study k values) h in
       let a = eqb-true c.«axiom» k e.0 in
@@ -81,11 +81,11 @@ module _ (study : Question) where
   reason_code c (ByOutcome p) h = absurd cc
   reason_code c (ByLemma j) h = absurd cc
 
-  told_code : (story : List Lemma) (c : Cited) → is_told study story c ≡ true → has (codes_told study story) (code_of c) ≡ true
+  told_code : (story : List Lemma) (c : Cited) → is_told study story c ≡ true → includes (codes_told study story) (code_of c) ≡ true
   told_code story c h =
       has_flat (λ (lemma : Lemma). codes_by study (reasons_of lemma)) story (code_of c)
-      ∙ any_mapped (λ (lemma : Lemma). list_any (cites study c) (reasons_of lemma)) (λ (lemma : Lemma). has (codes_by study (reasons_of lemma)) (code_of c)) story
-      (λ lemma e. has_flat (codes_in study) (reasons_of lemma) (code_of c) ∙ any_mapped (cites study c) (λ r. has (codes_in study r) (code_of c)) (reasons_of lemma) (reason_code c) e) h
+      ∙ any_mapped (λ (lemma : Lemma). list_any (cites study c) (reasons_of lemma)) (λ (lemma : Lemma). includes (codes_by study (reasons_of lemma)) (code_of c)) story
+      (λ lemma e. has_flat (codes_in study) (reasons_of lemma) (code_of c) ∙ any_mapped (cites study c) (λ r. includes (codes_in study r) (code_of c)) (reasons_of lemma) (reason_code c) e) h
 
   -- ---- and what has a number is cited
 
@@ -110,7 +110,7 @@ module _ (study : Question) where
   abbrev IsBy : Reason → ℕ → Type 0
   IsBy r n = (c : Cited) × (is_present study c ≡ true) × (cites study c r ≡ true) × (code_of c ≡ n)
 
-  code_reason : (r : Reason) (n : ℕ) → has (codes_in study r) n ≡ true → names_instance study r ≡ true → IsBy r n
+  code_reason : (r : Reason) (n : ℕ) → includes (codes_in study r) n ≡ true → names_instance study r ≡ true → IsBy r n
   code_reason (ByAxiom k values) n h is =
       elim (or_cases (nat_eq n (code_of (cited_at k values))) false h) [
         | inl e ↦ (cited_at k values, reason_present k values is, and_from _ _ (eq-eqb k k refl) (eq-eqb (number_at study k values) (number_at study k values) refl), sym (eqb-true n (code_of (cited_at k values)) e))
@@ -119,10 +119,10 @@ module _ (study : Question) where
   code_reason (ByOutcome p) n h is = absurd cc
   code_reason (ByLemma j) n h is = absurd cc
 
-  code_told : (story : List Lemma) (n : ℕ) → has (codes_told study story) n ≡ true → has_reasons study story ≡ true → (c : Cited) × (is_present study c ≡ true) × (is_told study story c ≡ true) × (code_of c ≡ n)
+  code_told : (story : List Lemma) (n : ℕ) → includes (codes_told study story) n ≡ true → has_reasons study story ≡ true → (c : Cited) × (is_present study c ≡ true) × (is_told study story c ≡ true) × (code_of c ≡ n)
   code_told story n h range =
-      let l = any_found (λ (lemma : Lemma). has (codes_by study (reasons_of lemma)) n) (λ (lemma : Lemma). list_all (names_instance study) (reasons_of lemma)) story (sym (has_flat (λ (lemma : Lemma). codes_by study (reasons_of lemma)) story n) ∙ h) range in
-      let r = any_found (λ r. has (codes_in study r) n) (names_instance study) (reasons_of l.0) (sym (has_flat (codes_in study) (reasons_of l.0) n) ∙ l.2) l.3 in
+      let l = any_found (λ (lemma : Lemma). includes (codes_by study (reasons_of lemma)) n) (λ (lemma : Lemma). list_all (names_instance study) (reasons_of lemma)) story (sym (has_flat (λ (lemma : Lemma). codes_by study (reasons_of lemma)) story n) ∙ h) range in
+      let r = any_found (λ r. includes (codes_in study r) n) (names_instance study) (reasons_of l.0) (sym (has_flat (codes_in study) (reasons_of l.0) n) ∙ l.2) l.3 in
       let c = code_reason r.0 n r.2 r.3 in
       (c.0, c.1, any_in (λ (lemma : Lemma). list_any (cites study c.0) (reasons_of lemma)) story l.0 l.1 (any_in (cites study c.0) (reasons_of l.0) r.0 r.1 c.2), c.3)
 
@@ -135,19 +135,19 @@ module _ (study : Question) where
       (in_below (length study.axioms) c.«axiom» (ltb-true c.«axiom» (length study.axioms) e.0))
       (map_in (λ n. record { «axiom» = c.«axiom»; number = n }) (below (count_at study c.«axiom»)) c.number (in_below (count_at study c.«axiom») c.number (ltb-true c.number (count_at study c.«axiom») e.1)))
 
-  told_has : (story : List Lemma) (n : ℕ) → has_reasons study story ≡ true → has (map code_of (instances_of study story)) n ≡ has (codes_told study story) n
+  told_has : (story : List Lemma) (n : ℕ) → has_reasons study story ≡ true → includes (map code_of (instances_of study story)) n ≡ includes (codes_told study story) n
   told_has story n range = same_tests _ _
       (λ h.
       let r = in_has (instances_of study story) n h in
       let f = in_filter (is_told study story) (all_instances study) r.0 r.1 in
-      subst (λ (m : ℕ). has (codes_told study story) m ≡ true) r.2 (told_code story r.0 f.1))
+      subst (λ (m : ℕ). includes (codes_told study story) m ≡ true) r.2 (told_code story r.0 f.1))
       (λ h.
       let c = code_told story n h range in
-      subst (λ (m : ℕ). has (map code_of (instances_of study story)) m ≡ true) c.3 (has_in (instances_of study story) c.0 (filter_in (is_told study story) (all_instances study) c.0 (all_in c.0 c.1) c.2)))
+      subst (λ (m : ℕ). includes (map code_of (instances_of study story)) m ≡ true) c.3 (has_in (instances_of study story) c.0 (filter_in (is_told study story) (all_instances study) c.0 (all_in c.0 c.1) c.2)))
 
 -- a rising list with the numbers of a story has the instances that it cites
-pub lists_told : (study : Question) (story : List Lemma) (cs : List Cited) → IsStudy study → has_reasons study story ≡ true → AreSmall cs → AreRising cs
-    → ((n : ℕ) → has (map code_of cs) n ≡ has (codes_told study story) n) → cs ≡ instances_of study story
+pub lists_told : (study : Question) (story : List Lemma) (cs : List Cited) → IsStudy study → has_reasons study story ≡ true → HaveAxiomRoom cs → AreRisingInstances cs
+    → ((n : ℕ) → includes (map code_of cs) n ≡ includes (codes_told study story) n) → cs ≡ instances_of study story
 lists_told study story cs taken range small rising same =
     rising_lists cs (instances_of study story) small (filter_small (is_told study story) (all_instances study) (all_small study (counts_few study taken))) rising
     (filter_rises (is_told study story) 0 (all_instances study) (all_rise study (counts_few study taken))) (λ n. same n ∙ sym (told_has study story n range))

@@ -13,15 +13,15 @@ use Rattle.sharp_verdicts.specs.Instances.{reasons_of, number_at}
 use Rattle.instance_stories.specs.Codes.{code_of}
 
 -- an instance has the place of an axiom of a study, and a number within its limit
-abbrev pub IsSmall : Cited → Type 0
-IsSmall c = (c.«axiom» < 4000000) × (c.number < 40000000)
+abbrev pub IsSmallInstance : Cited → Type 0
+IsSmallInstance c = (c.«axiom» < 4000000) × (c.number < 40000000)
 
 module _ (study : Question) where
   -- the instance that a reason cites, if it cites one
-  abbrev pub instance_in : Reason → Option Cited
-  instance_in (ByAxiom k values) = Some (record { «axiom» = k; number = number_at study k values })
-  instance_in (ByOutcome p) = None
-  instance_in (ByLemma j) = None
+  abbrev pub cited_instance : Reason → Option Cited
+  cited_instance (ByAxiom k values) = Some (record { «axiom» = k; number = number_at study k values })
+  cited_instance (ByOutcome p) = None
+  cited_instance (ByLemma j) = None
 
   -- that of a reason, where it cites one
   abbrev pub codes_in : Reason → List ℕ

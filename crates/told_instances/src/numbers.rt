@@ -3,7 +3,7 @@
 ghost use Rattle.std.specs.Prelude.{◌≡◌, [], ◌∷◌, IfSome, MatchOption, IsTrue};
 ghost use Rattle.vocab.specs.Tree.{tree_of};
 ghost use Rattle.told_instances.specs.Numbered.{number_from, IsNumbered};
-ghost use Rattle.told_instances.specs.Told.{codes_in, names_instance, instance_in, IsSmall};
+ghost use Rattle.told_instances.specs.Told.{codes_in, names_instance, cited_instance, IsSmallInstance};
 
 use instance_stories::code_of;
 use meaning::Reason;
@@ -33,8 +33,8 @@ fn number_from(space: &Space, formula: &Formula, values: &Env, level: u8) -> u64
 pub fn instance_of_reason(space: &Space, study: &Study, reason: &Reason) -> Option<Cited>
     requires size { study.now.size ≡ space.now }
     requires reason { IsTrue (names_instance study.now reason.now) }
-    ensures value { result ≡ instance_in study.now reason.now }
-    ensures small { IfSome result IsSmall }
+    ensures value { result ≡ cited_instance study.now reason.now }
+    ensures small { IfSome result IsSmallInstance }
 {
     match reason {
         Reason::Axiom(k, values) => {

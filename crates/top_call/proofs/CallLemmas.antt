@@ -1,5 +1,5 @@
 -- From the answer of a command to the promises of a call.
-use Rattle.std.proofs.Common.{◌≡◌, ◌≢◌, ◌∙◌, sym, refl, subst, ℕ, ◌≤◌, inl, inr, cond, Bool, true, false, ◌||◌, List, [], ◌∷◌, take, Option, None, Some, Result, Ok, Err, arith}
+use Rattle.std.proofs.Common.{◌≡◌, ◌≢◌, ◌∙◌, sym, refl, subst, ℕ, ◌≤◌, inl, inr, List, [], Option, None, Some, Result, Ok, Err, arith}
 use Rattle.std.specs.Prelude.{◌==◌, IsTrue, IsFalse}
 use Rattle.std.specs.List.{list_any}
 use Rattle.std.specs.Str.{bytes_eq}
@@ -8,6 +8,7 @@ use Rattle.edge.specs.Shelf.{Files}
 use Rattle.edge.specs.Faults.{Rose}
 use Rattle.edge.specs.Told.{AppendsPrefix}
 use Rattle.vocab.specs.declared.kinds.Kind.{Kind}
+use Rattle.texts.proofs.PageLemmas.{keeps_same}
 use Rattle.words.specs.Words.{Request, Decide, Check, Export, Proof, Lrat, Axioms, Sample, Adopt, Gain, Sharpen, request_of}
 use Rattle.answers.specs.declared.runs.Run.{Run}
 use Rattle.answers.specs.Runs.{IsBare, with_status}
@@ -17,9 +18,10 @@ use Rattle.command_parts.specs.declared.answer.Answer.{Answer}
 use Rattle.command_parts.specs.declared.answer.Answer.TheVariants.{Usage, Library}
 use Rattle.command_parts.specs.declared.answer.Stop.{Stop}
 use Rattle.command_parts.specs.declared.answer.Stop.TheVariants as stop
-use Rattle.command_parts.specs.Answers.{run_of, status_of, text_of}
+use Rattle.command_parts.specs.Answers.{run_of, answer_status, text_of}
 use Rattle.command_parts.specs.Answered.{Answers}
 use Rattle.command_parts.proofs.AnswerLemmas.{bare_answer}
+use Rattle.command_parts.proofs.PairLemmas.{not_in_front}
 
 -- ---- commands
 
@@ -59,25 +61,6 @@ asked_answer request asked told left_before left_now faults_before faults_now re
 
 -- ---- calls
 
-not_in_front : (test : List ℕ → Bool) (s : ℕ) (names : List (List ℕ)) → list_any test names ≡ false → list_any test (touched_at s names) ≡ false
-not_in_front test s names free = by_status (s == 3) names free
-  where
-    first_alone : (names : List (List ℕ)) → list_any test names ≡ false → list_any test (take 1 names) ≡ false
-    first_alone [] free = refl
-    first_alone (name ∷ names) free = one (test name) (list_any test names) free
-      where
-        one : (a b : Bool) → (a || b) ≡ false → (a || false) ≡ false
-        one true b e = e
-        one false b e = refl
-
-    by_status : (b : Bool) (names : List (List ℕ)) → list_any test names ≡ false → list_any test (cond b (take 1 names) names) ≡ false
-    by_status true names free = first_alone names free
-    by_status false names free = free
-
-keeps : (o : Option (List ℕ)) → Keeps o o
-keeps None = tt
-keeps (Some xs) = refl
-
 module _ (words : List (List ℕ)) (d : Devices) where
   abbrev Promised : Result Answer Stop → Type 0
   Promised result = Answers (request_of words) d.told d.left_before d.left_now d.faults_before d.faults_now result
@@ -101,11 +84,11 @@ module _ (words : List (List ℕ)) (d : Devices) where
   cut answer a bytes rose = record {
     status = may_be_cut (request_of words);
     lawful = λ files h low. absurd (omega (arith, low));
-    cut_short = λ files h six. record { status = status_of answer; text = text_of answer; lawful = a.lawful files h; written = bytes; untouched = a.untouched };
+    cut_short = λ files h six. record { status = answer_status answer; text = text_of answer; lawful = a.lawful files h; written = bytes; untouched = a.untouched };
     silent = λ e. elim e [ inl five ↦ absurd (omega (arith, five)) | inr seven ↦ absurd (omega (arith, seven)) ];
     read_fault = λ five. absurd (omega (arith, five));
     write_fault = λ six. rose;
-    untouched = λ name free. a.untouched name (not_in_front (bytes_eq name) (status_of answer) (files_of (request_of words)) free);
+    untouched = λ name free. a.untouched name (not_in_front (bytes_eq name) (answer_status answer) (files_of (request_of words)) free);
     uncounted = a.uncounted;
   }
 
@@ -118,7 +101,7 @@ module _ (words : List (List ℕ)) (d : Devices) where
     status = subst (λ (n : ℕ). IsTrue (list_any (λ m. m == n) (statuses_of (request_of words)))) (sym bare.ends) one;
     lawful = λ files h low. let e = bare.ends in absurd (omega (arith, low, e, high));
     cut_short = λ files h six. absurd (other (sym bare.ends ∙ six));
-    silent = λ e. record { kept = subst (λ (o : Option (List ℕ)). Keeps d.taken_before o) (sym same) (keeps d.taken_before); no_verdict = bare.no_verdict; no_logs = bare.no_logs; no_sharp = bare.no_sharp };
+    silent = λ e. record { kept = subst (λ (o : Option (List ℕ)). Keeps d.taken_before o) (sym same) (keeps_same d.taken_before); no_verdict = bare.no_verdict; no_logs = bare.no_logs; no_sharp = bare.no_sharp };
     read_fault = λ five. cause (sym bare.ends ∙ five);
     write_fault = λ six. absurd (other (sym bare.ends ∙ six));
     untouched = λ name free. untouched name (subst (λ (n : ℕ). IsFalse (list_any (bytes_eq name) (touched_at n (files_of (request_of words))))) bare.ends free);

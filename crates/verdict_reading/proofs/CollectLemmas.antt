@@ -1,8 +1,8 @@
 -- One more line: the parts that it gives, and where the verdict is read.
-use Rattle.std.proofs.Common.{◌≡◌, refl, sym, ap, ◌∙◌, subst, ℕ, ◌+◌, ◌-◌, ◌^◌, ◌<◌, ◌≤◌, min, Bool, true, false, cond, ◌&&◌, List, [], ◌∷◌, ◌++◌, length, Option, Some, None, option_map, Ok, Err, arith, ltb-true}
+use Rattle.std.proofs.Common.{◌≡◌, refl, sym, ap, ◌∙◌, subst, ℕ, ◌+◌, ◌-◌, ◌^◌, ◌<◌, ◌≤◌, min, Bool, true, false, cond, ◌&&◌, List, [], ◌∷◌, ◌++◌, length, Option, Some, None, Ok, Err, arith, ltb-true}
 use Rattle.std.specs.Prelude.{◌==◌, nat_lt}
-use Rattle.std.specs.Option.{option_or}
 use Rattle.std.proofs.lemmas.Bool.{eqb-true}
+use Rattle.lists.proofs.OptionLaws.{none_of_either, none_of_map}
 use Rattle.vocab.specs.declared.kinds.Sort.TheVariants.{Profile}
 use Rattle.vocab.specs.declared.literals.Literal.{Literal}
 use Rattle.vocab.specs.Size.{sort_count}
@@ -38,18 +38,6 @@ use Rattle.verdict_reading.specs.Collected.{IsMadeOf, EndsAt, Collects, IsCollec
 
 -- ---- reasons
 
-none_else : (o p : Option StoryFault) → option_or o p ≡ None → (o ≡ None) × (p ≡ None)
-none_else None p e = (refl, e)
-none_else (Some w) p e = absurd (cc)
-
-none_also : (o p : Option Refusal) → option_or o p ≡ None → (o ≡ None) × (p ≡ None)
-none_also None p e = (refl, e)
-none_also (Some w) p e = absurd (cc)
-
-none_mapped : (o : Option StoryFault) → option_map refusal_of o ≡ None → o ≡ None
-none_mapped None e = refl
-none_mapped (Some w) e = absurd (cc)
-
 passes : (b : Bool) (fault : StoryFault) → unless b fault ≡ None → b ≡ true
 passes true fault e = refl
 passes false fault e = absurd (cc)
@@ -60,7 +48,7 @@ reason_same : (study : Question) (core : List ℕ) (es : List Lemma) (known : Li
 reason_same study core es known (ByAxiom k values) few e = refl
 reason_same study core es known (ByOutcome p) few e = refl
 reason_same study core es known (ByLemma j) few e =
-    let first = (none_else _ _ e).0 in
+    let first = (none_of_either _ _ e).0 in
     let less : j < length es = ltb-true j (length es) (passes (nat_lt j (length es)) Later first) in
     let same : min j (2 ^ 32 - 1) ≡ j = omega (arith, less, few) in
     ap ByLemma same
@@ -97,13 +85,13 @@ module _ (study : Question) where
       → with_line P study.conflicts (is_witness_row (held_place s.place)) (held_line study w) (parts_of s) ≡ parts_of (advance study s w)
   part_next s (Row p o) few e = row_next s.place s o
   part_next s (So l r) few e =
-      let second = (none_else _ _ (none_mapped _ e)).1 in
+      let second = (none_of_either _ _ (none_of_map refusal_of _ e)).1 in
       ap (λ (x : Reason). record (parts_of s) { steps = s.steps ++ record { literal = l; reason = x } ∷ [] }) (reason_same study _ _ _ r few second)
   part_next s (Clash r) few e =
-      ap (λ (x : Reason). with_lemma x (parts_of s)) (reason_same study _ _ _ r few (none_mapped _ e))
+      ap (λ (x : Reason). with_lemma x (parts_of s)) (reason_same study _ _ _ r few (none_of_map refusal_of _ e))
       ∙ sym (lemma_next (record s { earlier = s.earlier ++ record { suppose = s.suppose; steps = s.steps; last = r } ∷ []; suppose = []; steps = [] }))
   part_next s (WithOpen name n) few e =
-      let second = (none_also _ _ e).1 in
+      let second = (none_of_either _ _ e).1 in
       let same : n ≡ study.conflicts = eqb-true n study.conflicts (none_unless (n == study.conflicts) refusal.OpenMark second) in
       ap (λ m. record (parts_of s) { witnesses = s.witnesses ++ OpenMark m ∷ [] }) (sym same)
   part_next s w few e = refl

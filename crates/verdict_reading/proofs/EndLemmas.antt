@@ -17,7 +17,7 @@ use Rattle.sharp_verdicts.specs.declared.instances.Cited.{Cited}
 use Rattle.sharp_verdicts.specs.declared.refusals.SharpRefusal.{SharpRefusal}
 use Rattle.sharp_verdicts.specs.declared.refusals.SharpRefusal.TheVariants.{Report}
 use Rattle.sharp_verdicts.specs.Judged.{AsReport, AsSharp}
-use Rattle.sharp_verdicts.specs.SharpFaults.{listed}
+use Rattle.sharp_verdicts.specs.SharpFaults.{listed_instances}
 use Rattle.sharp_verdicts.specs.SharpJudge.{SharpTold, SharpGood, pointed_of, at_sharp_end, sharp_conclude, sharp_beyond}
 use Rattle.sharp_verdicts.specs.SharpPlaces.{SharpPlace, AtSharpNothing, SharpStanding}
 use Rattle.sharp_report.specs.SharpStands.{held_sharp_place}
@@ -64,13 +64,13 @@ module _ (study : Question) (s : SharpStanding) where
   -- a sharp verdict
   pub sharp_at : (core : List ℕ) (story : List Lemma) (instances : List Cited) (marks : List Witness) (v : SharpVerdict) → s.place ≡ AtSharpNothing
       → v ≡ record { core = core; story = story; instances = instances; marks = marks }
-      → core ≡ s.told.core → story ≡ s.told.earlier → instances ≡ listed study s → marks ≡ s.marks → Some v ≡ sharp_verdict_at study s.place s
+      → core ≡ s.told.core → story ≡ s.told.earlier → instances ≡ listed_instances study s → marks ≡ s.marks → Some v ≡ sharp_verdict_at study s.place s
   sharp_at core story instances marks v at e one two three four =
       ap (λ (x : SharpVerdict). Some x) e
       ∙ ap (λ (x : List ℕ). Some (verdict x story instances marks)) one
       ∙ ap (λ (x : List Lemma). Some (verdict s.told.core x instances marks)) two
       ∙ ap (λ (x : List Cited). Some (verdict s.told.core s.told.earlier x marks)) three
-      ∙ ap (λ (x : List Witness). Some (verdict s.told.core s.told.earlier (listed study s) x)) four
+      ∙ ap (λ (x : List Witness). Some (verdict s.told.core s.told.earlier (listed_instances study s) x)) four
       ∙ sym (ap (λ p. sharp_verdict_at study p s) at)
 
   -- none

@@ -8,7 +8,7 @@ use Rattle.report_files.proofs.PieceLemmas.{front_ended, final_ended, front_goin
 use Rattle.verdict_reading.specs.declared.lines.Told.TheVariants as told
 use Rattle.verdict_reading.specs.declared.text_collector.TextCollector.{TextCollector}
 use Rattle.verdict_reading.specs.declared.text_collector.TextRefusal.{TextRefusal}
-use Rattle.verdict_reading.specs.Told.{HasCollected, IsFirstFaulty, IsAmongLines, IsNext, TellsOf}
+use Rattle.verdict_reading.specs.Told.{HasCollected, IsFirstFaulty, IsAmongLines, IsLineCollected, TellsOf}
 use Rattle.verdict_reading.proofs.TextLemmas.{faulty_more}
 
 -- all of a text before some rest of it is read: its lines, of which none is faulty
@@ -41,7 +41,7 @@ module _ (study : Question) (sharp : Bool) (text : List ℕ) where
       split = h.cut ∙ ap (λ (t : List ℕ). h.read ++ t) (cut ∙ sym (append_assoc first (10 ∷ []) after)) ∙ sym (append_assoc h.read (first ++ 10 ∷ []) after)
 
       -- a line without a fault is read
-      pub read_next : (after_line : TextCollector) → IsNext study sharp (front (pieces h.read)) first after_line None → HasRead study sharp after_line text after (line + 1)
+      pub read_next : (after_line : TextCollector) → IsLineCollected study sharp (front (pieces h.read)) first after_line None → HasRead study sharp after_line text after (line + 1)
       read_next after_line t =
           let count : length (front (pieces further)) ≡ length (front (pieces h.read)) + 1 = ap length lines_more ∙ length-append (front (pieces h.read)) (first ∷ []) in
           let shorter : length rest ≡ length first + length (10 ∷ after) = ap length cut ∙ length-append first (10 ∷ after) in
@@ -55,7 +55,7 @@ module _ (study : Question) (sharp : Bool) (text : List ℕ) where
           }
 
       -- a line with one is the first faulty line
-      pub refuses : (word : TextRefusal) (after_line : TextCollector) → IsNext study sharp (front (pieces h.read)) first after_line (Some word)
+      pub refuses : (word : TextRefusal) (after_line : TextCollector) → IsLineCollected study sharp (front (pieces h.read)) first after_line (Some word)
           → TellsOf study sharp after_line (front (pieces text)) (final (pieces text)) (told.Refused line word)
       refuses word after_line t =
           let more = front_more further after in

@@ -1,6 +1,6 @@
 -- What is read of a text and of a file.
-use Rattle.std.proofs.Common.{◌≡◌, refl, sym, ap, ◌∙◌, ℕ, ◌+◌, Bool, true, false, true≢false, List, length, Option, Some, None, Result, Ok, Err, ◌<◌, arith, cond, take, drop, lt-ltb, take-append-drop}
-use Rattle.std.specs.Prelude.{IfOk, IfSome, IsSome}
+use Rattle.std.proofs.Common.{◌≡◌, refl, sym, ap, ◌∙◌, ℕ, ◌+◌, Bool, true, false, true≢false, List, length, Option, Some, None, ◌<◌, arith, cond, take, drop, lt-ltb, take-append-drop}
+use Rattle.std.specs.Prelude.{IfSome, IsSome}
 use Rattle.edge.specs.Shelf.{Files}
 use Rattle.vocab.specs.Study.{Question}
 use Rattle.verdicts.specs.declared.verdicts.Verdict.{Verdict}
@@ -12,7 +12,7 @@ use Rattle.sharp_verdicts.specs.Right.{Pointed}
 use Rattle.sharp_verdicts.specs.SharpJudge.{SharpJudgement, SharpConfirmed, SharpFaulty, SharpTooLong, SharpTold, SharpGood, SharpRefused, sharp_judge, sharp_conclude, sharp_beyond, sharp_answer, sharp_answer_within}
 use Rattle.sharp_laws.proofs.FaultLaws.{within_limit as sharp_within_limit}
 use Rattle.sharp_laws.proofs.JudgeLaws.{judge_sound as sharp_judge_sound}
-use Rattle.report_files.specs.Files.{most_report_bytes}
+use Rattle.report_files.specs.Files.{most_verdict_bytes}
 use Rattle.report_files.proofs.EndedLemmas.{within, whole_within, limit_is, whole_is}
 use Rattle.report_files.proofs.PieceLemmas.{pieces_count}
 use Rattle.report_files.proofs.TitleLemmas.{title_within}
@@ -20,7 +20,7 @@ use Rattle.verdict_reading.specs.declared.reading.Reading.{Reading}
 use Rattle.verdict_reading.specs.declared.reading.Reading.TheVariants as reading
 use Rattle.verdict_reading.specs.declared.sharp_verdict.SharpVerdict.{SharpVerdict}
 use Rattle.verdict_reading.specs.SharpCollected.{as_read, as_said}
-use Rattle.verdict_reading.specs.Readings.{reading_of, judged_whole, sharp_judged_end, judged_front, IsRightOf, ReadingHolds, IsFront, IsReadOf}
+use Rattle.verdict_reading.specs.Readings.{reading_of, judged_whole, sharp_judged_end, judged_front, IsRightOf, ReadingHolds, IsFileFront, IsReadOf}
 
 -- ---- right verdicts
 
@@ -57,14 +57,14 @@ module _ (study : Question) (text : List ℕ) where
     sharp = λ v is. sharp_judge_sound study text (as_said v) (by_sharp (has_sharp_title text) (sharp_answer study text) (SharpConfirmed (as_said v)) (answer study text) (sharp_is (judged_whole study text) v (sym e ∙ is)));
   }
 
-  right_within : (r : Reading) → r ≡ reading_of (judged_within most_report_bytes study text) → IsRightOf study text r
+  right_within : (r : Reading) → r ≡ reading_of (judged_within most_verdict_bytes study text) → IsRightOf study text r
   right_within r e = record {
     report = λ v is.
-        let confirmed = by_report (has_sharp_title text) (sharp_answer_within study most_report_bytes text) (answer_within most_report_bytes study text) (Confirmed v) (confirmed_is (judged_within most_report_bytes study text) v (sym e ∙ is)) in
-        judge_sound study text v ((within_limit most_report_bytes study text v).0 confirmed).1;
+        let confirmed = by_report (has_sharp_title text) (sharp_answer_within study most_verdict_bytes text) (answer_within most_verdict_bytes study text) (Confirmed v) (confirmed_is (judged_within most_verdict_bytes study text) v (sym e ∙ is)) in
+        judge_sound study text v ((within_limit most_verdict_bytes study text v).0 confirmed).1;
     sharp = λ v is.
-        let confirmed = by_sharp (has_sharp_title text) (sharp_answer_within study most_report_bytes text) (SharpConfirmed (as_said v)) (answer_within most_report_bytes study text) (sharp_is (judged_within most_report_bytes study text) v (sym e ∙ is)) in
-        sharp_judge_sound study text (as_said v) ((sharp_within_limit most_report_bytes study text (as_said v)).0 confirmed).1;
+        let confirmed = by_sharp (has_sharp_title text) (sharp_answer_within study most_verdict_bytes text) (SharpConfirmed (as_said v)) (answer_within most_verdict_bytes study text) (sharp_is (judged_within most_verdict_bytes study text) v (sym e ∙ is)) in
+        sharp_judge_sound study text (as_said v) ((sharp_within_limit most_verdict_bytes study text (as_said v)).0 confirmed).1;
   }
 
   -- the answer to a text that is whole
@@ -89,59 +89,54 @@ module _ (study : Question) (text : List ℕ) where
       not_sharp_beyond (SharpGood s) v e = cc
       not_sharp_beyond (SharpRefused n word) v e = cc
 
--- what holds at `Ok`, and what follows from it
-pub if_ok : {T E : Type 0} {P Q : T → Type 0} (result : Result T E) → IfOk result P → ((x : T) → P x → Q x) → IfOk result Q
-if_ok (Ok x) h f = f x h
-if_ok (Err e) h f = tt
-
 -- ---- files
 
 -- as many bytes as are read are few
-pub front_fits : (whole : Bool) (before now : Option (List ℕ)) (bytes : List ℕ) → IsFront whole before now bytes → length bytes < 4294967294
+pub front_fits : (whole : Bool) (before now : Option (List ℕ)) (bytes : List ℕ) → IsFileFront whole before now bytes → length bytes < 4294967294
 front_fits true before now bytes h = let fits = h.2 in omega (arith, fits)
 front_fits false before now bytes h = let fits = h.3 in omega (arith, fits)
 
 -- what a judge answers of a file that is held, by what was read of it
 module _ {T J : Type 0} (judged : List (List ℕ) → T) (ends : ℕ → List ℕ → T → J) (past : T → J) where
-  front_within : (whole : Bool) (known left : Option (List ℕ)) (bytes held : List ℕ) → IsFront whole known left bytes → known ≡ Some held
+  front_within : (whole : Bool) (known left : Option (List ℕ)) (bytes held : List ℕ) → IsFileFront whole known left bytes → known ≡ Some held
       → within judged ends past held ≡ cond whole (ends (length (front (pieces bytes)) + 1) (final (pieces bytes)) (judged (front (pieces bytes)))) (past (judged (front (pieces bytes))))
   front_within true known left bytes held h k =
       whole_within judged ends past known left false bytes held h k
       ∙ ap (λ n. ends n (final (pieces bytes)) (judged (front (pieces bytes)))) (pieces_count bytes)
   front_within false known left bytes held h k =
       let parts = limit_is known left false bytes held h k in
-      ap (λ b. cond b (past (judged (front (pieces (take most_report_bytes held))))) (ends (length (pieces held)) (final (pieces held)) (judged (front (pieces held))))) (lt-ltb most_report_bytes (length held) parts.0)
+      ap (λ b. cond b (past (judged (front (pieces (take most_verdict_bytes held))))) (ends (length (pieces held)) (final (pieces held)) (judged (front (pieces held))))) (lt-ltb most_verdict_bytes (length held) parts.0)
       ∙ ap (λ (t : List ℕ). past (judged (front (pieces t)))) parts.1
 
 -- the front of a file tells which judge it is
-front_title : (whole : Bool) (known left : Option (List ℕ)) (bytes held : List ℕ) → IsFront whole known left bytes → known ≡ Some held → has_sharp_title held ≡ has_sharp_title bytes
+front_title : (whole : Bool) (known left : Option (List ℕ)) (bytes held : List ℕ) → IsFileFront whole known left bytes → known ≡ Some held → has_sharp_title held ≡ has_sharp_title bytes
 front_title true known left bytes held h k = ap has_sharp_title (whole_is known left false bytes held h k).0
 front_title false known left bytes held h k =
     let parts = limit_is known left false bytes held h k in
-    let count : length (take most_report_bytes held) ≡ length bytes = ap length parts.1 in
-    ap has_sharp_title (sym (take-append-drop most_report_bytes held))
-    ∙ title_within (take most_report_bytes held) (drop most_report_bytes held) (omega (arith, count, h.3))
+    let count : length (take most_verdict_bytes held) ≡ length bytes = ap length parts.1 in
+    ap has_sharp_title (sym (take-append-drop most_verdict_bytes held))
+    ∙ title_within (take most_verdict_bytes held) (drop most_verdict_bytes held) (omega (arith, count, h.3))
     ∙ ap has_sharp_title parts.1
 
 module _ (study : Question) where
-  held_is : (known left : Option (List ℕ)) (whole : Bool) (bytes held : List ℕ) (r : Reading) → IsFront whole known left bytes → known ≡ Some held
-      → r ≡ reading_of (judged_front study whole bytes) → r ≡ reading_of (judged_within most_report_bytes study held)
+  held_is : (known left : Option (List ℕ)) (whole : Bool) (bytes held : List ℕ) (r : Reading) → IsFileFront whole known left bytes → known ≡ Some held
+      → r ≡ reading_of (judged_front study whole bytes) → r ≡ reading_of (judged_within most_verdict_bytes study held)
   held_is known left whole bytes held r h k e =
       let n = length (front (pieces bytes)) + 1 in
       let sharp = front_within (sharp_judge study) (sharp_conclude study) (sharp_beyond study) whole known left bytes held h k in
       let report = front_within (judge study) conclude beyond whole known left bytes held h k in
       e ∙ sym (ap reading_of (
-      ap (λ b. cond b (AsSharp (sharp_answer_within study most_report_bytes held)) (AsReport (answer_within most_report_bytes study held))) (front_title whole known left bytes held h k)
-      ∙ ap (λ x. cond (has_sharp_title bytes) (AsSharp x) (AsReport (answer_within most_report_bytes study held))) sharp
+      ap (λ b. cond b (AsSharp (sharp_answer_within study most_verdict_bytes held)) (AsReport (answer_within most_verdict_bytes study held))) (front_title whole known left bytes held h k)
+      ∙ ap (λ x. cond (has_sharp_title bytes) (AsSharp x) (AsReport (answer_within most_verdict_bytes study held))) sharp
       ∙ ap (λ y. cond (has_sharp_title bytes) (AsSharp (sharp_judged_end study whole n (final (pieces bytes)) (sharp_judge study (front (pieces bytes))))) (AsReport y)) report))
 
   -- what is read of the file that is held
-  read_of : (files : Files) (name held : List ℕ) (r : Reading) → files name ≡ Some held → r ≡ reading_of (judged_within most_report_bytes study held) → IsReadOf study files name r
+  read_of : (files : Files) (name held : List ℕ) (r : Reading) → files name ≡ Some held → r ≡ reading_of (judged_within most_verdict_bytes study held) → IsReadOf study files name r
   read_of files name held r h e = record { bytes = held; held = h; is = e; right = right_within study held r e }
 
   -- and where the shelf tells its files
   pub file_read : (told : Option Files) (name : List ℕ) (known left : Option (List ℕ)) (whole : Bool) (bytes : List ℕ) (r : Reading)
-      → IfSome told (λ files. IsSome (files name)) → IfSome told (λ files. known ≡ files name) → IsFront whole known left bytes
+      → IfSome told (λ files. IsSome (files name)) → IfSome told (λ files. known ≡ files name) → IsFileFront whole known left bytes
       → r ≡ reading_of (judged_front study whole bytes) → IfSome told (λ files. IsReadOf study files name r)
   file_read None name known left whole bytes r held starts h e = tt
   file_read (Some files) name known left whole bytes r held starts h e = by_held (files name) refl held

@@ -1,8 +1,9 @@
 -- One more line of a sharp text: the parts that it gives.
-use Rattle.std.proofs.Common.{◌≡◌, refl, sym, ap, ◌∙◌, ℕ, ◌+◌, ◌≤◌, Bool, true, false, true≢false, cond, ◌&&◌, List, [], ◌∷◌, ◌++◌, length, Option, Some, None, option_map, Ok, Err, arith}
+use Rattle.std.proofs.Common.{◌≡◌, refl, sym, ap, ◌∙◌, ℕ, ◌+◌, ◌≤◌, Bool, true, false, true≢false, cond, ◌&&◌, List, [], ◌∷◌, ◌++◌, length, Option, Some, None, Ok, Err, arith}
 use Rattle.std.specs.Prelude.{◌==◌}
 use Rattle.std.specs.Option.{option_or}
 use Rattle.std.proofs.lemmas.Bool.{eqb-true}
+use Rattle.lists.proofs.OptionLaws.{none_of_map}
 use Rattle.vocab.specs.declared.kinds.Sort.TheVariants.{Profile}
 use Rattle.vocab.specs.Size.{sort_count}
 use Rattle.vocab.specs.Study.{Question}
@@ -18,11 +19,12 @@ use Rattle.verdicts.proofs.StepLaws.{lengths_same}
 use Rattle.report_lines.specs.Held.{held_line, held_place}
 use Rattle.sharp_verdicts.specs.declared.refusals.SharpRefusal.{SharpRefusal}
 use Rattle.sharp_verdicts.specs.declared.refusals.SharpRefusal.TheVariants.{Report}
-use Rattle.sharp_verdicts.specs.SharpFaults.{unless_of, listed, sharp_fault}
+use Rattle.sharp_verdicts.specs.SharpFaults.{listed_instances, sharp_fault}
 use Rattle.sharp_verdicts.specs.SharpJudge.{after_mark, advance_sharp}
 use Rattle.sharp_verdicts.specs.SharpLines.{SharpLine, SharpTitle, Plain, InstancesAre, NeedsRule, NeedsOpen}
 use Rattle.sharp_verdicts.specs.SharpPlaces.{SharpPlace, AtSharp, AtReport, AtInstances, AtNeed, AtNeedRow, AtSharpEnd, SharpStanding, is_story_read}
 use Rattle.sharp_laws.proofs.FitLaws.{SharpFits, line_fits}
+use Rattle.sharp_laws.proofs.SoundLaws.{none_unless}
 use Rattle.sharp_report.specs.declared.judging.SharpJudging.{SharpJudging}
 use Rattle.sharp_report.specs.declared.lines.SharpLine.{SharpLine as HeldLine}
 use Rattle.sharp_report.specs.SharpStands.{held_sharp_place, held_sharp_line, is_before_story, HoldsAt, IsSharpTaken}
@@ -34,17 +36,9 @@ use Rattle.verdict_reading.proofs.CollectLemmas.{part_next}
 
 -- ---- faults
 
-none_mapped : {A B : Type 0} (f : A → B) (o : Option A) → option_map f o ≡ None → o ≡ None
-none_mapped f None e = refl
-none_mapped f (Some w) e = absurd (cc)
-
 none_second : {A : Type 0} (o p : Option A) → option_or o p ≡ None → p ≡ None
 none_second None p e = e
 none_second (Some w) p e = absurd (cc)
-
-passes : (b : Bool) (word : SharpRefusal) → unless_of b word ≡ None → b ≡ true
-passes true word e = refl
-passes false word e = absurd (cc)
 
 -- ---- lines of the story
 
@@ -94,7 +88,7 @@ module _ (study : Question) where
       → with_sharp_line P study.conflicts (is_mark_row (held_sharp_place p)) (held_sharp_line study l) (sharp_parts_of (at p s)) ≡ sharp_parts_of (advance_sharp study (at p s) l)
   sharp_part_next AtSharp s r SharpTitle few f h e = refl
   sharp_part_next AtReport s r (Plain w) few f h e =
-      let none : fault_of study s.told w ≡ None = none_mapped Report (fault_of study s.told w) e in
+      let none : fault_of study s.told w ≡ None = none_of_map Report (fault_of study s.told w) e in
       others_stay study P study.conflicts false (is_witness_row (held_place s.told.place)) w [] s.marks (parts_of s.told) (of_story study s.told.place (length s.told.earlier + 1) w h.0 f.0)
       ∙ ap (swap [] s.marks) (part_next study s.told w few none)
       ∙ by_test (is_story_read (advance study s.told w).place)
@@ -102,16 +96,16 @@ module _ (study : Question) where
       by_test : (b : Bool) → swap [] s.marks (parts_of (advance study s.told w)) ≡ sharp_parts_of (record s { told = advance study s.told w; place = cond b AtInstances AtReport })
       by_test true = refl
       by_test false = refl
-  sharp_part_next AtInstances s r (InstancesAre n) few f h e = by_test (length s.marks == length (listed study s))
+  sharp_part_next AtInstances s r (InstancesAre n) few f h e = by_test (length s.marks == length (listed_instances study s))
     where
       by_test : (b : Bool) → sharp_parts_of (at AtInstances s) ≡ sharp_parts_of (record s { place = cond b AtSharpEnd AtNeed; rows = [] })
       by_test true = refl
       by_test false = refl
   sharp_part_next AtNeed s r (NeedsRule q n) few f h e = ap (λ (rows : List ℕ). swap rows s.marks (parts_of s.told)) (sym h.1)
   sharp_part_next AtNeed s r (NeedsOpen q n) few f h e =
-      let same : n ≡ study.conflicts = eqb-true n study.conflicts (passes (n == study.conflicts) (Report refusal.OpenMark) (none_second _ _ e)) in
+      let same : n ≡ study.conflicts = eqb-true n study.conflicts (none_unless (n == study.conflicts) (Report refusal.OpenMark) (none_second _ _ e)) in
       ap (λ m. with_open m (sharp_parts_of (at AtNeed s))) (sym same)
-      ∙ by_test (length (s.marks ++ OpenMark n ∷ []) == length (listed study s))
+      ∙ by_test (length (s.marks ++ OpenMark n ∷ []) == length (listed_instances study s))
     where
       by_test : (b : Bool) → with_open n (sharp_parts_of (at AtNeed s)) ≡ sharp_parts_of (record s { marks = s.marks ++ OpenMark n ∷ []; place = cond b AtSharpEnd AtNeed; rows = [] })
       by_test true = refl
@@ -125,7 +119,7 @@ module _ (study : Question) where
 
       by_test : (b : Bool) → with_table (true && b) (s.rows ++ o ∷ []) (sharp_parts_of (at AtNeedRow s))
           ≡ sharp_parts_of (cond b (after_mark study (record s { place = AtNeedRow; rows = s.rows ++ o ∷ []; marks = s.marks ++ Rule (s.rows ++ o ∷ []) ∷ [] })) (record s { place = AtNeedRow; rows = s.rows ++ o ∷ [] }))
-      by_test true = by_end (length (s.marks ++ Rule (s.rows ++ o ∷ []) ∷ []) == length (listed study s))
+      by_test true = by_end (length (s.marks ++ Rule (s.rows ++ o ∷ []) ∷ []) == length (listed_instances study s))
       by_test false = refl
   sharp_part_next AtSharpEnd s r (Plain End) few f h e = refl
   sharp_part_next p s r l few f h e = absurd f

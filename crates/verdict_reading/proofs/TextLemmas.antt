@@ -26,7 +26,7 @@ use Rattle.verdict_reading.specs.declared.text_collector.TextRefusal.{TextRefusa
 use Rattle.verdict_reading.specs.declared.text_collector.TextRefusal.TheVariants as refusal
 use Rattle.verdict_reading.specs.Collected.{Collects, IsCollected}
 use Rattle.verdict_reading.specs.SharpCollected.{SharpCollects, IsSharpCollected}
-use Rattle.verdict_reading.specs.Told.{HasCollected, IsFirstFaulty, IsAmongLines, IsNext}
+use Rattle.verdict_reading.specs.Told.{HasCollected, IsFirstFaulty, IsAmongLines, IsLineCollected}
 
 -- ---- no line is read
 
@@ -67,13 +67,13 @@ module _ (study : Question) (lines : List (List ℕ)) (text : List ℕ) where
   report_told s e = judge_snoc study 1 start lines text ∙ ap (λ (t : Told). told_more study n t text) e
 
   report_next : (s : Standing) (after : Collector) (fault : Option Refusal) → judge study lines ≡ Good s → IsCollected study s text after fault
-      → IsNext study false lines text (collector.Report after) (option_map refusal.Report fault)
+      → IsLineCollected study false lines text (collector.Report after) (option_map refusal.Report fault)
   report_next s after None e t = (advance study s t.0, report_told s e ∙ past study n s text [] t.0 t.1 t.2, t.3)
   report_next s after (Some word) e t = report_told s e ∙ stops study n s text [] word t ∙ ap (λ m. Refused m word) number
 
   pub report_taken : (sharp : Bool) (c after : Collector) (fault : Option Refusal) → HasCollected study sharp (collector.Report c) lines
       → ((s : Standing) → Collects study c s → IsCollected study s text after fault)
-      → IsNext study sharp lines text (collector.Report after) (option_map refusal.Report fault)
+      → IsLineCollected study sharp lines text (collector.Report after) (option_map refusal.Report fault)
   report_taken false c after fault h go = report_next h.0 after fault h.1 (go h.0 h.2)
   report_taken true c after fault h go = absurd h
 
@@ -93,7 +93,7 @@ module _ (study : Question) (lines : List (List ℕ)) (text : List ℕ) where
       by_line (Some l) f = ap (λ o. sharp_settle_at study n s l o SharpGood) f
 
   sharp_next : (s : SharpStanding) (after : SharpCollector) (fault : Option SharpRefusal) → sharp_judge study lines ≡ SharpGood s → IsReadWithin study (length lines) s
-      → IsSharpCollected study s text after fault → IsNext study true lines text (collector.Sharp after) (option_map refusal.Sharp fault)
+      → IsSharpCollected study s text after fault → IsLineCollected study true lines text (collector.Sharp after) (option_map refusal.Sharp fault)
   sharp_next s after None e i t = (
     advance_sharp study s t.0,
     sharp_told s e ∙ settled s t.0 t.1 t.2,
@@ -104,7 +104,7 @@ module _ (study : Question) (lines : List (List ℕ)) (text : List ℕ) where
 
   pub sharp_taken : (sharp : Bool) (c after : SharpCollector) (fault : Option SharpRefusal) → HasCollected study sharp (collector.Sharp c) lines
       → ((s : SharpStanding) → SharpCollects study c s → IsSharpCollected study s text after fault)
-      → IsNext study sharp lines text (collector.Sharp after) (option_map refusal.Sharp fault)
+      → IsLineCollected study sharp lines text (collector.Sharp after) (option_map refusal.Sharp fault)
   sharp_taken false c after fault h go = absurd h
   sharp_taken true c after fault h go = sharp_next h.0 after fault h.1 h.3 (go h.0 h.2)
 

@@ -60,9 +60,9 @@ with_line count limit of_witness _ parts = parts
 -- ---- sharp texts
 
 -- the outcomes of the table of a mark, where one is being read
-abbrev pub rows_at : SharpPlace → List ℕ → List ℕ
-rows_at AtNeedRow rows = rows
-rows_at _ rows = []
+abbrev pub mark_rows : SharpPlace → List ℕ → List ℕ
+mark_rows AtNeedRow rows = rows
+mark_rows _ rows = []
 
 -- of what the lines so far have given, the parts of the sharp verdict but its core and its instances; the witnesses are its marks
 abbrev pub sharp_parts_of : SharpStanding → Parts
@@ -70,7 +70,7 @@ sharp_parts_of s = record {
   earlier = s.told.earlier;
   suppose = s.told.suppose;
   steps = s.told.steps;
-  rows = rows_at s.place s.rows;
+  rows = mark_rows s.place s.rows;
   witnesses = s.marks;
 }
 

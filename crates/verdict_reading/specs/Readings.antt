@@ -9,7 +9,7 @@ use Rattle.verdicts.specs.Report.{IsReport}
 use Rattle.sharp_verdicts.specs.Judged.{Judged, AsReport, AsSharp, has_sharp_title, judged_within}
 use Rattle.sharp_verdicts.specs.SharpJudge.{SharpJudgement, SharpConfirmed, SharpFaulty, SharpTooLong, SharpTold, sharp_judge, sharp_answer, sharp_beyond, sharp_conclude}
 use Rattle.sharp_laws.specs.Laws.{IsSharpText}
-use Rattle.report_files.specs.Files.{most_report_bytes}
+use Rattle.report_files.specs.Files.{most_verdict_bytes}
 use Rattle.verdict_reading.specs.declared.reading.Reading.{Reading}
 use Rattle.verdict_reading.specs.declared.reading.Reading.TheVariants as reading
 use Rattle.verdict_reading.specs.declared.sharp_verdict.SharpVerdict.{SharpVerdict}
@@ -47,8 +47,8 @@ abbrev pub judged_front : Question → (whole : Bool) → List ℕ → Judged
 judged_front study whole text = judged_lines study (has_sharp_title text) whole (front (pieces text)) (final (pieces text))
 
 -- this is read of a text, or of the front of a longer one
-abbrev pub IsRead : Question → (whole : Bool) → List ℕ → Reading → Type 0
-IsRead study whole text r = r ≡ reading_of (judged_front study whole text)
+abbrev pub IsTextRead : Question → (whole : Bool) → List ℕ → Reading → Type 0
+IsTextRead study whole text r = r ≡ reading_of (judged_front study whole text)
 
 -- a verdict that is read is right, and the text is its report, or its sharp text
 pub record IsRightOf (study : Question) (text : List ℕ) (r : Reading) : Type 0 where
@@ -63,14 +63,14 @@ pub record ReadingHolds (study : Question) (r : Reading) : Type 0 where
 -- ---- files
 
 -- the bytes are all of a file that were left, or as many as the limit allows, where there are more
-abbrev pub IsFront : (whole : Bool) → (before now : Option (List ℕ)) → (bytes : List ℕ) → Type 0
-IsFront true before now bytes = Consumes before now bytes × IsAtEnd now × (length bytes ≤ most_report_bytes)
-IsFront false before now bytes = (more : List ℕ) × Consumes before now (bytes ++ more) × (0 < length more) ×
-    (length bytes ≡ most_report_bytes)
+abbrev pub IsFileFront : (whole : Bool) → (before now : Option (List ℕ)) → (bytes : List ℕ) → Type 0
+IsFileFront true before now bytes = Consumes before now bytes × IsAtEnd now × (length bytes ≤ most_verdict_bytes)
+IsFileFront false before now bytes = (more : List ℕ) × Consumes before now (bytes ++ more) × (0 < length more) ×
+    (length bytes ≡ most_verdict_bytes)
 
 -- the file is held, and this is read of its report or of its sharp text, as `check` judges it
 pub record IsReadOf (study : Question) (files : Files) (name : List ℕ) (r : Reading) : Type 0 where
   pub bytes : List ℕ
   pub held : files name ≡ Some bytes
-  pub is : r ≡ reading_of (judged_within most_report_bytes study bytes)
+  pub is : r ≡ reading_of (judged_within most_verdict_bytes study bytes)
   pub right : IsRightOf study bytes r

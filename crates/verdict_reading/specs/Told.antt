@@ -38,9 +38,9 @@ pub record IsAmongLines (study : Question) (c : TextCollector) : Type 0 where
   pub has : HasCollected study sharp c lines
 
 -- one more line is collected, or is the first faulty one
-abbrev pub IsNext : Question → (sharp : Bool) → List (List ℕ) → List ℕ → TextCollector → Option TextRefusal → Type 0
-IsNext study sharp lines text c None = HasCollected study sharp c (lines ++ text ∷ [])
-IsNext study sharp lines text c (Some word) = IsFirstFaulty study sharp (lines ++ text ∷ []) (length lines + 1) word
+abbrev pub IsLineCollected : Question → (sharp : Bool) → List (List ℕ) → List ℕ → TextCollector → Option TextRefusal → Type 0
+IsLineCollected study sharp lines text c None = HasCollected study sharp c (lines ++ text ∷ [])
+IsLineCollected study sharp lines text c (Some word) = IsFirstFaulty study sharp (lines ++ text ∷ []) (length lines + 1) word
 
 -- what is told of some lines, beside what is held of them, and of what follows the last line end
 abbrev pub TellsOf : Question → (sharp : Bool) → TextCollector → List (List ℕ) → List ℕ → Told → Type 0
@@ -49,5 +49,5 @@ TellsOf study sharp c lines rest (told.Good line ended) =
 TellsOf study sharp c lines rest (told.Refused line word) = IsFirstFaulty study sharp lines line word
 
 -- the same of the lines of a text
-abbrev pub IsToldOf : Question → TextCollector → List ℕ → Told → Type 0
-IsToldOf study c text t = TellsOf study (has_sharp_title text) c (front (pieces text)) (final (pieces text)) t
+abbrev pub TellsOfText : Question → TextCollector → List ℕ → Told → Type 0
+TellsOfText study c text t = TellsOf study (has_sharp_title text) c (front (pieces text)) (final (pieces text)) t

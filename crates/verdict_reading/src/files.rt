@@ -4,7 +4,7 @@ ghost use Rattle.std.specs.Prelude.{◌≡◌, ◌≤◌, IfOk, IfSome, IsErrOf}
 ghost use Rattle.edge.specs.Faults.{Rose};
 ghost use Rattle.edge.specs.Shelf.{NoneFell, OthersStay};
 ghost use Rattle.vocab.specs.Study.{HasFewAxioms};
-ghost use Rattle.verdict_reading.specs.Readings.{IsFront, IsReadOf, ReadingHolds};
+ghost use Rattle.verdict_reading.specs.Readings.{IsFileFront, IsReadOf, ReadingHolds};
 
 use crate::fitting::fitted;
 use crate::reading::{Reading, read_text};
@@ -31,7 +31,7 @@ struct Front {
 
 /// Reads what is left under the name, up to the limit.
 fn read_front<S: Shelf>(alloc: Global, shelf: &mut S, name: &str) -> Result<Front, FileFault>
-    ensures read { IfOk result (λ front. IsFront front.whole
+    ensures read { IfOk result (λ front. IsFileFront front.whole
         (S.left shelf.old name.now) (S.left shelf.new name.now) front.bytes) }
     ensures failed { IsErrOf result FileFault.Failed →
         Rose (S.faults shelf.old name.now) (S.faults shelf.new name.now) }
@@ -61,7 +61,7 @@ fn read_front<S: Shelf>(alloc: Global, shelf: &mut S, name: &str) -> Result<Fron
 
 /// Reads what is left under the name, up to the limit. The bytes then take no more memory than they need.
 fn read_fitted<S: Shelf>(alloc: Global, shelf: &mut S, name: &str) -> Result<Front, FileFault>
-    ensures read { IfOk result (λ front. IsFront front.whole
+    ensures read { IfOk result (λ front. IsFileFront front.whole
         (S.left shelf.old name.now) (S.left shelf.new name.now) front.bytes) }
     ensures failed { IsErrOf result FileFault.Failed →
         Rose (S.faults shelf.old name.now) (S.faults shelf.new name.now) }

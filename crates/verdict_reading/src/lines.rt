@@ -2,7 +2,7 @@
 
 ghost use Rattle.std.specs.Prelude.{◌≡◌, ◌<◌, [], length, IfOk};
 ghost use Rattle.sharp_verdicts.specs.Judged.{has_sharp_title};
-ghost use Rattle.verdict_reading.specs.Told.{HasCollected, IsToldOf};
+ghost use Rattle.verdict_reading.specs.Told.{HasCollected, TellsOfText};
 
 use crate::text_collector::{TextCollector, TextRefusal};
 use crew::Crew;
@@ -43,7 +43,7 @@ pub(crate) fn read_lines<R: Threads + Sync, G: Gate, K: OutcomeKind>(
 ) -> Result<Told, NoMemory>
     requires room { length text.now < 4294967294 }
     requires unread { HasCollected subject.now.setting.study.now (has_sharp_title text.now) collector.old [] }
-    ensures { IfOk result (IsToldOf subject.now.setting.study.now collector.new text.now) }
+    ensures { IfOk result (TellsOfText subject.now.setting.study.now collector.new text.now) }
 {
     let mut rest = text;
     let mut line: u32 = 1;

@@ -10,7 +10,7 @@ ghost use Rattle.sharp_verdicts.specs.SharpPlaces.{SharpStanding};
 ghost use Rattle.verdict_reading.specs.Collected.{Collects};
 ghost use Rattle.verdict_reading.specs.SharpCollected.{SharpCollects};
 ghost use Rattle.verdict_reading.specs.Told.{HasCollected, IsFirstFaulty, TellsOf};
-ghost use Rattle.verdict_reading.specs.Readings.{reading_of, judged_whole, judged_end, sharp_judged_end, judged_lines, IsRead, IsRightOf};
+ghost use Rattle.verdict_reading.specs.Readings.{reading_of, judged_whole, judged_end, sharp_judged_end, judged_lines, IsTextRead, IsRightOf};
 
 use crate::collector::Collector;
 use crate::lines::{Told, has_sharp_title, read_lines};
@@ -164,7 +164,7 @@ pub(crate) fn read_text<R: Threads + Sync, G: Gate, K: OutcomeKind>(
     requires size { study.now.size ≡ K.size kind.now }
     requires listed { HasFewAxioms study.now }
     requires room { length text.now < 4294967294 }
-    ensures { IfOk result (IsRead study.now whole text.now) }
+    ensures { IfOk result (IsTextRead study.now whole text.now) }
 {
     let subject = Subject::new(alloc, kind, study, crew.workers)?;
     let mut collector = TextCollector::new(&subject, has_sharp_title(text))?;

@@ -1,7 +1,7 @@
 //! Collects the verdict of a text, which may be a report or a sharp text.
 
 ghost use Rattle.std.specs.Prelude.{◌≡◌, ℕ, Bool, List, [], IfOk, option_map};
-ghost use Rattle.verdict_reading.specs.Told.{HasCollected, IsAmongLines, IsNext};
+ghost use Rattle.verdict_reading.specs.Told.{HasCollected, IsAmongLines, IsLineCollected};
 ghost use Rattle.verdict_reading.specs.declared.text_collector.TextRefusal.TheVariants.{Report as OfReport, Sharp as OfSharp};
 
 use crate::collector::Collector;
@@ -78,7 +78,7 @@ impl TextCollector {
         requires among { IsAmongLines subject.now.setting.study.now self.old }
         ensures { (sharp : Bool) (lines : List (List ℕ)) →
             HasCollected subject.now.setting.study.now sharp self.old lines →
-            IfOk result (IsNext subject.now.setting.study.now sharp lines text.now self.new) }
+            IfOk result (IsLineCollected subject.now.setting.study.now sharp lines text.now self.new) }
     {
         match self {
             TextCollector::Report(collector) => {

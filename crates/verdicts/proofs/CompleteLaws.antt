@@ -1,6 +1,5 @@
 -- The judge finds no fault in the lines of a right verdict.
-use Rattle.std.proofs.Common.{◌≡◌, refl, sym, ap, ◌∙◌, subst, ℕ, zero, suc, ◌+◌, ◌<◌, ◌⊎◌, inl, inr, Bool, true, false, not, ◌&&◌, List, [], ◌∷◌, ◌++◌, map, length, Some, None, option_map, option_and_then, filter, arith, true≢false, cond, append_assoc, append-nil, length-append, eqb-true, lt-ltb, ltb-true}
-use Rattle.std.specs.Bool.{beq}
+use Rattle.std.proofs.Common.{◌≡◌, refl, sym, ap, ◌∙◌, subst, ℕ, zero, suc, ◌+◌, ◌<◌, ◌⊎◌, inl, inr, Bool, true, false, not, ◌&&◌, List, [], ◌∷◌, ◌++◌, map, length, Some, None, option_map, option_and_then, arith, true≢false, cond, append_assoc, append-nil, length-append, eqb-true, lt-ltb, ltb-true, eq-eqb, ne_eqb}
 use Rattle.std.specs.Prelude.{◌==◌, nat_lt, slice_get}
 use Rattle.std.specs.List.{list_all}
 use Rattle.std.specs.Str.{bytes_eq}
@@ -8,7 +7,6 @@ use Rattle.std.specs.Cmp.Lexicographic.{pointwise}
 use Rattle.std.proofs.lemmas.Bool.{and_parts, and_from, or_cases}
 use Rattle.std.proofs.lemmas.List.{map-append}
 use Rattle.std.proofs.lemmas.Slice.Eq.{bytes_eq-Decides}
-use Rattle.std.proofs.lemmas.Bool.Decides.{Decides-eqb}
 use Rattle.vocab.specs.declared.kinds.Kind.{Kind}
 use Rattle.vocab.specs.declared.kinds.Kind.TheVariants.{Choice, Ranking, Sets}
 use Rattle.vocab.specs.declared.kinds.Sort.TheVariants.{Profile}
@@ -30,6 +28,8 @@ use Rattle.meaning.specs.Cores.{is_core_from, is_witness}
 use Rattle.meaning.specs.Stories.{is_decided, refutes, are_new, are_forced, is_lemma, is_story_from, is_story}
 use Rattle.meaning.specs.Literals.{is_literal}
 use Rattle.std.specs.Option.{option_or, unwrap_or}
+use Rattle.lists.proofs.TestLaws.{all_kept}
+use Rattle.cnf.proofs.LitLaws.{beq-refl}
 use Rattle.meaning.specs.StoryFaults.{unless, literal_fault, reason_fault}
 use Rattle.meaning.proofs.SpaceLaws.{all_from, some_profile as size_has_profile}
 use Rattle.meaning.proofs.StoryFaultLaws.{passes_reason, passes_literal}
@@ -40,7 +40,7 @@ use Rattle.verdicts.specs.declared.verdicts.Verdict.TheVariants.{Possible, Impos
 use Rattle.verdicts.specs.Report.{row_lines, step_line, lemma_lines, story_lines, domain_lines, head_lines, witness_lines, all_witness_lines, verdict_lines, report_lines, is_reason, is_lemma_text, is_witness_text, has_text, is_right, claims}
 use Rattle.verdicts.specs.Places.{Place, AtBallots, AtAxioms, AtVerdict, AtRow, AtLemmas, AtLemma, AtSuppose, AtStep, AtWitness, AtWitnessRow, AtEnd, AtNothing, Standing, start}
 use Rattle.verdicts.specs.declared.refusals.Refusal.{Refusal}
-use Rattle.verdicts.specs.Faults.{refusal_of, unless_so, same_kind, is_version, places_of, is_core, next_after, rest_of, failing, table_fault, name_fault, fault_of}
+use Rattle.verdicts.specs.Faults.{refusal_of, unless_so, same_kind, is_version, named_places, is_core, next_after, rest_of, failing, table_fault, name_fault, fault_of}
 use Rattle.verdicts.specs.Judge.{witness_place, after_witness, after_lemma, advance}
 use Rattle.verdicts.proofs.WordLaws.{IsIn, named_below}
 use Rattle.verdicts.proofs.TextLaws.{names_own}
@@ -52,16 +52,6 @@ use Rattle.verdicts.specs.declared.refusals.Refusal.TheVariants as refusal
 
 pub so_none : (b : Bool) (w : Refusal) → b ≡ true → unless_so b w ≡ None
 so_none b w e = ap (λ c. unless_so c w) e
-
-pub eqb_no : (n m : ℕ) → (n ≡ m → ⊥) → (n == m) ≡ false
-eqb_no n m h = by_test (n == m) refl
-  where
-    by_test : (b : Bool) → (n == m) ≡ b → b ≡ false
-    by_test true e = absurd (h (eqb-true n m e))
-    by_test false e = refl
-
-pub eqb_yes : (n m : ℕ) → n ≡ m → (n == m) ≡ true
-eqb_yes n m e = (Decides-eqb n m).1 e
 
 same_self : (k : Kind) → same_kind k k ≡ true
 same_self Choice = refl
@@ -76,10 +66,6 @@ plain_names : (axioms : List Titled) → list_all (λ a. is_name a.name) axioms 
 plain_names [] h = refl
 plain_names (a ∷ axioms) h = let p = and_parts (is_name a.name) (list_all (λ a. is_name a.name) axioms) h in and_from _ _ p.0 (plain_names axioms p.1)
 
-absent_self : (absent : Bool) → beq absent absent ≡ true
-absent_self true = refl
-absent_self false = refl
-
 -- ---- versions
 
 -- a size may have the versions that there are alone
@@ -89,21 +75,11 @@ allowed_known size version h = elim (or_cases (version == 2) (version == 1 && is
   | inr one ↦ inl (sym (eqb-true version 1 (and_parts (version == 1) (is_full size) one).0))
 ]
 
--- what holds of each item holds of those that a test keeps
-kept_all : (t s : ℕ → Bool) (xs : List ℕ) → list_all t xs ≡ true → list_all t (filter s xs) ≡ true
-kept_all t s [] h = refl
-kept_all t s (x ∷ xs) h = let p = and_parts (t x) (list_all t xs) h in by_test (s x) p.0 (kept_all t s xs p.1)
-  where
-    by_test : (b : Bool) → t x ≡ true → list_all t (filter s xs) ≡ true
-        → list_all t (cond b (x ∷ filter s xs) (filter s xs)) ≡ true
-    by_test true here rest = and_from _ _ here rest
-    by_test false here rest = rest
-
 -- the places of the ballots are among those of the rankings
 ballots_are_places : (size : Extent) → are_places size.alternatives (ballot_places size) ≡ true
 ballots_are_places size =
     let n = factorial size.alternatives in
-    kept_all (λ place. nat_lt place n) (is_digit_set size.ballots) (below n)
+    all_kept (λ place. nat_lt place n) (is_digit_set size.ballots) (below n)
     (all_from (λ place. nat_lt place n) n 0 (λ place low high. lt-ltb place n (omega (arith, high))))
 
 -- the lines of an impossibility up to the last lemma
@@ -160,9 +136,9 @@ module _ (study : Question) (is : IsReportable study) (strict : Bool) where
           fits done (length done) o (omega (arith, n, l)) (ltb-true o K p.0),
           refl,
           λ t. faults done (length done) o
-              ∙ ap (λ b. option_or (unless_so b refusal.Row) (cond (length done + 1 == P) (table_fault study (done ++ o ∷ []) asked) None)) (eqb_yes (length done) (length done) refl)
-              ∙ ap (λ b. cond b (table_fault study (done ++ o ∷ []) asked) None) (eqb_yes (length done + 1) P (sym l ∙ n)) ∙ e t,
-          moves done (length done) o ∙ ap (λ b. cond b (fin (done ++ o ∷ [])) (mk (done ++ o ∷ []))) (eqb_yes (length (done ++ o ∷ [])) P n),
+              ∙ ap (λ b. option_or (unless_so b refusal.Row) (cond (length done + 1 == P) (table_fault study (done ++ o ∷ []) asked) None)) (eq-eqb (length done) (length done) refl)
+              ∙ ap (λ b. cond b (table_fault study (done ++ o ∷ []) asked) None) (eq-eqb (length done + 1) P (sym l ∙ n)) ∙ e t,
+          moves done (length done) o ∙ ap (λ b. cond b (fin (done ++ o ∷ [])) (mk (done ++ o ∷ []))) (eq-eqb (length (done ++ o ∷ [])) P n),
         )
     rows_run done o (u ∷ rest) n h e =
         let l : length (done ++ o ∷ []) ≡ length done + 1 = length-append done (o ∷ []) in
@@ -171,12 +147,12 @@ module _ (study : Question) (is : IsReportable study) (strict : Bool) where
         let same : (done ++ o ∷ []) ++ u ∷ rest ≡ done ++ o ∷ u ∷ rest = append_assoc done (o ∷ []) (u ∷ rest) in
         let later = rows_run (done ++ o ∷ []) u rest (ap length same ∙ n) p.1 (λ t. ap (λ x. table_fault study x asked) same ∙ e t) in
         let moved : advance study (mk done) (Row (length done) o) ≡ mk (done ++ o ∷ []) =
-        moves done (length done) o ∙ ap (λ b. cond b (fin (done ++ o ∷ [])) (mk (done ++ o ∷ []))) (eqb_no (length (done ++ o ∷ [])) P (λ s. omega (arith, s, l, m, n))) in (
+        moves done (length done) o ∙ ap (λ b. cond b (fin (done ++ o ∷ [])) (mk (done ++ o ∷ []))) (ne_eqb (length (done ++ o ∷ [])) P (λ s. omega (arith, s, l, m, n))) in (
           fits done (length done) o (omega (arith, n, m)) (ltb-true o K p.0),
           refl,
           λ t. faults done (length done) o
-              ∙ ap (λ b. option_or (unless_so b refusal.Row) (cond (length done + 1 == P) (table_fault study (done ++ o ∷ []) asked) None)) (eqb_yes (length done) (length done) refl)
-              ∙ ap (λ b. cond b (table_fault study (done ++ o ∷ []) asked) None) (eqb_no (length done + 1) P (λ s. omega (arith, s, m, n))),
+              ∙ ap (λ b. option_or (unless_so b refusal.Row) (cond (length done + 1 == P) (table_fault study (done ++ o ∷ []) asked) None)) (eq-eqb (length done) (length done) refl)
+              ∙ ap (λ b. cond b (table_fault study (done ++ o ∷ []) asked) None) (ne_eqb (length done + 1) P (λ s. omega (arith, s, m, n))),
           runs_from (advance study (mk done) (Row (length done) o)) (mk (done ++ o ∷ [])) (fin (done ++ o ∷ u ∷ rest)) (row_lines (length done + 1) (u ∷ rest)) moved
               (runs_over (mk (done ++ o ∷ [])) (fin (done ++ o ∷ u ∷ rest)) (row_lines (length (done ++ o ∷ [])) (u ∷ rest)) (row_lines (length done + 1) (u ∷ rest)) (ap (λ k. row_lines k (u ∷ rest)) l) (runs_to (mk (done ++ o ∷ [])) (fin ((done ++ o ∷ []) ++ u ∷ rest)) (fin (done ++ o ∷ u ∷ rest)) (row_lines (length (done ++ o ∷ [])) (u ∷ rest)) (ap fin same) later)),
         )
@@ -190,13 +166,13 @@ module _ (study : Question) (is : IsReportable study) (strict : Bool) where
   lits steps = map (λ step. step.literal) steps
 
   -- the places of the names of axioms
-  places_are : (core : List ℕ) → list_all (λ k. nat_lt k (length study.axioms)) core ≡ true → places_of study.axioms (map (name_at study.axioms) core) ≡ Some core
+  places_are : (core : List ℕ) → list_all (λ k. nat_lt k (length study.axioms)) core ≡ true → named_places study.axioms (map (name_at study.axioms) core) ≡ Some core
   places_are [] h = refl
   places_are (k ∷ core) h =
       let p = and_parts (nat_lt k (length study.axioms)) (list_all (λ k. nat_lt k (length study.axioms)) core) h in
       let l = ltb-true k (length study.axioms) p.0 in
       let a : read_axiom study.axioms (name_at study.axioms k) ≡ Some k = named_below (name_at study.axioms) (length study.axioms) k (λ j i e. names_own study.axioms is.taken.own_names j k i l e) l in
-      ap (option_and_then (λ k. option_map (λ core. k ∷ core) (places_of study.axioms (map (name_at study.axioms) core)))) a
+      ap (option_and_then (λ k. option_map (λ core. k ∷ core) (named_places study.axioms (map (name_at study.axioms) core)))) a
       ∙ ap (option_map (λ core. k ∷ core)) (places_are core p.1)
 
   name_plain : (axioms : List Titled) (k : ℕ) → list_all (λ a. is_name a.name) axioms ≡ true → k < length axioms → is_name (name_at axioms k) ≡ true
@@ -270,11 +246,11 @@ module _ (study : Question) (is : IsReportable study) (strict : Bool) where
         (
           tt,
           refl,
-          (λ _. so_none _ refusal.StudyDiffers (eqb_yes study.size.voters _ refl)),
+          (λ _. so_none _ refusal.StudyDiffers (eq-eqb study.size.voters _ refl)),
           (
             tt,
             refl,
-            (λ _. so_none _ refusal.StudyDiffers (eqb_yes study.size.alternatives _ refl)),
+            (λ _. so_none _ refusal.StudyDiffers (eq-eqb study.size.alternatives _ refl)),
             refl,
           ),
         ),
@@ -297,7 +273,7 @@ module _ (study : Question) (is : IsReportable study) (strict : Bool) where
               (
                 tt,
                 refl,
-                (λ _. so_none _ refusal.StudyDiffers (absent_self study.size.absent)),
+                (λ _. so_none _ refusal.StudyDiffers (beq-refl study.size.absent)),
                 refl,
               ),
             )
@@ -332,7 +308,7 @@ module _ (study : Question) (is : IsReportable study) (strict : Bool) where
           (
             tt,
             refl,
-            (λ _. so_none _ refusal.Row (eqb_yes P P refl)),
+            (λ _. so_none _ refusal.Row (eq-eqb P P refl)),
             table_run in_rows (λ t. ended_at (Possible t) t) (below (length study.axioms)) (λ rows p o h k. (h, k)) (λ rows p o. refl) (λ rows p o. refl) table (eqb-true (length table) P q.0) q.1
                 (λ a. none_if table (below (length study.axioms)) (and_parts (length table == P && list_all (λ o. nat_lt o K) table) _ (h a)).1),
           ),
@@ -434,7 +410,7 @@ module _ (study : Question) (is : IsReportable study) (strict : Bool) where
           let p : Asked ((is_lemma study.size study.axioms core earlier lemma ≡ true) × ((length lemma.suppose == 0) ≡ true)) = λ a. and_parts (is_lemma study.size study.axioms core earlier lemma) (length lemma.suppose == 0) (h a) in
           let q = and_parts (is_lemma_text study lemma) true t in
           let one = lemma_run earlier lemma (λ a. inr (none_of lemma.suppose (p a).1)) (λ a. (p a).0) q.0 in
-          let done : after (earlier ++ lemma ∷ []) ≡ after_witness (between (earlier ++ lemma ∷ [])) = ap (λ b. cond b (after_witness (between (earlier ++ lemma ∷ []))) (between (earlier ++ lemma ∷ []))) (eqb_yes (length (earlier ++ lemma ∷ [])) count n) in
+          let done : after (earlier ++ lemma ∷ []) ≡ after_witness (between (earlier ++ lemma ∷ [])) = ap (λ b. cond b (after_witness (between (earlier ++ lemma ∷ []))) (between (earlier ++ lemma ∷ []))) (eq-eqb (length (earlier ++ lemma ∷ [])) count n) in
           runs_over (between earlier) _ (lemma_lines (length earlier + 1) lemma) (story_lines (length earlier + 1) (lemma ∷ [])) (sym (append-nil (lemma_lines (length earlier + 1) lemma)))
           (runs_to (between earlier) (after (earlier ++ lemma ∷ [])) (after_witness (between (earlier ++ lemma ∷ []))) (lemma_lines (length earlier + 1) lemma) done one)
       story_run earlier (lemma ∷ next ∷ rest) n z h t =
@@ -443,8 +419,8 @@ module _ (study : Question) (is : IsReportable study) (strict : Bool) where
           let l : length (earlier ++ lemma ∷ []) ≡ length earlier + 1 = length-append earlier (lemma ∷ []) in
           let m : length (earlier ++ lemma ∷ next ∷ rest) ≡ length earlier + length (lemma ∷ next ∷ rest) = length-append earlier (lemma ∷ next ∷ rest) in
           let same : (earlier ++ lemma ∷ []) ++ next ∷ rest ≡ earlier ++ lemma ∷ next ∷ rest = append_assoc earlier (lemma ∷ []) (next ∷ rest) in
-          let one = lemma_run earlier lemma (λ a. inl (eqb_no (length earlier + 1) count (λ s. omega (arith, s, m, n)))) (λ a. (p a).0) q.0 in
-          let more : after (earlier ++ lemma ∷ []) ≡ between (earlier ++ lemma ∷ []) = ap (λ b. cond b (after_witness (between (earlier ++ lemma ∷ []))) (between (earlier ++ lemma ∷ []))) (eqb_no (length (earlier ++ lemma ∷ [])) count (λ s. omega (arith, s, l, m, n))) in
+          let one = lemma_run earlier lemma (λ a. inl (ne_eqb (length earlier + 1) count (λ s. omega (arith, s, m, n)))) (λ a. (p a).0) q.0 in
+          let more : after (earlier ++ lemma ∷ []) ≡ between (earlier ++ lemma ∷ []) = ap (λ b. cond b (after_witness (between (earlier ++ lemma ∷ []))) (between (earlier ++ lemma ∷ []))) (ne_eqb (length (earlier ++ lemma ∷ [])) count (λ s. omega (arith, s, l, m, n))) in
           let later = story_run (earlier ++ lemma ∷ []) (next ∷ rest) (ap length same ∙ n) (omega arith) (λ a. (p a).1) q.1 in
           runs_append (between earlier) (between (earlier ++ lemma ∷ [])) (after_witness (between (earlier ++ lemma ∷ next ∷ rest))) (lemma_lines (length earlier + 1) lemma) (story_lines (length earlier + 1 + 1) (next ∷ rest))
           (runs_to (between earlier) (after (earlier ++ lemma ∷ [])) (between (earlier ++ lemma ∷ [])) (lemma_lines (length earlier + 1) lemma) more one)
@@ -470,7 +446,7 @@ module _ (study : Question) (is : IsReportable study) (strict : Bool) where
             name_plain study.axioms k is.names l,
             λ a. ap (λ o. option_or (name_fault study o (name_at study.axioms k)) (unless_so (P == P) refusal.Row)) e
                 ∙ ap (λ o. option_or o (unless_so (P == P) refusal.Row)) (so_none _ refusal.Core ((bytes_eq-Decides (name_at study.axioms k) (name_at study.axioms k)).1 refl))
-                ∙ so_none _ refusal.Row (eqb_yes P P refl),
+                ∙ so_none _ refusal.Row (eq-eqb P P refl),
             table_run (witnessed AtWitnessRow witnesses) (λ rows. told (witnesses ++ Rule rows ∷ [])) (rest_of core (next_after core witnesses)) (λ rows p o a b. (a, b)) (λ rows p o. refl) (λ rows p o. refl) table (eqb-true (length table) P q.0) q.1 none,
           )
       witness_run witnesses k (Open n) e l h t =

@@ -1,5 +1,5 @@
 -- Which lines can stand at a place.
-use Rattle.std.proofs.Common.{◌≡◌, refl, ap, subst, ℕ, ◌-◌, ◌<◌, ◌⊎◌, inl, inr, Bool, true, false, not, List, [], ◌∷◌, ◌++◌, map, length, Option, Some, option_map, arith, cond, lt-ltb}
+use Rattle.std.proofs.Common.{◌≡◌, refl, ap, subst, ℕ, ◌-◌, ◌<◌, inl, inr, Bool, true, false, not, List, [], ◌∷◌, map, length, Option, Some, option_map, arith, cond, lt-ltb}
 use Rattle.std.specs.Prelude.{codes, nat_lt, slice_get, ◌==◌}
 use Rattle.std.specs.List.{flat_map, list_all}
 use Rattle.std.specs.Str.{bytes_eq}
@@ -27,21 +27,7 @@ use Rattle.verdicts.specs.Report.{is_reason}
 use Rattle.verdicts.specs.Places.{Place, AtTitle, AtKind, AtVoters, AtAlternatives, AtBallots, AtAbsent, AtAxioms, AtVerdict, AtLimit, AtRule, AtRow, AtCore, AtLemmas, AtLemma, AtSuppose, AtStep, AtWitness, AtWitnessRow, AtEnd, AtNothing, wanted}
 use Rattle.verdicts.proofs.WordLaws.{named_in, IsIn, from_below}
 use Rattle.verdicts.proofs.LineLaws.{map_is, then_is, or_is, test_is, keyed_is, one_is, none_is, positive_some, verdicts, versions}
-
-in_append : {A : Type 0} (xs ys : List A) (a : A) → IsIn (xs ++ ys) a → IsIn xs a ⊎ IsIn ys a
-in_append [] ys a i = inr i
-in_append (x ∷ xs) ys a (inl e) = inl (inl e)
-in_append (x ∷ xs) ys a (inr i) = elim (in_append xs ys a i) [
-  | inl h ↦ inl (inr h)
-  | inr h ↦ inr h
-]
-
-in_flat_map : {A B : Type 0} (f : A → List B) (xs : List A) (b : B) → IsIn (flat_map f xs) b → (a : A) × IsIn xs a × IsIn (f a) b
-in_flat_map f [] b i = absurd i
-in_flat_map f (x ∷ xs) b i = elim (in_append (f x) (flat_map f xs) b i) [
-  | inl h ↦ (x, inl refl, h)
-  | inr h ↦ let r = in_flat_map f xs b h in (r.0, inr r.1, r.2)
-]
+use Rattle.verdicts.proofs.Members.{in_flat_map}
 
 -- a place stands among those of the rankings of m alternatives
 abbrev pub are_places : ℕ → List ℕ → Bool

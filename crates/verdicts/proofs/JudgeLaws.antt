@@ -5,7 +5,7 @@ use Rattle.std.specs.Prelude.{◌==◌, nat_lt}
 use Rattle.std.specs.List.{flat_map, join_with_byte}
 use Rattle.std.proofs.lemmas.List.Splits.{join_with_byte-slice_split, length-slice_split}
 use Rattle.vocab.specs.Study.{Question}
-use Rattle.verdicts.specs.Texts.{words_of, joined}
+use Rattle.verdicts.specs.Texts.{words_of, joined_words}
 use Rattle.verdicts.specs.Lines.{Line, line_text}
 use Rattle.verdicts.specs.declared.verdicts.Verdict.{Verdict}
 use Rattle.verdicts.specs.Report.{IsReport}
@@ -34,7 +34,7 @@ module _ (study : Question) where
   pub read_is : (s : Standing) (text : List ℕ) (l : Line) → read_line study s text ≡ Some l → text ≡ line_text study l
   read_is s text l e =
       let w = not_long (nat_lt 4096 (length text)) (wanted study s.place (length s.earlier + 1) (words_of text)) l e in
-      sym (join_with_byte-slice_split 32 text) ∙ ap joined (wanted_read study s.place (length s.earlier + 1) (words_of text) l w)
+      sym (join_with_byte-slice_split 32 text) ∙ ap joined_words (wanted_read study s.place (length s.earlier + 1) (words_of text) l w)
 
   ran_more : (t : Standing) (before : List Line) (l : Line) (text : List ℕ) (texts : List (List ℕ)) → text ≡ line_text study l → Ran t (before ++ l ∷ []) texts → Ran t before (text ∷ texts)
   ran_more t before l text texts e r =

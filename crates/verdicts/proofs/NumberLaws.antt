@@ -1,13 +1,14 @@
 -- Numbers and their texts are one to one.
-use Rattle.verdicts.proofs.PrefixLaws.{all_snoc}
-use Rattle.std.proofs.Common.{◌≡◌, refl, sym, ap, ◌∙◌, subst, ℕ, zero, suc, ◌+◌, ◌-◌, ◌*◌, ◌/◌, ◌%◌, ◌<◌, ◌≤◌, ◌≢◌, Bool, true, false, not, ◌&&◌, inl, inr, List, [], ◌∷◌, ◌++◌, Some, arith, lt-ltb, le-ltb, ltb-false, leb-true, le-leb, true≢false, append-nil, append_assoc}
-use Rattle.std.specs.Prelude.{◌==◌, nat_lt, nat_le}
+use Rattle.std.proofs.Common.{◌≡◌, refl, sym, ap, ◌∙◌, subst, ℕ, zero, suc, ◌+◌, ◌-◌, ◌*◌, ◌/◌, ◌%◌, ◌<◌, ◌≤◌, ◌≢◌, Bool, true, false, not, ◌&&◌, inl, inr, List, [], ◌∷◌, ◌++◌, Some, arith, lt-ltb, le-ltb, ltb-false, true≢false, append-nil, append_assoc}
+use Rattle.std.specs.Prelude.{◌==◌, nat_lt}
 use Rattle.std.specs.List.{list_all}
 use Rattle.std.proofs.lemmas.Bool.{and_parts, and_from, cases_lt}
 use Rattle.std.proofs.lemmas.Nat.{div-mul-add, mod-mul-add}
 use Rattle.std.proofs.Math.Nat.{div-lt_self, mod-lt}
 use Rattle.std.proofs.lemmas.Bool.Decides.{Decides-eqb}
+use Rattle.lists.proofs.TestLaws.{all_snoc}
 use Rattle.vocab.specs.Name.{is_digit}
+use Rattle.vocab.proofs.DigitLaws.{digit_from, digit_range}
 use Rattle.verdicts.specs.Numbers.{with_last, digits_below, number_text, is_number, value_after, read_number}
 
 with_last-same : (b : Bool) (f g : ℕ → List ℕ) (n : ℕ) → (b ≡ false → f (n / 10) ≡ g (n / 10)) → with_last b f n ≡ with_last b g n
@@ -36,12 +37,6 @@ text_push a d h l =
     text_large (a * 10 + d) (omega (arith, h))
     ∙ ap (λ q. number_text q ++ (48 + (a * 10 + d) % 10) ∷ []) (div-mul-add a 10 d l)
     ∙ ap (λ r. number_text a ++ (48 + r) ∷ []) (mod-mul-add a 10 d l)
-
-digit_range : (c : ℕ) → is_digit c ≡ true → (48 ≤ c) × (c ≤ 57)
-digit_range c h = let p = and_parts (nat_le 48 c) (nat_le c 57) h in (leb-true 48 c p.0, leb-true c 57 p.1)
-
-digit_from : (d : ℕ) → d < 10 → is_digit (48 + d) ≡ true
-digit_from d l = and_from (nat_le 48 (48 + d)) (nat_le (48 + d) 57) (le-leb 48 (48 + d) (omega arith)) (le-leb (48 + d) 57 (omega (arith, l)))
 
 -- the text of the value of a text
 text_after : (a : ℕ) (cs : List ℕ) → 0 < a → list_all is_digit cs ≡ true → number_text (value_after a cs) ≡ number_text a ++ cs

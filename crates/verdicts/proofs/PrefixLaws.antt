@@ -1,7 +1,6 @@
 -- Stories, tables and witnesses that are read one after the other.
 use Rattle.std.proofs.Common.{◌≡◌, refl, sym, ap, ◌∙◌, subst, ℕ, ◌+◌, Bool, true, false, not, ◌&&◌, List, [], ◌∷◌, ◌++◌, map, length, Some, None, arith, true≢false, append_assoc, append-nil}
 use Rattle.std.specs.Prelude.{◌==◌}
-use Rattle.std.specs.List.{list_all}
 use Rattle.std.specs.Cmp.Lexicographic.{pointwise}
 use Rattle.std.proofs.lemmas.Bool.{and_parts, and_from}
 use Rattle.vocab.specs.declared.literals.Literal.{Literal}
@@ -16,10 +15,6 @@ use Rattle.meaning.specs.Cores.{is_witness}
 use Rattle.verdicts.specs.Lines.{Row}
 use Rattle.verdicts.specs.Report.{row_lines, story_lines, lemma_lines, witness_lines, all_witness_lines, is_witness_text}
 use Rattle.verdicts.specs.Faults.{next_after}
-
-pub all_snoc : {A : Type 0} (t : A → Bool) (xs : List A) (x : A) → list_all t xs ≡ true → t x ≡ true → list_all t (xs ++ x ∷ []) ≡ true
-all_snoc t [] x h e = and_from (t x) true e refl
-all_snoc t (y ∷ ys) x h e = let p = and_parts (t y) (list_all t ys) h in and_from _ _ p.0 (all_snoc t ys x p.1 e)
 
 pub rows_snoc : (p : ℕ) (table : List ℕ) (o : ℕ) → row_lines p (table ++ o ∷ []) ≡ row_lines p table ++ Row (p + length table) o ∷ []
 rows_snoc p [] o = ap (λ q. Row q o ∷ []) (omega arith)

@@ -4,6 +4,7 @@ use Rattle.std.specs.Prelude.{◌==◌, nat_lt}
 use Rattle.std.specs.List.{list_all}
 use Rattle.std.specs.Option.{unwrap_or}
 use Rattle.std.proofs.lemmas.Bool.{and_parts}
+use Rattle.lists.proofs.TestLaws.{all_snoc}
 use Rattle.meaning.specs.Cores.{is_core_from}
 use Rattle.vocab.specs.declared.kinds.Sort.TheVariants.{Profile}
 use Rattle.vocab.specs.declared.literals.Literal.{Literal}
@@ -12,18 +13,18 @@ use Rattle.vocab.specs.Study.{Question}
 use Rattle.meaning.specs.declared.stories.Lemma.{Lemma}
 use Rattle.meaning.specs.declared.cores.Witness.TheVariants.{Open}
 use Rattle.meaning.specs.Literals.{is_literal}
+use Rattle.meaning.proofs.CoreLaws.{core_in_range}
 use Rattle.verdicts.specs.declared.refusals.Refusal.{Refusal}
 use Rattle.verdicts.specs.declared.refusals.Refusal.TheVariants.{Core}
 use Rattle.verdicts.specs.Lines.{Line, Row, CoreIs, Suppose, Clash, WithOpen}
 use Rattle.verdicts.specs.Places.{Place, AtSuppose, AtLemmas, AtWitnessRow, Standing, start, wanted}
 use Rattle.verdicts.specs.Texts.{words_of}
-use Rattle.verdicts.specs.Faults.{places_of, is_core, fault_of}
+use Rattle.verdicts.specs.Faults.{named_places, is_core, fault_of}
 use Rattle.verdicts.specs.Judge.{after_witness, after_lemma, after_row, advance, read_line, Good, settle_at, settle, judge_from, judge}
 use Rattle.verdicts.proofs.FaultLaws.{same_good}
 use Rattle.verdicts.proofs.FitLaws.{Fits, wanted_fits}
 use Rattle.verdicts.proofs.JudgeLaws.{not_long}
-use Rattle.verdicts.proofs.PrefixLaws.{all_snoc}
-use Rattle.verdicts.proofs.SoundLaws.{none_unless, core_places}
+use Rattle.verdicts.proofs.SoundLaws.{none_unless}
 
 -- a core has no more places than there are axioms
 core_length : (end from : ℕ) (core : List ℕ) → is_core_from from end core ≡ true → length core ≤ end - from
@@ -66,11 +67,11 @@ module _ (study : Question) where
   lemma_in s h = one_of (length s.earlier == s.count) _ _ (witness_in s h) (record { core = h.core; few = h.few; earlier = h.earlier; suppose = h.suppose })
 
   core_in : (s : Standing) (names : List (List ℕ)) → IsInRange s → fault_of study s (CoreIs names) ≡ None → IsInRange (advance study s (CoreIs names))
-  core_in s names h e = by_places (places_of study.axioms names) (none_unless _ Core e)
+  core_in s names h e = by_places (named_places study.axioms names) (none_unless _ Core e)
     where
       by_places : (o : Option (List ℕ)) → is_core (length study.axioms) o ≡ true → IsInRange (record s { place = AtLemmas; core = unwrap_or o [] })
       by_places None t = absurd (true≢false (sym t))
-      by_places (Some core) t = record { core = core_places (length study.axioms) 0 core t; few = omega (arith, core_length (length study.axioms) 0 core t); earlier = h.earlier; suppose = h.suppose }
+      by_places (Some core) t = record { core = core_in_range 0 (length study.axioms) core t; few = omega (arith, core_length (length study.axioms) 0 core t); earlier = h.earlier; suppose = h.suppose }
 
   supposed_fits : (p : Place) (n : ℕ) (l : Literal) → Fits study p n (Suppose l) → is_literal study.size l ≡ true
   supposed_fits AtSuppose n l f = f

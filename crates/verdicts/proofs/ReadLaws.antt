@@ -21,7 +21,7 @@ use Rattle.meaning.specs.Literals.{is_literal, is_literal_of, is_of_winner}
 use Rattle.meaning.specs.declared.stories.Reason.{Reason}
 use Rattle.meaning.specs.declared.stories.Reason.TheVariants.{Axiom as ByAxiom, Outcome as ByOutcome, Lemma as ByLemma}
 use Rattle.verdicts.specs.Numbers.{number_text}
-use Rattle.verdicts.specs.Texts.{words_of, joined, value_text, literal_text, literals, literals_at, read_kind, winners_at, read_profile, read_outcome, read_value, read_literal}
+use Rattle.verdicts.specs.Texts.{words_of, joined_words, value_text, literal_text, literals, literals_at, read_kind, winners_at, read_profile, read_outcome, read_value, read_literal}
 use Rattle.meaning.specs.Texts.{kind_text, profile_text, outcome_text, ranking_text}
 use Rattle.verdicts.specs.Lines.{Line, Title, KindIs, VotersAre, AlternativesAre, BallotsAre, AbsentIs, AxiomsAre, SaysPossible, SaysImpossible, SaysUndecided, LimitIs, RuleOf, Row, CoreIs, LemmasAre, Heading, Suppose, So, Clash, WithRule, WithOpen, End, name_at, sorts_of, value_words, reason_words, line_words, line_text}
 use Rattle.verdicts.specs.Reading.{read_axiom, read_positive, read_version, read_place, read_places, read_absent, keyed, names, read_values, read_cited, read_reason, read_step}
@@ -34,20 +34,7 @@ use Rattle.verdicts.proofs.WordLaws.{IsIn, named_text, named_below, in_below, la
 use Rattle.verdicts.proofs.LineLaws.{versions, absent_text}
 use Rattle.verdicts.proofs.FitLaws.{Fits, are_places, ArePlaces, literal_in}
 use Rattle.verdicts.proofs.TextLaws.{is_word, word_lacks, letters_word, numbers_same, number_word, name_word, profile_word, outcome_word_of, value_word, literal_word, rankings_same, profiles_same, outcomes_same, values_same, literals_same, names_own}
-
-in_left : {A : Type 0} (xs ys : List A) (a : A) → IsIn xs a → IsIn (xs ++ ys) a
-in_left [] ys a i = absurd i
-in_left (x ∷ xs) ys a (inl e) = inl e
-in_left (x ∷ xs) ys a (inr i) = inr (in_left xs ys a i)
-
-in_right : {A : Type 0} (xs ys : List A) (a : A) → IsIn ys a → IsIn (xs ++ ys) a
-in_right [] ys a i = i
-in_right (x ∷ xs) ys a i = inr (in_right xs ys a i)
-
-in_flat : {A B : Type 0} (f : A → List B) (xs : List A) (a : A) (b : B) → IsIn xs a → IsIn (f a) b → IsIn (flat_map f xs) b
-in_flat f [] a b i j = absurd i
-in_flat f (x ∷ xs) a b (inl e) j = in_left (f x) (flat_map f xs) b (subst (λ y. IsIn (f y) b) (sym e) j)
-in_flat f (x ∷ xs) a b (inr i) j = in_right (f x) (flat_map f xs) b (in_flat f xs a b i j)
+use Rattle.verdicts.proofs.Members.{flat_map_in}
 
 test_true : {A : Type 0} (b : Bool) (o : Option A) (a : A) → b ≡ true → o ≡ Some a → cond b o None ≡ Some a
 test_true b o a h e = ap (λ c. cond c o None) h ∙ e
@@ -59,10 +46,10 @@ module _ (size : Extent) where
   in_winners_at : (l : Literal) → is_of_winner size l ≡ true → IsIn (winners_at size (profile_of l)) l × (profile_of l < sort_count size Profile)
   in_winners_at (Wins x p) e =
       let q = and_parts (nat_lt x size.alternatives) (nat_lt p (sort_count size Profile)) e in
-      (in_flat (λ x. Wins x p ∷ Loses x p ∷ []) (below size.alternatives) x (Wins x p) (in_below _ x (ltb-true x _ q.0)) (inl refl), ltb-true p _ q.1)
+      (flat_map_in (λ x. Wins x p ∷ Loses x p ∷ []) (below size.alternatives) x (Wins x p) (in_below _ x (ltb-true x _ q.0)) (inl refl), ltb-true p _ q.1)
   in_winners_at (Loses x p) e =
       let q = and_parts (nat_lt x size.alternatives) (nat_lt p (sort_count size Profile)) e in
-      (in_flat (λ x. Wins x p ∷ Loses x p ∷ []) (below size.alternatives) x (Loses x p) (in_below _ x (ltb-true x _ q.0)) (inr (inl refl)), ltb-true p _ q.1)
+      (flat_map_in (λ x. Wins x p ∷ Loses x p ∷ []) (below size.alternatives) x (Loses x p) (in_below _ x (ltb-true x _ q.0)) (inr (inl refl)), ltb-true p _ q.1)
   in_winners_at (Above x y p) e = absurd (true≢false (sym e))
 
   in_literals_at : (k : Kind) (l : Literal) → is_literal_of size k l ≡ true → IsIn (literals_at size k (profile_of l)) l × (profile_of l < sort_count size Profile)
@@ -72,8 +59,8 @@ module _ (size : Extent) where
       let r = and_parts (nat_lt x size.alternatives && nat_lt y size.alternatives) (not (x == y)) q.0 in
       let s = and_parts (nat_lt x size.alternatives) (nat_lt y size.alternatives) r.0 in
       let here : IsIn (cond (x == y) [] (Above x y p ∷ [])) (Above x y p) = subst (λ b. IsIn (cond b [] (Above x y p ∷ [])) (Above x y p)) (sym (not-true (x == y) r.1)) (inl refl) in (
-        in_flat (λ x. flat_map (λ y. cond (x == y) [] (Above x y p ∷ [])) (below size.alternatives)) (below size.alternatives) x (Above x y p) (in_below _ x (ltb-true x _ s.0))
-            (in_flat (λ y. cond (x == y) [] (Above x y p ∷ [])) (below size.alternatives) y (Above x y p) (in_below _ y (ltb-true y _ s.1)) here),
+        flat_map_in (λ x. flat_map (λ y. cond (x == y) [] (Above x y p ∷ [])) (below size.alternatives)) (below size.alternatives) x (Above x y p) (in_below _ x (ltb-true x _ s.0))
+            (flat_map_in (λ y. cond (x == y) [] (Above x y p ∷ [])) (below size.alternatives) y (Above x y p) (in_below _ y (ltb-true y _ s.1)) here),
         ltb-true p _ q.1,
       )
   in_literals_at Ranking (Wins x p) e = absurd (true≢false (sym e))
@@ -83,7 +70,7 @@ module _ (size : Extent) where
   pub in_literals : (l : Literal) → is_literal size l ≡ true → IsIn (literals size) l × (profile_of l < sort_count size Profile)
   in_literals l e =
       let r = in_literals_at size.kind l e in
-      (in_flat (literals_at size size.kind) (below (sort_count size Profile)) (profile_of l) l (in_below _ (profile_of l) r.1) r.0, r.1)
+      (flat_map_in (literals_at size size.kind) (below (sort_count size Profile)) (profile_of l) l (in_below _ (profile_of l) r.1) r.0, r.1)
 
   pub literal_read : IsSize size → (l : Literal) → is_literal size l ≡ true → read_literal size (literal_text size l) ≡ Some l
   literal_read is l e =
@@ -285,13 +272,13 @@ module _ (study : Question) (is : IsReportable study) where
   pub words_are : (l : Line) → is_plain l ≡ true → words_of (line_text study l) ≡ line_words study l
   words_are l h =
       let k = line_words_ok l h in
-      ap (λ ws. words_of (joined ws)) k.2 ∙ split_joined 32 k.0 k.1 (words_lack 32 (k.0 ∷ k.1) (omega arith) k.3) ∙ sym k.2
+      ap (λ ws. words_of (joined_words ws)) k.2 ∙ split_joined 32 k.0 k.1 (words_lack 32 (k.0 ∷ k.1) (omega arith) k.3) ∙ sym k.2
 
   lacks_append : (c : ℕ) (v w : List ℕ) → lacks c v ≡ true → lacks c w ≡ true → lacks c (v ++ w) ≡ true
   lacks_append c [] w h k = k
   lacks_append c (b ∷ v) w h k = let p = and_parts (not (b == c)) (lacks c v) h in and_from _ _ p.0 (lacks_append c v w p.1 k)
 
-  pub joined_lacks : (ws : List (List ℕ)) → list_all (lacks 10) ws ≡ true → lacks 10 (joined ws) ≡ true
+  pub joined_lacks : (ws : List (List ℕ)) → list_all (lacks 10) ws ≡ true → lacks 10 (joined_words ws) ≡ true
   joined_lacks [] h = refl
   joined_lacks (w ∷ []) h = (and_parts (lacks 10 w) true h).0
   joined_lacks (w ∷ v ∷ ws) h = let p = and_parts (lacks 10 w) (list_all (lacks 10) (v ∷ ws)) h in lacks_append 10 w _ p.0 (and_from true _ refl (joined_lacks (v ∷ ws) p.1))
@@ -300,4 +287,4 @@ module _ (study : Question) (is : IsReportable study) where
   pub line_lacks : (l : Line) → is_plain l ≡ true → lacks 10 (line_text study l) ≡ true
   line_lacks l h =
       let k = line_words_ok l h in
-      ap (λ ws. lacks 10 (joined ws)) k.2 ∙ joined_lacks (k.0 ∷ k.1) (words_lack 10 (k.0 ∷ k.1) (omega arith) k.3)
+      ap (λ ws. lacks 10 (joined_words ws)) k.2 ∙ joined_lacks (k.0 ∷ k.1) (words_lack 10 (k.0 ∷ k.1) (omega arith) k.3)

@@ -14,7 +14,7 @@ use Rattle.verdicts.specs.Faults.{is_version}
 use Rattle.verdicts.specs.Report.{lemma_count, report_lines, report_text_in, own_version, report_text, has_text, is_right, claims, IsReport, IsConfirmed}
 use Rattle.verdicts.specs.Places.{Place, AtTitle, AtKind, AtVoters, AtAlternatives, AtBallots, AtAbsent, AtAxioms, AtVerdict, AtLimit, AtRule, AtRow, AtCore, AtLemmas, AtLemma, AtSuppose, AtStep, AtWitness, AtWitnessRow, AtEnd, AtNothing, Standing, start, wanted}
 use Rattle.verdicts.specs.Judge.{advance, Good, read_line, judge_from, judge, ended, pieces, front, final, Confirmed, Faulty, at_end, conclude, answer}
-use Rattle.verdicts.specs.Laws.{IsReportable, IsVersion, IsShort}
+use Rattle.verdicts.specs.Laws.{IsReportable, IsVersion, HasShortLines}
 use Rattle.verdicts.proofs.RightLaws.{right_has_text}
 use Rattle.verdicts.proofs.WordLaws.{IsIn, lacks, split_ended}
 use Rattle.verdicts.proofs.LineLaws.{versions}
@@ -99,7 +99,7 @@ module _ (study : Question) (is : IsReportable study) where
       let j = judged 1 start run.0 (report_lines study r.version v) more run.1 h in
       (run.0, j.0, j.1, run.2)
 
-  complete : (text : List ℕ) (v : Verdict) → IsShort text → IsReport study v text → answer study text ≡ Confirmed v
+  complete : (text : List ℕ) (v : Verdict) → HasShortLines text → IsReport study v text → answer study text ≡ Confirmed v
   complete text v h r =
       let lines = texts_of study r.version v in
       let n = length (lines ++ [] ∷ []) in
@@ -115,7 +115,7 @@ module _ (study : Question) (is : IsReportable study) where
       ∙ ap (at_end n []) j.3
 
 -- a report whose lines are short
-pub judge_complete : (study : Question) → IsReportable study → (text : List ℕ) (v : Verdict) → IsShort text → IsReport study v text → answer study text ≡ Confirmed v
+pub judge_complete : (study : Question) → IsReportable study → (text : List ℕ) (v : Verdict) → HasShortLines text → IsReport study v text → answer study text ≡ Confirmed v
 judge_complete study is text v h r = complete study is text v h r
 
 module _ (study : Question) (is : IsReportable study) where
@@ -293,7 +293,7 @@ module _ (study : Question) (is : IsReportable study) where
 
   lines_short : HasFewAxioms study → (version : ℕ) → is_version study.size version ≡ true
       → (v : Verdict) → is_right study v ≡ true → lemma_count v < 2 ^ 64
-      → IsShort (report_text_in study version v)
+      → HasShortLines (report_text_in study version v)
   lines_short listed version allowed v h few =
       let known = allowed_known study.size version allowed in
       let run = text_run study is version known v (right_has_text study is v h) in
@@ -353,7 +353,7 @@ module _ (study : Question) (is : IsReportable study) where
 pub right_lines_short : (study : Question) → IsReportable study → HasFewAxioms study
     → (version : ℕ) → is_version study.size version ≡ true
     → (v : Verdict) → is_right study v ≡ true → lemma_count v < 2 ^ 64
-    → IsShort (report_text_in study version v)
+    → HasShortLines (report_text_in study version v)
 right_lines_short study is listed version allowed v h few = lines_short study is listed version allowed v h few
 
 pub right_is_confirmed : (study : Question) → IsReportable study → HasFewAxioms study
@@ -361,7 +361,7 @@ pub right_is_confirmed : (study : Question) → IsReportable study → HasFewAxi
     → answer study text ≡ Confirmed v
 right_is_confirmed study is listed text v r few =
     let lines = lines_short study is listed r.version r.allowed v r.right few in
-    judge_complete study is text v (subst IsShort (sym r.is) lines) r
+    judge_complete study is text v (subst HasShortLines (sym r.is) lines) r
 
 pub cut_is_form : (study : Question) → IsReportable study → HasFewAxioms study
     → (v : Verdict) (text rest : List ℕ) → IsReport study v (text ++ rest)

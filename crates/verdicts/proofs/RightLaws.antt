@@ -5,6 +5,7 @@ use Rattle.std.specs.List.{list_all, list_any}
 use Rattle.std.specs.Cmp.Lexicographic.{pointwise}
 use Rattle.std.proofs.lemmas.Bool.{and_parts, and_from, cases_lt}
 use Rattle.std.proofs.lemmas.Option.{slice_get_past}
+use Rattle.lists.proofs.TestLaws.{all_snoc, all_weaker}
 use Rattle.vocab.specs.declared.kinds.Sort.TheVariants.{Profile}
 use Rattle.vocab.specs.declared.literals.Literal.{Literal}
 use Rattle.vocab.specs.Literal.{opposite_of, profile_of}
@@ -29,12 +30,6 @@ use Rattle.verdicts.specs.declared.verdicts.Verdict.TheVariants.{Possible, Impos
 use Rattle.verdicts.specs.Lines.{sorts_of}
 use Rattle.verdicts.specs.Report.{is_reason, is_lemma_text, is_witness_text, has_text, is_right}
 use Rattle.verdicts.specs.Laws.{IsReportable}
-use Rattle.verdicts.proofs.PrefixLaws.{all_snoc}
-
--- a test that each item passes where it passes another
-all_weaker : {A : Type 0} (s t : A → Bool) → ((a : A) → s a ≡ true → t a ≡ true) → (xs : List A) → list_all s xs ≡ true → list_all t xs ≡ true
-all_weaker s t h [] e = refl
-all_weaker s t h (x ∷ xs) e = let p = and_parts (s x) (list_all s xs) e in and_from _ _ (h x p.0) (all_weaker s t h xs p.1)
 
 -- the lemma that a reason cites is one of the first n
 abbrev pub cites_below : ℕ → Reason → Bool

@@ -1,6 +1,5 @@
 -- No line of a right report is longer than 4,096 bytes: it has at most 77 words of at most 52 bytes each, or says
 -- the ballots, which are at most 120 words of at most 5 bytes each.
-use Rattle.verdicts.proofs.TextLaws.{length_digits}
 use Rattle.std.proofs.Common.{◌≡◌, refl, sym, ap, ◌∙◌, subst, ℕ, zero, suc, ◌+◌, ◌*◌, ◌^◌, ◌<◌, ◌≤◌, inl, inr, Bool, true, false, not, ◌&&◌, List, [], ◌∷◌, ◌++◌, map, length, arith, true≢false, ltb-true, lt-ltb, leb-true, le-leb, le-ltb, length-append, eqb-true, cond}
 use Rattle.std.specs.Prelude.{◌==◌, nat_lt, nat_le, slice_get, Option, Some, None}
 use Rattle.std.specs.List.{list_all, join_with_byte}
@@ -26,7 +25,7 @@ use Rattle.meaning.specs.Subsets.{elements, is_element}
 use Rattle.meaning.specs.Texts.{ballot_text, cast_text, letters_or_dash, profile_text, ranking_text, outcome_text_of, outcome_text, letter}
 use Rattle.meaning.proofs.BallotLaws.{ballots_within, kept_short}
 use Rattle.meaning.proofs.RankingLaws.{are_rankings}
-use Rattle.meaning.proofs.SpaceLaws.{length-rankings}
+use Rattle.meaning.proofs.SpaceLaws.{length-rankings, factorial_small}
 use Rattle.verdicts.specs.Numbers.{number_text}
 use Rattle.verdicts.specs.Texts.{value_text, literal_text}
 use Rattle.verdicts.specs.declared.verdicts.Verdict.{Verdict}
@@ -41,6 +40,7 @@ use Rattle.meaning.specs.Literals.{is_literal}
 use Rattle.meaning.specs.Stories.{is_story}
 use Rattle.meaning.specs.Cores.{is_core_from, is_witness}
 use Rattle.meaning.proofs.TestLaws.{list_all-both}
+use Rattle.meaning.proofs.DigitLaws.{length-digits_of}
 use Rattle.verdicts.specs.Lines.{Line, Title, KindIs, VotersAre, AlternativesAre, BallotsAre, AbsentIs, AxiomsAre, SaysImpossible, LimitIs, RuleOf, Row, CoreIs, LemmasAre, Heading, Suppose, Clash, WithRule, WithOpen, End, sorts_of, name_at, value_words, reason_words, line_words, line_text}
 use Rattle.verdicts.specs.Report.{row_lines, step_line, lemma_lines, story_lines, domain_lines, head_lines, witness_lines, all_witness_lines, verdict_lines, report_lines, is_reason, is_right, lemma_count}
 use Rattle.verdicts.specs.Laws.{IsReportable}
@@ -68,16 +68,6 @@ joined_within c k (w ∷ v ∷ ws) h =
 number_within : (n : ℕ) → n < 2 ^ 64 → length (number_text n) ≤ 20
 number_within n h = subst (λ text. length text ≤ 20) (decimal_is n h) (length-decimal-le 20 n (omega arith) (omega (arith, h)) h)
 
--- five alternatives have 120 rankings, and fewer have no more
-few_rankings : (n : ℕ) → n ≤ 5 → factorial n ≤ 120
-few_rankings zero h = omega arith
-few_rankings (suc zero) h = omega arith
-few_rankings (suc (suc zero)) h = omega arith
-few_rankings (suc (suc (suc zero))) h = omega arith
-few_rankings (suc (suc (suc (suc zero)))) h = omega arith
-few_rankings (suc (suc (suc (suc (suc zero))))) h = omega arith
-few_rankings (suc (suc (suc (suc (suc (suc n)))))) h = absurd (omega (arith, h))
-
 module _ (size : Extent) (is : IsSize size) where
   abbrev m : ℕ
   m = size.alternatives
@@ -100,7 +90,7 @@ module _ (size : Extent) (is : IsSize size) where
       and_from _ _ here (rankings_within places)
 
   few_ballots : length (ballot_places size) ≤ 120
-  few_ballots = omega (arith, ballots_within size, few_rankings m is.few_alternatives)
+  few_ballots = omega (arith, ballots_within size, factorial_small m is.few_alternatives)
 
   letters_or_dash_within : (o : Option ℕ) → length (letters_or_dash m o) ≤ 5
   letters_or_dash_within None = omega arith
@@ -120,7 +110,7 @@ module _ (size : Extent) (is : IsSize size) where
   profile_within : (p : ℕ) → length (profile_text size p) ≤ 48
   profile_within p =
       let all = joined_within 124 5 (map (cast_text size) (casts_of size p)) (casts_within (casts_of size p)) in
-      omega (arith, all, length-map (casts_of size p) (cast_text size), length_digits (cast_bases size) p, length-replicate size.voters (cast_count size), is.few_voters)
+      omega (arith, all, length-map (casts_of size p) (cast_text size), length-digits_of (cast_bases size) p, length-replicate size.voters (cast_count size), is.few_voters)
 
   literal_within : (l : Literal) → length (literal_text size l) ≤ 52
   literal_within (Wins x p) = omega (arith, profile_within p)

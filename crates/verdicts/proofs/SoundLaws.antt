@@ -1,8 +1,7 @@
 -- Lines without a fault are the lines of a verdict that is right so far.
 use Rattle.meaning.specs.StoryFaults.{unless}
-use Rattle.std.proofs.Common.{◌≡◌, refl, sym, ap, ◌∙◌, subst, ℕ, ◌+◌, ◌<◌, ◌≤◌, inl, inr, Bool, true, false, not, ◌&&◌, List, [], ◌∷◌, ◌++◌, map, length, Option, Some, None, option_map, arith, true≢false, cond, append_assoc, append-nil, length-append, eqb-true, lt-ltb}
+use Rattle.std.proofs.Common.{◌≡◌, refl, sym, ap, ◌∙◌, subst, ℕ, ◌+◌, ◌<◌, ◌≤◌, inl, inr, Bool, true, false, not, ◌&&◌, List, [], ◌∷◌, ◌++◌, map, length, Option, Some, None, arith, true≢false, cond, append_assoc, append-nil, length-append, eqb-true, lt-ltb}
 use Rattle.std.specs.Prelude.{◌==◌, nat_lt, slice_get}
-use Rattle.std.specs.Bool.{beq}
 use Rattle.std.specs.List.{list_all}
 use Rattle.std.specs.Str.{bytes_eq}
 use Rattle.std.specs.Cmp.Lexicographic.{pointwise}
@@ -20,7 +19,6 @@ use Rattle.vocab.specs.Study.{Question}
 use Rattle.vocab.specs.Titled.{Titled}
 use Rattle.meaning.specs.declared.stories.Reason.{Reason}
 use Rattle.meaning.specs.declared.stories.StoryStep.{StoryStep}
-use Rattle.meaning.specs.declared.stories.StoryFault.{StoryFault}
 use Rattle.meaning.specs.declared.stories.StoryFault.TheVariants.{Supposes}
 use Rattle.meaning.specs.declared.stories.Lemma.{Lemma}
 use Rattle.meaning.specs.Space.{below}
@@ -30,8 +28,12 @@ use Rattle.meaning.specs.declared.cores.Witness.TheVariants.{Rule, Open}
 use Rattle.meaning.specs.Cores.{is_core_from}
 use Rattle.meaning.specs.Stories.{is_decided, are_new, is_lemma, is_story}
 use Rattle.meaning.specs.Literals.{is_literal}
-use Rattle.std.specs.Option.{option_or, unwrap_or}
+use Rattle.std.specs.Option.{unwrap_or}
+use Rattle.lists.proofs.TestLaws.{all_snoc}
+use Rattle.lists.proofs.OptionLaws.{none_of_either, none_of_map}
+use Rattle.cnf.proofs.LitLaws.{beq-equal}
 use Rattle.meaning.proofs.StoryFaultLaws.{passes_reason, passes_literal}
+use Rattle.meaning.proofs.CoreLaws.{core_in_range}
 use Rattle.verdicts.specs.Lines.{Line, Title, KindIs, VotersAre, AlternativesAre, BallotsAre, AbsentIs, AxiomsAre, SaysPossible, SaysImpossible, SaysUndecided, RuleOf, Row, CoreIs, LemmasAre, Heading, Suppose, So, Clash, WithRule, WithOpen, End, name_at}
 use Rattle.verdicts.specs.Reading.{read_axiom}
 use Rattle.verdicts.specs.declared.verdicts.Verdict.{Verdict}
@@ -39,30 +41,18 @@ use Rattle.verdicts.specs.declared.verdicts.Verdict.TheVariants.{Possible, Impos
 use Rattle.verdicts.specs.Report.{row_lines, step_line, lemma_lines, story_lines, domain_lines, head_lines, witness_lines, all_witness_lines, verdict_lines, report_lines, is_reason, is_lemma_text, has_text, is_right, claims}
 use Rattle.verdicts.specs.Places.{Place, AtTitle, AtKind, AtVoters, AtAlternatives, AtBallots, AtAbsent, AtAxioms, AtVerdict, AtLimit, AtRule, AtRow, AtCore, AtLemmas, AtLemma, AtSuppose, AtStep, AtWitness, AtWitnessRow, AtEnd, AtNothing, Standing}
 use Rattle.verdicts.specs.declared.refusals.Refusal.{Refusal}
-use Rattle.verdicts.specs.Faults.{refusal_of, unless_so, same_kind, places_of, is_core, known_of, next_core, rest_of, failing, table_fault, name_fault, fault_of}
+use Rattle.verdicts.specs.Faults.{refusal_of, unless_so, same_kind, named_places, is_core, known_of, next_core, rest_of, failing, table_fault, name_fault, fault_of}
 use Rattle.verdicts.specs.Judge.{witness_place, after_witness, after_lemma, advance}
 use Rattle.verdicts.proofs.WordLaws.{text_named}
 use Rattle.verdicts.proofs.LineLaws.{map_is, then_is}
 use Rattle.verdicts.proofs.FitLaws.{Fits}
-use Rattle.verdicts.proofs.PrefixLaws.{all_snoc, rows_snoc, story_snoc, witness_snoc, are_witnesses, witnesses_snoc, witnesses_full, are_lemmas, lemmas_snoc, story_done, new_snoc, are_steps, steps_snoc, forced_from}
+use Rattle.verdicts.proofs.PrefixLaws.{rows_snoc, story_snoc, witness_snoc, are_witnesses, witnesses_snoc, witnesses_full, are_lemmas, lemmas_snoc, story_done, new_snoc, are_steps, steps_snoc, forced_from}
 use Rattle.verdicts.specs.declared.refusals.Refusal.TheVariants as refusal
 
 -- where there is no fault
 pub none_unless : (b : Bool) (w : Refusal) → unless_so b w ≡ None → b ≡ true
 none_unless true w e = refl
 none_unless false w e = absurd (cc)
-
-none_first : (o p : Option Refusal) → option_or o p ≡ None → (o ≡ None) × (p ≡ None)
-none_first None p e = (refl, e)
-none_first (Some w) p e = absurd (cc)
-
-none_else : (o p : Option StoryFault) → option_or o p ≡ None → (o ≡ None) × (p ≡ None)
-none_else None p e = (refl, e)
-none_else (Some w) p e = absurd (cc)
-
-none_map : (o : Option StoryFault) → option_map refusal_of o ≡ None → o ≡ None
-none_map None e = refl
-none_map (Some w) e = absurd (cc)
 
 less_of : (n m : ℕ) → n ≤ m → (n == m) ≡ false → n < m
 less_of n m h e = elim (cases_lt n m) [
@@ -93,26 +83,14 @@ names_same (x ∷ xs) (y ∷ ys) e =
     let p = and_parts (bytes_eq x y) (pointwise bytes_eq xs ys) e in
     ap (λ z. z ∷ xs) ((bytes_eq-Decides x y).0 p.0) ∙ ap (λ zs. y ∷ zs) (names_same xs ys p.1)
 
-absents_same : (a b : Bool) → beq a b ≡ true → a ≡ b
-absents_same true true e = refl
-absents_same false false e = refl
-absents_same true false e = absurd (true≢false (sym e))
-absents_same false true e = absurd (true≢false (sym e))
-
-places_names : (axioms : List Titled) (names : List (List ℕ)) (core : List ℕ) → places_of axioms names ≡ Some core → names ≡ map (name_at axioms) core
+places_names : (axioms : List Titled) (names : List (List ℕ)) (core : List ℕ) → named_places axioms names ≡ Some core → names ≡ map (name_at axioms) core
 places_names axioms [] core e = let same : [] ≡ core = cc in ap (map (name_at axioms)) same
 places_names axioms (name ∷ names) core e =
     let t = then_is _ (read_axiom axioms name) core e in
-    let m = map_is (λ ks. t.0 ∷ ks) (places_of axioms names) core t.2 in
+    let m = map_is (λ ks. t.0 ∷ ks) (named_places axioms names) core t.2 in
     ap (λ n. n ∷ names) (text_named (name_at axioms) (below (length axioms)) name t.0 t.1)
     ∙ ap (λ ns. name_at axioms t.0 ∷ ns) (places_names axioms names m.0 m.1)
     ∙ ap (map (name_at axioms)) m.2
-
-pub core_places : (end from : ℕ) (core : List ℕ) → is_core_from from end core ≡ true → list_all (λ k. nat_lt k end) core ≡ true
-core_places end from [] h = refl
-core_places end from (k ∷ core) h =
-    let p = and_parts (not (nat_lt k from) && nat_lt k end) (is_core_from (k + 1) end core) h in
-    and_from _ _ (and_parts (not (nat_lt k from)) (nat_lt k end) p.0).1 (core_places end (k + 1) core p.1)
 
 module _ (study : Question) where
   abbrev P : ℕ
@@ -255,7 +233,7 @@ module _ (study : Question) where
   -- after the last row of a rule
   rule_row : 0 < P → (s : Standing) (p o : ℕ) → AreRows s → o < K → fault_of study (at AtRow s) (Row p o) ≡ None → HasRead (advance study (at AtRow s) (Row p o)) (printed AtRow s ++ Row p o ∷ [])
   rule_row some s p o h l e =
-      let f = none_first (unless_so (p == length s.rows) refusal.Row) _ e in
+      let f = none_of_either (unless_so (p == length s.rows) refusal.Row) _ e in
       let same : p ≡ length s.rows = eqb-true p (length s.rows) (none_unless (p == length s.rows) refusal.Row f.0) in
       let longer : length (s.rows ++ o ∷ []) ≡ length s.rows + 1 = length-append s.rows (o ∷ []) in
       let inside = all_snoc (λ o. nat_lt o K) s.rows o h.0 (lt-ltb o K l) in
@@ -299,7 +277,7 @@ module _ (study : Question) where
       by_next (Some k) h = ((record { core = told.core; story = told.story; all = told.all; some = told.some; texts = told.texts; witnesses = told.witnesses }, empty, k, h), e)
       by_next None h =
           let full = witnesses_full study s.core s.core s.witnesses h told.witnesses in
-          let places : list_all (λ k. nat_lt k (length study.axioms)) s.core ≡ true = core_places (length study.axioms) 0 s.core told.core in
+          let places : list_all (λ k. nat_lt k (length study.axioms)) s.core ≡ true = core_in_range 0 (length study.axioms) s.core told.core in
           let right = and_from _ _ told.story (and_from _ _ told.core full.0) in
           let text = and_from _ _ (and_from _ _ (and_from _ _ (lt-ltb 0 (length s.earlier) told.some) told.texts) places) full.1 in (
             ((right, text, refl), tt),
@@ -311,7 +289,7 @@ module _ (study : Question) where
   -- after a row of a witness
   witness_row : 0 < P → (s : Standing) (p o k : ℕ) → IsTold s → AreRows s → next_core s ≡ Some k → o < K → fault_of study (at AtWitnessRow s) (Row p o) ≡ None → HasRead (advance study (at AtWitnessRow s) (Row p o)) (printed AtWitnessRow s ++ Row p o ∷ [])
   witness_row some s p o k told h nk l e =
-      let f = none_first (unless_so (p == length s.rows) refusal.Row) _ e in
+      let f = none_of_either (unless_so (p == length s.rows) refusal.Row) _ e in
       let same : p ≡ length s.rows = eqb-true p (length s.rows) (none_unless (p == length s.rows) refusal.Row f.0) in
       let longer : length (s.rows ++ o ∷ []) ≡ length s.rows + 1 = length-append s.rows (o ∷ []) in
       let inside = all_snoc (λ o. nat_lt o K) s.rows o h.0 (lt-ltb o K l) in
@@ -377,7 +355,7 @@ module _ (study : Question) where
 
   suppose_line : (s : Standing) (l : Literal) → IsInLemma s → s.steps ≡ [] → is_literal study.size l ≡ true → fault_of study (at AtSuppose s) (Suppose l) ≡ None → HasRead (advance study (at AtSuppose s) (Suppose l)) (printed AtSuppose s ++ Suppose l ∷ [])
   suppose_line s l h empty lit e =
-      let f = none_else _ _ (none_map _ e) in
+      let f = none_of_either _ _ (none_of_map refusal_of _ e) in
       let other : (length s.earlier + 1 == s.count) ≡ false = not_last (length s.earlier + 1 == s.count) f.0 in
       let new : not (is_decided (known_of s) l) ≡ true = (passes_literal (known_of s) l).0 f.1 in
       let known : known_of s ≡ s.suppose = ap (λ (xs : List StoryStep). s.suppose ++ map (λ step. step.literal) xs) empty ∙ append-nil s.suppose in (
@@ -400,7 +378,7 @@ module _ (study : Question) where
 
   so_line : (s : Standing) (l : Literal) (r : Reason) → IsInLemma s → is_literal study.size l ≡ true → is_reason study r ≡ true → fault_of study s (So l r) ≡ None → HasRead (advance study s (So l r)) (printed AtStep s ++ So l r ∷ [])
   so_line s l r h lit reason e =
-      let f = none_else _ _ (none_map _ e) in
+      let f = none_of_either _ _ (none_of_map refusal_of _ e) in
       let new : not (is_decided (known_of s) l) ≡ true = (passes_literal (known_of s) l).0 f.0 in
       let refuted = (passes_reason study.size study.axioms s.core s.earlier (known_of s ++ opposite_of l ∷ []) r).0 f.1 in
       let step : StoryStep = record { literal = l; reason = r } in (
@@ -428,7 +406,7 @@ module _ (study : Question) where
 
   clash_line : (s : Standing) (r : Reason) → IsInLemma s → is_reason study r ≡ true → fault_of study s (Clash r) ≡ None → HasRead (advance study s (Clash r)) (printed AtStep s ++ Clash r ∷ [])
   clash_line s r h reason e =
-      let refuted = (passes_reason study.size study.axioms s.core s.earlier (known_of s) r).0 (none_map _ e) in
+      let refuted = (passes_reason study.size study.axioms s.core s.earlier (known_of s) r).0 (none_of_map refusal_of _ e) in
       let forced = forced_from study s.core s.earlier r s.suppose s.steps h.steps refuted in
       let right : is_lemma study.size study.axioms s.core s.earlier lemma ≡ true = and_from _ _ (and_from _ _ (and_from _ _ h.literals (all_first (λ step. is_literal study.size step.literal) (λ step. is_reason study step.reason) s.steps h.texts)) h.new) forced in
       let text : is_lemma_text study lemma ≡ true = and_from _ _ (and_from _ _ h.literals h.texts) reason in
@@ -498,9 +476,9 @@ module _ (study : Question) where
   told_at p s t = record { core = t.core; story = t.story; all = t.all; some = t.some; texts = t.texts; witnesses = t.witnesses }
 
   core_line : (s : Standing) (names : List (List ℕ)) → IsIdle s → fault_of study (at AtCore s) (CoreIs names) ≡ None → HasRead (advance study (at AtCore s) (CoreIs names)) (printed AtCore s ++ CoreIs names ∷ [])
-  core_line s names h e = by_places (places_of study.axioms names) refl (none_unless _ refusal.Core e)
+  core_line s names h e = by_places (named_places study.axioms names) refl (none_unless _ refusal.Core e)
     where
-      by_places : (o : Option (List ℕ)) → places_of study.axioms names ≡ o → is_core (length study.axioms) o ≡ true → HasRead (record s { place = AtLemmas; core = unwrap_or o [] }) (printed AtCore s ++ CoreIs names ∷ [])
+      by_places : (o : Option (List ℕ)) → named_places study.axioms names ≡ o → is_core (length study.axioms) o ≡ true → HasRead (record s { place = AtLemmas; core = unwrap_or o [] }) (printed AtCore s ++ CoreIs names ∷ [])
       by_places None d t = absurd (true≢false (sym t))
       by_places (Some core) d t =
           let idle : IsIdle (record s { place = AtLemmas; core = core }) =
@@ -550,7 +528,7 @@ module _ (study : Question) where
 
   rule_witness_line : (s : Standing) (name : List ℕ) (n k : ℕ) → IsTold s → s.rows ≡ [] → next_core s ≡ Some k → fault_of study (at AtWitness s) (WithRule name n) ≡ None → HasRead (advance study (at AtWitness s) (WithRule name n)) (printed AtWitness s ++ WithRule name n ∷ [])
   rule_witness_line s name n k t empty nk e =
-      let f = none_first (name_fault study (next_core s) name) _ e in
+      let f = none_of_either (name_fault study (next_core s) name) _ e in
       let named = next_name (next_core s) k name nk f.0 in
       let count : n ≡ P = eqb-true n P (none_unless (n == P) refusal.Row f.1) in
       let before = opening s ++ all_witness_lines study s.core s.witnesses in (
@@ -563,7 +541,7 @@ module _ (study : Question) where
 
   open_witness_line : (s : Standing) (name : List ℕ) (n k : ℕ) → IsTold s → s.rows ≡ [] → next_core s ≡ Some k → fault_of study (at AtWitness s) (WithOpen name n) ≡ None → HasRead (advance study (at AtWitness s) (WithOpen name n)) (printed AtWitness s ++ WithOpen name n ∷ [])
   open_witness_line s name n k t empty nk e =
-      let f = none_first (name_fault study (next_core s) name) _ e in
+      let f = none_of_either (name_fault study (next_core s) name) _ e in
       let named = next_name (next_core s) k name nk f.0 in
       let limit = none_unless (n == study.conflicts) refusal.OpenMark f.1 in
       let witnesses = witnesses_snoc study s.core s.core s.witnesses k (Open n) nk t.witnesses limit refl in
@@ -625,7 +603,7 @@ module _ (study : Question) where
         (sym ((bytes_eq-Decides places (ballot_places study.size)).0 (none_unless _ refusal.StudyDiffers e))),
   )
   step_at AtAbsent s (AbsentIs absent) h f e =
-      let same = absents_same absent study.size.absent (none_unless _ refusal.StudyDiffers e) in
+      let same = beq-equal absent study.size.absent (none_unless _ refusal.StudyDiffers e) in
       absent_line s absent h.0 h.1 same
   step_at AtAxioms s (AxiomsAre ns) h f e = (
     idle_at AtVerdict s h,

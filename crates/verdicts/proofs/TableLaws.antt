@@ -1,5 +1,5 @@
 -- The fault of a table is the first axiom that it does not satisfy, at its least instance.
-use Rattle.std.proofs.Common.{◌≡◌, refl, sym, ap, ◌∙◌, subst, ℕ, zero, suc, ◌+◌, ◌<◌, ◌≤◌, inl, inr, Bool, true, false, not, ◌&&◌, ◌||◌, cond, List, [], ◌∷◌, ◌++◌, length, get_or, Option, Some, None, arith, true≢false, ltb-true, ◌↔◌}
+use Rattle.std.proofs.Common.{◌≡◌, refl, sym, ap, ◌∙◌, subst, ℕ, zero, suc, ◌<◌, ◌≤◌, inl, inr, Bool, true, false, not, ◌&&◌, ◌||◌, cond, List, [], ◌∷◌, ◌++◌, length, get_or, Option, Some, None, arith, true≢false, ltb-true, ◌↔◌}
 use Rattle.std.specs.Prelude.{nat_lt, slice_get, IsTrue}
 use Rattle.std.specs.List.{list_all, list_any}
 use Rattle.std.proofs.lemmas.Bool.{and_parts, and_from, cases_lt, not-true, not-false}
@@ -8,23 +8,19 @@ use Rattle.vocab.specs.Limits.{instance_count}
 use Rattle.vocab.specs.Study.{Question}
 use Rattle.vocab.specs.Titled.{Titled}
 use Rattle.meaning.specs.Instances.{is_instance_true, IsFirstFailure}
-use Rattle.meaning.specs.Space.{up_from, below}
+use Rattle.meaning.specs.Space.{below}
 use Rattle.meaning.specs.Truth.{is_axiom_true}
 use Rattle.meaning.proofs.InstanceLaws.{have_instances}
 use Rattle.meaning.proofs.RankingLaws.{first_place}
 use Rattle.meaning.proofs.SpaceLaws.{length-up_from}
 use Rattle.meaning.proofs.ValueLoops.{all_fails}
+use Rattle.meaning.proofs.BallotLaws.{up_from_at}
 use Rattle.verdicts.specs.declared.refusals.Refusal.TheVariants.{Fails}
 use Rattle.verdicts.specs.Faults.{least_false, failing, table_fault}
 use Rattle.verdicts.specs.Laws.{IsFirstFailing}
 
-get_or-up_from : (n a k : ℕ) → k < n → get_or (up_from a n) k 0 ≡ a + k
-get_or-up_from zero a k h = absurd (omega (arith, h))
-get_or-up_from (suc n) a zero h = omega arith
-get_or-up_from (suc n) a (suc k) h = get_or-up_from n (suc a) k (omega (arith, h)) ∙ omega arith
-
 get_or-below : (n k : ℕ) → k < n → get_or (below n) k 0 ≡ k
-get_or-below n k h = get_or-up_from n 0 k h ∙ omega arith
+get_or-below n k h = up_from_at n 0 k h ∙ omega arith
 
 -- where a test does not pass of all items, some item fails it
 some_fails : (f : ℕ → Bool) (xs : List ℕ) → list_all f xs ≡ false → list_any (λ k. not (f k)) xs ≡ true

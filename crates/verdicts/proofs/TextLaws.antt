@@ -1,5 +1,5 @@
 -- Different values have different texts, and no text has a blank or a line end.
-use Rattle.std.proofs.Common.{◌≡◌, get_or, cond, subst, refl, sym, ap, ap₂, ◌∙◌, ℕ, zero, suc, ◌+◌, ◌%◌, ◌<◌, ◌≤◌, ◌≢◌, inl, inr, Bool, true, false, not, ◌&&◌, ◌||◌, List, [], ◌∷◌, ◌++◌, map, length, replicate, arith, true≢false, lt-ltb, ltb-true, eqb-true, leb-true}
+use Rattle.std.proofs.Common.{◌≡◌, get_or, cond, subst, refl, sym, ap, ap₂, ◌∙◌, ℕ, zero, suc, ◌+◌, ◌<◌, ◌≤◌, ◌≢◌, inl, inr, Bool, true, false, not, ◌&&◌, ◌||◌, List, [], ◌∷◌, ◌++◌, map, length, replicate, arith, true≢false, lt-ltb, ltb-true, eqb-true, leb-true}
 use Rattle.std.specs.Prelude.{◌==◌, nat_lt, nat_le, nat_eq, slice_get, Option, Some, None}
 use Rattle.std.specs.List.{list_all, list_any, join_with_byte, slice_split}
 use Rattle.std.specs.Cmp.Lexicographic.{pointwise}
@@ -15,15 +15,15 @@ use Rattle.vocab.specs.Name.{is_digit, is_lower, is_name_byte, is_name}
 use Rattle.vocab.specs.Literal.{profile_of}
 use Rattle.std.proofs.lemmas.List.{get_or-map, length-replicate, length-map}
 use Rattle.vocab.specs.Size.{Extent, IsSize, ballot_count, ballot_places, cast_count, factorial, sort_count, outcome_count}
-use Rattle.vocab.specs.Study.{have_own_names}
+use Rattle.vocab.specs.Study.{axioms_have_own_names}
 use Rattle.vocab.specs.Titled.{Titled}
-use Rattle.vocab.specs.Limits.{product}
-use Rattle.meaning.specs.Space.{number_of, digits_of, ranking, ranking_number, ballot_number, ballot_ranking, cast_bases, casts_of}
+use Rattle.meaning.specs.Space.{number_of, ranking, ranking_number, ballot_number, ballot_ranking, cast_bases, casts_of}
 use Rattle.meaning.specs.Digits.{AreDigits}
 use Rattle.meaning.proofs.RankingLaws.{are_rankings}
 use Rattle.meaning.proofs.BallotLaws.{numbered_place, place_below, place_of_ballot, ranking_of_ballot}
-use Rattle.meaning.proofs.DigitLaws.{are_one_to_one, are_profiles, lists_within}
+use Rattle.meaning.proofs.DigitLaws.{are_one_to_one, are_profiles, lists_within, length-digits_of}
 use Rattle.std.proofs.lemmas.Option.{slice_get_past}
+use Rattle.lists.proofs.PlaceLaws.{head_same, tail_same}
 use Rattle.meaning.specs.Subsets.{elements}
 use Rattle.meaning.proofs.TextLaws.{letters_same, set_texts_same}
 use Rattle.verdicts.specs.Numbers.{number_text, value_after}
@@ -32,12 +32,6 @@ use Rattle.verdicts.specs.Texts.{value_text, literal_text}
 use Rattle.verdicts.specs.Lines.{name_at}
 use Rattle.verdicts.proofs.NumberLaws.{value_of_text, number_digits}
 use Rattle.verdicts.proofs.WordLaws.{lacks, split_joined}
-
-head_same : (x y : ℕ) (xs ys : List ℕ) → x ∷ xs ≡ y ∷ ys → x ≡ y
-head_same x y xs ys e = cc
-
-tail_same : (x y : ℕ) (xs ys : List ℕ) → x ∷ xs ≡ y ∷ ys → xs ≡ ys
-tail_same x y xs ys e = cc
 
 cons_same : (x y : List ℕ) (xs ys : List (List ℕ)) → x ∷ xs ≡ y ∷ ys → (x ≡ y) × (xs ≡ ys)
 cons_same x y xs ys e = let h : x ≡ y = cc in let t : xs ≡ ys = cc in (h, t)
@@ -86,11 +80,6 @@ letters_word (x ∷ xs) = and_from _ _ (lt-ltb 32 (letter x) (omega arith)) (let
 word_append : (v w : List ℕ) → is_word v ≡ true → is_word w ≡ true → is_word (v ++ w) ≡ true
 word_append [] w h k = k
 word_append (b ∷ v) w h k = let p = and_parts (nat_lt 32 b) (is_word v) h in and_from _ _ p.0 (word_append v w p.1 k)
-
--- there is a digit for each base
-pub length_digits : (bases : List ℕ) (k : ℕ) → length (digits_of bases k) ≡ length bases
-length_digits [] k = refl
-length_digits (b ∷ bases) k = ap suc (length_digits bases (k % product bases))
 
 module _ (size : Extent) (is : IsSize size) where
   abbrev m : ℕ
@@ -199,7 +188,7 @@ module _ (size : Extent) (is : IsSize size) where
       sym ((are_profiles size).of_profile p h) ∙ ap (number_of (cast_bases size)) same ∙ (are_profiles size).of_profile q k
     where
       some_cast : (k : ℕ) → 0 < length (map (cast_text size) (casts_of size k))
-      some_cast k = omega (arith, length_digits (cast_bases size) k, length-map (casts_of size k) (cast_text size), length-replicate size.voters (cast_count size), is.some_voter)
+      some_cast k = omega (arith, length-digits_of (cast_bases size) k, length-map (casts_of size k) (cast_text size), length-replicate size.voters (cast_count size), is.some_voter)
 
   outcomes_same_of : (k : Kind) (o u : ℕ) → o < outcome_count k m → u < outcome_count k m → outcome_text_of size k o ≡ outcome_text_of size k u → o ≡ u
   outcomes_same_of Choice o u h k e = omega (arith, head_same (letter o) (letter u) [] [] e)
@@ -277,9 +266,9 @@ own_head a [] k h e same = omega (arith, h)
 own_head a (b ∷ axioms) zero h e same = true≢false (sym ((bytes_eq-Decides a.name b.name).1 same) ∙ (or_parts (pointwise nat_eq a.name b.name) _ e).0)
 own_head a (b ∷ axioms) (suc k) h e same = own_head a axioms k (omega (arith, h)) ((or_parts (pointwise nat_eq a.name b.name) _ e).1) same
 
-pub names_own : (axioms : List Titled) → have_own_names axioms ≡ true → (j k : ℕ) → j < length axioms → k < length axioms → name_at axioms j ≡ name_at axioms k → j ≡ k
+pub names_own : (axioms : List Titled) → axioms_have_own_names axioms ≡ true → (j k : ℕ) → j < length axioms → k < length axioms → name_at axioms j ≡ name_at axioms k → j ≡ k
 names_own [] own j k h i e = absurd (omega (arith, h))
 names_own (a ∷ axioms) own zero zero h i e = refl
-names_own (a ∷ axioms) own zero (suc k) h i e = absurd (own_head a axioms k (omega (arith, i)) (not-true _ (and_parts (not (list_any (λ b. pointwise nat_eq a.name b.name) axioms)) (have_own_names axioms) own).0) e)
-names_own (a ∷ axioms) own (suc j) zero h i e = absurd (own_head a axioms j (omega (arith, h)) (not-true _ (and_parts (not (list_any (λ b. pointwise nat_eq a.name b.name) axioms)) (have_own_names axioms) own).0) (sym e))
-names_own (a ∷ axioms) own (suc j) (suc k) h i e = ap suc (names_own axioms (and_parts (not (list_any (λ b. pointwise nat_eq a.name b.name) axioms)) (have_own_names axioms) own).1 j k (omega (arith, h)) (omega (arith, i)) e)
+names_own (a ∷ axioms) own zero (suc k) h i e = absurd (own_head a axioms k (omega (arith, i)) (not-true _ (and_parts (not (list_any (λ b. pointwise nat_eq a.name b.name) axioms)) (axioms_have_own_names axioms) own).0) e)
+names_own (a ∷ axioms) own (suc j) zero h i e = absurd (own_head a axioms j (omega (arith, h)) (not-true _ (and_parts (not (list_any (λ b. pointwise nat_eq a.name b.name) axioms)) (axioms_have_own_names axioms) own).0) (sym e))
+names_own (a ∷ axioms) own (suc j) (suc k) h i e = ap suc (names_own axioms (and_parts (not (list_any (λ b. pointwise nat_eq a.name b.name) axioms)) (axioms_have_own_names axioms) own).1 j k (omega (arith, h)) (omega (arith, i)) e)

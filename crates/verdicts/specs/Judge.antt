@@ -13,7 +13,7 @@ use Rattle.verdicts.specs.declared.verdicts.Verdict.TheVariants.{Possible, Impos
 use Rattle.verdicts.specs.Texts.{words_of}
 use Rattle.verdicts.specs.Lines.{Line, Title, KindIs, VotersAre, AlternativesAre, BallotsAre, AbsentIs, AxiomsAre, SaysPossible, SaysImpossible, SaysUndecided, LimitIs, RuleOf, Row, CoreIs, LemmasAre, Heading, Suppose, So, Clash, WithRule, WithOpen, End}
 use Rattle.verdicts.specs.Places.{Place, AtKind, AtVoters, AtAlternatives, AtBallots, AtAbsent, AtAxioms, AtVerdict, AtLimit, AtRule, AtRow, AtCore, AtLemmas, AtLemma, AtSuppose, AtStep, AtWitness, AtWitnessRow, AtEnd, AtNothing, Standing, start, wanted}
-use Rattle.verdicts.specs.Faults.{places_of, next_core, fault_of}
+use Rattle.verdicts.specs.Faults.{named_places, next_core, fault_of}
 
 -- ---- where the reader stands after a line
 
@@ -56,7 +56,7 @@ module _ (study : Question) where
   advance s (LimitIs n) = record s { place = AtEnd Undecided }
   advance s (RuleOf n) = record s { place = AtRow }
   advance s (Row p o) = after_row s.place (record s { rows = s.rows ++ o ∷ [] })
-  advance s (CoreIs names) = record s { place = AtLemmas; core = unwrap_or (places_of study.axioms names) [] }
+  advance s (CoreIs names) = record s { place = AtLemmas; core = unwrap_or (named_places study.axioms names) [] }
   advance s (LemmasAre n) = record s { place = AtLemma; count = n }
   advance s (Heading j) = record s { place = AtSuppose }
   advance s (Suppose l) = record s { suppose = s.suppose ++ l ∷ [] }

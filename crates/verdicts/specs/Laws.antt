@@ -47,8 +47,8 @@ AreTextsDistinct =
     → report_text_in study v x ≡ report_text_in study w y → (v ≡ w) × (x ≡ y)
 
 -- no line is longer than 4,096 bytes, its line end not counted
-abbrev pub IsShort : List ℕ → Type 0
-IsShort text = IsTrue (list_all (λ line. not (nat_lt 4096 (length line))) (pieces text))
+abbrev pub HasShortLines : List ℕ → Type 0
+HasShortLines text = IsTrue (list_all (λ line. not (nat_lt 4096 (length line))) (pieces text))
 
 -- no line of the text of a right verdict of a study of few axioms is longer, in a version that the size may have,
 -- where a machine word counts its lemmas
@@ -56,7 +56,7 @@ abbrev pub LinesAreShort : Type 0
 LinesAreShort =
     (study : Question) → IsReportable study → HasFewAxioms study → (version : ℕ) → IsTrue (is_version study.size version)
     → (verdict : Verdict) → IsTrue (is_right study verdict) → lemma_count verdict < 2 ^ 64
-    → IsShort (report_text_in study version verdict)
+    → HasShortLines (report_text_in study version verdict)
 
 -- the size may have the version that is printed, and so what is printed of a right verdict that claims something
 -- is its report

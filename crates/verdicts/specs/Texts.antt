@@ -14,8 +14,8 @@ use Rattle.meaning.specs.Texts.{kind_text, letter, ballot_text, profile_text, ou
 use Rattle.verdicts.specs.Numbers.{number_text}
 
 -- words with one blank between each two
-abbrev pub joined : List (List ℕ) → List ℕ
-joined words = join_with_byte 32 words
+abbrev pub joined_words : List (List ℕ) → List ℕ
+joined_words words = join_with_byte 32 words
 
 -- the words of a line: what stands between its blanks, so that two blanks in a row have an empty word between them
 abbrev pub words_of : List ℕ → List (List ℕ)

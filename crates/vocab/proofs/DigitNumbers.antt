@@ -5,9 +5,9 @@ use Rattle.std.specs.Int.{bit_at}
 use Rattle.std.proofs.lemmas.Bool.{cases_lt, eq-eqb, eqb-true, false≢true}
 use Rattle.std.proofs.lemmas.List.Sums.{sum_by-append}
 use Rattle.std.proofs.lemmas.Nat.Bits.{bit_at-lt, bit_at_cat_high, bit_at_cat_low, same_from_bits_below}
+use Rattle.std.proofs.lemmas.Grind.{pow_more}
 use Rattle.vocab.specs.Range.{below}
 use Rattle.vocab.specs.Size.{is_digit_set}
-use Rattle.vocab.proofs.Powers.{pow-add-one}
 use Rattle.vocab.proofs.Ranges.{kept-more}
 
 -- the number in which digit j is set exactly where a test holds of j, of those below n
@@ -31,7 +31,7 @@ digits_below t (suc n) =
     let before = digits_below t n in
     let more = digits-more t n in
     let digit = one_digit (t n) (2 ^ n) in
-    let power = pow-add-one 2 n in
+    let power = pow_more 2 n in
     let next : digits_by t (n + 1) < 2 ^ (n + 1) = omega (arith, before, more, digit, power) in
     subst (λ k. digits_by t k < 2 ^ k) (add-one n) next
 

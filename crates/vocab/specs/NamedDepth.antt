@@ -16,16 +16,16 @@ abbrev mutual
   terms_depth tree.NoArguments = 0
   terms_depth (tree.Argument t ts) = max (term_depth t) (terms_depth ts)
 
-abbrev pub depth : NamedTree → ℕ
-depth (tree.Pred n ts) = suc (terms_depth ts)
-depth (tree.Equal s t) = suc (max (term_depth s) (term_depth t))
-depth (tree.Not f) = suc (depth f)
-depth (tree.Both f g) = suc (max (depth f) (depth g))
-depth (tree.Either f g) = suc (max (depth f) (depth g))
-depth (tree.Implies f g) = suc (max (depth f) (depth g))
-depth (tree.Same f g) = suc (max (depth f) (depth g))
-depth (tree.All n s f) = suc (depth f)
-depth (tree.Exists n s f) = suc (depth f)
+abbrev pub named_depth : NamedTree → ℕ
+named_depth (tree.Pred n ts) = suc (terms_depth ts)
+named_depth (tree.Equal s t) = suc (max (term_depth s) (term_depth t))
+named_depth (tree.Not f) = suc (named_depth f)
+named_depth (tree.Both f g) = suc (max (named_depth f) (named_depth g))
+named_depth (tree.Either f g) = suc (max (named_depth f) (named_depth g))
+named_depth (tree.Implies f g) = suc (max (named_depth f) (named_depth g))
+named_depth (tree.Same f g) = suc (max (named_depth f) (named_depth g))
+named_depth (tree.All n s f) = suc (named_depth f)
+named_depth (tree.Exists n s f) = suc (named_depth f)
 
 -- the most quantifiers on one path
 abbrev pub quantifiers : NamedTree → ℕ

@@ -1,35 +1,19 @@
 -- A request has from 1 to 16 workers.
-use Rattle.std.proofs.Common.{◌≡◌, sym, refl, subst, ℕ, ◌≤◌, Bool, true, false, ◌&&◌, cond, List, Option, None, Some, IfSome, option_map}
-use Rattle.std.specs.Prelude.{nat_le, option_and_then, codes}
+use Rattle.std.proofs.Common.{◌≡◌, sym, subst, ℕ, Bool, true, false, cond, List, Option, None, Some, IfSome, option_map}
+use Rattle.std.specs.Prelude.{option_and_then, codes}
 use Rattle.std.specs.Str.{bytes_eq}
-use Rattle.std.proofs.lemmas.Bool.{and_parts, leb-true}
-use Rattle.verdicts.specs.Numbers.{read_number}
 use Rattle.clap.specs.Words.{Row, Text, first_of}
 use Rattle.words.specs.declared.commands.Command.{Command}
-use Rattle.words.specs.Values.{number_within, workers_in, kind_in, number_in}
+use Rattle.words.specs.Values.{workers_in, kind_in, number_in}
 use Rattle.words.specs.Words.{Request, Decide, Check, Export, Proof, Lrat, Axioms, Sample, Adopt, Gain, Sharpen, HasWorkers, asked, over_study, request_under}
+use Rattle.words.proofs.FewWorkers.{IsFew, few_in}
 
 abbrev Good : Option Request → Type 0
 Good o = IfSome o HasWorkers
 
-abbrev IsFew : ℕ → Type 0
-IsFew n = (1 ≤ n) × (n ≤ 16)
-
 either : (b : Bool) (x y : Option Request) → Good x → Good y → Good (cond b x y)
 either true x y g h = g
 either false x y g h = h
-
-few_if : (n : ℕ) (b : Bool) → (nat_le 1 n && nat_le n 16) ≡ b → IfSome (cond b (Some n) None) IsFew
-few_if n true e = let p = and_parts (nat_le 1 n) (nat_le n 16) e in (leb-true 1 n p.0, leb-true n 16 p.1)
-few_if n false e = tt
-
-few_within : (o : Option ℕ) → IfSome (option_and_then (λ n. cond (nat_le 1 n && nat_le n 16) (Some n) None) o) IsFew
-few_within None = tt
-few_within (Some n) = few_if n _ refl
-
-few_in : (o : Option Text) → IfSome (option_and_then (number_within 1 16) o) IsFew
-few_in None = tt
-few_in (Some text) = few_within (read_number text)
 
 -- a request that is made of a study and such a number
 made : (make : Text → ℕ → Request) → ((study : Text) (n : ℕ) → IsFew n → HasWorkers (make study n)) → (s : Option Text) (w : Option ℕ) → IfSome w IsFew

@@ -2,14 +2,14 @@
 
 ghost use Rattle.std.specs.Prelude.{◌≡◌, IfOk, false};
 ghost use Rattle.clap.specs.Words.{App, Shape, app_of, rule_of, with_subcommand};
-ghost use Rattle.words.specs.Words.{place, workers_option, IsLeaf, study_shape, check_shape, lrat_shape, axioms_shape, sample_shape, adopt_shape, gain_shape, top_shape, bench_app};
+ghost use Rattle.words.specs.Words.{required_word, workers_option, IsLeaf, study_shape, check_shape, lrat_shape, axioms_shape, sample_shape, adopt_shape, gain_shape, top_shape, bench_app};
 
 use clap::{Arg, Command};
 use std::alloc::{AllocError, Global};
 
 /// A word that has to stand at its place.
-fn place<'a>(alloc: Global, id: &'a str) -> Arg<'a>
-    ensures rule { rule_of result ≡ place id.now }
+fn required_word<'a>(alloc: Global, id: &'a str) -> Arg<'a>
+    ensures rule { rule_of result ≡ required_word id.now }
     ensures local { result.global ≡ false }
 {
     Arg::new(alloc, id).required(true)
@@ -29,7 +29,7 @@ fn workers_option<'a>(alloc: Global) -> Arg<'a>
 fn study_command<'a>(alloc: Global, name: &'a str) -> Result<Command<'a>, AllocError>
     ensures { IfOk result (IsLeaf (study_shape name.now)) }
 {
-    let command = Command::new(alloc, name).arg(place(alloc, "study"))?;
+    let command = Command::new(alloc, name).arg(required_word(alloc, "study"))?;
     command.arg(workers_option(alloc))
 }
 
@@ -37,8 +37,8 @@ fn study_command<'a>(alloc: Global, name: &'a str) -> Result<Command<'a>, AllocE
 fn check_command<'a>(alloc: Global) -> Result<Command<'a>, AllocError>
     ensures { IfOk result (IsLeaf check_shape) }
 {
-    let command = Command::new(alloc, "check").arg(place(alloc, "study"))?;
-    let command = command.arg(place(alloc, "report"))?;
+    let command = Command::new(alloc, "check").arg(required_word(alloc, "study"))?;
+    let command = command.arg(required_word(alloc, "report"))?;
     command.arg(workers_option(alloc))
 }
 
@@ -46,30 +46,30 @@ fn check_command<'a>(alloc: Global) -> Result<Command<'a>, AllocError>
 fn lrat_command<'a>(alloc: Global) -> Result<Command<'a>, AllocError>
     ensures { IfOk result (IsLeaf lrat_shape) }
 {
-    let command = Command::new(alloc, "lrat").arg(place(alloc, "cnf"))?;
-    command.arg(place(alloc, "proof"))
+    let command = Command::new(alloc, "lrat").arg(required_word(alloc, "cnf"))?;
+    command.arg(required_word(alloc, "proof"))
 }
 
 /// `axioms KIND`.
 fn axioms_command<'a>(alloc: Global) -> Result<Command<'a>, AllocError>
     ensures { IfOk result (IsLeaf axioms_shape) }
 {
-    Command::new(alloc, "axioms").arg(place(alloc, "kind"))
+    Command::new(alloc, "axioms").arg(required_word(alloc, "kind"))
 }
 
 /// `sample N`.
 fn sample_command<'a>(alloc: Global) -> Result<Command<'a>, AllocError>
     ensures { IfOk result (IsLeaf sample_shape) }
 {
-    Command::new(alloc, "sample").arg(place(alloc, "number"))
+    Command::new(alloc, "sample").arg(required_word(alloc, "number"))
 }
 
 /// `adopt STUDY PROOF`.
 fn adopt_command<'a>(alloc: Global) -> Result<Command<'a>, AllocError>
     ensures { IfOk result (IsLeaf adopt_shape) }
 {
-    let command = Command::new(alloc, "adopt").arg(place(alloc, "study"))?;
-    let command = command.arg(place(alloc, "proof"))?;
+    let command = Command::new(alloc, "adopt").arg(required_word(alloc, "study"))?;
+    let command = command.arg(required_word(alloc, "proof"))?;
     command.arg(workers_option(alloc))
 }
 
@@ -77,8 +77,8 @@ fn adopt_command<'a>(alloc: Global) -> Result<Command<'a>, AllocError>
 fn gain_command<'a>(alloc: Global) -> Result<Command<'a>, AllocError>
     ensures { IfOk result (IsLeaf gain_shape) }
 {
-    let command = Command::new(alloc, "gain").arg(place(alloc, "study"))?;
-    command.arg(place(alloc, "report"))
+    let command = Command::new(alloc, "gain").arg(required_word(alloc, "study"))?;
+    command.arg(required_word(alloc, "report"))
 }
 
 /// The program before its commands: one of them is wanted.

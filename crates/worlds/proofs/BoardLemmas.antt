@@ -1,8 +1,8 @@
 -- Boards: what has a mark is there, and nothing else.
-use Rattle.std.proofs.Common.{◌≡◌, ◌≢◌, refl, sym, ◌∙◌, ap, ap₂, subst, ℕ, zero, suc, ◌+◌, ◌*◌, ◌<◌, ◌≤◌, Bool, true, false, not, cond, ◌||◌, ◌⊎◌, inl, inr, List, [], ◌∷◌, ◌++◌, length, get_or, set, arith, true≢false, length-append, length-set}
+use Rattle.std.proofs.Common.{◌≡◌, ◌≢◌, refl, sym, ◌∙◌, ap, ap₂, subst, ℕ, zero, suc, ◌+◌, ◌*◌, ◌<◌, ◌≤◌, Bool, true, false, not, cond, ◌||◌, inl, inr, List, [], ◌∷◌, ◌++◌, length, get_or, set, arith, true≢false, length-append, length-set}
 use Rattle.std.specs.Prelude.{sum_by}
 use Rattle.std.specs.List.{list_all, remove}
-use Rattle.std.proofs.lemmas.Bool.{and_parts, and_from, or_cases, or_left, or_right, both_ways, false_from_ne_true, not-true}
+use Rattle.std.proofs.lemmas.Bool.{and_parts, and_from, or_cases, or_left, or_right, both_ways, false_from_ne_true, not-true, cases_Bool}
 use Rattle.std.proofs.lemmas.List.{get_or-set_same, get_or-set_other}
 use Rattle.std.proofs.lemmas.List.Sums.{sum_by-set}
 use Rattle.vocab.specs.declared.kinds.Kind.{Kind}
@@ -15,7 +15,7 @@ use Rattle.vocab.specs.Size.{Extent, IsSize, sort_count}
 use Rattle.meaning.specs.Literals.{is_literal, is_literal_of, is_of_winner}
 use Rattle.meaning.proofs.TestLaws.{or-false}
 use Rattle.meaning.proofs.LiteralLaws.{same_literal-equal, same_literal-refl, winner_in, ranking_in}
-use Rattle.worlds.specs.Boards.{without, are_distinct, mark_of, free, IsBoard}
+use Rattle.worlds.specs.Boards.{without_literal, are_distinct, mark_of, free, IsBoard}
 
 -- ---- lists of literals
 
@@ -46,51 +46,46 @@ same_literal-sym k l h = false_from_ne_true _ (λ e. both_ways _ h (subst (λ x.
 
 -- ---- without a literal
 
-without-same : (l x : Literal) (ls : List Literal) → same_literal l x ≡ true → without l (x ∷ ls) ≡ without l ls
-without-same l x ls e = ap (λ b. cond (not b) (x ∷ without l ls) (without l ls)) e
+without-same : (l x : Literal) (ls : List Literal) → same_literal l x ≡ true → without_literal l (x ∷ ls) ≡ without_literal l ls
+without-same l x ls e = ap (λ b. cond (not b) (x ∷ without_literal l ls) (without_literal l ls)) e
 
-without-other : (l x : Literal) (ls : List Literal) → same_literal l x ≡ false → without l (x ∷ ls) ≡ x ∷ without l ls
-without-other l x ls e = ap (λ b. cond (not b) (x ∷ without l ls) (without l ls)) e
-
--- either they are the same or not
-decide : (b : Bool) → (b ≡ true) ⊎ (b ≡ false)
-decide true = inl refl
-decide false = inr refl
+without-other : (l x : Literal) (ls : List Literal) → same_literal l x ≡ false → without_literal l (x ∷ ls) ≡ x ∷ without_literal l ls
+without-other l x ls e = ap (λ b. cond (not b) (x ∷ without_literal l ls) (without_literal l ls)) e
 
 -- the parts of what is there, and of what is not
 not_there : (l x : Literal) (ls : List Literal) → has (x ∷ ls) l ≡ false → (same_literal l x ≡ false) × (has ls l ≡ false)
 not_there l x ls h = (false_from_ne_true _ (λ e. both_ways _ h (or_left _ _ e)), false_from_ne_true _ (λ e. both_ways _ h (or_right _ _ e)))
 
-pub without-none : (l : Literal) (ls : List Literal) → has ls l ≡ false → without l ls ≡ ls
+pub without-none : (l : Literal) (ls : List Literal) → has ls l ≡ false → without_literal l ls ≡ ls
 without-none l [] h = refl
 without-none l (x ∷ ls) h = let n = not_there l x ls h in without-other l x ls n.0 ∙ ap (λ r. x ∷ r) (without-none l ls n.1)
 
 -- without what came last
-pub without-last : (l : Literal) (ls : List Literal) → has ls l ≡ false → without l (ls ++ l ∷ []) ≡ ls
+pub without-last : (l : Literal) (ls : List Literal) → has ls l ≡ false → without_literal l (ls ++ l ∷ []) ≡ ls
 without-last l [] h = without-same l l [] (same_literal-refl l)
 without-last l (x ∷ ls) h = let n = not_there l x ls h in without-other l x (ls ++ l ∷ []) n.0 ∙ ap (λ r. x ∷ r) (without-last l ls n.1)
 
-pub has-without_same : (l : Literal) (ls : List Literal) → has (without l ls) l ≡ false
+pub has-without_same : (l : Literal) (ls : List Literal) → has (without_literal l ls) l ≡ false
 has-without_same l [] = refl
-has-without_same l (x ∷ ls) = elim (decide (same_literal l x)) [
+has-without_same l (x ∷ ls) = elim (cases_Bool (same_literal l x)) [
   | inl e ↦ subst (λ r. has r l ≡ false) (sym (without-same l x ls e)) (has-without_same l ls)
-  | inr e ↦ subst (λ r. has r l ≡ false) (sym (without-other l x ls e)) (ap (λ b. b || has (without l ls) l) e ∙ has-without_same l ls)
+  | inr e ↦ subst (λ r. has r l ≡ false) (sym (without-other l x ls e)) (ap (λ b. b || has (without_literal l ls) l) e ∙ has-without_same l ls)
 ]
 
-pub has-without_other : (l k : Literal) (ls : List Literal) → same_literal k l ≡ false → has (without l ls) k ≡ has ls k
+pub has-without_other : (l k : Literal) (ls : List Literal) → same_literal k l ≡ false → has (without_literal l ls) k ≡ has ls k
 has-without_other l k [] h = refl
-has-without_other l k (x ∷ ls) h = elim (decide (same_literal l x)) [
+has-without_other l k (x ∷ ls) h = elim (cases_Bool (same_literal l x)) [
   | inl e ↦
       let here : same_literal k x ≡ false = subst (λ y. same_literal k y ≡ false) (same_literal-equal l x e) h in
       subst (λ r. has r k ≡ has (x ∷ ls) k) (sym (without-same l x ls e)) (has-without_other l k ls h ∙ ap (λ b. b || has ls k) (sym here))
   | inr e ↦ subst (λ r. has r k ≡ has (x ∷ ls) k) (sym (without-other l x ls e)) (ap (λ b. same_literal k x || b) (has-without_other l k ls h))
 ]
 
-all-without : (t : Literal → Bool) (l : Literal) (ls : List Literal) → list_all t ls ≡ true → list_all t (without l ls) ≡ true
+all-without : (t : Literal → Bool) (l : Literal) (ls : List Literal) → list_all t ls ≡ true → list_all t (without_literal l ls) ≡ true
 all-without t l [] h = refl
 all-without t l (x ∷ ls) h =
     let p = and_parts (t x) (list_all t ls) h in
-    elim (decide (same_literal l x)) [
+    elim (cases_Bool (same_literal l x)) [
       | inl e ↦ subst (λ r. list_all t r ≡ true) (sym (without-same l x ls e)) (all-without t l ls p.1)
       | inr e ↦ subst (λ r. list_all t r ≡ true) (sym (without-other l x ls e)) (and_from _ _ p.0 (all-without t l ls p.1))
     ]
@@ -104,14 +99,14 @@ all-append t l (x ∷ ls) h k = let p = and_parts (t x) (list_all t ls) h in and
 distinct_parts : (x : Literal) (ls : List Literal) → are_distinct (x ∷ ls) ≡ true → (has ls x ≡ false) × (are_distinct ls ≡ true)
 distinct_parts x ls h = let p = and_parts (not (has ls x)) (are_distinct ls) h in (not-true _ p.0, p.1)
 
-distinct-without : (l : Literal) (ls : List Literal) → are_distinct ls ≡ true → are_distinct (without l ls) ≡ true
+distinct-without : (l : Literal) (ls : List Literal) → are_distinct ls ≡ true → are_distinct (without_literal l ls) ≡ true
 distinct-without l [] h = refl
 distinct-without l (x ∷ ls) h =
     let p = distinct_parts x ls h in
-    elim (decide (same_literal l x)) [
+    elim (cases_Bool (same_literal l x)) [
       | inl e ↦ subst (λ r. are_distinct r ≡ true) (sym (without-same l x ls e)) (distinct-without l ls p.1)
       | inr e ↦
-          let none : has (without l ls) x ≡ false = has-without_other l x ls (same_literal-sym l x e) ∙ p.0 in
+          let none : has (without_literal l ls) x ≡ false = has-without_other l x ls (same_literal-sym l x e) ∙ p.0 in
           subst (λ r. are_distinct r ≡ true) (sym (without-other l x ls e)) (and_from _ _ (ap not none) (distinct-without l ls p.1))
     ]
 
@@ -132,18 +127,18 @@ last_is_new l (x ∷ ls) h =
     let other : same_literal x l ≡ false = false_from_ne_true _ (λ e. both_ways _ n (or_right _ _ e)) in
     ap₂ (λ a b. a || b) (same_literal-sym x l other) (last_is_new l ls p.1)
 
-length-without : (l : Literal) (ls : List Literal) → are_distinct ls ≡ true → has ls l ≡ true → length (without l ls) + 1 ≡ length ls
+length-without : (l : Literal) (ls : List Literal) → are_distinct ls ≡ true → has ls l ≡ true → length (without_literal l ls) + 1 ≡ length ls
 length-without l [] h k = absurd (true≢false (sym k))
 length-without l (x ∷ ls) h k =
     let p = distinct_parts x ls h in
     elim (or_cases (same_literal l x) (has ls l) k) [
       | inl e ↦
           let gone : has ls l ≡ false = subst (λ y. has ls y ≡ false) (sym (same_literal-equal l x e)) p.0 in
-          let rest : without l (x ∷ ls) ≡ ls = without-same l x ls e ∙ without-none l ls gone in
+          let rest : without_literal l (x ∷ ls) ≡ ls = without-same l x ls e ∙ without-none l ls gone in
           ap (λ r. length r + 1) rest ∙ omega arith
       | inr e ↦
           let other : same_literal l x ≡ false = apart ls l x e p.0 in
-          let inner : length (without l ls) + 1 ≡ length ls = length-without l ls p.1 e in
+          let inner : length (without_literal l ls) + 1 ≡ length ls = length-without l ls p.1 e in
           ap (λ r. length r + 1) (without-other l x ls other) ∙ omega arith
     ]
 
@@ -154,7 +149,7 @@ has_at (x ∷ ls) zero l d lt e = or_left _ _ (subst (λ y. same_literal l y ≡
 has_at (x ∷ ls) (suc i) l d lt e = or_right _ _ (has_at ls i l d (omega arith) e)
 
 -- a literal is taken away at its place
-pub remove-without : (l : Literal) (ls : List Literal) (i : ℕ) → are_distinct ls ≡ true → i < length ls → get_or ls i l ≡ l → remove ls i ≡ without l ls
+pub remove-without : (l : Literal) (ls : List Literal) (i : ℕ) → are_distinct ls ≡ true → i < length ls → get_or ls i l ≡ l → remove ls i ≡ without_literal l ls
 remove-without l [] i h lt e = absurd (omega arith)
 remove-without l (x ∷ ls) zero h lt e =
     let p = distinct_parts x ls h in
@@ -260,7 +255,7 @@ module _ (size : Extent) (ls : List Literal) (capacity : ℕ) (marks : List Bool
       record {
         valid = board.valid;
         wide = wide ∙ board.wide;
-        marked = λ k own. elim (decide (same_literal k l)) [
+        marked = λ k own. elim (cases_Bool (same_literal k l)) [
           | inl e ↦
               let is : l ≡ k = sym (same_literal-equal k l e) in
               subst (λ x. get_or (set marks (mark_of l) true) (mark_of x) false ≡ has (ls ++ l ∷ []) x) is
@@ -275,7 +270,7 @@ module _ (size : Extent) (ls : List Literal) (capacity : ℕ) (marks : List Bool
         capacious = omega (arith, board.capacious);
       }
 
-  pub board_without : (l : Literal) (cap : ℕ) → has ls l ≡ true → capacity ≤ cap → IsBoard size (without l ls) cap (set marks (mark_of l) false)
+  pub board_without : (l : Literal) (cap : ℕ) → has ls l ≡ true → capacity ≤ cap → IsBoard size (without_literal l ls) cap (set marks (mark_of l) false)
   board_without l cap there more =
       let h : is_literal size l ≡ true = all_has (is_literal size) ls l board.ours there in
       let within = mark_within l h in
@@ -283,14 +278,14 @@ module _ (size : Extent) (ls : List Literal) (capacity : ℕ) (marks : List Bool
       let counts : sum_by free (set marks (mark_of l) false) + free (get_or marks (mark_of l) false) ≡ sum_by free marks + free false = sum_by-set free marks (mark_of l) false false within in
       let none : free (get_or marks (mark_of l) false) ≡ 0 = ap free has_mark in
       let wide : length (set marks (mark_of l) false) ≡ length marks = length-set marks (mark_of l) false in
-      let shorter : length (without l ls) + 1 ≡ length ls = length-without l ls board.distinct there in
+      let shorter : length (without_literal l ls) + 1 ≡ length ls = length-without l ls board.distinct there in
       record {
         valid = board.valid;
         wide = wide ∙ board.wide;
-        marked = λ k own. elim (decide (same_literal k l)) [
+        marked = λ k own. elim (cases_Bool (same_literal k l)) [
           | inl e ↦
               let is : l ≡ k = sym (same_literal-equal k l e) in
-              subst (λ x. get_or (set marks (mark_of l) false) (mark_of x) false ≡ has (without l ls) x) is
+              subst (λ x. get_or (set marks (mark_of l) false) (mark_of x) false ≡ has (without_literal l ls) x) is
               (get_or-set_same marks (mark_of l) false false within ∙ sym (has-without_same l ls))
           | inr e ↦
               get_or-set_other marks (mark_of l) (mark_of k) false false (other_mark size board.valid k l own h e)

@@ -1,8 +1,8 @@
 -- Known literals at a profile, by the variables of the profile.
-use Rattle.std.proofs.Common.{◌≡◌, refl, sym, ap, subst, ℕ, ◌+◌, ◌*◌, ◌<◌, ◌≤◌, Bool, true, false, not, cond, ◌&&◌, ◌⊎◌, inl, inr, List, [], ◌∷◌, filter, arith, true≢false, eqb-true, eq-eqb, eq-or-lt_of_le, mul-le-mul, mul-le-mul_right}
+use Rattle.std.proofs.Common.{◌≡◌, refl, sym, ap, subst, ℕ, ◌+◌, ◌*◌, ◌<◌, ◌≤◌, Bool, true, false, not, cond, ◌&&◌, inl, inr, List, [], ◌∷◌, filter, arith, true≢false, eqb-true, eq-eqb, eq-or-lt_of_le, mul-le-mul, mul-le-mul_right}
 use Rattle.std.specs.Prelude.{◌==◌}
 use Rattle.std.specs.List.{list_all}
-use Rattle.std.proofs.lemmas.Bool.{and_parts, and_from, or_cases, or_left, or_right, both_ways, false_from_ne_true, not-true}
+use Rattle.std.proofs.lemmas.Bool.{and_parts, and_from, or_cases, or_left, or_right, both_ways, false_from_ne_true, not-true, cases_Bool}
 use Rattle.vocab.specs.declared.kinds.Sort.TheVariants.{Profile}
 use Rattle.vocab.specs.declared.literals.Literal.{Literal}
 use Rattle.vocab.specs.Literal.{same_literal, has, profile_of}
@@ -20,10 +20,6 @@ use Rattle.worlds.proofs.BoardLemmas.{all_has}
 
 -- ---- those of a list that pass a test
 
-decided : (b : Bool) → (b ≡ true) ⊎ (b ≡ false)
-decided true = inl refl
-decided false = inr refl
-
 module _ (t q : Literal → Bool) where
   kept : (x : Literal) (ls : List Literal) → q x ≡ true → filter q (x ∷ ls) ≡ x ∷ filter q ls
   kept x ls e = ap (λ b. cond b (x ∷ filter q ls) (filter q ls)) e
@@ -35,7 +31,7 @@ module _ (t q : Literal → Bool) where
   all_kept [] h = refl
   all_kept (x ∷ ls) h =
       let rest = all_kept ls (λ l m. h l (or_right _ _ m)) in
-      elim (decided (q x)) [
+      elim (cases_Bool (q x)) [
         | inl e ↦ subst (λ r. list_all t r ≡ true) (sym (kept x ls e)) (and_from _ _ (h x (or_left _ _ (same_literal-refl x)) e) rest)
         | inr e ↦ subst (λ r. list_all t r ≡ true) (sym (left_out x ls e)) rest
       ]
@@ -43,7 +39,7 @@ module _ (t q : Literal → Bool) where
   of_kept : (ls : List Literal) (l : Literal) → list_all t (filter q ls) ≡ true → has ls l ≡ true → q l ≡ true → t l ≡ true
   of_kept [] l h m k = absurd (true≢false (sym m))
   of_kept (x ∷ ls) l h m k =
-      elim (decided (q x)) [
+      elim (cases_Bool (q x)) [
         | inl e ↦
             let p = and_parts (t x) (list_all t (filter q ls)) (subst (λ r. list_all t r ≡ true) (kept x ls e) h) in
             elim (or_cases (same_literal l x) (has ls l) m) [
@@ -85,7 +81,7 @@ module _ (size : Extent) (known : List Literal) (outcome p : ℕ) where
   is_failing s = has known (literal_of size s) && not (holds_of size outcome (literal_of size s))
 
   fine : (s : Signed) → is_failing s ≡ false → has known (literal_of size s) ≡ true → holds_of size outcome (literal_of size s) ≡ true
-  fine s h m = elim (decided (holds_of size outcome (literal_of size s))) [
+  fine s h m = elim (cases_Bool (holds_of size outcome (literal_of size s))) [
     | inl e ↦ e
     | inr e ↦ absurd (both_ways _ h (and_from _ _ m (ap not e)))
   ]

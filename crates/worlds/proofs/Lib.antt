@@ -3,6 +3,5 @@ pub mod BodyLemmas
 pub mod ChainLemmas
 pub mod ConditionLemmas
 pub mod ExclusionLemmas
-pub mod RuleLemmas
 pub mod SortLemmas
 pub mod WalkLemmas

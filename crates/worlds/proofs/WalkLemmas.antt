@@ -1,5 +1,5 @@
 -- Instances block by block: those of one value of the outermost universal after those of the value before it.
-use Rattle.std.proofs.Common.{◌≡◌, refl, sym, ◌∙◌, ap, ap₂, ℕ, zero, suc, ◌+◌, ◌*◌, ◌-◌, ◌/◌, ◌^◌, ◌<◌, ◌≤◌, true, min, inl, inr, List, [], ◌∷◌, ◌++◌, arith, Option, None, Some, MatchOption, append_assoc, append-nil, mul-le-mul_right, suc-mul, mul-zero}
+use Rattle.std.proofs.Common.{◌≡◌, refl, sym, ◌∙◌, ap, ap₂, ℕ, zero, suc, ◌+◌, ◌*◌, ◌-◌, ◌/◌, ◌^◌, ◌<◌, ◌≤◌, true, min, inl, inr, List, [], ◌∷◌, ◌++◌, arith, Option, None, Some, MatchOption, append_assoc, append-nil, mul-le-mul_right, suc-mul}
 use Rattle.std.proofs.Math.Nat.{mul-le-mul_left, div-mul-le_self, div-eq_of_lt}
 use Rattle.std.proofs.lemmas.Nat.{div-mul-add, mod-mul-add, div_below}
 use Rattle.std.proofs.lemmas.Bool.{cases_lt}
@@ -11,6 +11,7 @@ use Rattle.vocab.specs.Tree.{Tree, All}
 use Rattle.meaning.specs.Space.{digits_of}
 use Rattle.meaning.specs.Instances.{AreInstancesTrue, IsFirstFailure}
 use Rattle.meaning.specs.Truth.{is_true_at}
+use Rattle.meaning.proofs.DigitLaws.{positive_right}
 use Rattle.worlds.specs.Walk.{is_true_in, AreTrueIn, IsFirstFalseIn}
 
 -- the largest number of 64 bits
@@ -34,10 +35,6 @@ pub record IsBlock (n p v start : ℕ) : Type 0 where
 below_factor : (v n p : ℕ) → v * p < n * p → v < n
 below_factor v n p h = elim (cases_lt v n) [ inl lt ↦ lt | inr le ↦ absurd (let more = mul-le-mul_right p le in omega arith) ]
 
-positive_factor : (n p k : ℕ) → k < n * p → 0 < p
-positive_factor n zero k h = absurd (omega (arith, mul-zero n))
-positive_factor n (suc p) k h = omega arith
-
 pub is_block : (n p v start to block : ℕ) → block ≡ min p most → start ≡ min (v * block) most → start < to → to ≤ most → to ≤ n * p → IsBlock n p v start
 is_block n p v start to block cut at lt fits within = elim (cases_lt most p) [
   | inl long ↦
@@ -52,13 +49,13 @@ is_block n p v start to block cut at lt fits within = elim (cases_lt most p) [
       let is : block ≡ p = omega (arith, short) in
       let times : start ≡ min (v * p) most = rw is at at in
       let below : v * p < n * p = omega (arith, times) in
-      record { value = below_factor v n p below; some = positive_factor n p (v * p) below; place = omega (arith, times) }
+      record { value = below_factor v n p below; some = positive_right n p (v * p) below; place = omega (arith, times) }
 ]
 
 -- the block in which a number lies
 pub first_block : (n p from to block : ℕ) → block ≡ min p most → from < to → to ≤ most → to ≤ n * p → (0 < block) × (from / block < n) × (from / block * p ≤ from)
 first_block n p from to block cut lt fits within =
-    let p_some : 0 < p = positive_factor n p from (omega arith) in
+    let p_some : 0 < p = positive_right n p from (omega arith) in
     elim (cases_lt most p) [
       | inl long ↦
           let is : block ≡ most = omega (arith, long) in

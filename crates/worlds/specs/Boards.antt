@@ -14,8 +14,8 @@ pub record Known : Type 0 where
   pub literals : List Literal
 
 -- the literals but this one
-abbrev pub without : Literal → List Literal → List Literal
-without l literals = filter (λ k. not (same_literal l k)) literals
+abbrev pub without_literal : Literal → List Literal → List Literal
+without_literal l literals = filter (λ k. not (same_literal l k)) literals
 
 -- no literal stands twice
 abbrev pub are_distinct : List Literal → Bool

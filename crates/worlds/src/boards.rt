@@ -7,7 +7,7 @@ ghost use Rattle.vocab.specs.declared.literals.Literal.{Literal};
 ghost use Rattle.vocab.specs.Literal.{has};
 ghost use Rattle.vocab.specs.Size.{Extent, IsSize, sort_count};
 ghost use Rattle.meaning.specs.Literals.{is_literal};
-ghost use Rattle.worlds.specs.Boards.{are_distinct, mark_of, without};
+ghost use Rattle.worlds.specs.Boards.{are_distinct, mark_of, without_literal};
 
 use crate::literals::is_same;
 use lists::NoMemory;
@@ -81,7 +81,7 @@ impl Board {
     pub fn remove(&mut self, literal: &Literal)
         requires { IsTrue (is_literal self.old.size literal.now) }
         ensures size { self.new.size ≡ self.old.size }
-        ensures literals { self.new.literals ≡ without literal.now self.old.literals }
+        ensures literals { self.new.literals ≡ without_literal literal.now self.old.literals }
         ensures undoes { (known : List Literal) → self.old.literals ≡ known ++ literal.now ∷ [] →
             self.new.literals ≡ known }
     {

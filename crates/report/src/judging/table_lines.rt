@@ -8,7 +8,7 @@ ghost use Rattle.verdicts.specs.Places.{Standing, AtWitnessRow};
 ghost use Rattle.verdicts.specs.Faults.{table_fault};
 ghost use Rattle.report_lines.specs.Held.{held_place};
 ghost use Rattle.report.specs.Stands.{Stands};
-ghost use Rattle.report.specs.Taken.{Takes, TakesTable, ArePlaces, IsNextRow, HasTable};
+ghost use Rattle.report.specs.Taken.{Takes, TakesTable, AreAxiomPlaces, IsNextRow, HasTable};
 
 use crate::judging::Judging;
 use crate::subject::Subject;
@@ -56,7 +56,7 @@ fn check<R: Threads + Sync, G: Gate, K: OutcomeKind>(
     places: &[u32],
 ) -> Result<Option<Refusal>, NoMemory>
     requires rule { IsTrue (is_rule subject.now.setting.study.now.size table.now) }
-    requires places { ArePlaces subject.now.setting.study.now places.now }
+    requires places { AreAxiomPlaces subject.now.setting.study.now places.now }
     ensures { IfOk result (λ fault. fault ≡ table_fault subject.now.setting.study.now table.now places.now) }
 {
     let (kind, study) = (subject.setting.kind, subject.setting.study);

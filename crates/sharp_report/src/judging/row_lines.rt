@@ -2,9 +2,9 @@
 
 ghost use Rattle.std.specs.Prelude.{◌≡◌, IfOk, IsTrue};
 ghost use Rattle.meaning.specs.Truth.{is_rule};
-ghost use Rattle.sharp_verdicts.specs.SharpFaults.{instances_fault, asked_of};
+ghost use Rattle.sharp_verdicts.specs.SharpFaults.{instances_fault, others_asked};
 ghost use Rattle.sharp_verdicts.specs.SharpPlaces.{SharpStanding, AtNeedRow, AtSharpEnd};
-ghost use Rattle.sharp_report.specs.SharpStands.{held_sharp_place, SharpStands, HasTable, IsSharpRead, IsSharpTaken, TakesMark};
+ghost use Rattle.sharp_report.specs.SharpStands.{held_sharp_place, SharpStands, HasMarkTable, IsSharpRead, IsSharpTaken, TakesMark};
 
 use crate::failing::first_failing;
 use crate::judging::SharpJudging;
@@ -49,7 +49,7 @@ impl SharpJudging {
 
     /// Takes a table whose last row is read: the bodies of the other instances have to be true of it.
     fn take_table<K: OutcomeKind>(&mut self, subject: &Subject<K>) -> Option<SharpRefusal>
-        requires table { HasTable subject.now.setting.study.now self.old }
+        requires table { HasMarkTable subject.now.setting.study.now self.old }
         ensures { (s : SharpStanding) → SharpStands subject.now.setting.study.now self.old s →
             s.place ≡ AtNeedRow →
             TakesMark subject.now.setting.study.now s self.new result }

@@ -1,8 +1,9 @@
 use Rattle.std.proofs.Common.{◌≡◌, sym, ◌∙◌, ap, subst, ℕ, true, List, ◌++◌, take, drop, take-append-drop}
 use Rattle.std.specs.Prelude.{IfSome, IsFalse, slice_get}
 use Rattle.std.specs.List.{list_all}
+use Rattle.lists.proofs.PlaceLaws.{drop_first}
 use Rattle.axiom_sets.specs.Sets.{is_before, is_rising}
-use Rattle.axiom_sets.proofs.OrderLaws.{drop_first, other_than, put_in_order}
+use Rattle.axiom_sets.proofs.OrderLaws.{other_than, put_in_order}
 use Rattle.axiom_sets.proofs.ordering.put.Goals as goal
 
 pub returns-clause-rising : goal.returns-clause-rising

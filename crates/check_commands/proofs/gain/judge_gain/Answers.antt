@@ -3,7 +3,7 @@ use Rattle.std.specs.Prelude.{IfSome, option_map}
 use Rattle.vocab.specs.Size.{Extent}
 use Rattle.vocab.specs.Study.{Question}
 use Rattle.report_files.specs.Files.{IsWorthOf}
-use Rattle.answers.specs.Gain.{rule_text}
+use Rattle.answers.specs.Gain.{rule_gain_text}
 use Rattle.check_commands.proofs.CheckLemmas.{worth_low}
 use Rattle.check_commands.proofs.GainLemmas.{confirmed_file, refused_file, rules_told}
 use Rattle.check_commands.proofs.gain.judge_gain.Goals as goal
@@ -21,7 +21,7 @@ returns-in-Confirmed-clause-said g c =
     (rules_told told c.worth_of.new.reader study report worth claim rule c.in-Confirmed.is (c.worth_of.ensures.study ∙ c.in_ok-reader.ensures.study)
     c.in_ok-worth.ensures.whole c.table.ensures.value)
     c.said_of_rule.ensures.run
-    (c.said_of_rule.ensures.text ∙ ap (λ (s : Extent). rule_text s rule) (sym c.requires.size))
+    (c.said_of_rule.ensures.text ∙ ap (λ (s : Extent). rule_gain_text s rule) (sym c.requires.size))
 
 pub returns : goal.returns
 returns g c =

@@ -1,4 +1,4 @@
-use Rattle.worlds.proofs.RuleLemmas.{rule_outcome}
+use Rattle.meaning.proofs.RuleLaws.{rule_outcome}
 use Rattle.check_commands.proofs.gain.set_at.Goals as goal
 
 pub text-requires : goal.text-requires

@@ -1,5 +1,5 @@
 use Rattle.check_commands.specs.declared.lrat.Given.{Given}
-use Rattle.check_commands.specs.Given.{formula_of}
+use Rattle.check_commands.specs.Given.{without_origins}
 use Rattle.command_parts.proofs.PairLemmas.{second_judged, first_refused, first_stopped}
 use Rattle.check_commands.proofs.LratLemmas.{lrat_command, cnf_taken, said_rows, refused_row}
 use Rattle.check_commands.proofs.lrat.lrat.Goals as goal
@@ -11,7 +11,7 @@ pub returns-in-Ok-Clauses : goal.returns-in-Ok-Clauses
 returns-in-Ok-Clauses g c =
     let told = g.S.Shelf.files c.args.shelf.now in
     let read = rw c.in-Ok-Clauses.field-0-is at c.in-Ok-Clauses.ensures.given in
-    let formula = formula_of c.in-Ok-Clauses.formulas in
+    let formula = without_origins c.in-Ok-Clauses.formulas in
     second_judged _ c.args.cnf.now c.args.proof.now (lrat_command c.args.cnf.now c.args.proof.now)
     told _ (g.S.Shelf.left c.open_clauses.new.shelf) _ (g.S.Shelf.faults c.open_clauses.new.shelf) c.open_clauses.ensures.others _ _
     c.judge_proof.result (cnf_taken told c.args.cnf.now c.args.proof.now formula read) c.open_clauses.ensures.none_fell

@@ -2,11 +2,11 @@ use Rattle.std.proofs.Common.{◌≡◌, sym, ◌∙◌, ap, subst, ℕ, Bool, t
 use Rattle.std.specs.Prelude.{nat_lt}
 use Rattle.std.specs.List.{list_all}
 use Rattle.meaning.specs.StudyClauses.{study_clauses}
+use Rattle.meaning.proofs.CoreLaws.{core_in_range}
 use Rattle.clause_form.specs.Sources.{is_left}
 use Rattle.clause_form.proofs.RestLaws.{rest_is_ground}
 use Rattle.search_logs.specs.Spent.{has_place, all_places}
 use Rattle.core_reduce.specs.Kept.{keeps}
-use Rattle.core_reduce.proofs.CoreLaws.{core_in_range}
 use Rattle.core_maps.proofs.SetLaws.{filter_set}
 use Rattle.core_maps.proofs.parts.clauses_of.Goals as goal
 

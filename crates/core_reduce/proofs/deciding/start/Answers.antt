@@ -1,19 +1,22 @@
 use Rattle.std.proofs.Common.{◌≡◌, ◌<◌, ℕ, Bool, true, List, length, filter, ap, ◌∙◌, sym, subst, arith, ltb-true}
 use Rattle.std.specs.Prelude.{nat_lt}
 use Rattle.std.specs.List.{list_all, AllByRecursion}
+use Rattle.lists.proofs.TestLaws.{all_kept}
 use Rattle.cnf.specs.Fresh.{is_over}
 use Rattle.meaning.specs.Cores.{is_core_from}
 use Rattle.meaning.specs.StudyClauses.{Sourced, study_clauses}
 use Rattle.meaning.specs.Variables.{variable_count}
+use Rattle.meaning.proofs.CoreLaws.{core_in_range}
 use Rattle.clause_form.specs.Sources.{is_left}
 use Rattle.clause_form.proofs.RestLaws.{rest_is_ground}
 use Rattle.search_logs.specs.Spent.{has_place, IsSpentLog}
+use Rattle.search_logs.proofs.PlaceLaws.{each_member, member_passes}
 use Rattle.clause_form.specs.Cited.{is_axiom_cited}
 use Rattle.core_reduce.specs.Kept.{keeps}
 use Rattle.core_reduce.specs.Reducing.{IsFrom, IsReducing}
 use Rattle.core_reduce.specs.declared.reduction.Reduction.{Reduction}
-use Rattle.core_reduce.proofs.CoreLaws.{all-filter, core-filter, core_in_range, each_member, nothing_marked}
-use Rattle.core_reduce.proofs.FinishLaws.{filter_member, member_passes}
+use Rattle.core_reduce.proofs.CoreLaws.{core-filter, nothing_marked}
+use Rattle.core_reduce.proofs.FinishLaws.{filter_member}
 use Rattle.core_reduce.proofs.deciding.start.Goals as goal
 
 pub returns-clause-reducing : goal.returns-clause-reducing
@@ -45,7 +48,7 @@ returns-clause-taken c =
     let core : c.in_ok-core.core ≡ filter keep c.args.chosen.now = c.in_ok-core.ensures ∙ ap (λ (b : List Bool). filter (keeps b) c.as_slice.result.now) c.as_slice-2.ensures.value ∙ ap (filter keep) c.as_slice.ensures in
     let range = core_in_range 0 (length s.axioms) c.args.chosen.now c.requires.chosen in
     subst (λ (r : Reduction). IsFrom s c.args.chosen.now c.args.proof.now r.core) (sym c.into_reduction.ensures) record {
-      from_chosen = subst (λ (ps : List ℕ). list_all (has_place c.args.chosen.now) ps ≡ true) (sym core) (all-filter (has_place c.args.chosen.now) keep c.args.chosen.now (each_member (has_place c.args.chosen.now) c.args.chosen.now (λ j e. e)));
+      from_chosen = subst (λ (ps : List ℕ). list_all (has_place c.args.chosen.now) ps ≡ true) (sym core) (all_kept (has_place c.args.chosen.now) keep c.args.chosen.now (each_member (has_place c.args.chosen.now) c.args.chosen.now (λ j e. e)));
       cited =
           subst (λ (ps : List ℕ). list_all (is_axiom_cited (study_clauses s.size s.axioms c.args.chosen.now) c.args.proof.now) ps ≡ true) (sym core)
           (each_member (is_axiom_cited (study_clauses s.size s.axioms c.args.chosen.now) c.args.proof.now) (filter keep c.args.chosen.now) (λ j e.

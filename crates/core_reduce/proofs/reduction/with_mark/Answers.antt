@@ -8,7 +8,7 @@ use Rattle.meaning.specs.Cores.{is_core_from}
 use Rattle.meaning.proofs.RankingLaws.{All-append}
 use Rattle.search_logs.specs.declared.logs.SearchLog.{SearchLog}
 use Rattle.search_logs.specs.Spent.{has_place, IsSpentLog, IsWithout}
-use Rattle.core_reduce.specs.Reducing.{next_open, IsMarked, AreMarked}
+use Rattle.core_reduce.specs.Reducing.{next_open, IsWitnessed, AreMarked}
 use Rattle.core_reduce.proofs.CoreLaws.{core-filter, marked_more, marked_push, others_lack, others_rest}
 use Rattle.core_reduce.proofs.reduction.with_mark.Goals as goal
 
@@ -28,7 +28,7 @@ returns c =
       lacks = subst (λ (ps : List ℕ). has_place ps k ≡ false) (sym c.requires.rest) (others_lack k r.core);
       has_rest = subst (λ (ps : List ℕ). list_all (λ j. j == k || has_place ps j) r.core ≡ true) (sym c.requires.rest) (others_rest k r.core);
     } in
-    let mark : IsMarked s logs r.core k w = record { witness = eq-eqb _ _ c.conflicts.ensures; evidence = Any-push (IsWithout s r.core k) r.logs log out } in
+    let mark : IsWitnessed s logs r.core k w = record { witness = eq-eqb _ _ c.conflicts.ensures; evidence = Any-push (IsWithout s r.core k) r.logs log out } in
     let spent : IsSpentLog s log = record {
       chosen = subst (λ (ps : List ℕ). is_core_from 0 (length s.axioms) ps ≡ true) (sym c.requires.rest) (core-filter _ 0 (length s.axioms) r.core h.core);
       spent = c.requires.spent;

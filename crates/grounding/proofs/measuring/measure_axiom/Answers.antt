@@ -1,6 +1,7 @@
 use Rattle.std.proofs.Common.{◌≡◌, ◌≤◌, ◌-◌, ◌^◌, min, arith}
 use Rattle.vocab.specs.Limits.{instance_count}
-use Rattle.grounding.proofs.WideLemmas.{counted_whole, narrow_beyond, wide_beyond}
+use Rattle.lanes.proofs.InstanceLemmas.{counted_whole}
+use Rattle.grounding.proofs.WideLemmas.{narrow_beyond, wide_beyond}
 use Rattle.grounding.proofs.measuring.measure_axiom.Goals as goal
 
 pub overflow_add-from : goal.overflow_add-from

@@ -4,7 +4,7 @@ use Rattle.meaning.specs.StudyClauses.{Sourced}
 use Rattle.clause_form.specs.Sources.{sourced}
 use Rattle.grounding.proofs.KeptLaws.{kept-as, over-as}
 use Rattle.grounding.proofs.SourceLemmas.{axiom-sources, next-round, over-rest}
-use Rattle.grounding.proofs.WideLemmas.{counted_whole}
+use Rattle.lanes.proofs.InstanceLemmas.{counted_whole}
 use Rattle.grounding.proofs.merging.add_axiom.Goals as goal
 
 pub round_len-requires : goal.round_len-requires

@@ -1,4 +1,5 @@
 use Rattle.std.proofs.Common.{◌≡◌, ◌≤◌, ◌+◌, ap, arith, fold, min, subst, sym}
+use Rattle.std.proofs.Math.Nat.{zero-add}
 use Rattle.crew.proofs.Rights.{AreRight-at}
 use Rattle.clause_form.specs.Sources.{clauses_in}
 use Rattle.grounding.specs.Distinct.{kept_with}
@@ -6,7 +7,6 @@ use Rattle.grounding.specs.Pieces.{IsPartOfPiece, sources_of, start_of}
 use Rattle.grounding.proofs.KeptLaws.{kept-as, over-as}
 use Rattle.grounding.proofs.PartLaws.{seen-holds}
 use Rattle.grounding.proofs.SourceLemmas.{next-part, over-rest, sources-none}
-use Rattle.grounding.proofs.WideLemmas.{zero_more}
 use Rattle.grounding.proofs.merging.keep_parts.Goals as goal
 
 pub loop-piece-init : goal.loop-piece-init
@@ -23,7 +23,7 @@ loop-piece-preserved g c = λ before kept is.
     let sentence = round.named.now.sentence in
     let piece = c.loop-piece.piece in
     let right = IsPartOfPiece size sentence c.args.seen.now c.args.base round.from round.to in
-    let here : right piece c.get.result.now = subst (λ n. right n c.get.result.now) (zero_more piece) (AreRight-at right 0 piece _ c.get.result.now c.get.ensures c.requires.right) in
+    let here : right piece c.get.result.now = subst (λ n. right n c.get.result.now) (zero-add piece) (AreRight-at right 0 piece _ c.get.result.now c.get.ensures c.requires.right) in
     kept-as (next-part size sentence c.args.base c.args.seen.now round.from round.to c.requires.rising piece c.get.result.now kept (seen-holds c.args.seen.now (clauses_in kept) is.codes) here)
     (c.in-Ok.ensures.kept before _ (c.loop-piece.invariant before kept is))
 
@@ -41,7 +41,7 @@ returns-in-Err-clause-full g c = λ is-full before kept is.
     let sentence = round.named.now.sentence in
     let piece = c.loop-piece.piece in
     let right = IsPartOfPiece size sentence c.args.seen.now c.args.base round.from round.to in
-    let here : right piece c.get.result.now = subst (λ n. right n c.get.result.now) (zero_more piece) (AreRight-at right 0 piece _ c.get.result.now c.get.ensures c.requires.right) in
+    let here : right piece c.get.result.now = subst (λ n. right n c.get.result.now) (zero-add piece) (AreRight-at right 0 piece _ c.get.result.now c.get.ensures c.requires.right) in
     over-rest size sentence c.args.base round.from (min (start_of round.from (piece + 1)) round.to) round.to before kept (omega (arith, c.requires.rising)) (omega arith)
     (over-as before (next-part size sentence c.args.base c.args.seen.now round.from round.to c.requires.rising piece c.get.result.now kept (seen-holds c.args.seen.now (clauses_in kept) is.codes) here)
     (c.in-Err.ensures.full is-full before _ (c.loop-piece.invariant before kept is)))

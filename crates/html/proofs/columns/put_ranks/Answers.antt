@@ -1,5 +1,5 @@
+use Rattle.vocab.proofs.Ranges.{goes_on}
 use Rattle.html.specs.Columns.{rank_html}
-use Rattle.html.proofs.RangeLemmas.{goes_on}
 use Rattle.html.proofs.columns.put_ranks.Goals as goal
 
 pub loop-k-preserved : goal.loop-k-preserved

@@ -1,5 +1,5 @@
+use Rattle.vocab.proofs.Ranges.{goes_on}
 use Rattle.html.specs.Columns.{spot_html}
-use Rattle.html.proofs.RangeLemmas.{goes_on}
 use Rattle.html.proofs.columns.put_spots.Goals as goal
 
 pub loop-i-preserved : goal.loop-i-preserved

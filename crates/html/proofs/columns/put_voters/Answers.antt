@@ -1,5 +1,5 @@
+use Rattle.vocab.proofs.Ranges.{goes_on}
 use Rattle.html.specs.Columns.{voter_html}
-use Rattle.html.proofs.RangeLemmas.{goes_on}
 use Rattle.html.proofs.columns.put_voters.Goals as goal
 
 pub loop-i-preserved : goal.loop-i-preserved

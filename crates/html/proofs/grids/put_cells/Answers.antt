@@ -1,5 +1,5 @@
+use Rattle.vocab.proofs.Ranges.{goes_on}
 use Rattle.html.specs.Grids.{cell_html}
-use Rattle.html.proofs.RangeLemmas.{goes_on}
 use Rattle.html.proofs.grids.put_cells.Goals as goal
 
 pub loop-c-preserved : goal.loop-c-preserved

@@ -1,4 +1,4 @@
-use Rattle.html.proofs.JoinLemmas.{joined_5}
+use Rattle.lists.proofs.JoinLaws.{joined_5}
 use Rattle.html.proofs.grids.put_grid.Goals as goal
 
 pub returns : goal.returns

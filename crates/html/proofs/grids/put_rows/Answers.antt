@@ -1,5 +1,5 @@
+use Rattle.vocab.proofs.Ranges.{goes_on}
 use Rattle.html.specs.Grids.{row_html}
-use Rattle.html.proofs.RangeLemmas.{goes_on}
 use Rattle.html.proofs.grids.put_rows.Goals as goal
 
 pub loop-b-preserved : goal.loop-b-preserved

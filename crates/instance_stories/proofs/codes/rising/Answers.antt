@@ -1,6 +1,6 @@
 use Rattle.std.proofs.Common.{◌≤◌, ◌∙◌, sym, ap, nat_eq, ℕ}
 use Rattle.std.proofs.lemmas.List.Sorted.{IsNonDecreasingBy-from_sort, list_any-IsPermutation, All-permutation}
-use Rattle.grounding.specs.Rising.{has}
+use Rattle.grounding.specs.Rising.{includes}
 use Rattle.instance_stories.proofs.codes.rising.Goals as goal
 
 pub merged-requires-clause-falls : goal.merged-requires-clause-falls
@@ -12,5 +12,5 @@ merged-requires-clause-some c = rw c.as_slice.ensures.value (All-permutation (λ
 pub returns-clause-has : goal.returns-clause-has
 returns-clause-has c = λ k.
     c.in_ok-instances.ensures.has k
-    ∙ ap (λ xs. has xs k) c.as_slice.ensures.value
+    ∙ ap (λ xs. includes xs k) c.as_slice.ensures.value
     ∙ sym (list_any-IsPermutation (nat_eq k) _ _ c.sort_unstable.ensures.permutation)

@@ -1,5 +1,5 @@
+use Rattle.lists.proofs.TestLaws.{all_get}
 use Rattle.sharp_verdicts.specs.Instances.{is_present}
-use Rattle.instance_studies.proofs.StudyLaws.{all_get}
 use Rattle.instance_stories.proofs.naming.reason_named.Goals as goal
 
 pub values_of-requires-clause-present : goal.values_of-requires-clause-present

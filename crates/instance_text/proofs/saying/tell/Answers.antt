@@ -5,7 +5,7 @@ use Rattle.vocab.specs.Limits.{instance_count}
 use Rattle.vocab.specs.Size.{Extent, sort_count}
 use Rattle.vocab.specs.Study.{is_sentence}
 use Rattle.meaning.specs.Instances.{instance_values}
-use Rattle.instance_text.specs.Said.{told}
+use Rattle.instance_text.specs.Said.{told_instance}
 use Rattle.instance_text.proofs.SaidLemmas.{few_at, is_sentence_at, values_fit}
 use Rattle.instance_text.proofs.saying.tell.Goals as goal
 
@@ -32,5 +32,5 @@ returns g c =
     let values : c.values_of-values.result ≡ instance_values study.size a.sentence c.args.number
     = c.values_of-values.ensures.values ∙ sym (ap (λ (e : Extent). instance_values e a.sentence c.args.number) c.requires.size) in
     c.in_ok-put_told.ensures
-    ∙ ap (λ (l : List ℕ). l ++ told study c.args.place a c.values_of-values.result) c.new-text.ensures
-    ∙ ap (told study c.args.place a) values
+    ∙ ap (λ (l : List ℕ). l ++ told_instance study c.args.place a c.values_of-values.result) c.new-text.ensures
+    ∙ ap (told_instance study c.args.place a) values

@@ -1,6 +1,6 @@
 use Rattle.std.proofs.Common.{◌≤◌}
 use Rattle.std.specs.Prelude.{IsFalse}
-use Rattle.sharp_verdicts.specs.Totals.{is_over}
+use Rattle.sharp_verdicts.specs.Totals.{passes_clause_limits}
 use Rattle.instance_totals.proofs.TotalLemmas.{front}
 use Rattle.instance_totals.proofs.bounds.are_bounded.Given as goal
 
@@ -8,7 +8,7 @@ use Rattle.instance_totals.proofs.bounds.are_bounded.Given as goal
 abbrev pub invariant-loop-place : goal.invariant-loop-place
 invariant-loop-place g l = record {
   within : l.place ≤ l.count;
-  few : IsFalse (is_over l.most);
+  few : IsFalse (passes_clause_limits l.most);
   clauses : (front l.study l.place).clauses ≤ l.most.clauses;
   literals : (front l.study l.place).literals ≤ l.most.literals;
 }

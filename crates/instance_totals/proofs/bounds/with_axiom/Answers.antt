@@ -11,7 +11,7 @@ use Rattle.meaning.specs.Instances.{instance_values}
 use Rattle.meaning.specs.Measure.{measure_of}
 use Rattle.meaning.specs.Written.{write_out}
 use Rattle.clause_form.specs.Bounds.{IsWithin}
-use Rattle.sharp_verdicts.specs.Totals.{counts_of_instance, is_over}
+use Rattle.sharp_verdicts.specs.Totals.{counts_of_instance, passes_clause_limits}
 use Rattle.instance_stories.proofs.AllInstances.{counts_within}
 use Rattle.instance_totals.specs.Sums.{instance_at}
 use Rattle.instance_totals.proofs.SumLemmas.{count_is, counted}
@@ -28,7 +28,7 @@ overflow_mul-after g c =
     let same = count_is study size c.requires.size c.axioms.ensures.study c.args.place a at c.instance_count-count.result cut in
     let few = counts_within study c.axioms.ensures.study c.args.place in
     let most = c.most_counts-most.result in
-    let over : is_over most ≡ false = sym c.is_over.ensures ∙ c.if-is_over.false in
+    let over : passes_clause_limits most ≡ false = sym c.passes_clause_limits.ensures ∙ c.if-passes_clause_limits.false in
     let within = within_limits most over in
     let product = mul-le c.instance_count-count.result most.clauses 40000000 4000000 (omega (arith, same, few)) within.0 in
     omega (arith, product)
@@ -43,7 +43,7 @@ overflow_add-after g c =
     let same = count_is study size c.requires.size c.axioms.ensures.study c.args.place a at c.instance_count-count.result cut in
     let few = counts_within study c.axioms.ensures.study c.args.place in
     let most = c.most_counts-most.result in
-    let over : is_over most ≡ false = sym c.is_over.ensures ∙ c.if-is_over.false in
+    let over : passes_clause_limits most ≡ false = sym c.passes_clause_limits.ensures ∙ c.if-passes_clause_limits.false in
     let within = within_limits most over in
     let before = within_limits c.args.before c.requires.before in
     let product = mul-le c.instance_count-count.result most.clauses 40000000 4000000 (omega (arith, same, few)) within.0 in
@@ -59,7 +59,7 @@ overflow_mul-after-2 g c =
     let same = count_is study size c.requires.size c.axioms.ensures.study c.args.place a at c.instance_count-count.result cut in
     let few = counts_within study c.axioms.ensures.study c.args.place in
     let most = c.most_counts-most.result in
-    let over : is_over most ≡ false = sym c.is_over.ensures ∙ c.if-is_over.false in
+    let over : passes_clause_limits most ≡ false = sym c.passes_clause_limits.ensures ∙ c.if-passes_clause_limits.false in
     let within = within_limits most over in
     let product = mul-le c.instance_count-count.result most.literals 40000000 60000000 (omega (arith, same, few)) within.1 in
     omega (arith, product)
@@ -74,7 +74,7 @@ overflow_add-after-2 g c =
     let same = count_is study size c.requires.size c.axioms.ensures.study c.args.place a at c.instance_count-count.result cut in
     let few = counts_within study c.axioms.ensures.study c.args.place in
     let most = c.most_counts-most.result in
-    let over : is_over most ≡ false = sym c.is_over.ensures ∙ c.if-is_over.false in
+    let over : passes_clause_limits most ≡ false = sym c.passes_clause_limits.ensures ∙ c.if-passes_clause_limits.false in
     let within = within_limits most over in
     let before = within_limits c.args.before c.requires.before in
     let product = mul-le c.instance_count-count.result most.literals 40000000 60000000 (omega (arith, same, few)) within.1 in
@@ -101,5 +101,5 @@ returns g c =
           subst (λ (x : Counts). IsWithin x most) here (c.most_counts-most.ensures values));
       clauses = ap (λ (k : ℕ). c.args.before.clauses + k * most.clauses) same;
       literals = ap (λ (k : ℕ). c.args.before.literals + k * most.literals) same;
-      few = sym c.is_over-2.ensures ∙ c.if-is_over-2.false;
+      few = sym c.passes_clause_limits-2.ensures ∙ c.if-passes_clause_limits-2.false;
     }

@@ -1,6 +1,6 @@
 use Rattle.std.proofs.Common.{◌≡◌, ◌∙◌, ap, subst, ℕ, ◌≤◌, min, arith}
+use Rattle.std.proofs.Math.Nat.{zero-add}
 use Rattle.crew.proofs.Rights.{AreRight-at}
-use Rattle.grounding.proofs.WideLemmas.{zero_more}
 use Rattle.instance_stories.proofs.AllInstances.{counts_within}
 use Rattle.instance_totals.specs.Sums.{IsSumOfPiece, counts_from, piece_start}
 use Rattle.instance_totals.proofs.SumLemmas.{counts_same, part_small, piece_more}
@@ -12,7 +12,7 @@ overflow_add-clauses c =
     let piece = c.loop-piece.piece in
     let part = c.get-part.result.now in
     let right = IsSumOfPiece study c.args.place c.args.count in
-    let here : right piece part = subst (λ (n : ℕ). right n part) (zero_more piece) (AreRight-at right 0 piece _ part c.get-part.ensures c.requires.right) in
+    let here : right piece part = subst (λ (n : ℕ). right n part) (zero-add piece) (AreRight-at right 0 piece _ part c.get-part.ensures c.requires.right) in
     let le : piece_start piece ≤ c.args.count = omega (arith, c.requires.exact, c.loop-piece-test.true) in
     let start : min (piece_start piece) c.args.count ≡ piece_start piece = omega (arith, le) in
     let so_far = c.loop-piece.invariant.clauses ∙ ap (λ (n : ℕ). (counts_from study c.args.place 0 n).clauses) start in
@@ -26,7 +26,7 @@ overflow_add-literals c =
     let piece = c.loop-piece.piece in
     let part = c.get-part.result.now in
     let right = IsSumOfPiece study c.args.place c.args.count in
-    let here : right piece part = subst (λ (n : ℕ). right n part) (zero_more piece) (AreRight-at right 0 piece _ part c.get-part.ensures c.requires.right) in
+    let here : right piece part = subst (λ (n : ℕ). right n part) (zero-add piece) (AreRight-at right 0 piece _ part c.get-part.ensures c.requires.right) in
     let le : piece_start piece ≤ c.args.count = omega (arith, c.requires.exact, c.loop-piece-test.true) in
     let start : min (piece_start piece) c.args.count ≡ piece_start piece = omega (arith, le) in
     let so_far = c.loop-piece.invariant.literals ∙ ap (λ (n : ℕ). (counts_from study c.args.place 0 n).literals) start in
@@ -40,7 +40,7 @@ loop-piece-preserved c =
     let piece = c.loop-piece.piece in
     let part = c.get-part.result.now in
     let right = IsSumOfPiece study c.args.place c.args.count in
-    let here : right piece part = subst (λ (n : ℕ). right n part) (zero_more piece) (AreRight-at right 0 piece _ part c.get-part.ensures c.requires.right) in
+    let here : right piece part = subst (λ (n : ℕ). right n part) (zero-add piece) (AreRight-at right 0 piece _ part c.get-part.ensures c.requires.right) in
     let le : piece_start piece ≤ c.args.count = omega (arith, c.requires.exact, c.loop-piece-test.true) in
     let start : min (piece_start piece) c.args.count ≡ piece_start piece = omega (arith, le) in
     let clauses = c.loop-piece.invariant.clauses ∙ ap (λ (n : ℕ). (counts_from study c.args.place 0 n).clauses) start in

@@ -1,5 +1,5 @@
+use Rattle.vocab.proofs.Ranges.{goes_on}
 use Rattle.pages.specs.Theorem.{axiom_item}
-use Rattle.html.proofs.RangeLemmas.{goes_on}
 use Rattle.pages.proofs.axioms.put_all_items.Goals as goal
 
 pub loop-place-preserved : goal.loop-place-preserved

@@ -1,4 +1,4 @@
-use Rattle.html.proofs.JoinLemmas.{joined_5}
+use Rattle.lists.proofs.JoinLaws.{joined_5}
 use Rattle.pages.proofs.axioms.put_axiom_item.Goals as goal
 
 pub returns : goal.returns

@@ -1,5 +1,5 @@
+use Rattle.vocab.proofs.Ranges.{goes_on}
 use Rattle.pages.specs.Headings.{own_name}
-use Rattle.html.proofs.RangeLemmas.{goes_on}
 use Rattle.pages.proofs.headings.put_all_names.Goals as goal
 
 pub loop-place-preserved : goal.loop-place-preserved

@@ -1,4 +1,4 @@
-use Rattle.html.proofs.JoinLemmas.{joined_6}
+use Rattle.lists.proofs.JoinLaws.{joined_6}
 use Rattle.pages.proofs.headings.put_for.Goals as goal
 
 pub returns : goal.returns

@@ -1,5 +1,5 @@
+use Rattle.vocab.proofs.Ranges.{goes_on}
 use Rattle.pages.specs.Headings.{name_in}
-use Rattle.html.proofs.RangeLemmas.{goes_on}
 use Rattle.pages.proofs.headings.put_names.Goals as goal
 
 pub loop-place-preserved : goal.loop-place-preserved

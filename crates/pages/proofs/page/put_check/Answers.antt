@@ -1,4 +1,4 @@
-use Rattle.html.proofs.JoinLemmas.{joined_7}
+use Rattle.lists.proofs.JoinLaws.{joined_7}
 use Rattle.pages.proofs.page.put_check.Goals as goal
 
 pub returns : goal.returns

@@ -1,4 +1,4 @@
-use Rattle.html.proofs.JoinLemmas.{joined_6}
+use Rattle.lists.proofs.JoinLaws.{joined_6}
 use Rattle.pages.proofs.page.put_front.Goals as goal
 
 pub returns : goal.returns

@@ -1,7 +1,7 @@
 use Rattle.std.proofs.Common.{◌≡◌, ◌++◌, subst}
 use Rattle.vocab.specs.Size.{Extent}
 use Rattle.pages.specs.Pages.{proved_html}
-use Rattle.html.proofs.JoinLemmas.{joined_2}
+use Rattle.lists.proofs.JoinLaws.{joined_2}
 use Rattle.pages.proofs.page.put_impossible.Goals as goal
 
 pub returns : goal.returns

@@ -1,7 +1,7 @@
 use Rattle.std.proofs.Common.{◌≡◌, ◌++◌, subst}
 use Rattle.vocab.specs.Size.{Extent}
 use Rattle.pages.specs.Pages.{satisfied_html}
-use Rattle.html.proofs.JoinLemmas.{joined_5}
+use Rattle.lists.proofs.JoinLaws.{joined_5}
 use Rattle.pages.proofs.page.put_possible.Goals as goal
 
 pub returns : goal.returns

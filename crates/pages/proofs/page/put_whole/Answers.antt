@@ -1,7 +1,7 @@
 use Rattle.std.proofs.Common.{◌≡◌, ◌++◌, subst}
 use Rattle.vocab.specs.Size.{Extent}
 use Rattle.pages.specs.Pages.{front_html}
-use Rattle.html.proofs.JoinLemmas.{joined_4}
+use Rattle.lists.proofs.JoinLaws.{joined_4}
 use Rattle.pages.proofs.page.put_whole.Goals as goal
 
 pub returns : goal.returns

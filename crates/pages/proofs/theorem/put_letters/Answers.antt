@@ -1,5 +1,5 @@
+use Rattle.vocab.proofs.Ranges.{goes_on}
 use Rattle.pages.specs.Theorem.{lettered_html}
-use Rattle.html.proofs.RangeLemmas.{goes_on}
 use Rattle.pages.proofs.theorem.put_letters.Goals as goal
 
 pub loop-x-preserved : goal.loop-x-preserved

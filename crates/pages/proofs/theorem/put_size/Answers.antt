@@ -1,4 +1,4 @@
-use Rattle.html.proofs.JoinLemmas.{joined_12}
+use Rattle.lists.proofs.JoinLaws.{joined_12}
 use Rattle.pages.proofs.theorem.put_size.Goals as goal
 
 pub returns : goal.returns

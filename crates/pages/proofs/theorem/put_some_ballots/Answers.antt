@@ -1,4 +1,4 @@
-use Rattle.html.proofs.JoinLemmas.{joined_2}
+use Rattle.lists.proofs.JoinLaws.{joined_2}
 use Rattle.pages.proofs.theorem.put_some_ballots.Goals as goal
 
 pub returns : goal.returns

@@ -1,5 +1,5 @@
+use Rattle.vocab.proofs.Ranges.{goes_on}
 use Rattle.pages.specs.Witnesses.{witness_at}
-use Rattle.html.proofs.RangeLemmas.{goes_on}
 use Rattle.pages.proofs.witnesses.put_marks.Goals as goal
 
 pub loop-place-preserved : goal.loop-place-preserved

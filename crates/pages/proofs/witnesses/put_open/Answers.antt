@@ -1,4 +1,4 @@
-use Rattle.html.proofs.JoinLemmas.{joined_3}
+use Rattle.lists.proofs.JoinLaws.{joined_3}
 use Rattle.pages.proofs.witnesses.put_open.Goals as goal
 
 pub returns : goal.returns

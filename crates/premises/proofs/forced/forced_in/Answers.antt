@@ -1,6 +1,6 @@
 use Rattle.std.proofs.Common.{◌∙◌, get_or, arith}
+use Rattle.lists.proofs.TestLaws.{all_read}
 use Rattle.meaning.specs.Stories.{has_literals}
-use Rattle.meaning.proofs.TestLaws.{all_read}
 use Rattle.premises.proofs.ForcedLemmas.{lemma_covered}
 use Rattle.premises.proofs.StepLemmas.{steps_literals}
 use Rattle.premises.proofs.forced.forced_in.Goals as goal

@@ -1,7 +1,7 @@
 use Rattle.std.proofs.Common.{◌≡◌, sym, subst, true, List, []}
 use Rattle.std.specs.Prelude.{take}
 use Rattle.vocab.specs.declared.literals.Literal.{Literal}
-use Rattle.tellings.specs.Tellings.{IsTold}
+use Rattle.tellings.specs.Tellings.{IsTellingRight}
 use Rattle.premises.proofs.ForcedLemmas.{lemmas_covered}
 use Rattle.premises.proofs.StepLemmas.{story_literals}
 use Rattle.premises.proofs.stories.tell_story.Goals as goal
@@ -20,7 +20,7 @@ returns g c =
       whole = subst (λ (facts : List Literal). lemmas_covered size axioms core facts c.args.story.now ≡ true) (sym (c.told.ensures.facts size axioms core c.in_ok-forced.ensures.so_far)) (rw c.as_slice.ensures at c.in_ok-forced.ensures.covered);
       all = c.in_ok-lemmas.ensures.all;
       each = λ j lemma telling at there.
-          subst (λ (facts : List Literal). IsTold size axioms core (take j c.args.story.now) facts lemma telling) (sym (c.told.ensures.facts size axioms core c.in_ok-forced.ensures.so_far))
+          subst (λ (facts : List Literal). IsTellingRight size axioms core (take j c.args.story.now) facts lemma telling) (sym (c.told.ensures.facts size axioms core c.in_ok-forced.ensures.so_far))
           (c.in_ok-lemmas.ensures.each j lemma telling at there);
       placed = rw (c.as_slice-2.ensures, c.as_slice-3.ensures) at c.in_ok-homes.ensures;
     }

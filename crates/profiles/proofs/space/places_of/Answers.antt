@@ -5,10 +5,10 @@ use Rattle.vocab.specs.Range.{below}
 use Rattle.vocab.specs.Size.{is_digit_set}
 use Rattle.meaning.proofs.BallotLaws.{all_listed}
 use Rattle.profiles.proofs.DigitPlaces.{padded-more}
-use Rattle.profiles.proofs.TableLemmas.{factorial_small}
 use Rattle.profiles.proofs.space.places_of.Goals as goal
 use Rattle.profiles.proofs.space.places_of.Goals.{then-ballots-place-eq1, else-ballots-place-eq1}
 use Rattle.std.proofs.lemmas.List.{append-nil}
+use Rattle.meaning.proofs.SpaceLaws.{factorial_small}
 
 pub loop-place-init : goal.loop-place-init
 loop-place-init c = record { counted = refl; few = omega arith; places = refl }

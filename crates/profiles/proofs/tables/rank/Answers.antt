@@ -1,6 +1,7 @@
 use Rattle.std.proofs.Common.{length, arith}
+use Rattle.meaning.proofs.SpaceLaws.{factorial_small}
 use Rattle.profiles.specs.Weights.{rank_of}
-use Rattle.profiles.proofs.TableLemmas.{factorial_small, rank_of-small, rank_of-step}
+use Rattle.profiles.proofs.TableLemmas.{rank_of-small, rank_of-step}
 use Rattle.profiles.proofs.tables.rank.Goals as goal
 
 pub overflow_mul-number : goal.overflow_mul-number

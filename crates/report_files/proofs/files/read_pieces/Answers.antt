@@ -1,6 +1,6 @@
 use Rattle.std.proofs.Common.{rules, ◌∙◌, ◌≤◌, ◌++◌, take, arith}
 use Rattle.edge.proofs.Known.{Consumes-more}
-use Rattle.report_files.specs.Lines.{count_of}
+use Rattle.report_files.specs.Lines.{lines_given}
 use Rattle.report_files.proofs.FileLemmas.{taken_more, consumes_too_many, count_more, more_lines}
 use Rattle.report_files.proofs.files.read_pieces.Goals as goal
 
@@ -32,7 +32,7 @@ loop-chunk-preserved g c =
       study = c.piece-in-loop-chunk.ensures.study ∙ inv.study;
       admits = c.piece-in-loop-chunk.ensures.admits ∙ inv.admits;
       bytes = inv.bytes ++ take count chunk;
-      lines = more_lines (count_of new.checker) (count_of old.checker) inv.bytes (take count chunk) inv.lines c.in_ok-piece-2.ensures.lines;
+      lines = more_lines (lines_given new.checker) (lines_given old.checker) inv.bytes (take count chunk) inv.lines c.in_ok-piece-2.ensures.lines;
       read = record {
         count = count_more inv.bytes chunk count c.loop-chunk.room fits c.in_ok-count.ensures.bound.0 inv.read.count;
         consumed = Consumes-more (g.S.Shelf.left c.args.shelf.now name) (g.S.Shelf.left c.loop-chunk.shelf name) (g.S.Shelf.left c.read.new.self name) inv.bytes (take count chunk) inv.read.consumed c.in_ok-count.ensures.bytes.0;

@@ -2,7 +2,7 @@ use Rattle.std.proofs.Common.{sym, subst, [], ◌∙◌}
 use Rattle.vocab.specs.Size.{IsSize}
 use Rattle.vocab.specs.Study.{Question}
 use Rattle.verdicts.specs.Judge.{answer_within, pieces, front}
-use Rattle.report_files.specs.Files.{IsWorth, WorthHolds, most_report_bytes}
+use Rattle.report_files.specs.Files.{IsWorth, WorthHolds, most_verdict_bytes}
 use Rattle.report_files.proofs.CheckerLemmas.{reports_alone, unread_count}
 use Rattle.report_files.proofs.JudgedLemmas.{file_worth, read_whole}
 use Rattle.report_files.proofs.files.worth_of.Goals as goal
@@ -20,9 +20,9 @@ pub returns-clause-worth : goal.returns-clause-worth
 returns-clause-worth g c =
     let left = g.S.Shelf.left c.rewind.new.self c.args.name.now in
     let read = c.in_ok-ending.ensures.read in
-    file_worth (λ held. IsWorth (answer_within most_report_bytes c.args.reader.now.checker.study held) c.in_ok-worth.worth)
+    file_worth (λ held. IsWorth (answer_within most_verdict_bytes c.args.reader.now.checker.study held) c.in_ok-worth.worth)
     (g.S.Shelf.files c.args.shelf.now) c.args.name.now left c.in_ok-rewind.ensures.held c.in_ok-rewind.ensures.start
-    (λ held known. subst (λ (q : Question). IsWorth (answer_within most_report_bytes q held) c.in_ok-worth.worth) c.read_pieces.ensures.study
+    (λ held known. subst (λ (q : Question). IsWorth (answer_within most_verdict_bytes q held) c.in_ok-worth.worth) c.read_pieces.ensures.study
     (c.in_ok-worth.ensures.worth left (g.S.Shelf.left c.read_pieces.new.shelf c.args.name.now) read.0 held read.1 known (read.2 [] c.requires.unread)))
 
 pub returns-clause-holds : goal.returns-clause-holds

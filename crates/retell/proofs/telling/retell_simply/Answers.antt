@@ -3,11 +3,11 @@ use Rattle.std.specs.List.{list_all}
 use Rattle.vocab.specs.Size.{Extent}
 use Rattle.cnf.specs.Sat.{Clause}
 use Rattle.cnf.specs.Fresh.{is_over}
+use Rattle.cnf.proofs.OverLaws.{stay_within}
 use Rattle.meaning.specs.Laws.{clauses_for}
 use Rattle.meaning.specs.Variables.{variable_count}
 use Rattle.clause_form.specs.Sources.{clauses_in}
 use Rattle.clause_form.proofs.OverLaws.{clauses_over}
-use Rattle.simpler_proofs.proofs.Passing.{stay_within}
 use Rattle.retell.proofs.telling.retell_simply.Goals as goal
 
 pub simplify-requires-clause-range : goal.simplify-requires-clause-range

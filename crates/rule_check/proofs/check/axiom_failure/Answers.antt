@@ -1,7 +1,7 @@
 use Rattle.std.proofs.Common.{◌≡◌, ◌-◌, ◌^◌, min, ℕ, subst, arith}
 use Rattle.std.specs.Prelude.{IfOk}
 use Rattle.vocab.specs.Limits.{instance_count}
-use Rattle.rule_check.proofs.PieceLemmas.{counted_whole}
+use Rattle.lanes.proofs.InstanceLemmas.{counted_whole}
 use Rattle.rule_check.specs.Pieces.{IsLeastFalse}
 use Rattle.rule_check.proofs.check.axiom_failure.Goals as goal
 

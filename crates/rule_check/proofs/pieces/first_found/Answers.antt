@@ -1,7 +1,8 @@
 use Rattle.std.proofs.Common.{◌≡◌, slice_get, Some, None, ◌∙◌, ap, subst, arith}
+use Rattle.std.proofs.Math.Nat.{zero-add}
 use Rattle.crew.proofs.Rights.{AreRight-at}
 use Rattle.rule_check.specs.Pieces.{IsLeastOfPiece}
-use Rattle.rule_check.proofs.PieceLemmas.{zero_more, true_further, true_to_end, first_of_piece}
+use Rattle.rule_check.proofs.PieceLemmas.{true_further, true_to_end, first_of_piece}
 use Rattle.rule_check.proofs.pieces.first_found.Goals as goal
 
 pub returns-in-Some : goal.returns-in-Some
@@ -11,7 +12,7 @@ returns-in-Some g c =
     let right = IsLeastOfPiece size round.table.now round.named.now round.from round.to in
     let at : slice_get c.args.parts.now c.loop-piece.piece ≡ Some (Some c.in-Some.instance) = c.get.ensures ∙ ap Some c.in-Some.is in
     first_of_piece size round.table.now round.named.now round.from round.to c.loop-piece.piece c.in-Some.instance c.loop-piece.invariant
-    (subst (λ n. right n (Some c.in-Some.instance)) (zero_more c.loop-piece.piece) (AreRight-at right 0 c.loop-piece.piece _ (Some c.in-Some.instance) at c.requires.right))
+    (subst (λ n. right n (Some c.in-Some.instance)) (zero-add c.loop-piece.piece) (AreRight-at right 0 c.loop-piece.piece _ (Some c.in-Some.instance) at c.requires.right))
 
 pub loop-piece-preserved : goal.loop-piece-preserved
 loop-piece-preserved g c =
@@ -20,7 +21,7 @@ loop-piece-preserved g c =
     let right = IsLeastOfPiece size round.table.now round.named.now round.from round.to in
     let at : slice_get c.args.parts.now c.loop-piece.piece ≡ Some None = c.get.ensures ∙ ap Some c.in_default.is in
     true_further size round.table.now round.named.now round.from round.to c.loop-piece.piece c.loop-piece.invariant
-    (subst (λ n. right n None) (zero_more c.loop-piece.piece) (AreRight-at right 0 c.loop-piece.piece _ None at c.requires.right))
+    (subst (λ n. right n None) (zero-add c.loop-piece.piece) (AreRight-at right 0 c.loop-piece.piece _ None at c.requires.right))
 
 pub returns : goal.returns
 returns g c =

@@ -1,4 +1,4 @@
-use Rattle.html.proofs.JoinLemmas.{joined_6}
+use Rattle.lists.proofs.JoinLaws.{joined_6}
 use Rattle.rule_pages.proofs.entries.put_fold.Goals as goal
 
 pub returns : goal.returns

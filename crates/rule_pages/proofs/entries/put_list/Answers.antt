@@ -1,5 +1,5 @@
+use Rattle.vocab.proofs.Ranges.{goes_on}
 use Rattle.rule_pages.specs.Entries.{fold_html}
-use Rattle.html.proofs.RangeLemmas.{goes_on}
 use Rattle.rule_pages.proofs.entries.put_list.Goals as goal
 
 pub loop-cast-preserved : goal.loop-cast-preserved

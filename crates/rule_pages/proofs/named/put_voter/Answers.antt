@@ -1,4 +1,4 @@
-use Rattle.html.proofs.JoinLemmas.{joined_3}
+use Rattle.lists.proofs.JoinLaws.{joined_3}
 use Rattle.rule_pages.proofs.named.put_voter.Goals as goal
 
 pub returns : goal.returns

@@ -1,5 +1,5 @@
 use Rattle.std.proofs.Common.{List, ℕ, [], ◌∷◌, ◌++◌, ap, ◌∙◌, sym}
-use Rattle.search_logs.proofs.PlaceLaws.{below_more}
+use Rattle.vocab.proofs.Ranges.{below_more}
 use Rattle.search_logs.proofs.places.all_places.Goals as goal
 
 pub loop-k-preserved : goal.loop-k-preserved

@@ -1,4 +1,4 @@
-use Rattle.html.proofs.JoinLemmas.{joined_6}
+use Rattle.lists.proofs.JoinLaws.{joined_6}
 use Rattle.sharp_pages.proofs.instances.put_instance.Goals as goal
 
 pub returns : goal.returns

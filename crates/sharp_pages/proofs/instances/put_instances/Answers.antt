@@ -1,4 +1,4 @@
-use Rattle.html.proofs.JoinLemmas.{joined_3}
+use Rattle.lists.proofs.JoinLaws.{joined_3}
 use Rattle.sharp_pages.proofs.instances.put_instances.Goals as goal
 
 pub returns : goal.returns

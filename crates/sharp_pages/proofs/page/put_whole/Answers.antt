@@ -4,7 +4,7 @@ use Rattle.meaning.specs.declared.cores.Witness.{Witness}
 use Rattle.sharp_verdicts.specs.declared.instances.Cited.{Cited}
 use Rattle.pages.specs.Pages.{front_html, proved_html}
 use Rattle.sharp_pages.specs.SharpPages.{instances_html}
-use Rattle.html.proofs.JoinLemmas.{joined_5}
+use Rattle.lists.proofs.JoinLaws.{joined_5}
 use Rattle.sharp_pages.proofs.page.put_whole.Goals as goal
 
 pub returns : goal.returns

@@ -1,5 +1,5 @@
 use Rattle.std.proofs.Common.{◌∙◌, ap, List, ℕ}
-use Rattle.grounding.specs.Rising.{has}
+use Rattle.grounding.specs.Rising.{includes}
 use Rattle.told_instances.proofs.ToldLaws.{all_high, lists_told}
 use Rattle.sharp_report.proofs.CitedLemmas.{whole_codes}
 use Rattle.sharp_report.proofs.citing.listed.Goals as goal
@@ -12,4 +12,4 @@ rising-requires c =
 pub returns : goal.returns
 returns c = λ story k.
     lists_told c.args.study.now story c.in_ok-instances.instances c.axioms-axioms.ensures.study k.lemmas_named c.in_ok-instances.ensures.small c.in_ok-instances.ensures.rising
-    (λ n. c.in_ok-instances.ensures.has n ∙ ap (λ (xs : List ℕ). has xs n) (whole_codes c.args.study.now c.args.cited.now.items story k))
+    (λ n. c.in_ok-instances.ensures.has n ∙ ap (λ (xs : List ℕ). includes xs n) (whole_codes c.args.study.now c.args.cited.now.items story k))

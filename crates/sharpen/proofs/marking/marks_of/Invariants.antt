@@ -1,6 +1,6 @@
 use Rattle.std.proofs.Common.{◌≡◌, take, map}
-use Rattle.sharpen.specs.Marks.{instance_in, marks_kept}
+use Rattle.sharpen.specs.Marks.{derived_instance, marks_kept}
 use Rattle.sharpen.proofs.marking.marks_of.Given as goal
 
 abbrev pub invariant-loop-k : goal.invariant-loop-k
-invariant-loop-k l = l.marks ≡ marks_kept l.instances (map (instance_in l.derived) (take l.k l.core)) (take l.k l.witnesses)
+invariant-loop-k l = l.marks ≡ marks_kept l.instances (map (derived_instance l.derived) (take l.k l.core)) (take l.k l.witnesses)

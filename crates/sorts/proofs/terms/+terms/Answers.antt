@@ -3,10 +3,11 @@ use Rattle.std.proofs.lemmas.Result.{err_from_is_err_and}
 use Rattle.vocab.specs.NamedDepth.{term_depth, terms_depth}
 use Rattle.vocab.specs.NamedView.{named_term_tree, named_terms_tree}
 use Rattle.vocab.specs.Terms.{terms_of}
-use Rattle.sorts.specs.Faults.{count_of}
+use Rattle.vocab.proofs.TermLemmas.{get_depth}
+use Rattle.sorts.specs.Faults.{argument_count}
 use Rattle.sorts.specs.ScopeView.{scope_of}
 use Rattle.sorts.proofs.Calls.{called, miscalled, arity_stops, by_name, stops_at, applied_tree}
-use Rattle.sorts.proofs.Arguments.{from_start, count_of_terms, get_depth, argument_stops, later_stops, one_more_right, no_more, resolved_step, resolved_end}
+use Rattle.sorts.proofs.Arguments.{from_start, count_of_terms, argument_stops, later_stops, one_more_right, no_more, resolved_step, resolved_end}
 use Rattle.sorts.proofs.terms.+terms.Goals as goal
 
 pub call-returns-then-len-ne3 : goal.call-returns-then-len-ne3
@@ -19,7 +20,7 @@ pub call-returns-in_err-terms : goal.call-returns-in_err-terms
 call-returns-in_err-terms t c =
     let known = sym c.function_named.ensures ∙ c.in-Some.is in
     let count = count_of_terms c.args.arguments.now in
-    let three : count_of (named_terms_tree c.args.arguments.now) ≡ 3 = grind (arith, count, c.len.ensures, c.if-len-ne3.false) in
+    let three : argument_count (named_terms_tree c.args.arguments.now) ≡ 3 = grind (arith, count, c.len.ensures, c.if-len-ne3.false) in
     let p = err_from_is_err_and c.from_residual.result c.from_residual.ensures.1 in
     rw (p.1, p.2)
     (stops_at _ _ _ (called c.args.name.now _ _ known _ _ three ∙ by_name c.args.space.now (scope_of c.args.scope.now) c.args.name.now _ _ _ _ c.of-symbol.ensures c.sorts.ensures) c.in_err-terms.ensures)
@@ -28,7 +29,7 @@ pub call-returns : goal.call-returns
 call-returns t c =
     let known = sym c.function_named.ensures ∙ c.in-Some.is in
     let count = count_of_terms c.args.arguments.now in
-    let three : count_of (named_terms_tree c.args.arguments.now) ≡ 3 = grind (arith, count, c.len.ensures, c.if-len-ne3.false) in (
+    let three : argument_count (named_terms_tree c.args.arguments.now) ≡ 3 = grind (arith, count, c.len.ensures, c.if-len-ne3.false) in (
       called c.args.name.now _ _ known _ _ three ∙ by_name c.args.space.now (scope_of c.args.scope.now) c.args.name.now _ _ _ _ c.of-symbol.ensures c.sorts.ensures ∙ c.in_ok-terms.ensures.0,
       c.in_ok-apply.ensures ∙ sym (applied_tree _ _ _ _ _ _ known c.in_ok-terms.ensures.1),
     )

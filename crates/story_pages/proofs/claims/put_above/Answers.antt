@@ -1,5 +1,5 @@
 use Rattle.vocab.specs.declared.literals.Literal.TheVariants.{Above}
-use Rattle.html.proofs.RangeLemmas.{goes_on}
+use Rattle.vocab.proofs.Ranges.{goes_on}
 use Rattle.story_pages.proofs.claims.put_above.Goals as goal
 
 pub loop-y-preserved : goal.loop-y-preserved

@@ -1,5 +1,5 @@
+use Rattle.vocab.proofs.Ranges.{goes_on}
 use Rattle.story_pages.specs.Claims.{winning_html}
-use Rattle.html.proofs.RangeLemmas.{goes_on}
 use Rattle.story_pages.proofs.claims.put_all_winning.Goals as goal
 
 pub loop-x-preserved : goal.loop-x-preserved

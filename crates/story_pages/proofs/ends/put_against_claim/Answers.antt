@@ -1,4 +1,4 @@
-use Rattle.html.proofs.JoinLemmas.{joined_2}
+use Rattle.lists.proofs.JoinLaws.{joined_2}
 use Rattle.story_pages.proofs.ends.put_against_claim.Goals as goal
 
 pub returns : goal.returns

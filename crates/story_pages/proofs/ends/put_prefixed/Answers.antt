@@ -1,7 +1,7 @@
 use Rattle.vocab.specs.Formula.{prefix_of}
 use Rattle.vocab.specs.Tree.{tree_of}
+use Rattle.vocab.proofs.Ranges.{goes_on}
 use Rattle.story_pages.specs.Ends.{value_at}
-use Rattle.html.proofs.RangeLemmas.{goes_on}
 use Rattle.story_pages.proofs.ends.put_prefixed.Goals as goal
 
 pub loop-level-preserved : goal.loop-level-preserved

@@ -1,4 +1,4 @@
-use Rattle.html.proofs.JoinLemmas.{joined_9}
+use Rattle.lists.proofs.JoinLaws.{joined_9}
 use Rattle.story_pages.proofs.homes.put_inner.Goals as goal
 
 pub returns : goal.returns

@@ -1,4 +1,4 @@
-use Rattle.html.proofs.JoinLemmas.{joined_5}
+use Rattle.lists.proofs.JoinLaws.{joined_5}
 use Rattle.story_pages.proofs.homes.put_inner_body.Goals as goal
 
 pub returns : goal.returns

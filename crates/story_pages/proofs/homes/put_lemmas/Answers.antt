@@ -1,5 +1,5 @@
+use Rattle.vocab.proofs.Ranges.{goes_on}
 use Rattle.story_pages.specs.Homes.{lemma_at}
-use Rattle.html.proofs.RangeLemmas.{goes_on}
 use Rattle.story_pages.proofs.homes.put_lemmas.Goals as goal
 
 pub loop-place-preserved : goal.loop-place-preserved

@@ -1,4 +1,4 @@
-use Rattle.html.proofs.JoinLemmas.{joined_8}
+use Rattle.lists.proofs.JoinLaws.{joined_8}
 use Rattle.story_pages.proofs.homes.put_outer.Goals as goal
 
 pub returns : goal.returns

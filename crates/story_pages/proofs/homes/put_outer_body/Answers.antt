@@ -1,4 +1,4 @@
-use Rattle.html.proofs.JoinLemmas.{joined_7}
+use Rattle.lists.proofs.JoinLaws.{joined_7}
 use Rattle.story_pages.proofs.homes.put_outer_body.Goals as goal
 
 pub returns : goal.returns

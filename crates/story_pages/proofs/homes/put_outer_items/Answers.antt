@@ -1,5 +1,5 @@
+use Rattle.vocab.proofs.Ranges.{goes_on}
 use Rattle.story_pages.specs.Homes.{outer_item}
-use Rattle.html.proofs.RangeLemmas.{goes_on}
 use Rattle.story_pages.proofs.homes.put_outer_items.Goals as goal
 
 pub loop-number-preserved : goal.loop-number-preserved

@@ -1,4 +1,4 @@
-use Rattle.html.proofs.JoinLemmas.{joined_3}
+use Rattle.lists.proofs.JoinLaws.{joined_3}
 use Rattle.story_pages.proofs.sentences.put_facts_fold.Goals as goal
 
 pub returns : goal.returns

@@ -1,4 +1,4 @@
-use Rattle.html.proofs.JoinLemmas.{joined_4}
+use Rattle.lists.proofs.JoinLaws.{joined_4}
 use Rattle.story_pages.proofs.sentences.put_given.Goals as goal
 
 pub returns : goal.returns

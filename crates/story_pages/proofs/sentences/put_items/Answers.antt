@@ -1,5 +1,5 @@
+use Rattle.vocab.proofs.Ranges.{goes_on}
 use Rattle.story_pages.specs.Sentences.{item_at}
-use Rattle.html.proofs.RangeLemmas.{goes_on}
 use Rattle.story_pages.proofs.sentences.put_items.Goals as goal
 
 pub loop-number-preserved : goal.loop-number-preserved

@@ -1,5 +1,6 @@
 use Rattle.std.proofs.Common.{Err, sym, ap, ◌∙◌, arith}
-use Rattle.study.proofs.ListedBallots.{few_rankings, missed_text, taken_more, taken_all}
+use Rattle.meaning.proofs.SpaceLaws.{factorial_small}
+use Rattle.study.proofs.ListedBallots.{missed_text, taken_more, taken_all}
 use Rattle.study.proofs.ballots.listed_digits.Goals as goal
 
 pub returns-in_default : goal.returns-in_default
@@ -9,10 +10,10 @@ returns-in_default c other =
     ∙ ap Err (sym (c.ballot_fault.ensures other))
 
 pub is_set-requires : goal.is_set-requires
-is_set-requires c = omega (arith, few_rankings c.args.alternatives c.requires.few, c.in-Some.ensures.found)
+is_set-requires c = omega (arith, factorial_small c.args.alternatives c.requires.few, c.in-Some.ensures.found)
 
 pub overflow_shl-ballots : goal.overflow_shl-ballots
-overflow_shl-ballots c = omega (arith, few_rankings c.args.alternatives c.requires.few, c.in-Some.ensures.found)
+overflow_shl-ballots c = omega (arith, factorial_small c.args.alternatives c.requires.few, c.in-Some.ensures.found)
 
 pub loop-text-preserved : goal.loop-text-preserved
 loop-text-preserved c =

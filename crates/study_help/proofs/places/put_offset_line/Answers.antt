@@ -1,6 +1,6 @@
-use Rattle.study_help.proofs.LineLemmas.{five}
+use Rattle.lists.proofs.JoinLaws.{joined_5}
 use Rattle.study_help.proofs.places.put_offset_line.Goals as goal
 
 pub returns : goal.returns
 returns c =
-    five _ _ _ _ _ _ _ _ _ _ _ c.in_ok-append.ensures.ok c.in_ok-append-2.ensures.ok c.in_ok-append-3.ensures.ok c.in_ok-put_number.ensures c.in_ok-append-4.ensures.ok
+    joined_5 _ _ _ _ _ _ _ _ _ _ _ c.in_ok-append.ensures.ok c.in_ok-append-2.ensures.ok c.in_ok-append-3.ensures.ok c.in_ok-put_number.ensures c.in_ok-append-4.ensures.ok

@@ -1,7 +1,7 @@
 use Rattle.std.specs.Prelude.{slice_get}
+use Rattle.vocab.proofs.Ranges.{goes_on}
 use Rattle.axiom_library.specs.Library.{library}
 use Rattle.study_hints.specs.Values.{name_text}
-use Rattle.study_hints.proofs.RangeLemmas.{goes_on}
 use Rattle.study_hints.proofs.keys.put_library.Goals as goal
 
 pub loop-place-preserved : goal.loop-place-preserved

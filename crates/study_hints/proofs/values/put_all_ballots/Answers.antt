@@ -1,5 +1,5 @@
-use Rattle.study_hints.proofs.HelpLemmas.{three}
+use Rattle.lists.proofs.JoinLaws.{joined_3}
 use Rattle.study_hints.proofs.values.put_all_ballots.Goals as goal
 
 pub returns : goal.returns
-returns c = three _ _ _ _ _ _ _ c.in_ok-append.ensures.ok c.in_ok-put_ballots.ensures c.in_ok-append-2.ensures.ok
+returns c = joined_3 _ _ _ _ _ _ _ c.in_ok-append.ensures.ok c.in_ok-put_ballots.ensures c.in_ok-append-2.ensures.ok

@@ -1,5 +1,5 @@
+use Rattle.vocab.proofs.Ranges.{goes_on}
 use Rattle.study_hints.specs.Values.{ballot_constant}
-use Rattle.study_hints.proofs.RangeLemmas.{goes_on}
 use Rattle.study_hints.proofs.values.put_ballots.Goals as goal
 
 pub loop-b-preserved : goal.loop-b-preserved

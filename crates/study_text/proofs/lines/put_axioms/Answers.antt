@@ -1,7 +1,7 @@
 use Rattle.std.proofs.Common.{◌∙◌, ap, ℕ, [], ◌++◌, slice_get}
 use Rattle.std.specs.Option.{option_map_or}
+use Rattle.vocab.proofs.Ranges.{goes_on}
 use Rattle.study_text.specs.LookText.{axiom_lines, lines_at}
-use Rattle.study_text.proofs.RangeLemmas.{goes_on}
 use Rattle.study_text.proofs.lines.put_axioms.Goals as goal
 
 pub loop-place-preserved : goal.loop-place-preserved

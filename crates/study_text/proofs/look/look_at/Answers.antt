@@ -1,5 +1,6 @@
 use Rattle.std.proofs.Common.{◌≡◌, ◌∙◌, ap, sym, ℕ, List, ◌++◌}
 use Rattle.std.specs.Prelude.{codes}
+use Rattle.lists.proofs.JoinLaws.{from_none, joined_4}
 use Rattle.vocab.specs.declared.kinds.Sort.TheVariants.{Profile}
 use Rattle.vocab.specs.Size.{Extent, sort_count}
 use Rattle.meaning.specs.Variables.{variable_count}
@@ -7,7 +8,6 @@ use Rattle.verdicts.specs.Report.{own_version}
 use Rattle.report_text.specs.Pieces.{about_lines, lines_text}
 use Rattle.study_text.specs.declared.shares.Share.TheVariants as share
 use Rattle.study_text.specs.LookText.{look_lines, number_line, share_line}
-use Rattle.study_text.proofs.TextLemmas.{four, from_none}
 use Rattle.study_text.proofs.look.look_at.Goals as goal
 
 pub returns : goal.returns
@@ -21,5 +21,5 @@ returns g c =
     let variables : c.put_number_line.new.out ≡ c.put_share.new.out ++ number_line (codes "variables") (variable_count study.size)
     = c.in_ok-put_number_line.ensures ∙ ap (λ (n : ℕ). c.put_share.new.out ++ number_line (codes "variables") n) (c.variable_count.ensures ∙ ap variable_count (sym c.requires.size))
     in
-    let lines = four _ _ _ _ _ _ _ _ _ profiles variables c.in_ok-put_axioms.ensures c.in_ok-put_last.ensures in
+    let lines = joined_4 _ _ _ _ _ _ _ _ _ profiles variables c.in_ok-put_axioms.ensures c.in_ok-put_last.ensures in
     ap (λ (l : List ℕ). front ++ l) (from_none _ _ _ lines c.new-lines.ensures ∙ ap (look_lines study) c.requires.clauses)

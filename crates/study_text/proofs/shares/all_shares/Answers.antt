@@ -2,7 +2,7 @@ use Rattle.std.proofs.Common.{◌≡◌, ◌∙◌, ap, sym, ℕ, [], ◌∷◌,
 use Rattle.vocab.specs.declared.kinds.Sort.TheVariants.{Profile}
 use Rattle.vocab.specs.Size.{Extent, sort_count}
 use Rattle.study_text.specs.declared.shares.Share.TheVariants as share
-use Rattle.study_text.specs.Shares.{literals_of}
+use Rattle.study_text.specs.Shares.{kept_literal_count}
 use Rattle.study_text.proofs.TextLemmas.{listed}
 use Rattle.study_text.proofs.shares.all_shares.Goals as goal
 
@@ -16,7 +16,7 @@ returns c =
     let clauses : c.push-2.new.self ≡ c.add_axioms.new.shares ++ share.Clauses (length kept) ∷ []
     = c.in_ok-push-2.ensures.ok ∙ ap (λ (n : ℕ). c.add_axioms.new.shares ++ share.Clauses n ∷ []) c.count_all.ensures.value
     in
-    let literals : c.push-3.new.self ≡ c.push-2.new.self ++ share.Literals (literals_of kept) ∷ []
-    = c.in_ok-push-3.ensures.ok ∙ ap (λ (n : ℕ). c.push-2.new.self ++ share.Literals n ∷ []) c.literals_of.ensures.value
+    let literals : c.push-3.new.self ≡ c.push-2.new.self ++ share.Literals (kept_literal_count kept) ∷ []
+    = c.in_ok-push-3.ensures.ok ∙ ap (λ (n : ℕ). c.push-2.new.self ++ share.Literals n ∷ []) c.kept_literal_count.ensures.value
     in
     listed _ _ _ _ _ _ _ _ _ c.new-shares.ensures profiles c.in_ok-add_axioms.ensures clauses literals

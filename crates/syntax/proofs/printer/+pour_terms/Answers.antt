@@ -2,8 +2,9 @@ use Rattle.std.proofs.Common.{arith, ◌≤◌, [], ◌∷◌, codes}
 use Rattle.vocab.specs.NamedView.{named_term_tree, named_terms_tree}
 use Rattle.syntax.specs.Canonical.{list_text}
 use Rattle.vocab.specs.NamedDepth.{term_depth, terms_depth}
+use Rattle.vocab.proofs.TermLemmas.{get_depth}
 use Rattle.syntax.proofs.Pouring.{cut, goes_on}
-use Rattle.syntax.proofs.Texts.{list_begins, list_goes_on, list_ends, list_stops_first, list_stops_comma, list_stops_next, empty_list, get_depth}
+use Rattle.syntax.proofs.Texts.{list_begins, list_goes_on, list_ends, list_stops_first, list_stops_comma, list_stops_next, empty_list}
 use Rattle.syntax.proofs.printer.+pour_terms.Goals as goal
 
 pub pour_call-returns-in_err-pour : goal.pour_call-returns-in_err-pour

@@ -4,7 +4,7 @@ use Rattle.vocab.specs.Tree.{tree_of}
 use Rattle.vocab.specs.Size.{Extent}
 use Rattle.sharp_verdicts.specs.Instances.{number_at}
 use Rattle.told_instances.specs.Numbered.{number_from, IsNumbered}
-use Rattle.told_instances.specs.Told.{instance_in}
+use Rattle.told_instances.specs.Told.{cited_instance}
 use Rattle.told_instances.proofs.NumberLaws.{has_reason, within}
 use Rattle.told_instances.proofs.numbers.instance_of_reason.Goals as goal
 
@@ -20,7 +20,7 @@ returns-in-Axiom-clause-value c =
     let r = has_reason c.args.study.now c.in-Axiom.k c.in-Axiom.values c.get.result.now (tree_of c.sentence-sentence.result.now) c.axioms.ensures.study (rw c.in-Axiom.is at c.requires.reason) is c.sentence-sentence.ensures in
     let number : c.number_from-number.result ≡ number_at c.args.study.now c.in-Axiom.k c.in-Axiom.values =
     c.number_from-number.ensures ∙ ap (λ (size : Extent). number_from size (tree_of c.sentence-sentence.result.now) c.in-Axiom.values 0) (sym c.requires.size) ∙ r.is in
-    sym (ap (instance_in c.args.study.now) c.in-Axiom.is
+    sym (ap (cited_instance c.args.study.now) c.in-Axiom.is
     ∙ ap (λ (n : ℕ). Some (record { «axiom» = c.in-Axiom.k; number = n })) (sym number))
 
 pub returns-in-Axiom-clause-small : goal.returns-in-Axiom-clause-small

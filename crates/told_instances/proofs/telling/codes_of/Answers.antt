@@ -1,10 +1,10 @@
 use Rattle.std.proofs.Common.{◌≡◌, refl, length, sym, subst, List, true}
 use Rattle.std.specs.List.{list_all}
 use Rattle.std.proofs.lemmas.Option.{slice_get_read}
+use Rattle.lists.proofs.TestLaws.{all_get}
 use Rattle.meaning.specs.declared.stories.Lemma.{Lemma}
 use Rattle.meaning.specs.declared.stories.StoryStep.{StoryStep}
 use Rattle.sharp_verdicts.specs.Instances.{reasons_of}
-use Rattle.instance_studies.proofs.StudyLaws.{all_get}
 use Rattle.told_instances.specs.Told.{names_instance}
 use Rattle.told_instances.proofs.ToldLaws.{steps_reasons}
 use Rattle.told_instances.proofs.telling.codes_of.Goals as goal

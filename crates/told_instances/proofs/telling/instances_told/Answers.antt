@@ -1,5 +1,5 @@
 use Rattle.std.proofs.Common.{◌∙◌, ap, List, ℕ}
-use Rattle.grounding.specs.Rising.{has}
+use Rattle.grounding.specs.Rising.{includes}
 use Rattle.told_instances.proofs.ToldLaws.{all_high, lists_told}
 use Rattle.told_instances.proofs.telling.instances_told.Goals as goal
 
@@ -9,4 +9,4 @@ rising-requires c = record { some = all_high c.args.study.now c.args.story.now _
 pub returns : goal.returns
 returns c =
     lists_told c.args.study.now c.args.story.now c.in_ok-instances.instances c.axioms-axioms.ensures.study c.requires.reasons c.in_ok-instances.ensures.small c.in_ok-instances.ensures.rising
-    (λ n. c.in_ok-instances.ensures.has n ∙ ap (λ (xs : List ℕ). has xs n) c.in_ok-codes.ensures)
+    (λ n. c.in_ok-instances.ensures.has n ∙ ap (λ (xs : List ℕ). includes xs n) c.in_ok-codes.ensures)

@@ -1,6 +1,7 @@
 use Rattle.std.proofs.Common.{ap, ◌∙◌}
 use Rattle.verdict_reading.specs.Readings.{reading_of}
-use Rattle.verdict_reading.proofs.ReadingLemmas.{if_ok, right_of, whole_is_front}
+use Rattle.report_files.proofs.JudgedLemmas.{if_ok}
+use Rattle.verdict_reading.proofs.ReadingLemmas.{right_of, whole_is_front}
 use Rattle.verdict_reading.proofs.reading.read_verdict.Goals as goal
 
 pub returns-clause-value : goal.returns-clause-value

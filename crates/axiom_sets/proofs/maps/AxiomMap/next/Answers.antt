@@ -5,7 +5,7 @@ use Rattle.cnf.specs.Assignment.{value_of}
 use Rattle.cnf.specs.Derived.{IsAccepted}
 use Rattle.cnf.specs.Sat.{Clause, is_satisfied}
 use Rattle.cnf.specs.Signed.{Signed}
-use Rattle.cdcl.specs.Answer.{Answers}
+use Rattle.cdcl.specs.Answer.{IsSearchAnswer}
 use Rattle.axiom_sets.specs.Sets.{is_set}
 use Rattle.axiom_sets.specs.Maps.{covers}
 use Rattle.axiom_sets.specs.Next.{chosen}
@@ -18,7 +18,7 @@ solve-requires-clause-range c = subst (λ (cs : List Clause). All (λ (clause : 
 pub returns-in-Found : goal.returns-in-Found
 returns-in-Found c =
     let v : ℕ → Bool = value_of c.in-Found.bits in
-    let answers = subst (Answers c.in-Ok.clauses.clauses c.args.count 1000000) c.in-Found.is c.in_ok-bits.ensures.answers in
+    let answers = subst (IsSearchAnswer c.in-Ok.clauses.clauses c.args.count 1000000) c.in-Found.is c.in_ok-bits.ensures.answers in
     let sat = subst (λ (cs : List Clause). is_satisfied v cs ≡ true) c.in-Ok.ensures.ok answers.1 in
     let is : c.in_ok-set-in-Found.set ≡ chosen v c.args.count = c.in_ok-set-in-Found.ensures in (
       subst (λ (s : List ℕ). IsTrue (is_set c.args.count s)) (sym is) (chosen_is_set v c.args.count),
@@ -27,5 +27,5 @@ returns-in-Found c =
 
 pub returns-in-Refuted : goal.returns-in-Refuted
 returns-in-Refuted c =
-    let answers = subst (Answers c.in-Ok.clauses.clauses c.args.count 1000000) c.in-Refuted.is c.in_ok-bits.ensures.answers in
+    let answers = subst (IsSearchAnswer c.in-Ok.clauses.clauses c.args.count 1000000) c.in-Refuted.is c.in_ok-bits.ensures.answers in
     refuted_covers c.args.count c.args.self.now c.requires.tidy c.in-Refuted.field-0 (subst (λ (cs : List Clause). IsAccepted cs c.in-Refuted.field-0) c.in-Ok.ensures.ok answers.0)

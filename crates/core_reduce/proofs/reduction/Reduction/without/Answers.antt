@@ -1,6 +1,7 @@
 use Rattle.std.proofs.Common.{◌≡◌, ◌<◌, ℕ, Bool, true, false, not, List, length, filter, set, ap, ◌∙◌, sym, subst, arith, get_or-set_same}
 use Rattle.std.specs.Prelude.{slice_index, slice_index_or}
 use Rattle.std.specs.List.{list_all}
+use Rattle.lists.proofs.TestLaws.{all_kept}
 use Rattle.cnf.specs.Fresh.{is_over}
 use Rattle.meaning.specs.declared.cores.Witness.{Witness}
 use Rattle.meaning.specs.Cores.{is_core_from}
@@ -10,7 +11,7 @@ use Rattle.clause_form.specs.Sources.{is_left}
 use Rattle.clause_form.proofs.RestLaws.{rest_is_ground}
 use Rattle.core_reduce.specs.Kept.{keeps}
 use Rattle.core_reduce.specs.Reducing.{kept_marks, others, next_open, AreMarked, IsNext}
-use Rattle.core_reduce.proofs.CoreLaws.{all-filter, core-filter, filter-others, marked_part, marks_fewer, place_in_range}
+use Rattle.core_reduce.proofs.CoreLaws.{core-filter, filter-others, marked_part, marks_fewer, place_in_range}
 use Rattle.core_reduce.proofs.reduction.Reduction.without.Goals as goal
 
 pub leave_out-requires : goal.leave_out-requires
@@ -58,6 +59,6 @@ returns c =
             (subst (AreMarked s r.logs (filter keep r.core) (filter keep r.core)) (sym marks) (marked_part s keep r.logs r.core r.core ws h.marked));
         logs = h.logs;
       };
-      part = λ test t. subst (λ (ps : List ℕ). list_all test ps ≡ true) (sym core) (all-filter test keep r.core t);
+      part = λ test t. subst (λ (ps : List ℕ). list_all test ps ≡ true) (sym core) (all_kept test keep r.core t);
       fewer = omega (arith, long, long', fewer, c.requires.open);
     }

@@ -12,8 +12,8 @@ returns-then-clause-eq2-clause-seen c =
     two_literals clause c.index-clause-0.result c.index-clause-1.result c.if-clause-eq2.true c.index-clause-0.is c.index-clause-1.is in
     IfOk-weaker c.is_new_pair.result _ _
     (λ x made before is.
-    with-pair seen before (subst (λ (s : Codes). HasSeen s before) (sym c.self.view_is) is) c.index-clause-0.result c.index-clause-1.result c.code_of.result c.code_of-then-clause-eq2.result
-    c.code_of.ensures.code c.code_of-then-clause-eq2.ensures.code clause two c.is_new_pair.new.pairs.keys made)
+    with-pair seen before (subst (λ (s : Codes). HasSeen s before) (sym c.self.view_is) is) c.index-clause-0.result c.index-clause-1.result c.literal_code.result c.literal_code-then-clause-eq2.result
+    c.literal_code.ensures.code c.literal_code-then-clause-eq2.ensures.code clause two c.is_new_pair.new.pairs.keys made)
     c.is_new_pair.ensures.keys
 
 pub returns-clause-seen : goal.returns-clause-seen

@@ -1,14 +1,14 @@
 use Rattle.std.proofs.Common.{◌≡◌, sym, ap, subst, ℕ, List, true}
-use Rattle.meaning.proofs.TestLaws.{all_read}
+use Rattle.lists.proofs.TestLaws.{all_read}
 use Rattle.texts.proofs.LoopLemmas.{loop_stops, loop_goes_on}
-use Rattle.map_text.specs.MapText.{is_named, set_text}
+use Rattle.map_text.specs.MapText.{are_axiom_places, set_text}
 use Rattle.map_text.proofs.maps.SetLinesText.pour.Goals as goal
 
 pub pour-requires : goal.pour-requires
 pour-requires g c =
     let study = c.args.self.now.study.now in
     let sets : List (List ℕ) = c.args.self.now.sets.now in
-    (tt, (subst (λ (set : List ℕ). is_named study set ≡ true) (sym c.as_slice.ensures) (all_read (is_named study) sets c.loop-place.place _ c.loop-place-test.true c.requires), tt))
+    (tt, (subst (λ (set : List ℕ). are_axiom_places study set ≡ true) (sym c.as_slice.ensures) (all_read (are_axiom_places study) sets c.loop-place.place _ c.loop-place-test.true c.requires), tt))
 
 pub returns-in_err-pour : goal.returns-in_err-pour
 returns-in_err-pour g c =

@@ -1,7 +1,7 @@
 use Rattle.std.proofs.Common.{◌≡◌, sym, ◌∙◌, subst, true}
+use Rattle.lists.proofs.TestLaws.{all_read}
 use Rattle.meaning.specs.declared.stories.StoryStep.{StoryStep}
 use Rattle.meaning.specs.Literals.{is_literal}
-use Rattle.meaning.proofs.TestLaws.{all_read}
 use Rattle.tellings.specs.Tellings.{is_covered}
 use Rattle.premises.proofs.ForcedLemmas.{step_covered}
 use Rattle.premises.proofs.forced.Forced.take_all.Goals as goal

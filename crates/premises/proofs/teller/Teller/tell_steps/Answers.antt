@@ -3,7 +3,7 @@ use Rattle.vocab.specs.declared.literals.Literal.{Literal}
 use Rattle.vocab.specs.Size.{Extent}
 use Rattle.meaning.specs.declared.stories.StoryStep.{StoryStep}
 use Rattle.meaning.specs.Literals.{is_literal}
-use Rattle.premises.specs.SoFar.{follow, steps_of, unforced, IsToldSoFar}
+use Rattle.premises.specs.SoFar.{steps_follow, bare_steps, unforced, IsToldSoFar}
 use Rattle.premises.proofs.ToldLemmas.{told_none}
 use Rattle.premises.proofs.StepLemmas.{NextForced, its_literal, next_forced, unforced_more}
 use Rattle.premises.proofs.teller.Teller.tell_steps.Goals as goal
@@ -18,7 +18,7 @@ loop-step-init g c =
       known_size = refl;
       tried_size = refl;
       told = rw (c.requires.supposed, c.new.ensures, c.in_ok-with_room.ensures) (told_none size basis forced suppose);
-      so_far = ap steps_of c.in_ok-with_room.ensures;
+      so_far = ap bare_steps c.in_ok-with_room.ensures;
       others = rw (c.requires.supposed, c.as_slice-step-items.ensures) c.requires.follows;
     }
 
@@ -67,5 +67,5 @@ loop-step-preserved g c =
           ∙ ap (λ (ss : List StoryStep). ss ++ unforced forced (item ∷ [])) c.loop-step.invariant.so_far
           ∙ ap (λ (s : StoryStep). unforced forced (take c.loop-step.step-index steps) ++ unforced forced (s ∷ [])) c.step-item.is
           ∙ sym (unforced_more forced steps c.loop-step.step-index item c.loop-step-test.true);
-      others = subst (λ (ls : List Literal). follow size basis last ls (drop (c.loop-step.step-index + 1) steps) ≡ true) (sym c.add.ensures.literals) next.others;
+      others = subst (λ (ls : List Literal). steps_follow size basis last ls (drop (c.loop-step.step-index + 1) steps) ≡ true) (sym c.add.ensures.literals) next.others;
     }

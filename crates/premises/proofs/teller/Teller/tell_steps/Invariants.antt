@@ -1,5 +1,5 @@
 use Rattle.std.proofs.Common.{◌≡◌, true, take, drop}
-use Rattle.premises.specs.SoFar.{follow, steps_of, unforced, IsToldSoFar}
+use Rattle.premises.specs.SoFar.{steps_follow, bare_steps, unforced, IsToldSoFar}
 use Rattle.premises.proofs.teller.Teller.tell_steps.Given as goal
 
 -- the steps so far are told, but for those whose facts are forced; the others follow
@@ -8,6 +8,6 @@ invariant-loop-step g l = record {
   known_size : l.known.size ≡ l.fn.known.size;
   tried_size : l.tried.size ≡ l.fn.tried.size;
   told : IsToldSoFar (g.K.OutcomeKind.size l.self.grounds.kind.now) l.self.grounds.basis l.self.forced.now.literals l.lemma.suppose l.known.literals l.passage;
-  so_far : steps_of l.passage.steps ≡ unforced l.self.forced.now.literals (take l.step-index l.step-items);
-  others : follow (g.K.OutcomeKind.size l.self.grounds.kind.now) l.self.grounds.basis l.lemma.last l.known.literals (drop l.step-index l.step-items) ≡ true;
+  so_far : bare_steps l.passage.steps ≡ unforced l.self.forced.now.literals (take l.step-index l.step-items);
+  others : steps_follow (g.K.OutcomeKind.size l.self.grounds.kind.now) l.self.grounds.basis l.lemma.last l.known.literals (drop l.step-index l.step-items) ≡ true;
 }

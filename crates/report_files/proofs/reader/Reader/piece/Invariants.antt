@@ -1,5 +1,5 @@
 use Rattle.std.proofs.Common.{◌≡◌, ℕ, ◌+◌, ◌≤◌, List, ◌++◌, length}
-use Rattle.report_files.specs.Lines.{count_of}
+use Rattle.report_files.specs.Lines.{lines_given}
 use Rattle.report_files.specs.Pieces.{HasTaken}
 use Rattle.report_files.proofs.reader.Reader.piece.Given as goal
 
@@ -7,7 +7,7 @@ abbrev pub invariant-loop-line : goal.invariant-loop-line
 invariant-loop-line g l = record {
   study : l.self.checker.study ≡ l.fn.self.checker.study;
   admits : l.self.checker.admits ≡ l.fn.self.checker.admits;
-  room : count_of l.self.checker + length l.rest ≤ count_of l.fn.self.checker + length l.fn.bytes;
+  room : lines_given l.self.checker + length l.rest ≤ lines_given l.fn.self.checker + length l.fn.bytes;
   read : List ℕ;
   cut : l.fn.bytes ≡ read ++ l.rest;
   taken : HasTaken l.fn.self l.self read;

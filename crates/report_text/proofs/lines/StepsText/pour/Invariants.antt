@@ -1,10 +1,10 @@
 use Rattle.std.proofs.Common.{take}
 use Rattle.verdicts.specs.Report.{step_line}
-use Rattle.report_text.specs.Pieces.{ended}
+use Rattle.report_text.specs.Pieces.{ended_line}
 use Rattle.texts.specs.Spelled.{spelled}
 use Rattle.texts.proofs.PourLemmas.{Added}
 use Rattle.report_text.proofs.lines.StepsText.pour.Given as goal
 
 -- the lines so far were added
 abbrev pub invariant-loop-step : goal.invariant-loop-step
-invariant-loop-step g l = Added (g.O.Sink.taken l.initial.out) (g.O.Sink.taken l.out) l.initial.page l.page (g.O.Sink.faults l.initial.out) (g.O.Sink.faults l.out) (spelled (λ _ x. ended l.self.of.study.now (step_line x)) 0 (take l.step-index l.self.steps.now))
+invariant-loop-step g l = Added (g.O.Sink.taken l.initial.out) (g.O.Sink.taken l.out) l.initial.page l.page (g.O.Sink.faults l.initial.out) (g.O.Sink.faults l.out) (spelled (λ _ x. ended_line l.self.of.study.now (step_line x)) 0 (take l.step-index l.self.steps.now))

@@ -1,12 +1,13 @@
 use Rattle.std.proofs.Common.{◌≡◌, ap, ◌∙◌, ℕ, List, get_or, arith}
 use Rattle.meaning.specs.Texts.{profile_text, outcome_text}
 use Rattle.vocab.specs.Size.{Extent}
+use Rattle.meaning.proofs.RuleLaws.{rule_outcome}
 use Rattle.texts.proofs.LoopLemmas.{spelled_stops, spelled_goes_on}
-use Rattle.report_text.proofs.ReportLemmas.{at_item, outcome_there, row_is, row_text}
+use Rattle.report_text.proofs.ReportLemmas.{at_item, row_is, row_text}
 use Rattle.report_text.proofs.rules.RowsText.pour.Goals as goal
 
 pub text-outcome-requires : goal.text-outcome-requires
-text-outcome-requires g c = rw c.from.ensures (outcome_there (g.K.OutcomeKind.size c.args.self.now.kind.now) c.args.self.now.table.now c.loop-p.p c.get.result.now c.requires c.get.ensures)
+text-outcome-requires g c = rw c.from.ensures (rule_outcome (g.K.OutcomeKind.size c.args.self.now.kind.now) c.args.self.now.table.now c.loop-p.p c.get.result.now c.requires c.get.ensures)
 
 pub returns-in_err-pour : goal.returns-in_err-pour
 returns-in_err-pour g c =

@@ -2,7 +2,7 @@ use Rattle.std.proofs.Common.{◌≡◌, ℕ, true, ap, ◌∙◌, sym, subst}
 use Rattle.std.specs.List.{list_all}
 use Rattle.cnf.specs.Fresh.{is_over}
 use Rattle.meaning.specs.Variables.{variable_count}
-use Rattle.core_reduce.proofs.OverLaws.{stay_within}
+use Rattle.cnf.proofs.OverLaws.{stay_within}
 use Rattle.rule_lists.proofs.finding.Found.search.Goals as goal
 
 pub solve-requires-clause-range : goal.solve-requires-clause-range

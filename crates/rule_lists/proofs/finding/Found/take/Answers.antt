@@ -10,7 +10,7 @@ use Rattle.outcomes.specs.Frames.{frame_clauses}
 use Rattle.core_reduce.specs.Tables.{IsTableOf}
 use Rattle.core_reduce.proofs.TableLaws.{frames_satisfied}
 use Rattle.search_logs.specs.Spent.{all_places}
-use Rattle.rule_lists.specs.Finding.{denial, IsFound}
+use Rattle.rule_lists.specs.Finding.{denial, AreFoundRules}
 use Rattle.rule_lists.proofs.FoundLaws.{cut_by_room, found_more, next_rule, parts_satisfied, put_length}
 use Rattle.rule_lists.proofs.finding.Found.take.Goals as goal
 
@@ -45,7 +45,7 @@ returns g c =
     let is : c.as_slice.result.now ≡ denial v (variable_count s.size) = c.as_slice.ensures.value ∙ c.in_ok-clause.ensures ∙ ap (denial v) count in
     let clauses : c.push.new.self.clauses ≡ c.args.self.now.clauses.clauses ++ denial v (variable_count s.size) ∷ [] =
     ap (λ (l : ClauseList). l.clauses) c.in-Ok.ensures.ok ∙ ap (λ (d : Clause). c.args.self.now.clauses.clauses ++ d ∷ []) is in (
-      subst (IsFound s c.put.new.tables.items) (sym clauses)
+      subst (AreFoundRules s c.put.new.tables.items) (sym clauses)
           (found_more s c.axioms-axioms.ensures.study.sentences c.args.self.now.tables.items c.args.self.now.clauses.clauses c.requires.found v table next.0 next.1 c.put.new.tables.items c.in_ok-put.ensures.put c.in_ok-put.ensures.rising),
       put_length s c.axioms-axioms.ensures.study.sentences c.args.self.now.tables.items c.args.self.now.clauses.clauses c.requires.found table c.put.new.tables.items c.in_ok-put.ensures.put,
     )

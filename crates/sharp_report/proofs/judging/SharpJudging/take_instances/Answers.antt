@@ -3,7 +3,7 @@ use Rattle.verdicts.specs.declared.refusals.Refusal.TheVariants.{Core}
 use Rattle.report.proofs.WitnessLineLemmas.{number_same}
 use Rattle.sharp_verdicts.specs.declared.instances.Cited.{Cited}
 use Rattle.sharp_verdicts.specs.declared.refusals.SharpRefusal.TheVariants.{Report, Instance}
-use Rattle.sharp_verdicts.specs.SharpFaults.{listed}
+use Rattle.sharp_verdicts.specs.SharpFaults.{listed_instances}
 use Rattle.sharp_verdicts.specs.SharpLines.{InstancesAre}
 use Rattle.sharp_verdicts.specs.SharpPlaces.{AtInstances}
 use Rattle.sharp_report.proofs.TakenLemmas.{unread, read_at, by_took}
@@ -32,7 +32,7 @@ returns-then-count-as_slice g c = λ s h at.
     let n = c.in-Some.ensures study in
     let is = c.in_ok-self.ensures s.told.earlier (cites_story study s self h at) in
     let core = told_core study s self h at c.in_ok-self.field-0 c.core.result.now true is (c.core.ensures s.told study h.told) (sym c.if-not-have_axioms.false ∙ c.have_axioms.ensures) in
-    let other = other_number n.0 (length c.as_slice.result.now) (length (listed study s)) c.in-Some.count n.2 (omega (arith, c.as_slice.type_inv)) (ap (λ (cs : List Cited). length cs) (c.as_slice.ensures ∙ is)) c.if-count-as_slice.true in
+    let other = other_number n.0 (length c.as_slice.result.now) (length (listed_instances study s)) c.in-Some.count n.2 (omega (arith, c.as_slice.type_inv)) (ap (λ (cs : List Cited). length cs) (c.as_slice.ensures ∙ is)) c.if-count-as_slice.true in
     by_took study s c.args.text.now self (InstancesAre n.0) (Some Instance) (read_at study s AtInstances c.args.text.now (Some (InstancesAre n.0)) at n.1) refl (count_fault study s self h at self n.0 core other)
 
 pub returns : goal.returns
@@ -43,6 +43,6 @@ returns g c = λ s h at.
     let is = c.in_ok-self.ensures s.told.earlier (cites_story study s self h at) in
     let core = told_core study s self h at c.in_ok-self.field-0 c.core.result.now true is (c.core.ensures s.told study h.told) (sym c.if-not-have_axioms.false ∙ c.have_axioms.ensures) in
     let length_is = ap (λ (cs : List Cited). length cs) (c.as_slice.ensures ∙ is) in
-    let same = number_same n.0 (length (listed study s)) (omega (arith, c.as_slice.type_inv, length_is)) (sym n.2 ∙ c.if-count-as_slice.false ∙ length_is) in
+    let same = number_same n.0 (length (listed_instances study s)) (omega (arith, c.as_slice.type_inv, length_is)) (sym n.2 ∙ c.if-count-as_slice.false ∙ length_is) in
     by_took study s c.args.text.now c.after_mark.new.self (InstancesAre n.0) None (read_at study s AtInstances c.args.text.now (Some (InstancesAre n.0)) at n.1) refl
     (count_right study s self h at c.after_mark.new.self n.0 core same (c.after_mark.ensures study s (record { told = h.told; marks = h.marks; instances = is })))

@@ -2,7 +2,7 @@ use Rattle.std.proofs.Common.{◌≡◌, ◌∙◌, ◌+◌, ◌-◌, ◌<◌, �
 use Rattle.vocab.specs.Size.{Extent}
 use Rattle.meaning.specs.declared.stories.StoryRefusal.{StoryRefusal}
 use Rattle.meaning.specs.StoryFaults.{refusal_from}
-use Rattle.story.specs.Answers.{Answers}
+use Rattle.story.specs.Answers.{AnswersFault}
 use Rattle.story.proofs.StoryLemmas.{followed, refused, ended}
 use Rattle.story.proofs.grounds.Grounds.check_lemmas.Goals as goal
 
@@ -28,7 +28,7 @@ returns g c =
     let last : ℕ = length c.args.self.now.lemmas.now - 1 in
     let some : 1 ≤ length c.args.self.now.lemmas.now = search rules in
     let here : c.loop-place.place ≡ last = omega (arith, c.loop-place-test.false, c.loop-place.auto.place-end) in
-    let done : Answers c.check_next-2.result (refusal_from size c.args.self.now.setting.now.study.now.axioms c.args.self.now.core.now (take last c.args.self.now.lemmas.now) (drop last c.args.self.now.lemmas.now))
+    let done : AnswersFault c.check_next-2.result (refusal_from size c.args.self.now.setting.now.study.now.axioms c.args.self.now.core.now (take last c.args.self.now.lemmas.now) (drop last c.args.self.now.lemmas.now))
     = ended size c.args.self.now.setting.now.study.now.axioms c.args.self.now.core.now c.args.self.now.lemmas.now last c.check_next-2.result (omega (arith, some)) c.check_next-2.ensures.fault in
-    subst (λ (o : Option StoryRefusal). Answers c.check_next-2.result o) (sym c.loop-place.invariant.rest)
-    (subst (λ (p : ℕ). Answers c.check_next-2.result (refusal_from size c.args.self.now.setting.now.study.now.axioms c.args.self.now.core.now (take p c.args.self.now.lemmas.now) (drop p c.args.self.now.lemmas.now))) (sym here) done)
+    subst (λ (o : Option StoryRefusal). AnswersFault c.check_next-2.result o) (sym c.loop-place.invariant.rest)
+    (subst (λ (p : ℕ). AnswersFault c.check_next-2.result (refusal_from size c.args.self.now.setting.now.study.now.axioms c.args.self.now.core.now (take p c.args.self.now.lemmas.now) (drop p c.args.self.now.lemmas.now))) (sym here) done)

@@ -1,9 +1,9 @@
 use Rattle.std.proofs.Common.{◌≡◌, sym, subst, Bool, List, true}
 use Rattle.std.proofs.lemmas.Bool.{and_parts}
 use Rattle.std.specs.List.{list_all}
+use Rattle.lists.proofs.TestLaws.{all_read}
 use Rattle.meaning.specs.declared.stories.StoryStep.{StoryStep}
 use Rattle.meaning.specs.Literals.{is_literal}
-use Rattle.meaning.proofs.TestLaws.{all_read}
 use Rattle.story.proofs.grounds.Grounds.take_steps.Goals as goal
 
 pub take_step-requires-clause-literal : goal.take_step-requires-clause-literal

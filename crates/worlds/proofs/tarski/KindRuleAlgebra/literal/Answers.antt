@@ -2,7 +2,7 @@ use Rattle.std.proofs.Common.{◌∙◌, sym, ap, ℕ}
 use Rattle.std.specs.Prelude.{slice_index}
 use Rattle.std.proofs.lemmas.Option.{get_or_from_slice_get}
 use Rattle.meaning.specs.Truth.{holds_of}
-use Rattle.worlds.proofs.RuleLemmas.{rule_outcome}
+use Rattle.meaning.proofs.RuleLaws.{rule_outcome}
 use Rattle.worlds.proofs.tarski.KindRuleAlgebra.literal.Goals as goal
 
 pub holds-requires-clause-outcome : goal.holds-requires-clause-outcome

@@ -1,8 +1,7 @@
 -- What is in a list.
-use Rattle.std.proofs.Common.{◌≡◌, refl, sym, ◌∙◌, ap, subst, ℕ, zero, suc, ◌+◌, ◌<◌, ◌⊎◌, inl, inr, List, [], ◌∷◌, ◌++◌, map, filter, Bool, true, false, true≢false, arith, Some}
+use Rattle.std.proofs.Common.{◌≡◌, refl, sym, ◌∙◌, ap, subst, ℕ, zero, suc, ◌⊎◌, inl, inr, List, [], ◌∷◌, ◌++◌, map, filter, Bool, true, false, true≢false, Some}
 use Rattle.std.specs.Prelude.{if◌then◌else◌, slice_get}
 use Rattle.std.specs.List.{flat_map}
-use Rattle.meaning.specs.Space.{up_from, below}
 use Rattle.verdicts.proofs.WordLaws.{IsIn}
 
 pub in_append : {A : Type 0} (xs ys : List A) (a : A) → IsIn (xs ++ ys) a → IsIn xs a ⊎ IsIn ys a
@@ -40,14 +39,6 @@ pub map_in : {A B : Type 0} (f : A → B) (xs : List A) (a : A) → IsIn xs a �
 map_in f [] a i = absurd i
 map_in f (x ∷ xs) a (inl e) = inl (ap f e)
 map_in f (x ∷ xs) a (inr i) = inr (map_in f xs a i)
-
-in_from : (a n k : ℕ) → k < n → IsIn (up_from a n) (a + k)
-in_from a zero k lt = absurd (omega arith)
-in_from a (suc n) zero lt = inl (omega arith)
-in_from a (suc n) (suc k) lt = let over : suc a + k ≡ a + suc k = omega arith in inr (subst (IsIn (up_from (suc a) n)) over (in_from (suc a) n k (omega (arith, lt))))
-
-pub in_below : (n k : ℕ) → k < n → IsIn (below n) k
-in_below n k lt = let same : 0 + k ≡ k = omega arith in subst (IsIn (below n)) same (in_from 0 n k lt)
 
 -- what stands at a place is in the list, and what is in it stands at one
 pub in_at : {A : Type 0} (xs : List A) (j : ℕ) (a : A) → slice_get xs j ≡ Some a → IsIn xs a

@@ -1,5 +1,5 @@
 -- Texts that a function adds one after another.
-use Rattle.std.proofs.Common.{◌≡◌, ap, ◌∙◌, ℕ, List, ◌++◌, append_assoc}
+use Rattle.std.proofs.Common.{◌≡◌, ap, ◌∙◌, ℕ, List, ◌++◌, append_assoc, []}
 
 -- one text more
 pub then : (o before after rest a : List ℕ) → before ≡ o ++ rest → after ≡ before ++ a → after ≡ o ++ (rest ++ a)
@@ -37,3 +37,7 @@ joined_11 o o1 o2 o3 o4 o5 o6 o7 o8 o9 o10 o11 a b c d e f g h i j k h1 h2 h3 h4
 
 pub joined_12 : (o o1 o2 o3 o4 o5 o6 o7 o8 o9 o10 o11 o12 a b c d e f g h i j k l : List ℕ) → o1 ≡ o ++ a → o2 ≡ o1 ++ b → o3 ≡ o2 ++ c → o4 ≡ o3 ++ d → o5 ≡ o4 ++ e → o6 ≡ o5 ++ f → o7 ≡ o6 ++ g → o8 ≡ o7 ++ h → o9 ≡ o8 ++ i → o10 ≡ o9 ++ j → o11 ≡ o10 ++ k → o12 ≡ o11 ++ l → o12 ≡ o ++ (((((((((((a ++ b) ++ c) ++ d) ++ e) ++ f) ++ g) ++ h) ++ i) ++ j) ++ k) ++ l)
 joined_12 o o1 o2 o3 o4 o5 o6 o7 o8 o9 o10 o11 o12 a b c d e f g h i j k l h1 h2 h3 h4 h5 h6 h7 h8 h9 h10 h11 h12 = then o o11 o12 ((((((((((a ++ b) ++ c) ++ d) ++ e) ++ f) ++ g) ++ h) ++ i) ++ j) ++ k) l (joined_11 o o1 o2 o3 o4 o5 o6 o7 o8 o9 o10 o11 a b c d e f g h i j k h1 h2 h3 h4 h5 h6 h7 h8 h9 h10 h11) h12
+
+-- a text that was added to none
+pub from_none : (old new said : List ℕ) → new ≡ old ++ said → old ≡ [] → new ≡ said
+from_none old new said added none = added ∙ ap (λ (l : List ℕ). l ++ said) none

@@ -1,0 +1,6 @@
+pub mod TestLaws
+pub mod PlaceLaws
+pub mod JoinLaws
+pub mod OptionLaws
+pub mod TextLaws
+pub mod OrderLaws

@@ -1,2 +1,0 @@
-pub mod RangeLemmas
-pub mod HelpLemmas
