@@ -3,11 +3,11 @@
 # Satterthwaite with 3 and 3 and with 2 and 4, `strategyproof` with 2 and 4, a sentence that has its profiles innermost, and a study over
 # five ballots with absent voters: with one worker and with four, against two programs in plain Rust, built by `rustc -O`
 # (measure/masks.rs): `passes`, the same recursion twice over each instance, on one thread, and `masks`, with one worker and with four. These know
-# neither ballots nor absence. `measure/ground.sh PROGRAM` times an earlier bench beside them. All write the clauses as text, into a file;
-# the texts are compared, byte for byte. Each runs 3 times, and the shortest run counts. `writes` are the system calls by which the
-# text of the first study was written, where `strace` is installed: at most one for 4,096 bytes, and two.
-# The last lines are, of the first study, the speed-up by four workers, `before R` where an earlier program is given, the seconds of the
-# bench with one worker by that one's, and `ratio R`, the same by those of `masks` with one worker.
+# neither ballots nor absence. `measure/ground.sh PROGRAM` times an earlier bench beside them, with one worker and with four. All write the
+# clauses as text, into a file; the texts are compared, byte for byte. Each runs 3 times, and the shortest run counts. `writes` are the system
+# calls by which the text of the first study was written, where `strace` is installed: at most one for 4,096 bytes, and two.
+# The last lines are, of the first study, the speed-up by four workers; where an earlier program is given `before R` and `before of 4 R`, the
+# seconds of the bench with one worker and with four by that one's; and `ratio R`, those with one worker by those of `masks` with one.
 set -eu
 . "$(dirname -- "$(readlink -f -- "${BASH_SOURCE[0]}")")/setup.sh"
 build_program
@@ -48,6 +48,7 @@ def rows(path, is_plain):
     yield "4 workers", (program, "export", path, "--workers", "4")
     if before:
         yield "before", (before, "export", path, "--workers", "1")
+        yield "before of 4", (before, "export", path, "--workers", "4")
     if is_plain:
         yield "passes", (work + "/plain", "passes", "1", path)
         yield "masks", (work + "/plain", "masks", "1", path)
@@ -71,6 +72,8 @@ if shutil.which("strace"):
 else:
     print("writes are not counted: no strace")
 print("speed-up %.2f" % (first["1 worker"] / first["4 workers"]))
-if before: print("before %.2f" % (first["1 worker"] / first["before"]))
+if before:
+    print("before %.2f" % (first["1 worker"] / first["before"]))
+    print("before of 4 %.2f" % (first["4 workers"] / first["before of 4"]))
 print("ratio %.2f" % (first["1 worker"] / first["masks"]))
 PY

@@ -6,8 +6,9 @@
 # No command has more than 100,000; where one has more than the number that is given to the script, only every kth is tried, and its
 # line says so.
 # Commands that share work run with 2 workers too, over inputs for which threads are started; with 1 worker an allocation has the same
-# number at each run. The commands are those of the tests over failing devices (fault_tests.rt of crates/top_call and crates/explain_tests), and
-# others: larger studies, clauses that are refused, searches that spend their limit, and reports with open marks.
+# number at each run. The commands are all of both programs, most of them over what the tests over failing devices have (fault_tests.rt of
+# crates/top_call and crates/explain_tests), and over more: larger studies, studies of sets with their reports for `gain`, clauses that are
+# refused, searches that spend their limit, and reports with open marks.
 # What are tried are the programs that LLVM built, on the paths of these commands, where a call from its own code of malloc and the like is
 # refused (measure/refuse.c). What the C library and the loader ask for themselves, as for the stack of a thread, is always given; the
 # program's own piece for starting a thread is refused as any other. A system that gives memory and then lacks it is not tried, and
@@ -91,8 +92,8 @@ ballots = ["".join(letters) for letters in itertools.permutations("abcd")]
 rule = hold("rule.toml", head(2, 4, "unanimity pareto"))
 table = hold("rule.report", "bench report 1\nkind choice\nvoters 2\nalternatives 4\naxioms unanimity pareto\nverdict possible\nrule %d\n%send\n"
              % (len(ballots) ** 2, "".join("%s|%s %s\n" % (one, two, one[0]) for one, two in itertools.product(ballots, ballots))))
-unanimity, symmetric, liberal, arrow = (
-    "%s/%s.toml" % (studies, name) for name in ("unanimity", "anonymity_neutrality", "paretian_liberal", "arrow"))
+unanimity, symmetric, liberal, arrow, kelly = (
+    "%s/%s.toml" % (studies, name) for name in ("unanimity", "anonymity_neutrality", "paretian_liberal", "arrow", "kelly"))
 absent, empty = work + "/absent", hold("empty", "")
 story, marked, square = ("%s/%s" % (rows, name) for name in ("anonymity_neutrality.report", "paretian_liberal.report", "square.cnf"))
 
@@ -107,7 +108,8 @@ with multiprocessing.get_context("fork").Pool(os.cpu_count()) as pool:
     each(status=2)
     each("elect", unanimity, status=2)
     for words in (("check", unanimity, absent), ("check", absent, unanimity), ("decide", absent), ("export", absent), ("proof", absent),
-                  ("lrat", absent, unanimity), ("adopt", absent, unanimity), ("sharpen", absent)):
+                  ("lrat", absent, unanimity), ("adopt", absent, unanimity), ("gain", kelly, absent), ("gain", absent, unanimity),
+                  ("sharpen", absent)):
         each(*words, status=5)
     # No study: the second file is not opened.
     each("check", hold("cut.toml", "voters = 2"), story, status=3)
@@ -126,6 +128,11 @@ far = "some p: profile. (wins(@a, p) & wins(@b, with(p, #1, <bac>)))"
     each("check", rule, table, "--workers", "2")
     each("lrat", square, hold("square.lrat", "5 2 0 1 2 0\n6 0 5 3 4 0\n"))
     each("adopt", symmetric, hold("symmetric.lrat", "21 -3 0 9 17 6 0\n22 0 21 3 11 19 6 0\n"))
+    # Gains: none, one, and no rule; a report of another study, and a study of another kind, whose report is not opened.
+    for name in ("kelly", "manipulable", "kelly_resolute"):
+        each("gain", "%s/%s.toml" % (studies, name), "%s/%s.report" % (studies, name))
+    each("gain", kelly, "%s/kelly_resolute.report" % studies, status=1)
+    each("gain", unanimity, absent, status=3)
     # Searches that spend their limit: the one over all axioms, and one without an axiom, which then has an open mark.
     spent = hold("spent.toml", head(2, 3, "onto strategyproof non_dictatorship", "conflicts = 1\n"))
     each("decide", spent, status=4)

@@ -1,13 +1,16 @@
 #!/usr/bin/env python3
-"""Holds `bench export` against clauses that are made here, over studies drawn at random: measure/sentences.py PROGRAM [COUNT [SEED]].
+"""Holds `bench export` against clauses that are made here, over studies drawn at random:
+measure/sentences.py PROGRAM [COUNT [SEED]] [--before EARLIER].
 Each study has sentences of its own, drawn over all symbols of its kind, and often axioms of the library beside them; its kind, its numbers, its
 list of ballots and whether voters may be absent are drawn too. What a sentence says, its clauses, and which of these are refused, is written
 down below as docs/FORMATS.md has it, by plain recursion over the sentence; profiles, frames and the axioms of the library are those of
 encode.py. Nothing is shared with the program.
 
-`export` is run of each study with one worker and with three. The first difference is written with its study, and the last line says how many
-studies there were, how many of them were refused since an instance is too wide or the list is full, and how many differ. A study is the same
-at each run: it is drawn by SEED, a number, and its own number from 0.
+`export` is run of each study with one worker and with three. With EARLIER, a bench as it was before, that is run too, with one worker; and one
+study in thirty then has a sentence with 20,000 to 200,000 instances, too many for the clauses to be made here, so that the answers of the programs
+are held against each other alone. The first difference is written with its study, and the last line says how many studies there were, how many
+of them were refused since an instance is too wide or the list is full, and how many differ. A study is the same at each run: it is drawn by
+SEED, a number, and its own number from 0.
 """
 import functools
 import itertools
@@ -37,6 +40,8 @@ SORT_OF = {name: sort for sort, names in NAMES.items() for name in names}
 WIDEST = 100_000, 4_000_000
 FULLEST = 4_000_000, 60_000_000
 LARGEST = 2**64 - 1
+# How many instances a study has whose clauses are not made here, how many atoms a body of it, and how many clauses and literals are expected.
+MANY, MANY_ATOMS, MANY_COUNTS = (20_000, 200_000), 60, (500_000, 4_000_000)
 
 
 class Study(encode.Study):
@@ -275,6 +280,7 @@ def text_of(rng, sentence, s):
 
 # The leading universals by the first name of each sort: profiles outermost and innermost, twice, behind an alternative, and not at all.
 PREFIXES = "p px px pxy pxy pix pixy pib pibx pibxy pq pqx pqxy pp xp xyp ip ixp ibp bxp ixyp xpq ipq bp i x b xy ixb".split() + ["", ""]
+MANY_PREFIXES = "pq pqx pqxy pqi pqix pqb pqxb pqixy xpq xpyq ipxq xypq bpq pqr pbqx pixyb pibxy".split()
 
 
 class Drawing:
@@ -331,15 +337,35 @@ class Drawing:
     def sentence(self):
         """A sentence that is gone over soon enough, and mostly not too soon."""
         for least in [self.rng.choice([0, 100, 1_000, 4_000])] * 40 + [0] * 1_000:
-            scope, prefix = {}, []
-            for letter in self.rng.choice(PREFIXES):
-                sort = SORT_OF[letter]
-                prefix.append((self.name(sort, scope), sort))
-                scope[prefix[-1][0]] = sort
-            sentence = self.formula(self.rng.choice([1, 2, 3, 3, 4, 5]), scope)
-            for name, sort in reversed(prefix):
-                sentence = "all", name, sort, sentence
+            sentence = self.prefixed(self.rng.choice(PREFIXES))
             if least <= self.size(sentence) <= 40_000 and quantifiers(sentence) <= 12:
+                return sentence
+        raise Dear
+
+    def prefixed(self, letters):
+        """A sentence behind universals of the sorts of these letters."""
+        scope, prefix = {}, []
+        for letter in letters:
+            sort = SORT_OF[letter]
+            prefix.append((self.name(sort, scope), sort))
+            scope[prefix[-1][0]] = sort
+        sentence = self.formula(self.rng.choice([1, 2, 3, 3, 4, 5]), scope)
+        for name, sort in reversed(prefix):
+            sentence = "all", name, sort, sentence
+        return sentence
+
+    def sentence_of_many(self):
+        """A sentence with many instances, of which not all are true whatever the rule and whose clauses are not too many, as some of them tell."""
+        for _ in range(40):
+            sentence = self.prefixed(self.rng.choice(MANY_PREFIXES))
+            names, sorts, body = leading(sentence)
+            count = math.prod(len(self.s.values[sort]) for sort in sorts)
+            if not MANY[0] <= count <= MANY[1] or self.size(body) > MANY_ATOMS or quantifiers(sentence) > 12:
+                continue
+            said, some = written(self.s, body, names), (0, 0)
+            for _ in range(40):
+                some = added(some, counts(said(tuple(self.rng.choice(self.s.values[sort]) for sort in sorts)))[0])
+            if some[0] and not passes([number * count // 40 for number in some], MANY_COUNTS):
                 return sentence
         raise Dear
 
@@ -483,6 +509,17 @@ def answered(rng):
             return text, status, answer
 
 
+def drawn_many(rng):
+    """A study with a sentence that has many instances, for the programs alone."""
+    while True:
+        head = "".join(head_of(rng))
+        s = Study(with_axioms(head, []))
+        try:
+            return text_with(rng, s, head, ["own_0"], {"own_0": Drawing(rng, s).sentence_of_many()})
+        except Dear:
+            continue
+
+
 def run(program, text, workers):
     with tempfile.NamedTemporaryFile("w", suffix=".toml") as file:
         file.write(text)
@@ -503,17 +540,24 @@ def first_difference(wanted, found):
             return
 
 
-def main(program, count="1000", seed="1"):
+def main(program, count="1000", seed="1", *, before=None):
     refused, differ = 0, 0
     for number in range(int(count)):
-        text, *wanted = answered(random.Random(f"{seed} {number}"))
+        rng, asked = random.Random(f"{seed} {number}"), [(program, 1), (program, 3)]
+        if before:
+            asked.append((before, 1))
+        if before and number % 30 == 29:
+            text, asked = drawn_many(rng), asked[1:]
+            wanted = run(program, text, 1)
+        else:
+            text, *wanted = answered(rng)
         refused += wanted[0] == 3
-        for workers in (1, 3):
-            found = run(program, text, workers)
+        for path, workers in asked:
+            found = run(path, text, workers)
             if found == tuple(wanted):
                 continue
             if not differ:
-                print(f"study {number} of seed {seed} with {workers} workers:\n{text}", *first_difference(wanted, found), sep="\n")
+                print(f"study {number} of seed {seed}, {path} with {workers} workers:\n{text}", *first_difference(wanted, found), sep="\n")
             differ += 1
             break
     print(f"studies {count}, refused {refused}, differences {differ}")
@@ -521,7 +565,12 @@ def main(program, count="1000", seed="1"):
 
 
 if __name__ == "__main__":
-    if len(sys.argv) not in (2, 3, 4):
+    words, earlier = sys.argv[1:], None
+    if "--before" in words[:-1]:
+        place = words.index("--before")
+        earlier = words[place + 1]
+        del words[place : place + 2]
+    if len(words) not in (1, 2, 3):
         sys.exit(__doc__)
     sys.setrecursionlimit(100_000)
-    main(*sys.argv[1:])
+    main(*words, before=earlier)

@@ -16,8 +16,9 @@ error; it ends within 20 seconds of a processor; what it writes has its form. An
 - `lrat` says what looks.py says of the same clauses and proof, and `adopt` refuses what `lrat` refuses, with the same line.
 - `gain` finds the gain that looks.py finds; `story` writes a page, which is closed in order, exactly where `check` confirms; `instance` and `study`
   write what judge.py has of them, and `study` the furthest place of a sentence without a reading that refusals.py finds.
-- Rules that are listed rise, and each that is tried passes `check` as a report; a map of cores agrees with `decide`. Where a study has at most
-  300 rules, judge.py goes through all of them: the verdict, the list and the map are those that it finds.
+- Rules that are listed rise, and each that is tried passes `check` as a report; a map of cores agrees with `decide` over the study, and over one of
+  its sets alone, whose report passes `check`. Where a study has at most 300 rules, judge.py goes through all of them: the verdict, the list
+  and the map are those that it finds.
 
 With `--only COMMAND` that command alone is run; with `--only check` the studies stay as they are, and only reports are changed.
 A run is the same each time: it is drawn by its seed and its number (`--seed S --from K --runs 1`). A run with a fault is kept under FOLDER, which
@@ -28,6 +29,7 @@ the status is 1 where M is not 0. An interrupt ends the runs, and these lines ar
 import argparse
 import collections
 import glob
+import json
 import os
 import random
 import re
@@ -609,6 +611,40 @@ class Run:
             for one in sets["impossible"]:
                 want(not set(one) < set(core) or b"without" not in out or b" open " in out, "a core of decide has a smaller impossible set")
             want(not any(set(core) <= set(one) for one in sets["possible"]), "a core of decide lies within a possible set")
+        drawn = [(word, names) for word, named in sets.items() for names in named]
+        if drawn:
+            self.alone(size, *self.draw.rng.choice(drawn), bool(sets["open"] or more))
+
+    def alone(self, size, word, names, unsure):
+        """A set of a map as a study of its own: what decide finds is what the map says, and its report passes check."""
+        text = self.with_axioms(size, names)
+        if text is None:
+            return
+        self.programs.hold("alone.toml", text)
+        status, out, _ = self.programs.ask("bench", "decide", "alone.toml")
+        told = looks.Told(out.decode("ascii"))
+        want((status == 4) == (told.verdict == "undecided") and status in (0, 4), f"status {status} of a report {told.verdict} over {names}")
+        self.programs.hold("answer", out)
+        line = f"refused line {told.line}: undecided\n" if status == 4 else f"confirmed {told.verdict}\n"
+        found = self.house.check("alone.toml", "answer")
+        want(found == (1 if status == 4 else 0, line.encode()), f"check says {found[1]!r} of what decide writes over {names}")
+        if word != "open":
+            want(told.verdict in (word, "undecided"), f"decide finds {names} {told.verdict}, and the map {word}")
+        if told.verdict == "impossible":
+            want(unsure or told.core == names, f"the map has {names}, of which decide finds the part {told.core}")
+
+    def with_axioms(self, size, names):
+        """The study of the same size with these of its axioms alone; None where the study can't be read here."""
+        try:
+            keys = refusals.tomllib.loads(refusals.decoded(self.draw.files["study.toml"]))
+        except (AttributeError, ValueError, RecursionError):
+            return None
+        own = {name: text for name, text in keys.get("sentences", {}).items() if name in names}
+        lines = [f'kind = "{size.kind}"', f"voters = {size.voters}", f"alternatives = {len(size.letters)}"]
+        if size.second:
+            lines += [f"ballots = {json.dumps(size.ballots)}", f"absent = {json.dumps(size.absent)}"]
+        lines += [f"conflicts = {keys.get('conflicts', 100_000)}", f"axioms = {json.dumps(names)}", "[sentences]" if own else ""]
+        return "\n".join([*lines, *(f"{name} = {json.dumps(text)}" for name, text in own.items()), ""]).encode()
 
     def study(self):
         lines = self.text().split("\n")
