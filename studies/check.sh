@@ -84,6 +84,17 @@ printf '%s\n' 'kind = "choice"' 'voters = 1' 'alternatives = 5' 'axioms = ["pare
 } >"$work/left.report"
 "$explain" story "$work/left.toml" "$work/left.report" >"$work/written" || fault "explain gives the story of two winners no page"
 [ "$(grep -c '<li>.*by what is left' "$work/written")" -eq 2 ] || fault "explain says of two profiles at once what other facts leave at each"
+grep -qF 'Without <i>same</i> it is not known whether some rule satisfies the others: the search gave up after 100000 conflicts.' "$work/written" ||
+    fault "explain does not say of an open mark that nothing is known"
+
+# Where nothing is left at a profile, a fact of another one follows, which `check` confirms: "there" would be that other one.
+sed 's/^clash/so a@abc|abc by outcome cab|bca\nclash/' "$root/studies/paretian_liberal.report" >"$work/elsewhere.report"
+"$explain" story "$root/studies/paretian_liberal.toml" "$work/elsewhere.report" >"$work/written" ||
+    fault "explain gives a fact of another profile than that where nothing is left no page"
+grep -q '<b>c</b> does not win at <code>cab·bca</code></div></div>, by what is left: <div><b>a</b> wins at <code>abc·abc</code>' "$work/written" ||
+    fault "explain does not say at which profile nothing is left where a fact of another one follows"
+grep -qF '<b>c</b> does not win</div> there</div>, nothing is left at <code>cab·bca</code>' "$work/written" ||
+    fault "explain does not say that nothing is left by claims there"
 
 lists() { # ENDING AXIOMS: which ending the list of the rules of two voters over three alternatives has
     printf '%s\n' 'kind = "ranking"' 'voters = 2' 'alternatives = 3' "axioms = [$2]" >"$work/listed.toml"

@@ -19,7 +19,7 @@ choice_words name =
     if bytes_eq name (codes "pareto") then codes ": where every voter ranks x above y, y does not win." else (
     if bytes_eq name (codes "onto") then codes ": each alternative wins at some profile." else (
     if bytes_eq name (codes "non_dictatorship") then codes ": for each voter there is a profile at which an alternative wins that this voter ranks below another." else (
-    if bytes_eq name (codes "strategyproof") then codes ": no voter, by casting another ballot at a profile, makes an alternative win that this voter's ballot there ranks above the winner there." else (
+    if bytes_eq name (codes "strategyproof") then codes ": no voter, by casting any ballot at a profile, makes an alternative win that this voter's ballot there ranks above the winner there." else (
     if bytes_eq name (codes "maskin") then codes ": if x wins at p, and at q each voter still ranks x above whatever this voter ranked below x at p, then x wins at q." else (
     if bytes_eq name (codes "condorcet") then codes ": an alternative wins that more voters rank above than below each other one." else (
     if bytes_eq name (codes "anonymity") then codes ": if two voters exchange their ballots, the same alternative wins." else (
@@ -45,7 +45,7 @@ set_words name =
     if bytes_eq name (codes "neutrality") then codes ": if two alternatives are exchanged in all ballots, they are exchanged in the set." else (
     if bytes_eq name (codes "condorcet") then codes ": an alternative that more voters rank above than below each other one is the whole set." else (
     if bytes_eq name (codes "resolute") then codes ": no two alternatives are in the set." else (
-    if bytes_eq name (codes "strategyproof") then codes ": no voter, by casting another ballot at a profile, gets another set in which each alternative is as good, by this voter's ballot there, as each alternative of the set there." else (
+    if bytes_eq name (codes "strategyproof") then codes ": no voter, by casting any ballot at a profile, gets another set in which each alternative is as good, by this voter's ballot there, as each alternative of the set there." else (
     []))))))
 
 -- the words of an axiom of the library of a kind; an axiom of the study's own has none

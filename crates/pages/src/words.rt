@@ -39,7 +39,7 @@ fn choice_words(name: &[u8]) -> &'static [u8]
         return b": for each voter there is a profile at which an alternative wins that this voter ranks below another.";
     }
     if name == b"strategyproof".as_slice() {
-        return b": no voter, by casting another ballot at a profile, makes an alternative win that this voter's ballot there ranks above the winner there.";
+        return b": no voter, by casting any ballot at a profile, makes an alternative win that this voter's ballot there ranks above the winner there.";
     }
     if name == b"maskin".as_slice() {
         return b": if x wins at p, and at q each voter still ranks x above whatever this voter ranked below x at p, then x wins at q.";
@@ -103,7 +103,7 @@ fn set_words(name: &[u8]) -> &'static [u8]
         return b": no two alternatives are in the set.";
     }
     if name == b"strategyproof".as_slice() {
-        return b": no voter, by casting another ballot at a profile, gets another set in which each alternative is as good, by this voter's ballot there, as each alternative of the set there.";
+        return b": no voter, by casting any ballot at a profile, gets another set in which each alternative is as good, by this voter's ballot there, as each alternative of the set there.";
     }
     b""
 }

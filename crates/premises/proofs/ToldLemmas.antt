@@ -88,7 +88,7 @@ stays p (Wins x q) h = ap (λ (i : ℕ). Wins x i) (sym (eqb-true q p h))
 stays p (Loses x q) h = ap (λ (i : ℕ). Loses x i) (sym (eqb-true q p h))
 stays p (Above x y q) h = ap (λ (i : ℕ). Above x y i) (sym (eqb-true q p h))
 
-stand_of : (reason : Reason) (rests : List Literal) → are_there reason rests ≡ true → stand_there rests reason ≡ true
+pub stand_of : (reason : Reason) (rests : List Literal) → are_there reason rests ≡ true → stand_there rests reason ≡ true
 stand_of (ByAxiom k values) rests h = refl
 stand_of (ByOutcome p) rests h =
     all_both (λ (l : Literal). profile_of l == p) (has rests) (λ (l : Literal). has rests (moved_to p l)) (λ l here known. subst (λ (q : Literal). has rests q ≡ true) (sym (stays p l here)) known) rests h (has_itself rests)

@@ -77,8 +77,9 @@ module _ (size : Extent) (axioms : List Titled) (story : List Lemma) (told : Sto
   abbrev forced : List Placed
   forced = told.forced.steps
 
-  written_in : (lemma : Lemma) (telling : Telling) (one two : List ℕ) → IsLemmaWritten size axioms forced lemma telling one → StandsIn one two → IsLemmaWritten size axioms forced lemma telling two
-  written_in lemma telling one two w s = record {
+  written_in : (j : ℕ) (lemma : Lemma) (telling : Telling) (one two : List ℕ) → IsLemmaWritten size axioms forced j lemma telling one → StandsIn one two → IsLemmaWritten size axioms forced j lemma telling two
+  written_in j lemma telling one two w s = record {
+    claimed = λ some. within (claimed_html size (j + 1) lemma.suppose) one two (w.claimed some) s;
     supposed = within (suppose_html size lemma.suppose) one two w.supposed s;
     sentences = λ k lt. within (sentence_at size axioms telling.passage k) one two (w.sentences k lt) s;
     ending = within (end_html size axioms lemma.last telling.end) one two w.ending s;
@@ -98,13 +99,16 @@ module _ (size : Extent) (axioms : List Titled) (story : List Lemma) (told : Sto
     abbrev supposed : List ℕ
     supposed = suppose_html size lemma.suppose
 
+    abbrev claimed_text : List ℕ
+    claimed_text = claimed_html size (j + 1) lemma.suppose
+
     -- ---- within another lemma
 
     abbrev body : List ℕ
     body = inner_body size axioms lemma telling
 
     abbrev claim : List ℕ
-    claim = codes "<div class=c>" ++ columns_of size lemma.suppose ++ codes "<b>" ++ claimed_html size (j + 1) lemma.suppose ++ codes ".</b>\n"
+    claim = codes "<div class=c>" ++ columns_of size lemma.suppose ++ codes "<b>" ++ claimed_text ++ codes ".</b>\n"
 
     abbrev head : List ℕ
     head = claim ++ supposed
@@ -121,8 +125,14 @@ module _ (size : Extent) (axioms : List Titled) (story : List Lemma) (told : Sto
         (in_front (sentence k) (codes "<ol>\n" ++ items ++ codes "</ol>\n<div class=e>") last
         (in_front (sentence k) (codes "<ol>\n" ++ items) (codes "</ol>\n<div class=e>") (behind (sentence k) (codes "<ol>\n") items (in_items size axioms telling.passage k lt))))
 
-    inner_written : IsLemmaWritten size axioms forced lemma telling (inner_html size axioms forced (j + 1) lemma telling)
+    inner_written : IsLemmaWritten size axioms forced j lemma telling (inner_html size axioms forced (j + 1) lemma telling)
     inner_written = record {
+      claimed = λ some.
+          in_front claimed_text (head ++ body ++ table) (codes "</div>\n")
+          (in_front claimed_text (head ++ body) table
+          (in_front claimed_text head body
+          (in_front claimed_text claim supposed
+          (between claimed_text (codes "<div class=c>" ++ columns_of size lemma.suppose ++ codes "<b>") claimed_text (codes ".</b>\n") (whole claimed_text)))));
       supposed = in_front supposed (head ++ body ++ table) (codes "</div>\n")
           (in_front supposed (head ++ body) table (between supposed claim supposed body (whole supposed)));
       sentences = λ k lt. within (sentence k) body (inner_html size axioms forced (j + 1) lemma telling) (in_body k lt) body_in;
@@ -136,8 +146,11 @@ module _ (size : Extent) (axioms : List Titled) (story : List Lemma) (told : Sto
     abbrev outer : List ℕ
     outer = outer_body size axioms story told j lemma telling
 
+    abbrev headline : List ℕ
+    headline = title_html size (j + 1) lemma.suppose
+
     abbrev title : List ℕ
-    title = codes "<section>\n<h3>" ++ title_html size (j + 1) lemma.suppose ++ codes "</h3>\n" ++ columns_of size lemma.suppose
+    title = codes "<section>\n<h3>" ++ headline ++ codes "</h3>\n" ++ columns_of size lemma.suppose
 
     abbrev front : List ℕ
     front = title ++ supposed
@@ -165,8 +178,21 @@ module _ (size : Extent) (axioms : List Titled) (story : List Lemma) (told : Sto
     abbrev held_first : ℕ → List ℕ
     held_first k = flat_map (held_in size axioms story told j k) telling.passage.steps
 
-    outer_written : IsLemmaWritten size axioms forced lemma telling (outer_html size axioms story told j lemma telling)
+    claimed_in_front : 0 < length lemma.suppose → StandsIn claimed_text title
+    claimed_in_front some =
+        in_front claimed_text (codes "<section>\n<h3>" ++ headline ++ codes "</h3>\n") (columns_of size lemma.suppose)
+        (between claimed_text (codes "<section>\n<h3>") headline (codes "</h3>\n") (subst (λ t. StandsIn claimed_text t) (sym here) (whole claimed_text)))
+      where
+        here : headline ≡ claimed_text
+        here = rw (is_some (length lemma.suppose) some) refl
+
+    outer_written : IsLemmaWritten size axioms forced j lemma telling (outer_html size axioms story told j lemma telling)
     outer_written = record {
+      claimed = λ some.
+          in_front claimed_text (front ++ outer ++ table) (codes "</section>\n")
+          (in_front claimed_text (front ++ outer) table
+          (in_front claimed_text front outer
+          (in_front claimed_text title supposed (claimed_in_front some))));
       supposed = in_front supposed (front ++ outer ++ table) (codes "</section>\n")
           (in_front supposed (front ++ outer) table (between supposed title supposed outer (whole supposed)));
       sentences = λ k lt. within (sentence k) outer (outer_html size axioms story told j lemma telling)
@@ -251,7 +277,7 @@ module _ (size : Extent) (axioms : List Titled) (story : List Lemma) (told : Sto
             fewer = rw e at more
 
     written : (j : ℕ) (lemma : Lemma) (telling : Telling) → slice_get story j ≡ Some lemma → slice_get told.lemmas j ≡ Some telling →
-        IsLemmaWritten size axioms forced lemma telling page
+        IsLemmaWritten size axioms forced j lemma telling page
     written j lemma telling a b = cases (home_of told.homes j) refl
       where
         outer_is : (m : ℕ) (l : Lemma) (t : Telling) → slice_get story m ≡ Some l → slice_get told.lemmas m ≡ Some t →
@@ -266,7 +292,7 @@ module _ (size : Extent) (axioms : List Titled) (story : List Lemma) (told : Sto
         alone_written m l t c d e = subst (λ text. StandsIn text page) (outer_is m l t c d) (alone_in m (slice_get_within story m l c) e)
 
         held_written : (h : ℕ) → home_of told.homes j ≡ Some h → (l : Option Lemma) (t : Option Telling) → slice_get story h ≡ l → slice_get told.lemmas h ≡ t →
-            takes_in told.homes h j l t ≡ true → IsLemmaWritten size axioms forced lemma telling page
+            takes_in told.homes h j l t ≡ true → IsLemmaWritten size axioms forced j lemma telling page
         held_written h e None t c d taken = absurd (true≢false (sym taken))
         held_written h e (Some l) None c d taken = absurd (true≢false (sym taken))
         held_written h e (Some l) (Some t) c d taken =
@@ -274,12 +300,12 @@ module _ (size : Extent) (axioms : List Titled) (story : List Lemma) (told : Sto
             let once : mentions j l t ≡ 1 = eqb-true (mentions j l t) 1 q.1 in
             let alone = (and_parts (nat_lt j h) (is_alone (home_of told.homes h)) q.0).1 in
             let by_home = within (outer_body size axioms story told h l t) (outer_html size axioms story told h l t) page (outer_in h l t) (alone_written h l t c d alone) in
-            written_in lemma telling (inner_html size axioms forced (j + 1) lemma telling) page (inner_written j lemma telling)
+            written_in j lemma telling (inner_html size axioms forced (j + 1) lemma telling) page (inner_written j lemma telling)
             (subst (λ text. StandsIn text page) inner_is
             (within (inner_at size axioms story told j) (outer_body size axioms story told h l t) page (taken_in h j l t e c d (omega (arith, once))) by_home))
 
-        cases : (o : Option ℕ) → home_of told.homes j ≡ o → IsLemmaWritten size axioms forced lemma telling page
-        cases None e = written_in lemma telling (outer_html size axioms story told j lemma telling) page (outer_written j lemma telling) (alone_written j lemma telling a b (ap is_alone e))
+        cases : (o : Option ℕ) → home_of told.homes j ≡ o → IsLemmaWritten size axioms forced j lemma telling page
+        cases None e = written_in j lemma telling (outer_html size axioms story told j lemma telling) page (outer_written j lemma telling) (alone_written j lemma telling a b (ap is_alone e))
         cases (Some h) e = held_written h e (slice_get story h) (slice_get told.lemmas h) refl refl (right.placed.within j h e)
 
 pub stand : LemmasStand

@@ -1,5 +1,5 @@
 -- The ends of lemmas: what they are against.
-use Rattle.std.specs.Prelude.{ℕ, ◌+◌, ◌==◌, List, [], ◌∷◌, ◌++◌, codes, length, slice_get, slice_index, Option, Some, None, if◌then◌else◌}
+use Rattle.std.specs.Prelude.{ℕ, ◌+◌, ◌==◌, Bool, true, false, List, [], ◌∷◌, ◌++◌, codes, length, slice_get, slice_index, Option, Some, None, if◌then◌else◌}
 use Rattle.std.specs.Fmt.{decimal}
 use Rattle.std.specs.List.{flat_map}
 use Rattle.vocab.specs.declared.kinds.Sort.{Sort}
@@ -11,7 +11,6 @@ use Rattle.vocab.specs.Size.{Extent}
 use Rattle.vocab.specs.Titled.{Titled}
 use Rattle.meaning.specs.declared.stories.Reason.{Reason}
 use Rattle.meaning.specs.declared.stories.Reason.TheVariants.{Axiom as ByAxiom, Outcome as ByOutcome, Lemma as ByLemma}
-use Rattle.tellings.specs.Tellings.{by_of}
 use Rattle.html.specs.Facts.{alternative_html, ballot_html, profile_html}
 use Rattle.story_pages.specs.Sentences.{axiom_html, since_html}
 
@@ -21,6 +20,12 @@ mark_html level = if level == 0 then codes " for " else codes ", "
 
 abbrev pub voter_label : ℕ → List ℕ
 voter_label i = codes "voter " ++ decimal (i + 1)
+
+-- the reason is what is left at a profile
+abbrev pub is_left : Reason → Bool
+is_left (ByAxiom k values) = false
+is_left (ByOutcome p) = true
+is_left (ByLemma j) = false
 
 -- an earlier claim that is contradicted
 abbrev pub against_claim : ℕ → List ℕ
@@ -70,6 +75,6 @@ module _ (size : Extent) where
   reason_html axioms (ByOutcome p) = nothing_left p
   reason_html axioms (ByLemma j) = against_claim j
 
-  -- what it rests on, and the last reason
+  -- what it rests on, and the last reason; where nothing is left at a profile, the claims are made there (`end_there` of `IsTellingRight`)
   abbrev pub end_html : List Titled → Reason → List Literal → List ℕ
-  end_html axioms last rests = since_html size (by_of last) rests ++ reason_html axioms last
+  end_html axioms last rests = since_html size (is_left last) rests ++ reason_html axioms last

@@ -1,5 +1,5 @@
 -- What holds of a story on a page. Each is the contract of a function of the same name in src/laws.rt.
-use Rattle.std.specs.Prelude.{◌≡◌, ℕ, ◌<◌, List, ◌++◌, IsTrue, length, slice_get, Some}
+use Rattle.std.specs.Prelude.{◌≡◌, ℕ, ◌+◌, ◌<◌, Bool, true, false, List, ◌++◌, IsTrue, length, slice_get, Some}
 use Rattle.vocab.specs.declared.literals.Literal.{Literal}
 use Rattle.vocab.specs.Literal.{profile_of}
 use Rattle.vocab.specs.Size.{Extent}
@@ -7,7 +7,8 @@ use Rattle.vocab.specs.Titled.{Titled}
 use Rattle.meaning.specs.Literals.{is_literal}
 use Rattle.meaning.specs.declared.stories.Lemma.{Lemma}
 use Rattle.meaning.specs.declared.stories.Reason.{Reason}
-use Rattle.tellings.specs.Tellings.{by_of, IsStoryTold}
+use Rattle.meaning.specs.declared.stories.Reason.TheVariants.{Outcome as ByOutcome}
+use Rattle.tellings.specs.Tellings.{are_said, stand_there, IsStoryTold}
 use Rattle.tellings.specs.declared.tellings.By.{By}
 use Rattle.tellings.specs.declared.tellings.By.TheVariants.{Axiom, Outcome, Lemma as Earlier}
 use Rattle.tellings.specs.declared.tellings.Sentence.{Sentence}
@@ -16,11 +17,11 @@ use Rattle.tellings.specs.declared.tellings.Passage.{Passage}
 use Rattle.tellings.specs.declared.tellings.Telling.{Telling}
 use Rattle.tellings.specs.declared.tellings.StoryTelling.{StoryTelling}
 use Rattle.story_pages.specs.Claims.{some_html, at_html, said_html}
-use Rattle.story_pages.specs.Ends.{end_html}
+use Rattle.story_pages.specs.Ends.{is_left, end_html}
 use Rattle.story_pages.specs.Homes.{story_html}
 use Rattle.story_pages.specs.Known.{grey_mark, numbered_mark, known_html}
-use Rattle.story_pages.specs.Lemmas.{suppose_html, table_html}
-use Rattle.story_pages.specs.Sentences.{given_html, sentence_at}
+use Rattle.story_pages.specs.Lemmas.{claimed_html, suppose_html, table_html}
+use Rattle.story_pages.specs.Sentences.{says_there, since_html, given_html, by_html, sentence_at}
 
 -- a text stands in another
 pub record StandsIn (part whole : List ℕ) : Type 0 where
@@ -36,11 +37,10 @@ pub record IsFactSaid (size : Extent) (fact : Literal) (text : List ℕ) : Type 
   pub profile : StandsIn (at_html size count fact) profiles
 
 module _ (size : Extent) where
-  -- a fact that is rested on is said; by what is left its claim alone, at the profiles of what is stated
-  abbrev pub IsNamed : By → Literal → List ℕ → Type 0
-  IsNamed (Axiom k) fact text = IsFactSaid size fact text
-  IsNamed Outcome fact text = StandsIn (said_html size fact) text
-  IsNamed Earlier fact text = IsFactSaid size fact text
+  -- a fact that is rested on is said; its claim alone, where the claims are made "there"
+  abbrev pub IsNamed : Bool → Literal → List ℕ → Type 0
+  IsNamed true fact text = StandsIn (said_html size fact) text
+  IsNamed false fact text = IsFactSaid size fact text
 
   -- the fact of a step is said; by an earlier claim with the claim's number
   abbrev pub IsStated : By → Placed → List ℕ → Type 0
@@ -48,28 +48,37 @@ module _ (size : Extent) where
   IsStated Outcome placed text = IsFactSaid size placed.step.literal text
   IsStated Earlier placed text = StandsIn (given_html size placed) text
 
--- each sentence names each fact that it rests on, however many these are
+  -- what stands behind "since" names each fact that is rested on, however many these are
+  abbrev pub NamesFacts : Bool → List Literal → Type 0
+  NamesFacts there rests = (k : ℕ) (fact : Literal) → slice_get rests k ≡ Some fact →
+      IsTrue (is_literal size fact) → IsNamed there fact (since_html size there rests)
+
+-- each sentence names in front what it rests on (`sentence_html` is `since_html`, and then `by_html`)
 abbrev pub SentencesNameFacts : Type 0
-SentencesNameFacts =
-    (size : Extent) (axioms : List Titled) (passage : Passage) (number k : ℕ) (sentence : Sentence)
-    (fact : Literal) → slice_get passage.sentences number ≡ Some sentence →
-    slice_get sentence.rests k ≡ Some fact → IsTrue (is_literal size fact) →
-    IsNamed size sentence.by fact (sentence_at size axioms passage number)
+SentencesNameFacts = (size : Extent) (steps : List Placed) (number : ℕ) (sentence : Sentence) →
+    NamesFacts size (says_there sentence.by steps number) sentence.rests
 
--- the end of a lemma names each fact that its last reason rests on
+-- where a sentence that is told right says claims "there", each claim that it rests on stands among the facts
+-- that it rests on of the profile of each fact that it states
+abbrev pub ClaimsStandThere : Type 0
+ClaimsStandThere =
+    (size : Extent) (axioms : List Titled) (core : List ℕ) (earlier : List Lemma) (passage : Passage) (k : ℕ)
+    (placed : Placed) (sentence : Sentence) → slice_get passage.steps k ≡ Some placed →
+    slice_get passage.sentences placed.sentence ≡ Some sentence →
+    IsTrue (are_said size axioms core earlier passage) →
+    IsTrue (says_there sentence.by passage.steps placed.sentence) →
+    IsTrue (stand_there sentence.rests (ByOutcome (profile_of placed.step.literal)))
+
+-- the end of a lemma names in front what its last reason rests on
 abbrev pub EndsNameFacts : Type 0
-EndsNameFacts =
-    (size : Extent) (axioms : List Titled) (last : Reason) (rests : List Literal) (k : ℕ) (fact : Literal) →
-    slice_get rests k ≡ Some fact → IsTrue (is_literal size fact) →
-    IsNamed size (by_of last) fact (end_html size axioms last rests)
+EndsNameFacts = (size : Extent) (last : Reason) (rests : List Literal) → NamesFacts size (is_left last) rests
 
--- each step is stated by its sentence
+-- each step is stated by its sentence, behind that
 abbrev pub SentencesStateFacts : Type 0
 SentencesStateFacts =
-    (size : Extent) (axioms : List Titled) (passage : Passage) (k : ℕ) (placed : Placed)
-    (sentence : Sentence) → slice_get passage.steps k ≡ Some placed →
-    slice_get passage.sentences placed.sentence ≡ Some sentence → IsTrue (is_literal size placed.step.literal) →
-    IsStated size sentence.by placed (sentence_at size axioms passage placed.sentence)
+    (size : Extent) (axioms : List Titled) (steps : List Placed) (by : By) (k : ℕ) (placed : Placed) →
+    slice_get steps k ≡ Some placed → IsTrue (is_literal size placed.step.literal) →
+    IsStated size by placed (by_html size axioms steps placed.sentence by)
 
 -- the cell of a profile has what is supposed, forced and stated there
 pub record HasKnown (suppose : List Literal) (forced steps : List Placed) : Type 0 where
@@ -90,9 +99,11 @@ ForcedFactsStand =
     k < length told.forced.sentences →
     StandsIn (sentence_at size axioms told.forced k) (story_html size axioms story told)
 
--- all that is told of a lemma stands in a text: what it supposes, its sentences, what it is against, its table
-pub record IsLemmaWritten (size : Extent) (axioms : List Titled) (forced : List Placed) (lemma : Lemma)
+-- all that is told of the lemma at a place stands in a text: where it supposes something, its claim with its
+-- number; what it supposes, its sentences, what it is against, its table
+pub record IsLemmaWritten (size : Extent) (axioms : List Titled) (forced : List Placed) (j : ℕ) (lemma : Lemma)
     (telling : Telling) (text : List ℕ) : Type 0 where
+  pub claimed : 0 < length lemma.suppose → StandsIn (claimed_html size (j + 1) lemma.suppose) text
   pub supposed : StandsIn (suppose_html size lemma.suppose) text
   pub sentences : (k : ℕ) → k < length telling.passage.sentences →
       StandsIn (sentence_at size axioms telling.passage k) text
@@ -105,4 +116,4 @@ LemmasStand =
     (size : Extent) (axioms : List Titled) (core : List ℕ) (story : List Lemma) (told : StoryTelling) →
     IsStoryTold size axioms core story told → (j : ℕ) (lemma : Lemma) (telling : Telling) →
     slice_get story j ≡ Some lemma → slice_get told.lemmas j ≡ Some telling →
-    IsLemmaWritten size axioms told.forced.steps lemma telling (story_html size axioms story told)
+    IsLemmaWritten size axioms told.forced.steps j lemma telling (story_html size axioms story told)

@@ -1,8 +1,9 @@
 -- Sentences: what each rests on, its reason, and what it states.
-use Rattle.std.specs.Prelude.{ℕ, ◌+◌, nat_lt, ◌==◌, List, [], ◌++◌, codes, length, slice_get, Option, Some, None, if◌then◌else◌}
+use Rattle.std.specs.Prelude.{ℕ, ◌+◌, nat_lt, ◌==◌, Bool, true, false, List, [], ◌++◌, codes, length, slice_get, Option, Some, None, if◌then◌else◌}
 use Rattle.std.specs.Fmt.{decimal}
-use Rattle.std.specs.List.{flat_map}
+use Rattle.std.specs.List.{flat_map, list_all}
 use Rattle.vocab.specs.declared.literals.Literal.{Literal}
+use Rattle.vocab.specs.Literal.{profile_of}
 use Rattle.vocab.specs.Range.{below}
 use Rattle.vocab.specs.Size.{Extent}
 use Rattle.vocab.specs.Titled.{Titled}
@@ -38,8 +39,24 @@ cited_html (ByAxiom k values) = []
 cited_html (ByOutcome p) = []
 cited_html (ByLemma j) = claim_number_html j
 
+-- the reason is what is left at the profile
+abbrev pub is_left_at : ℕ → Reason → Bool
+is_left_at p (ByAxiom k values) = false
+is_left_at p (ByOutcome q) = p == q
+is_left_at p (ByLemma j) = false
+
+-- what the sentence of a number states by this step is a fact of the profile at which the step's reason is what is left
+abbrev pub is_there : ℕ → Placed → Bool
+is_there number placed = if placed.sentence == number then is_left_at (profile_of placed.step.literal) placed.step.reason else true
+
+-- the sentence of a number rests on the same claims at each profile of what it states (`ClaimsStandThere` says why)
+abbrev pub says_there : By → List Placed → ℕ → Bool
+says_there (Axiom k) steps number = false
+says_there Outcome steps number = list_all (is_there number) steps
+says_there Earlier steps number = false
+
 module _ (size : Extent) where
-  -- the facts that are rested on: where a reason is of one profile after another, these are the profiles of what is stated, and the claims are enough
+  -- the facts that are rested on: where these are the same claims at each profile of what is stated, the claims are enough
   abbrev pub there_html : List Literal → List ℕ
   there_html rests = alone_claims_html size rests ++ codes " there"
 
@@ -50,17 +67,15 @@ module _ (size : Extent) where
   abbrev pub facts_or_many_html : List Literal → List ℕ
   facts_or_many_html rests = if nat_lt 30 (length rests) then many_html rests else facts_html size rests
 
-  abbrev pub rests_html : By → List Literal → List ℕ
-  rests_html (Axiom k) rests = facts_or_many_html rests
-  rests_html Outcome rests = there_html rests
-  rests_html Earlier rests = facts_or_many_html rests
+  abbrev pub rests_html : Bool → List Literal → List ℕ
+  rests_html there rests = if there then there_html rests else facts_or_many_html rests
 
-  abbrev pub grounds_html : By → List Literal → List ℕ
-  grounds_html by rests = codes "<div class=s>since " ++ rests_html by rests ++ codes "</div>, "
+  abbrev pub grounds_html : Bool → List Literal → List ℕ
+  grounds_html there rests = codes "<div class=s>since " ++ rests_html there rests ++ codes "</div>, "
 
   -- the facts that are rested on, if there are any
-  abbrev pub since_html : By → List Literal → List ℕ
-  since_html by rests = if length rests == 0 then [] else grounds_html by rests
+  abbrev pub since_html : Bool → List Literal → List ℕ
+  since_html there rests = if length rests == 0 then [] else grounds_html there rests
 
   -- a fact that an earlier claim gives
   abbrev pub given_html : Placed → List ℕ
@@ -84,7 +99,7 @@ module _ (size : Extent) where
   -- a sentence of a number, if there is one
   abbrev pub sentence_html : List Titled → List Placed → ℕ → Option Sentence → List ℕ
   sentence_html axioms steps number None = []
-  sentence_html axioms steps number (Some sentence) = since_html sentence.by sentence.rests ++ by_html axioms steps number sentence.by
+  sentence_html axioms steps number (Some sentence) = since_html (says_there sentence.by steps number) sentence.rests ++ by_html axioms steps number sentence.by
 
   abbrev pub sentence_at : List Titled → Passage → ℕ → List ℕ
   sentence_at axioms passage number = sentence_html axioms passage.steps number (slice_get passage.sentences number)

@@ -5,16 +5,15 @@ ghost use Rattle.std.specs.List.{flat_map};
 ghost use Rattle.vocab.specs.Formula.{prefix_of};
 ghost use Rattle.vocab.specs.Range.{below};
 ghost use Rattle.vocab.specs.Tree.{tree_of};
-ghost use Rattle.tellings.specs.Tellings.{by_of};
 ghost use Rattle.html.specs.Facts.{alternative_html};
-ghost use Rattle.story_pages.specs.Ends.{mark_html, voter_label, against_claim, ballot_value_html, profile_value_html, value_html, valued_html, value_at, prefixed_html, values_html, against_html, nothing_left, reason_html, end_html};
+ghost use Rattle.story_pages.specs.Ends.{mark_html, voter_label, is_left, against_claim, ballot_value_html, profile_value_html, value_html, valued_html, value_at, prefixed_html, values_html, against_html, nothing_left, reason_html, end_html};
 
 use crate::sentences::{put_axiom, put_since};
 use html::{Html, put_alternative, put_ballot, put_number, put_profile};
 use lists::NoMemory;
 use meaning::{Lemma, Reason};
 use profiles::Space;
-use tellings::{By, Telling};
+use tellings::Telling;
 use vocab::{Axiom, Env, Formula, Literal, Sort};
 
 /// Adds what stands before the value of a level.
@@ -208,14 +207,14 @@ fn put_reason(
     }
 }
 
-/// What a reason names.
-fn by_of(reason: &Reason) -> By
-    ensures { result ≡ by_of reason.now }
+/// Whether a reason is what is left at a profile.
+fn is_left(reason: &Reason) -> bool
+    ensures { result ≡ is_left reason.now }
 {
     match *reason {
-        Reason::Axiom(place, _) => By::Axiom(place),
-        Reason::Outcome(_) => By::Outcome,
-        Reason::Lemma(_) => By::Lemma,
+        Reason::Axiom(_, _) => false,
+        Reason::Outcome(_) => true,
+        Reason::Lemma(_) => false,
     }
 }
 
@@ -229,7 +228,7 @@ fn put_end(
 ) -> Result<(), NoMemory>
     ensures { OnOk result (out.new ≡ out.old ++ end_html space.now axioms.now last.now rests.now) }
 {
-    put_since(out, space, by_of(last), rests)?;
+    put_since(out, space, is_left(last), rests)?;
     put_reason(out, space, axioms, last)?;
     Ok(())
 }

@@ -1,11 +1,11 @@
 //! Sentences.
 
 ghost use Rattle.std.specs.Prelude.{◌≡◌, ◌++◌, Some, OnOk};
-ghost use Rattle.std.specs.List.{flat_map};
-ghost use Rattle.story_pages.specs.Sentences.{axiom_name_html, axiom_html, facts_fold, claim_number_html, cited_html, there_html, many_html, facts_or_many_html, rests_html, grounds_html, since_html, given_html, given_by, by_axiom_html, by_outcome_html, by_html, sentence_html, sentence_at, item_at, items_html};
+ghost use Rattle.std.specs.List.{flat_map, list_all};
+ghost use Rattle.story_pages.specs.Sentences.{axiom_name_html, axiom_html, facts_fold, claim_number_html, cited_html, is_left_at, is_there, says_there, there_html, many_html, facts_or_many_html, rests_html, grounds_html, since_html, given_html, given_by, by_axiom_html, by_outcome_html, by_html, sentence_html, sentence_at, item_at, items_html};
 
 use crate::claims::{put_alone_claims, put_facts, put_stated_facts};
-use html::{Html, put_fact, put_number, put_text};
+use html::{Html, profile_of, put_fact, put_number, put_text};
 use lists::NoMemory;
 use meaning::Reason;
 use profiles::Space;
@@ -71,23 +71,27 @@ fn put_there(out: &mut Html, space: &Space, rests: &[Literal]) -> Result<(), NoM
     Ok(())
 }
 
-/// Adds the facts that are rested on.
-fn put_rests(out: &mut Html, space: &Space, by: By, rests: &[Literal]) -> Result<(), NoMemory>
-    ensures { OnOk result (out.new ≡ out.old ++ rests_html space.now by rests.now) }
+/// Adds the facts that are rested on, by their claims alone where what is stated is of their profiles.
+fn put_rests(out: &mut Html, space: &Space, there: bool, rests: &[Literal]) -> Result<(), NoMemory>
+    ensures { OnOk result (out.new ≡ out.old ++ rests_html space.now there rests.now) }
 {
-    match by {
-        By::Axiom(_) => put_named(out, space, rests),
-        By::Outcome => put_there(out, space, rests),
-        By::Lemma => put_named(out, space, rests),
+    if there {
+        return put_there(out, space, rests);
     }
+    put_named(out, space, rests)
 }
 
 /// Adds the facts that are rested on, of which there are some.
-fn put_grounds(out: &mut Html, space: &Space, by: By, rests: &[Literal]) -> Result<(), NoMemory>
-    ensures { OnOk result (out.new ≡ out.old ++ grounds_html space.now by rests.now) }
+fn put_grounds(
+    out: &mut Html,
+    space: &Space,
+    there: bool,
+    rests: &[Literal],
+) -> Result<(), NoMemory>
+    ensures { OnOk result (out.new ≡ out.old ++ grounds_html space.now there rests.now) }
 {
     out.append(b"<div class=s>since ")?;
-    put_rests(out, space, by, rests)?;
+    put_rests(out, space, there, rests)?;
     out.append(b"</div>, ")?;
     Ok(())
 }
@@ -96,15 +100,55 @@ fn put_grounds(out: &mut Html, space: &Space, by: By, rests: &[Literal]) -> Resu
 pub(crate) fn put_since(
     out: &mut Html,
     space: &Space,
-    by: By,
+    there: bool,
     rests: &[Literal],
 ) -> Result<(), NoMemory>
-    ensures { OnOk result (out.new ≡ out.old ++ since_html space.now by rests.now) }
+    ensures { OnOk result (out.new ≡ out.old ++ since_html space.now there rests.now) }
 {
     if rests.len() == 0 {
         return Ok(());
     }
-    put_grounds(out, space, by, rests)
+    put_grounds(out, space, there, rests)
+}
+
+/// Whether a reason is what is left at a profile.
+fn is_left_at(p: u32, reason: &Reason) -> bool
+    ensures { result ≡ is_left_at p reason.now }
+{
+    match *reason {
+        Reason::Axiom(_, _) => false,
+        Reason::Outcome(q) => p == q,
+        Reason::Lemma(_) => false,
+    }
+}
+
+/// Whether the fact of a step, if the sentence of a number states it, is of the profile at which the reason is
+/// what is left.
+fn is_there(number: usize, placed: &Placed) -> bool
+    ensures { result ≡ is_there number placed.now }
+{
+    if placed.sentence as usize != number {
+        return true;
+    }
+    is_left_at(profile_of(&placed.step.literal), &placed.step.reason)
+}
+
+/// Whether the facts that the sentence of a number states all are.
+fn are_there(steps: &[Placed], number: usize) -> bool
+    ensures { result ≡ list_all (is_there number) steps.now }
+{
+    steps.iter().all(|placed| is_there(number, placed))
+}
+
+/// Whether the sentence of a number rests on the same claims at each profile of what it states.
+fn says_there(by: By, steps: &[Placed], number: usize) -> bool
+    ensures { result ≡ says_there by steps.now number }
+{
+    match by {
+        By::Axiom(_) => false,
+        By::Outcome => are_there(steps, number),
+        By::Lemma => false,
+    }
 }
 
 /// Adds an earlier claim, by its number.
@@ -232,7 +276,8 @@ fn put_sentence(
     ensures { OnOk result (out.new ≡ out.old ++
         sentence_html space.now axioms.now steps.now number (Some sentence.now)) }
 {
-    put_since(out, space, sentence.by, sentence.rests.as_slice())?;
+    let there = says_there(sentence.by, steps, number);
+    put_since(out, space, there, sentence.rests.as_slice())?;
     put_by(out, space, axioms, steps, number, sentence.by)?;
     Ok(())
 }

@@ -85,13 +85,14 @@ module _ (size : Extent) (axioms : List Titled) (core : List ℕ) (earlier : Lis
 
   -- a lemma is told right, where some facts are forced: each of its steps stands in exactly one sentence, which says it, but for
   -- those whose facts are forced; each sentence says a step; each fact that a sentence rests on was forced or supposed, or is stated by an earlier sentence;
-  -- and the last reason refutes facts that were forced or supposed, or are stated
+  -- and the last reason refutes facts that were forced or supposed, or are stated; where it is what is left at a profile, all their claims stand among them of that profile
   pub record IsTellingRight (forced : List Literal) (lemma : Lemma) (telling : Telling) : Type 0 where
     pub steps : map (λ placed. placed.step) telling.passage.steps ≡ filter (λ step. not (has forced step.literal)) lemma.steps
     pub said : IsTrue (are_said telling.passage)
     pub all_say : AllSay telling.passage
     pub grounded : (k : ℕ) → IsTrue (list_all (stands_before forced lemma.suppose telling.passage.steps k) (rests_of (slice_get telling.passage.sentences k)))
     pub ended : IsTrue (refutes size axioms core earlier telling.end lemma.last)
+    pub end_there : IsTrue (stand_there telling.end lemma.last)
     pub end_stands : IsTrue (list_all (stands_before forced lemma.suppose telling.passage.steps (length telling.passage.sentences)) telling.end)
 
 -- ---- where lemmas stand
