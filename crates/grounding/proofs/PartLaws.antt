@@ -13,8 +13,8 @@ use Rattle.cnf.proofs.LitLaws.{same_lit-equal}
 use Rattle.meaning.specs.StudyClauses.{Sourced, sorted}
 use Rattle.clause_form.specs.Sources.{clauses_in, origin_of_number, origins_in, sourced}
 use Rattle.clause_form.proofs.SourceLaws.{clauses-sourced}
-use Rattle.grounding.specs.Distinct.{Codes, HasSeen, literal_code, is_seen, kept_with, plain_rows, same_clause}
-use Rattle.grounding.specs.Parts.{Holds, IsThere, KeepSame, KeepSameAfter, from_rows, with_origin}
+use Rattle.grounding.specs.Distinct.{literal_code, is_seen, kept_with, plain_rows, same_clause}
+use Rattle.grounding.specs.Parts.{IsThere, KeepSame, from_rows, with_origin}
 use Rattle.grounding.proofs.FirstsLaws.{same_codes}
 
 -- ---- what is kept
@@ -83,7 +83,7 @@ seen_last kept s c h =
     ∙ list_any-append (same_clause c) (clauses_in kept) (s.clause ∷ [])
     ∙ or_right (is_seen (clauses_in kept) c) (is_seen (s.clause ∷ []) c) (or_left (same_clause c s.clause) false h)
 
-pub stays : (kept xs : List Sourced) (c : Clause) → is_seen (clauses_in kept) c ≡ true → is_seen (clauses_in (fold kept_with kept xs)) c ≡ true
+stays : (kept xs : List Sourced) (c : Clause) → is_seen (clauses_in kept) c ≡ true → is_seen (clauses_in (fold kept_with kept xs)) c ≡ true
 stays kept [] c h = h
 stays kept (s ∷ xs) c h = stays (kept_with kept s) xs c (by (is_seen (clauses_in kept) s.clause))
   where
@@ -110,44 +110,6 @@ pub same-repeat : (xs : List Sourced) (s : Sourced) → is_seen (clauses_in xs) 
 same-repeat xs s h kept =
     let so_far = fold kept_with kept xs in
     sym (fold-append kept_with kept xs (s ∷ []) ∙ ap (λ b. if b then so_far else so_far ++ s ∷ []) (there kept xs s.clause h))
-
--- ---- what stands at a place
-
-pub source-there : (xs : List Sourced) (k : ℕ) (d : Sourced) (clause : Clause) (origin : ℕ) → slice_get (clauses_in xs) k ≡ Some clause → slice_get (origins_in xs) k ≡ Some (origin_of_number origin)
-    → get_or xs k d ≡ with_origin clause origin
-source-there [] k d clause origin e f = absurd (let z : ⊥ = cc in z)
-source-there (s ∷ xs) zero d clause origin e f =
-    let c : s.clause ≡ clause = cc in
-    let o : s.origin ≡ origin_of_number origin = cc in
-    ap₂ (λ x y. record { clause = x; origin = y }) c o
-source-there (s ∷ xs) (suc k) d clause origin e f = source-there xs k d clause origin e f
-
--- ---- what was seen in earlier rounds
-
-pub seen-holds : (seen : Codes) (clauses : List Clause) → HasSeen seen clauses → Holds seen clauses
-seen-holds seen clauses is a b h = sym (is.pairs a b) ∙ h
-
-pub holds-more : (seen : Codes) (kept xs : List Sourced) → Holds seen (clauses_in kept) → Holds seen (clauses_in (fold kept_with kept xs))
-holds-more seen kept xs h a b e = stays kept xs (a ∷ b ∷ []) (h a b e)
-
-module _ (seen : Codes) where
-  -- a clause that was seen is not kept
-  pub after-seen : (xs : List Sourced) (s : Sourced) → ((clauses : List Clause) → Holds seen clauses → is_seen clauses s.clause ≡ true) → KeepSameAfter seen xs (xs ++ s ∷ [])
-  after-seen xs s there kept h =
-      let so_far = fold kept_with kept xs in
-      sym (fold-append kept_with kept xs (s ∷ []) ∙ ap (λ b. if b then so_far else so_far ++ s ∷ []) (there (clauses_in so_far) (holds-more seen kept xs h)))
-
-  pub after-more : (new old part : List Sourced) (k : ℕ) (clause : Clause) (origin : ℕ) → k < length part → slice_get (clauses_in part) k ≡ Some clause → slice_get (origins_in part) k ≡ Some (origin_of_number origin)
-      → KeepSameAfter seen new (old ++ with_origin clause origin ∷ []) → KeepSameAfter seen old (take k part) → KeepSameAfter seen new (take (k + 1) part)
-  after-more new old part k clause origin within here there more before kept h =
-      let s : Sourced = with_origin clause origin in
-      let one : take (k + 1) part ≡ take k part ++ s ∷ [] =
-      take_more part k s within ∙ ap (λ (t : Sourced). take k part ++ t ∷ []) (source-there part k s clause origin here there) in
-      more kept h
-      ∙ fold-append kept_with kept old (s ∷ [])
-      ∙ ap (λ ks. fold kept_with ks (s ∷ [])) (before kept h)
-      ∙ sym (fold-append kept_with kept (take k part) (s ∷ []))
-      ∙ ap (fold kept_with kept) (sym one)
 
 -- ---- codes that are remembered
 
@@ -179,3 +141,14 @@ pushed-there clauses origins before first second origin pair pairs e f =
     let all : clauses ≡ clauses_in before ++ (first ∷ second ∷ []) ∷ [] =
     sym (clauses-sourced clauses origins pairs) ∙ ap clauses_in e ∙ map-append (λ (k : Sourced). k.clause) before (with_origin (first ∷ second ∷ []) origin ∷ []) in
     subst (λ cs. IsThere cs pair) (sym all) (subst (IsThere (clauses_in before ++ (first ∷ second ∷ []) ∷ [])) (sym f) (there-last (clauses_in before) first second))
+
+-- ---- what stands at a place
+
+pub source-there : (xs : List Sourced) (k : ℕ) (d : Sourced) (clause : Clause) (origin : ℕ) → slice_get (clauses_in xs) k ≡ Some clause → slice_get (origins_in xs) k ≡ Some (origin_of_number origin)
+    → get_or xs k d ≡ with_origin clause origin
+source-there [] k d clause origin e f = absurd (let z : ⊥ = cc in z)
+source-there (s ∷ xs) zero d clause origin e f =
+    let c : s.clause ≡ clause = cc in
+    let o : s.origin ≡ origin_of_number origin = cc in
+    ap₂ (λ x y. record { clause = x; origin = y }) c o
+source-there (s ∷ xs) (suc k) d clause origin e f = source-there xs k d clause origin e f

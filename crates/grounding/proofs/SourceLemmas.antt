@@ -15,12 +15,11 @@ use Rattle.meaning.specs.declared.clauses.Origin.TheVariants.{Frame, Instance}
 use Rattle.meaning.specs.StudyClauses.{Sourced, from_axiom, from_instance}
 use Rattle.clause_form.specs.Refusals.{is_over_limits}
 use Rattle.clause_form.specs.Sources.{clauses_in, origin_of_number, sourced}
-use Rattle.grounding.specs.Distinct.{Codes, kept_with}
-use Rattle.grounding.specs.Parts.{Holds, with_origin}
-use Rattle.grounding.specs.Pieces.{IsLaterPart, end_of, rows_at, rows_from, sources_at, sources_of, start_of}
+use Rattle.grounding.specs.Distinct.{kept_with}
+use Rattle.grounding.specs.Parts.{with_origin}
+use Rattle.grounding.specs.Pieces.{IsPart, end_of, rows_at, rows_from, sources_at, sources_of, start_of}
 use Rattle.grounding.proofs.FirstsLaws.{kept_are_firsts}
 use Rattle.grounding.proofs.KeptLaws.{over-as, over-grows}
-use Rattle.grounding.proofs.PartLaws.{holds-more}
 use Rattle.grounding.proofs.PieceLaws.{rows_from-add}
 
 -- ---- lists of clauses, one after another
@@ -88,12 +87,12 @@ module _ (size : Extent) (sentence : Tree) (base : ℕ) where
   ]
 
   -- what is kept with the part of one piece more
-  pub next-part : (seen : Codes) (from to : ℕ) → from ≤ to → (piece : ℕ) (part : List Sourced) (kept : List Sourced) → Holds seen (clauses_in kept) → IsLaterPart size sentence seen base (start_of from piece) (end_of from to piece) part
+  pub next-part : (from to : ℕ) → from ≤ to → (piece : ℕ) (part : List Sourced) (kept : List Sourced) → IsPart size sentence base (start_of from piece) (end_of from to piece) part
       → fold kept_with (fold kept_with kept (sources_of size sentence base from (min (start_of from piece) to))) part
       ≡ fold kept_with kept (sources_of size sentence base from (min (start_of from (piece + 1)) to))
-  next-part seen from to rising piece part kept holds is =
+  next-part from to rising piece part kept is =
       let before = sources_of size sentence base from (min (start_of from piece) to) in
-      is (fold kept_with kept before) (holds-more seen kept before holds)
+      is (fold kept_with kept before)
       ∙ sym (fold-append kept_with kept before (sources_of size sentence base (start_of from piece) (end_of from to piece)))
       ∙ ap (fold kept_with kept) (next-piece from to piece rising)
 

@@ -3,8 +3,8 @@ use Rattle.std.specs.Prelude.{◌≡◌, ℕ, ◌<◌, IsTrue, List, [], ◌∷�
 use Rattle.cnf.specs.Signed.{Signed}
 use Rattle.cnf.specs.Sat.{Clause}
 use Rattle.meaning.specs.StudyClauses.{Sourced}
-use Rattle.clause_form.specs.Sources.{clauses_in, origin_of_number}
-use Rattle.grounding.specs.Distinct.{Codes, literal_code, has_pair_code, is_seen, kept_with, plain_rows}
+use Rattle.clause_form.specs.Sources.{origin_of_number}
+use Rattle.grounding.specs.Distinct.{literal_code, is_seen, kept_with, plain_rows}
 
 -- a clause with the origin that a number says
 abbrev pub with_origin : Clause → ℕ → Sourced
@@ -21,11 +21,3 @@ KeepSame xs ys = (kept : List Sourced) → fold kept_with kept xs ≡ fold kept_
 -- two codes are those of a clause that stands among some; no literal has a code below 2
 abbrev pub IsThere : List Clause → ℕ × ℕ → Type 0
 IsThere clauses pair = 1 < pair.0 → (a b : Signed) → literal_code a ≡ pair.0 → literal_code b ≡ pair.1 → IsTrue (is_seen clauses (a ∷ b ∷ []))
-
--- each clause of two literals that was seen is among some clauses
-abbrev pub Holds : Codes → List Clause → Type 0
-Holds seen clauses = (a b : Signed) → IsTrue (has_pair_code seen.0 (literal_code a, literal_code b)) → IsTrue (is_seen clauses (a ∷ b ∷ []))
-
--- of both the same is kept, whatever was kept before that has what was seen
-abbrev pub KeepSameAfter : Codes → List Sourced → List Sourced → Type 0
-KeepSameAfter seen xs ys = (kept : List Sourced) → Holds seen (clauses_in kept) → fold kept_with kept xs ≡ fold kept_with kept ys

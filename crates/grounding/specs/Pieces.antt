@@ -15,8 +15,7 @@ use Rattle.meaning.specs.StudyClauses.{Sourced, clauses_of, instance_of}
 use Rattle.clause_form.specs.Wide.{is_wide}
 use Rattle.grounding.specs.declared.parts.Measured.{Measured}
 use Rattle.grounding.specs.declared.parts.WideInstance.{WideInstance}
-use Rattle.grounding.specs.Distinct.{Codes}
-use Rattle.grounding.specs.Parts.{KeepSame, KeepSameAfter, with_origin}
+use Rattle.grounding.specs.Parts.{KeepSame, with_origin}
 
 -- where a piece of the instances from `from` on begins
 abbrev pub start_of : ℕ → ℕ → ℕ
@@ -51,13 +50,9 @@ module _ (size : Extent) (sentence : Tree) where
   abbrev pub IsKeptPart : ℕ → ℕ → ℕ → List Sourced → Type 0
   IsKeptPart base from to part = KeepSame part (sources_of base from to)
 
-  -- the same after what was seen
-  abbrev pub IsLaterPart : Codes → ℕ → ℕ → ℕ → List Sourced → Type 0
-  IsLaterPart seen base from to part = KeepSameAfter seen part (sources_of base from to)
-
   -- as of those of a piece
-  abbrev pub IsPartOfPiece : Codes → ℕ → ℕ → ℕ → ℕ → List Sourced → Type 0
-  IsPartOfPiece seen base from to piece part = IsLaterPart seen base (start_of from piece) (end_of from to piece) part
+  abbrev pub IsPartOfPiece : ℕ → ℕ → ℕ → ℕ → List Sourced → Type 0
+  IsPartOfPiece base from to piece part = IsPart base (start_of from piece) (end_of from to piece) part
 
   -- no instance from one number up to another is too wide
   abbrev pub AreNarrow : ℕ → ℕ → Type 0

@@ -1,10 +1,9 @@
 //! Of equal clauses of one axiom the first.
 
-ghost use Rattle.std.specs.Prelude.{◌≡◌, List, [], ◌∷◌, ◌++◌, not, false, length, Err, OnOk, IfOk, IsTrue, if◌then◌else◌};
+ghost use Rattle.std.specs.Prelude.{◌≡◌, List, [], ◌∷◌, ◌++◌, not, false, length, Err, OnOk, IfOk, if◌then◌else◌};
 ghost use Rattle.cnf.specs.ClauseList.{IsFullFor, with_clause};
 ghost use Rattle.cnf.specs.Sat.{Clause};
 ghost use Rattle.grounding.specs.Distinct.{HasSeen, codes_of, has_codes, has_pair_code, is_seen, items_of, seen_with};
-ghost use Rattle.grounding.specs.Parts.{Holds};
 
 use crate::sorting::literal_code;
 use cnf::{Clauses, Lit, PushFault};
@@ -41,13 +40,6 @@ fn is_new_pair(pairs: &mut IndexSet<(u32, u32)>, pair: (u32, u32)) -> Result<boo
         Ok(fresh) => Ok(fresh),
         Err(_) => Err(NoMemory),
     }
-}
-
-/// Whether two codes are there.
-fn has_pair(pairs: &IndexSet<(u32, u32)>, pair: (u32, u32)) -> bool
-    ensures { result ≡ has_pair_code pairs.now.keys pair }
-{
-    pairs.contains(&pair)
 }
 
 /// The codes of a clause.
@@ -90,18 +82,6 @@ impl Seen {
             pairs: IndexSet::new(alloc),
             others: IndexSet::new(alloc),
         }
-    }
-
-    /// Whether a clause of two literals is there. Of any other nothing is said.
-    pub(crate) fn has_two(&self, clause: &[Lit]) -> bool
-        ensures { IsTrue result → (clauses : List Clause) → Holds self.now clauses →
-            IsTrue (is_seen clauses clause.now) }
-    {
-        if clause.len() == 2 {
-            let pair = (literal_code(clause[0]), literal_code(clause[1]));
-            return has_pair(&self.pairs, pair);
-        }
-        false
     }
 
     /// Adds a clause, unless an equal one is there. True where it was added.

@@ -9,7 +9,7 @@ ghost use Rattle.clause_form.specs.Wide.{is_wide};
 ghost use Rattle.lanes.specs.Lanes.{IsPlan};
 
 use crate::parts::{Measured, WideInstance, measure_all};
-use crate::pieces::{MOST_CLAUSES, MOST_LITERALS, PIECE, ROUND, Round};
+use crate::pieces::{MOST_CLAUSES, MOST_LITERALS, PIECE, ROUND, Round, SMALL};
 use clause_form::most_counts;
 use crew::{Crew, Job, Parts, map_pieces};
 use edge::Gate;
@@ -81,7 +81,7 @@ fn measure_round<R: Threads + Sync, K: OutcomeKind, G: Gate>(
 ) -> Result<Option<WideInstance>, NoMemory>
     requires instances { AreInstances
         (K.size round.now.kind.now) round.now.named.now round.now.from round.now.to }
-    requires short { round.now.to ≤ round.now.from + 16384 }
+    requires short { round.now.to ≤ round.now.from + 65536 }
     requires plan { IsPlan (K.size round.now.kind.now) round.now.named.now.sentence round.now.plan.now }
     ensures { IfOk result
         (λ found. IsFirstWide
@@ -112,8 +112,8 @@ fn has_small_rounds<K: OutcomeKind>(kind: &K, named: &Axiom) -> bool
         IsFalse (is_wide (measure_at (K.size kind.now) named.now.sentence k)) }
 {
     let most = most_counts(kind.space(), named.sentence().body());
-    most.clauses <= MOST_CLAUSES / (PIECE * ROUND)
-        && most.literals <= MOST_LITERALS / (PIECE * ROUND)
+    most.clauses <= MOST_CLAUSES / (PIECE * SMALL)
+        && most.literals <= MOST_LITERALS / (PIECE * SMALL)
 }
 
 /// The first instance of an axiom that is too wide, of round after round. Where the shape of the sentence

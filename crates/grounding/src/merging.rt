@@ -1,6 +1,7 @@
 //! The clauses of an axiom, made in rounds of pieces, of equal ones the first kept.
 
-ghost use Rattle.std.specs.Prelude.{◌≡◌, ◌<◌, ◌≤◌, ◌+◌, ◌^◌, [], ◌∷◌, ◌++◌, Err, Ok, Some, IfOk, OnOk, IsTrue, length};
+ghost use Rattle.std.specs.Prelude.{◌≡◌, ◌<◌, ◌≤◌, ◌+◌, ◌^◌, [], ◌++◌, Err, Ok, Some, IfOk, OnOk, IsTrue, fold, length};
+ghost use Rattle.std.specs.Thread.{IsSync};
 ghost use Rattle.vocab.specs.Limits.{instance_count};
 ghost use Rattle.vocab.specs.Study.{is_sentence};
 ghost use Rattle.crew.specs.Right.{AreRight};
@@ -8,16 +9,16 @@ ghost use Rattle.meaning.specs.StudyClauses.{from_axiom};
 ghost use Rattle.clause_form.specs.Refusals.{is_over_limits};
 ghost use Rattle.clause_form.specs.Sources.{clauses_in, sourced};
 ghost use Rattle.lanes.specs.Lanes.{IsPlan};
+ghost use Rattle.grounding.specs.Distinct.{kept_with};
 ghost use Rattle.grounding.specs.Kept.{Keeps, Overfills};
-ghost use Rattle.grounding.specs.Parts.{KeepSameAfter, with_origin};
-ghost use Rattle.grounding.specs.Pieces.{AreNarrow, AreNarrowInstances, IsLaterPart, IsPartOfPiece, end_of, sources_of, start_of};
+ghost use Rattle.grounding.specs.Pieces.{AreNarrow, AreNarrowInstances, IsPart, IsPartOfPiece, end_of, sources_of, start_of};
 
 use crate::distinct::{Seen, keep};
 use crate::part::Part;
 use crate::parts::clauses_of_all;
-use crate::pieces::{MOST_CLAUSES, MOST_LITERALS, PIECE, ROUND, Round};
-use clause_form::sum;
-use cnf::{Clauses, Lit, PushFault};
+use crate::pieces::{MOST_CLAUSES, MOST_LITERALS, PIECE, Planned, ROUND};
+use clause_form::{most_counts, sum};
+use cnf::{Clauses, PushFault};
 use crew::{Crew, Job, Parts, map_pieces};
 use edge::Gate;
 use lanes::plan_of;
@@ -25,7 +26,7 @@ use lists::NoMemory;
 use meaning::Counts;
 use outcomes::OutcomeKind;
 use std::alloc::Global;
-use std::thread::Threads;
+use std::thread::{Threads, join_mut};
 use vocab::Axiom;
 use worlds::instance_count;
 
@@ -53,53 +54,6 @@ impl<F: Fn(u64, u64) -> Result<Part, NoMemory> + Sync> Job for Making<'_, F> {
     }
 }
 
-/// Appends a clause with its origin, unless it was seen.
-fn push_unseen(seen: &Seen, clause: &[Lit], origin: u64, rest: &mut Part) -> Result<(), NoMemory>
-    ensures { OnOk result (KeepSameAfter seen.now rest.new (rest.old ++ with_origin clause.now origin ∷ [])) }
-{
-    if seen.has_two(clause) {
-        return Ok(());
-    }
-    rest.push(clause, origin)?;
-    Ok(())
-}
-
-/// The clauses of a part but for those that were seen.
-fn unseen(alloc: Global, seen: &Seen, part: &Part) -> Result<Part, NoMemory>
-    ensures { IfOk result (λ rest. KeepSameAfter seen.now rest part.now) }
-{
-    let mut rest = Part::new(alloc);
-    for k in 0..part.len() {
-        push_unseen(seen, part.clause(k), part.origin(k), &mut rest)?;
-    }
-    Ok(rest)
-}
-
-/// The clauses of the instances from `from` up to `to`; of these those that were seen in earlier rounds are left
-/// out where there are several workers, since the clauses of a round are joined by one.
-fn later_part<K: OutcomeKind>(
-    alloc: Global,
-    round: &Round<K>,
-    base: u64,
-    seen: &Seen,
-    several: bool,
-    from: u64,
-    to: u64,
-) -> Result<Part, NoMemory>
-    requires instances { AreNarrowInstances (K.size round.now.kind.now) round.now.named.now from to }
-    requires base { base ≤ 2 ^ 60 }
-    requires plan { IsPlan (K.size round.now.kind.now) round.now.named.now.sentence round.now.plan.now }
-    ensures { IfOk result
-        (IsLaterPart (K.size round.now.kind.now) round.now.named.now.sentence seen.now base from to) }
-{
-    let part = clauses_of_all(alloc, round.kind, round.named, round.plan, base, from, to)?;
-    if several {
-        let rest = unseen(alloc, seen, &part)?;
-        return Ok(rest);
-    }
-    Ok(part)
-}
-
 /// Appends the clauses of a part, each unless an equal one was kept.
 fn keep_all(alloc: Global, seen: &mut Seen, part: &Part, out: &mut Clauses) -> Result<(), PushFault>
     ensures kept { OnOk result (Keeps seen.old out.old seen.new out.new part.now) }
@@ -114,29 +68,28 @@ fn keep_all(alloc: Global, seen: &mut Seen, part: &Part, out: &mut Clauses) -> R
     Ok(())
 }
 
-/// Appends the clauses of the parts of a round, one part after another.
+/// Appends the clauses of the parts of the instances from `from` up to `to`, one part after another.
 fn keep_parts<K: OutcomeKind>(
     alloc: Global,
-    round: &Round<K>,
-    base: u64,
+    planned: &Planned<K>,
     parts: &Parts<Part>,
+    from: u64,
+    to: u64,
     seen: &mut Seen,
     out: &mut Clauses,
 ) -> Result<(), PushFault>
-    requires right { AreRight
-        (IsPartOfPiece (K.size round.now.kind.now) round.now.named.now.sentence seen.old base round.now.from
-        round.now.to) 0 parts.now }
-    requires rising { round.now.from ≤ round.now.to }
-    requires whole { round.now.to ≤ start_of round.now.from (length parts.now) }
+    requires right { AreRight (IsPartOfPiece
+        (K.size planned.now.kind.now) planned.now.named.now.sentence planned.now.base from to) 0 parts.now }
+    requires rising { from ≤ to }
+    requires whole { to ≤ start_of from (length parts.now) }
     ensures kept { OnOk result (Keeps seen.old out.old seen.new out.new
-        (sources_of (K.size round.now.kind.now) round.now.named.now.sentence base
-        round.now.from round.now.to)) }
+        (sources_of (K.size planned.now.kind.now) planned.now.named.now.sentence planned.now.base from to)) }
     ensures full { result ≡ Err PushFault.Full → Overfills seen.old out.old
-        (sources_of (K.size round.now.kind.now) round.now.named.now.sentence base
-        round.now.from round.now.to) }
+        (sources_of (K.size planned.now.kind.now) planned.now.named.now.sentence planned.now.base from to) }
 {
-    let _ = round;
-    let _ = base;
+    let _ = planned;
+    let _ = from;
+    let _ = to;
     for piece in 0..parts.len() {
         match keep_all(alloc, seen, parts.get(piece), out) {
             Ok(()) => {}
@@ -146,33 +99,39 @@ fn keep_parts<K: OutcomeKind>(
     Ok(())
 }
 
-/// The parts of the pieces of a round.
-fn make_round<R: Threads + Sync, K: OutcomeKind, G: Gate>(
+/// The parts of the pieces of the instances from `from` up to `to`.
+fn make_parts<R: Threads + Sync, K: OutcomeKind, G: Gate>(
     alloc: Global,
     crew: &Crew<R, G>,
-    round: &Round<K>,
-    base: u64,
-    seen: &Seen,
+    planned: &Planned<K>,
+    from: u64,
+    to: u64,
 ) -> Result<Parts<Part>, NoMemory>
-    requires instances { AreNarrowInstances
-        (K.size round.now.kind.now) round.now.named.now round.now.from round.now.to }
-    requires base { base ≤ 2 ^ 60 }
-    requires short { round.now.to ≤ round.now.from + 16384 }
-    requires plan { IsPlan (K.size round.now.kind.now) round.now.named.now.sentence round.now.plan.now }
-    ensures right { IfOk result (λ parts. AreRight
-        (IsPartOfPiece (K.size round.now.kind.now) round.now.named.now.sentence seen.now base round.now.from
-        round.now.to) 0 parts) }
-    ensures whole { IfOk result (λ parts. round.now.to ≤ start_of round.now.from (length parts)) }
+    requires instances { AreNarrowInstances (K.size planned.now.kind.now) planned.now.named.now from to }
+    requires base { planned.now.base ≤ 2 ^ 60 }
+    requires short { to ≤ from + 65536 }
+    requires plan { IsPlan (K.size planned.now.kind.now) planned.now.named.now.sentence planned.now.plan.now }
+    ensures right { IfOk result (λ parts. AreRight (IsPartOfPiece
+        (K.size planned.now.kind.now) planned.now.named.now.sentence planned.now.base from to) 0 parts) }
+    ensures whole { IfOk result (λ parts. to ≤ start_of from (length parts)) }
 {
-    let (from, to) = (round.from, round.to);
-    let several = crew.workers > 1;
     let make = |start: u64, end: u64| -> Result<Part, NoMemory>
-        requires { AreNarrowInstances (K.size round.now.kind.now) round.now.named.now start end ×
-            (base ≤ 2 ^ 60) ×
-            IsPlan (K.size round.now.kind.now) round.now.named.now.sentence round.now.plan.now }
-        ensures { IfOk result (IsLaterPart (K.size round.entry.now.kind.now)
-            round.entry.now.named.now.sentence seen.entry.now base start end) }
-    { later_part(alloc, round, base, seen, several, start, end) };
+        requires { AreNarrowInstances (K.size planned.now.kind.now) planned.now.named.now start end ×
+            (planned.now.base ≤ 2 ^ 60) ×
+            IsPlan (K.size planned.now.kind.now) planned.now.named.now.sentence planned.now.plan.now }
+        ensures { IfOk result (IsPart (K.size planned.entry.now.kind.now)
+            planned.entry.now.named.now.sentence planned.entry.now.base start end) }
+    {
+        clauses_of_all(
+            alloc,
+            planned.kind,
+            planned.named,
+            planned.plan,
+            planned.base,
+            start,
+            end,
+        )
+    };
     let job = Making {
         make: &make,
         from,
@@ -183,32 +142,61 @@ fn make_round<R: Threads + Sync, K: OutcomeKind, G: Gate>(
     Ok(parts)
 }
 
-/// Appends the clauses of a round, each unless an equal one of the axiom was kept. The number of an instance
-/// is added to `base`.
-fn add_round<R: Threads + Sync, K: OutcomeKind, G: Gate>(
+/// Appends the clauses of the parts of the instances from `from` up to `to`, each unless an equal one of the
+/// axiom was kept, and makes the parts of those from there up to `end`: beside it where there are several
+/// workers, so that none waits for the one who joins the parts.
+fn keep_beside<R: Threads + Sync, K: OutcomeKind, G: Gate>(
     alloc: Global,
     crew: &Crew<R, G>,
-    round: &Round<K>,
-    base: u64,
+    planned: &Planned<K>,
+    parts: &Parts<Part>,
+    from: u64,
+    to: u64,
+    end: u64,
     seen: &mut Seen,
     out: &mut Clauses,
-) -> Result<(), PushFault>
-    requires instances { AreNarrowInstances
-        (K.size round.now.kind.now) round.now.named.now round.now.from round.now.to }
-    requires base { base ≤ 2 ^ 60 }
-    requires short { round.now.to ≤ round.now.from + 16384 }
-    requires plan { IsPlan (K.size round.now.kind.now) round.now.named.now.sentence round.now.plan.now }
-    ensures kept { OnOk result (Keeps seen.old out.old seen.new out.new
-        (sources_of (K.size round.now.kind.now) round.now.named.now.sentence base
-        round.now.from round.now.to)) }
-    ensures full { result ≡ Err PushFault.Full → Overfills seen.old out.old
-        (sources_of (K.size round.now.kind.now) round.now.named.now.sentence base
-        round.now.from round.now.to) }
+) -> (Result<Parts<Part>, NoMemory>, Result<(), PushFault>)
+    requires right { AreRight (IsPartOfPiece
+        (K.size planned.now.kind.now) planned.now.named.now.sentence planned.now.base from to) 0 parts.now }
+    requires rising { from ≤ to }
+    requires whole { to ≤ start_of from (length parts.now) }
+    requires instances { AreNarrowInstances (K.size planned.now.kind.now) planned.now.named.now to end }
+    requires base { planned.now.base ≤ 2 ^ 60 }
+    requires short { end ≤ to + 65536 }
+    requires plan { IsPlan (K.size planned.now.kind.now) planned.now.named.now.sentence planned.now.plan.now }
+    ensures right { IfOk result.0 (λ made. AreRight (IsPartOfPiece
+        (K.size planned.now.kind.now) planned.now.named.now.sentence planned.now.base to end) 0 made) }
+    ensures whole { IfOk result.0 (λ made. end ≤ start_of to (length made)) }
+    ensures kept { OnOk result.1 (Keeps seen.old out.old seen.new out.new
+        (sources_of (K.size planned.now.kind.now) planned.now.named.now.sentence planned.now.base from to)) }
+    ensures full { result.1 ≡ Err PushFault.Full → Overfills seen.old out.old
+        (sources_of (K.size planned.now.kind.now) planned.now.named.now.sentence planned.now.base from to) }
 {
-    match make_round(alloc, crew, round, base, seen) {
-        Ok(parts) => keep_parts(alloc, round, base, &parts, seen, out),
-        Err(_) => Err(PushFault::NoMemory),
+    if crew.workers == 1 {
+        let kept = keep_parts(alloc, planned, parts, from, to, seen, out);
+        return (make_parts(alloc, crew, planned, to, end), kept);
     }
+    let mut make = || -> Result<Parts<Part>, NoMemory>
+        requires { IsSync R.row × AreNarrowInstances
+            (K.size planned.now.kind.now) planned.now.named.now to end ×
+            (planned.now.base ≤ 2 ^ 60) × (end ≤ to + 65536) ×
+            IsPlan (K.size planned.now.kind.now) planned.now.named.now.sentence planned.now.plan.now }
+        ensures right { IfOk result (λ made. AreRight (IsPartOfPiece (K.size planned.entry.now.kind.now)
+            planned.entry.now.named.now.sentence planned.entry.now.base to end) 0 made) }
+        ensures whole { IfOk result (λ made. end ≤ start_of to (length made)) }
+    { make_parts(alloc, crew, planned, to, end) };
+    let mut keep = || -> Result<(), PushFault>
+        requires { AreRight (IsPartOfPiece (K.size planned.now.kind.now)
+            planned.now.named.now.sentence planned.now.base from to) 0 parts.now ×
+            (from ≤ to) × (to ≤ start_of from (length parts.now)) }
+        ensures kept { OnOk result (Keeps seen.entry.now out.entry.now seen.exit.now out.exit.now
+            (sources_of (K.size planned.entry.now.kind.now) planned.entry.now.named.now.sentence
+            planned.entry.now.base from to)) }
+        ensures full { result ≡ Err PushFault.Full → Overfills seen.entry.now out.entry.now
+            (sources_of (K.size planned.entry.now.kind.now) planned.entry.now.named.now.sentence
+            planned.entry.now.base from to) }
+    { keep_parts(alloc, planned, parts, from, to, seen, out) };
+    join_mut(crew.rt, &mut make, &mut keep)
 }
 
 /// Whether the measures of a round pass a limit.
@@ -216,12 +204,28 @@ fn is_much(total: Counts) -> bool {
     total.clauses > MOST_CLAUSES || total.literals > MOST_LITERALS
 }
 
-/// How many pieces a round has that begins after so many: as many as their measures allow, and at least one.
-fn round_len(sums: &[Counts], done: u64) -> u64
-    requires { done ≤ 40000000 }
+/// How many pieces a round has at most where nothing is measured, by what each instance has at most.
+fn most_pieces(most: Counts) -> u64
     ensures some { 1 ≤ result }
-    ensures few { result ≤ 256 }
+    ensures few { result ≤ 1024 }
 {
+    let clauses = MOST_CLAUSES / PIECE / most.clauses.max(1);
+    let literals = MOST_LITERALS / PIECE / most.literals.max(1);
+    clauses.min(literals).clamp(1, ROUND)
+}
+
+/// How many pieces a round has that begins after so many: as many as their measures allow, and at least one;
+/// where nothing is measured, as many as the shape of the sentence allows.
+fn round_len(sums: &[Counts], done: u64, most: u64) -> u64
+    requires done { done ≤ 40000000 }
+    requires some { 1 ≤ most }
+    requires few { most ≤ 1024 }
+    ensures some { 1 ≤ result }
+    ensures few { result ≤ 1024 }
+{
+    if sums.is_empty() {
+        return most;
+    }
     let mut total = Counts {
         clauses: 0,
         literals: 0,
@@ -235,6 +239,66 @@ fn round_len(sums: &[Counts], done: u64) -> u64
         }
     }
     ROUND
+}
+
+/// Where the round of instances that begins at a number ends, of so many instances in all.
+fn round_end(sums: &[Counts], from: u64, most: u64, count: u64) -> u64
+    requires within { from ≤ count }
+    requires count { count ≤ 40000000 }
+    requires some { 1 ≤ most }
+    requires few { most ≤ 1024 }
+    ensures within { result ≤ count }
+    ensures rising { from ≤ result }
+    ensures more { from < count → from < result }
+    ensures short { result ≤ from + 65536 }
+{
+    count.min(from + PIECE * round_len(sums, from / PIECE, most))
+}
+
+/// Appends the clauses of the first instances of an axiom, so many, of equal ones the first.
+fn add_rounds<R: Threads + Sync, K: OutcomeKind, G: Gate>(
+    alloc: Global,
+    crew: &Crew<R, G>,
+    planned: &Planned<K>,
+    count: u64,
+    sums: &[Counts],
+    out: &mut Clauses,
+) -> Result<(), PushFault>
+    requires instances { AreNarrowInstances (K.size planned.now.kind.now) planned.now.named.now 0 count }
+    requires few { count ≤ 40000000 }
+    requires base { planned.now.base ≤ 2 ^ 60 }
+    requires plan { IsPlan (K.size planned.now.kind.now) planned.now.named.now.sentence planned.now.plan.now }
+    ensures made { OnOk result
+        (sourced out.new.clauses out.new.origins ≡
+        sourced out.old.clauses out.old.origins ++ fold kept_with []
+        (sources_of (K.size planned.now.kind.now) planned.now.named.now.sentence planned.now.base 0 count)) }
+    ensures full { result ≡ Err PushFault.Full → IsTrue (is_over_limits (clauses_in
+        (sourced out.old.clauses out.old.origins ++ fold kept_with []
+        (sources_of (K.size planned.now.kind.now) planned.now.named.now.sentence planned.now.base 0 count)))) }
+{
+    let _kept = out.len();
+    let most = most_pieces(most_counts(planned.kind.space(), planned.named.sentence().body()));
+    let mut seen = Seen::new(alloc);
+    let mut from = 0;
+    let mut to = round_end(sums, from, most, count);
+    let Ok(mut parts) = make_parts(alloc, crew, planned, from, to) else {
+        return Err(PushFault::NoMemory);
+    };
+    while from < count {
+        let end = round_end(sums, to, most, count);
+        let (made, kept) = keep_beside(alloc, crew, planned, &parts, from, to, end, &mut seen, out);
+        match kept {
+            Ok(()) => {}
+            Err(fault) => return Err(fault),
+        }
+        match made {
+            Ok(more) => parts = more,
+            Err(_) => return Err(PushFault::NoMemory),
+        }
+        from = to;
+        to = end;
+    }
+    Ok(())
 }
 
 /// Appends the clauses of the axiom at a place of the study, of equal ones the first.
@@ -258,27 +322,15 @@ pub(crate) fn add_axiom<R: Threads + Sync, K: OutcomeKind, G: Gate>(
         IsTrue (is_over_limits (clauses_in
         (sourced out.old.clauses out.old.origins ++ from_axiom (K.size kind.now) place (Some named.now)))) }
 {
-    let _kept = out.len();
     let count = instance_count(kind.space(), named.sentence());
-    let base = (u64::from(place) + 1) * 4_294_967_296;
     let Ok(plan) = plan_of(alloc, kind, named) else {
         return Err(PushFault::NoMemory);
     };
-    let mut seen = Seen::new(alloc);
-    let mut from = 0;
-    while from < count {
-        let to = count.min(from + PIECE * round_len(sums, from / PIECE));
-        let round = Round {
-            kind,
-            named,
-            plan: &plan,
-            from,
-            to,
-        };
-        match add_round(alloc, crew, &round, base, &mut seen, out) {
-            Ok(()) => from = to,
-            Err(fault) => return Err(fault),
-        }
-    }
-    Ok(())
+    let planned = Planned {
+        kind,
+        named,
+        plan: &plan,
+        base: (u64::from(place) + 1) * 4_294_967_296,
+    };
+    add_rounds(alloc, crew, &planned, count, sums, out)
 }

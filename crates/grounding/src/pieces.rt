@@ -7,7 +7,10 @@ use vocab::Axiom;
 pub(crate) const PIECE: u64 = 64;
 
 /// How many pieces a round has at most.
-pub(crate) const ROUND: u64 = 256;
+pub(crate) const ROUND: u64 = 1024;
+
+/// How many pieces a round has at least where nothing is measured.
+pub(crate) const SMALL: u64 = 256;
 
 /// The most clauses of a round of several pieces, by their measures.
 pub(crate) const MOST_CLAUSES: u64 = 4_000_000;
@@ -23,4 +26,13 @@ pub(crate) struct Round<'a, K> {
     pub(crate) plan: &'a Plan,
     pub(crate) from: u64,
     pub(crate) to: u64,
+}
+
+/// An axiom whose instances are gone through by a plan, and what is added to the number of an instance.
+#[derive(Drop)]
+pub(crate) struct Planned<'a, K> {
+    pub(crate) kind: &'a K,
+    pub(crate) named: &'a Axiom,
+    pub(crate) plan: &'a Plan,
+    pub(crate) base: u64,
 }

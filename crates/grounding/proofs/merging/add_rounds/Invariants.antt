@@ -1,0 +1,22 @@
+use Rattle.std.proofs.Common.{◌-◌, ◌<◌, ◌≤◌, [], fold, length}
+use Rattle.crew.specs.Right.{AreRight}
+use Rattle.clause_form.specs.Sources.{sourced}
+use Rattle.grounding.specs.Distinct.{kept_with}
+use Rattle.grounding.specs.Kept.{AreKeptClauses}
+use Rattle.grounding.specs.Pieces.{IsPartOfPiece, sources_of, start_of}
+use Rattle.grounding.proofs.merging.add_rounds.Given as goal
+
+-- the clauses of the instances before a round are kept, and its parts are made
+abbrev pub invariant-loop-from : goal.invariant-loop-from
+invariant-loop-from g l = record {
+  within : l.to ≤ l.count;
+  rising : l.from ≤ l.to;
+  more : l.from < l.count → l.from < l.to;
+  right : AreRight (IsPartOfPiece (g.K.OutcomeKind.size l.planned.kind.now) l.planned.named.now.sentence l.planned.base l.from l.to) 0 l.parts;
+  whole : l.to ≤ start_of l.from (length l.parts);
+  kept : AreKeptClauses l.seen l.out (sourced l.fn.out.clauses l.fn.out.origins)
+      (fold kept_with [] (sources_of (g.K.OutcomeKind.size l.planned.kind.now) l.planned.named.now.sentence l.planned.base 0 l.from));
+}
+
+abbrev pub decreases-loop-from : goal.decreases-loop-from
+decreases-loop-from g l = l.count - l.from
