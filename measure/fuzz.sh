@@ -17,7 +17,7 @@
 # here that clang is asked for more, for counters of edges and comparisons, and for the checks of AddressSanitizer (which sees a read or a
 # write outside the memory that was asked for, and what is not given back). What is tried is so the code of LLVM with these in it, and not
 # the executable in out/, nor what Rattle's own compiler makes. Files and output are those of measure/fuzz.c, in memory.
-# The first texts are studies/, the rows of crates/rows, and what the programs write of these, by measure/strange.py.
+# The first texts are studies/, the rows of crates/rows and crates/explain_rows, and what the programs write of these, by measure/strange.py.
 #
 # Prints for each target the texts that were run, the seconds and those of a processor, the edges of both programs that were reached, the texts
 # kept for what they reach, the longest run of one and the most memory, and how many texts failed, which are kept in ./fuzz_TARGET (crash-..,

@@ -2,10 +2,11 @@
 """Runs every command of `bench` and `explain` over strange input: measure/strange.py [--runs N] [--from K] [--seed S] [--only COMMAND]
 [--bench PATH] [--explain PATH] [--keep FOLDER] [--minutes M].
 
-Each run draws a command, takes a study with a report, a sharp text, clauses or a proof of it (from studies/, from crates/rows/data, and what
-the programs write of these), changes texts and words at random (measure/changes.py), and calls the program. What is wanted of each: the
-status is one of docs/FORMATS.md for this command and these words, and 2 exactly where the words are none by its table; nothing stands on standard
-error; it ends within 20 seconds of a processor; what it writes has its form. And over the answers:
+Each run draws a command, takes a study with a report, a sharp text, clauses or a proof of it (from studies/, from the data of crates/rows
+and crates/explain_rows, and what the programs write of these), changes texts and words at random (measure/changes.py), and calls the
+program. What is wanted of each: the status is one of docs/FORMATS.md for this command and these words, and 2 exactly where the words are
+none by its table; nothing stands on standard error; it ends within 20 seconds of a processor; what it writes has its form. And over the
+answers:
 
 - What `decide`, `adopt` and `sharpen` write is confirmed by `check`, and what `proof` writes by `lrat` over what `export` writes.
 - A study is refused, or taken, as measure/refusals.py says, which reads it without the program, and `check` refuses it with the same line; but for
@@ -190,9 +191,10 @@ def seeds_of(programs):
         if name in ("anonymity_neutrality", "median_voter"):
             others = glob.glob(f"{ROOT}/studies/refused/*") if name[0] == "a" else [f"{ROOT}/studies/median_of_three.report"]
             seed.texts["report"] += map(read, sorted(others))
-    data = {os.path.basename(path): read(path) for path in sorted(glob.glob(f"{ROOT}/crates/rows/data/*"))}
+    rows = [path for crate in ("rows", "explain_rows") for path in sorted(glob.glob(f"{ROOT}/crates/{crate}/data/*"))]
+    data = {os.path.basename(path): read(path) for path in rows}
     loose = []
-    for path in sorted(glob.glob(f"{ROOT}/crates/rows/data/*.rows")):
+    for path in (path for path in rows if path.endswith(".rows")):
         files = dict(data)
         for what, *rest in rows_files(path):
             if what == "file":

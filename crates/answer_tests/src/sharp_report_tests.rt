@@ -1,9 +1,8 @@
 //! Anonymity and neutrality, for two voters and two alternatives: a sharp text with one line changed at a time.
 
-ghost use Rattle.std.specs.Prelude.{◌≡◌, length};
+ghost use Rattle.std.specs.Prelude.{◌≡◌, length, IfOk};
 ghost use Rattle.sharp_report.specs.SharpStands.{IsSharpReady};
 
-use crate::symmetry::symmetric;
 use edge::Open;
 use outcomes::ChoiceKind;
 use profiles::Space;
@@ -11,8 +10,12 @@ use sharp_report::{SharpChecker, SharpFault, SharpRefusal};
 use std::alloc::Global;
 use std::test::Fail;
 use std::thread::Threads;
+use study::read_study;
 use verdicts::Refusal;
-use vocab::Study;
+use vocab::{Kind, Study};
+
+static STUDY: &str =
+    "kind = \"choice\"\nvoters = 2\nalternatives = 2\naxioms = [\"anonymity\", \"neutrality\"]\n";
 
 /// The lines of a sharp text of the study.
 static LINES: [&[u8]; 30] = [
@@ -88,12 +91,34 @@ static ROWS: [(u32, &[u8], u32, &[u8]); 26] = [
     (30, b"End", 30, b"form"),
 ];
 
+// The text and each table is handed out by a function, so that the proof of a test need not read it.
+fn study_text() -> &'static str {
+    STUDY
+}
+
 fn lines() -> &'static [&'static [u8]] {
     &LINES
 }
 
 fn rows() -> &'static [(u32, &'static [u8], u32, &'static [u8])] {
     &ROWS
+}
+
+/// The study. In a box, so that a test drops it by one call.
+fn symmetric(alloc: Global) -> Result<Box<Study>, Fail>
+    ensures kind { IfOk result (λ study. study.value.size.kind ≡ Kind.Choice) }
+    ensures axioms { IfOk result (λ study. length study.value.axioms ≡ 2) }
+{
+    let study = Box::new(
+        alloc,
+        read_study(alloc, study_text().as_bytes())
+            .ok()
+            .ok_or("study")?,
+    )?;
+    if study.size().kind() != Kind::Choice || study.axioms().len() != 2 {
+        return Err(Fail::from("another study"));
+    }
+    Ok(study)
 }
 
 /// The word of a refusal. The two axioms have names of 9 and 10 letters.

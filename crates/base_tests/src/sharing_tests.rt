@@ -12,9 +12,6 @@ use vocab::{Axiom, Kind, Name, Places, Size, Study, Table};
 /// Takes what workers on several threads may read.
 fn share<T: Send + Sync>(_shared: &T) {}
 
-/// Takes what they read by reference alone, as a crew, whose runtime is theirs.
-fn lend<T: Sync>(_lent: &T) {}
-
 /// Shares an axiom and its parts.
 fn share_axiom(axiom: &Axiom) {
     share(&axiom.name());
@@ -57,5 +54,5 @@ fn tables_and_clauses_are_shared(rt: HostRuntime) {
         gate: &Open,
         workers: 1,
     };
-    lend(&crew);
+    share(&crew);
 }

@@ -5,7 +5,7 @@ use Rattle.std.specs.List.{list_all, AllByRecursion}
 use Rattle.std.proofs.lemmas.Bool.{and_parts, and_from, or_cases, or_from, or_parts, both_ways, false_from_ne_true}
 use Rattle.vocab.specs.Study.{Question}
 use Rattle.meaning.specs.Truth.{is_rule, is_axiom_true}
-use Rattle.search_logs.proofs.PlaceLaws.{each_member}
+use Rattle.search_logs.proofs.PlaceLaws.{each_member, member_passes}
 use Rattle.axiom_sets.specs.declared.maps.AxiomMap.{AxiomMap}
 use Rattle.axiom_sets.specs.Sets.{is_within, has_part, has_whole}
 use Rattle.axiom_sets.specs.Maps.{decides, covers, IsPut, HasImpossible, HasPossible, HasOpen}

@@ -17,7 +17,7 @@ use Rattle.clause_form.specs.Refusals.{is_over_limits}
 use Rattle.clause_form.specs.Sources.{clauses_in, origin_of_number, sourced}
 use Rattle.grounding.specs.Distinct.{kept_with}
 use Rattle.grounding.specs.Parts.{with_origin}
-use Rattle.grounding.specs.Pieces.{IsPart, end_of, rows_at, rows_from, sources_at, sources_of, start_of}
+use Rattle.grounding.specs.Pieces.{IsKeptPart, end_of, rows_at, rows_from, sources_at, sources_of, start_of}
 use Rattle.grounding.proofs.FirstsLaws.{kept_are_firsts}
 use Rattle.grounding.proofs.KeptLaws.{over-as, over-grows}
 use Rattle.grounding.proofs.PieceLaws.{rows_from-add}
@@ -87,7 +87,7 @@ module _ (size : Extent) (sentence : Tree) (base : ℕ) where
   ]
 
   -- what is kept with the part of one piece more
-  pub next-part : (from to : ℕ) → from ≤ to → (piece : ℕ) (part : List Sourced) (kept : List Sourced) → IsPart size sentence base (start_of from piece) (end_of from to piece) part
+  pub next-part : (from to : ℕ) → from ≤ to → (piece : ℕ) (part : List Sourced) (kept : List Sourced) → IsKeptPart size sentence base (start_of from piece) (end_of from to piece) part
       → fold kept_with (fold kept_with kept (sources_of size sentence base from (min (start_of from piece) to))) part
       ≡ fold kept_with kept (sources_of size sentence base from (min (start_of from (piece + 1)) to))
   next-part from to rising piece part kept is =

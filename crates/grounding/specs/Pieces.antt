@@ -52,7 +52,7 @@ module _ (size : Extent) (sentence : Tree) where
 
   -- as of those of a piece
   abbrev pub IsPartOfPiece : ℕ → ℕ → ℕ → ℕ → List Sourced → Type 0
-  IsPartOfPiece base from to piece part = IsPart base (start_of from piece) (end_of from to piece) part
+  IsPartOfPiece base from to piece part = IsKeptPart base (start_of from piece) (end_of from to piece) part
 
   -- no instance from one number up to another is too wide
   abbrev pub AreNarrow : ℕ → ℕ → Type 0

@@ -11,7 +11,7 @@ ghost use Rattle.clause_form.specs.Sources.{clauses_in, sourced};
 ghost use Rattle.lanes.specs.Lanes.{IsPlan};
 ghost use Rattle.grounding.specs.Distinct.{kept_with};
 ghost use Rattle.grounding.specs.Kept.{Keeps, Overfills};
-ghost use Rattle.grounding.specs.Pieces.{AreNarrow, AreNarrowInstances, IsPart, IsPartOfPiece, end_of, sources_of, start_of};
+ghost use Rattle.grounding.specs.Pieces.{AreNarrow, AreNarrowInstances, IsKeptPart, IsPartOfPiece, end_of, sources_of, start_of};
 
 use crate::distinct::{Seen, keep};
 use crate::part::Part;
@@ -119,7 +119,7 @@ fn make_parts<R: Threads + Sync, K: OutcomeKind, G: Gate>(
         requires { AreNarrowInstances (K.size planned.now.kind.now) planned.now.named.now start end ×
             (planned.now.base ≤ 2 ^ 60) ×
             IsPlan (K.size planned.now.kind.now) planned.now.named.now.sentence planned.now.plan.now }
-        ensures { IfOk result (IsPart (K.size planned.entry.now.kind.now)
+        ensures { IfOk result (IsKeptPart (K.size planned.entry.now.kind.now)
             planned.entry.now.named.now.sentence planned.entry.now.base start end) }
     {
         clauses_of_all(
@@ -273,8 +273,8 @@ fn add_rounds<R: Threads + Sync, K: OutcomeKind, G: Gate>(
         sourced out.old.clauses out.old.origins ++ fold kept_with []
         (sources_of (K.size planned.now.kind.now) planned.now.named.now.sentence planned.now.base 0 count)) }
     ensures full { result ≡ Err PushFault.Full → IsTrue (is_over_limits (clauses_in
-        (sourced out.old.clauses out.old.origins ++ fold kept_with []
-        (sources_of (K.size planned.now.kind.now) planned.now.named.now.sentence planned.now.base 0 count)))) }
+        (sourced out.old.clauses out.old.origins ++ fold kept_with [] (sources_of
+        (K.size planned.now.kind.now) planned.now.named.now.sentence planned.now.base 0 count)))) }
 {
     let _kept = out.len();
     let most = most_pieces(most_counts(planned.kind.space(), planned.named.sentence().body()));

@@ -6,6 +6,7 @@ use Rattle.std.specs.Option.{option_or}
 use Rattle.std.proofs.lemmas.Bool.{and_parts, ne_eqb}
 use Rattle.lists.specs.declared.memory.NoMemory.{NoMemory}
 use Rattle.lists.proofs.TestLaws.{all_kept}
+pub use Rattle.vocab.proofs.Ranges.{below_more}
 use Rattle.vocab.specs.declared.kinds.Sort.TheVariants.{Profile}
 use Rattle.vocab.specs.Size.{sort_count}
 use Rattle.vocab.specs.Study.{Question}

@@ -1,16 +1,10 @@
-//! Tests of stories, of the lines of reports and of rules, each module of the crate that it is named for. The
-//! library itself is empty.
+//! Tests of the lines of reports, read and written, each module of the crate that it is named for. The library
+//! itself is empty.
 #![tactic(auto)]
 
-#[cfg(test)]
-mod premises_tests;
 #[cfg(test)]
 mod report_lines_tests;
 #[cfg(test)]
 mod report_text_tests;
-#[cfg(test)]
-mod rule_check_tests;
-#[cfg(test)]
-mod story_tests;
 #[cfg(test)]
 mod studies_by_text;

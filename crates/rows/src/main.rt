@@ -1,61 +1,52 @@
-//! Rows of words over real files: runs each through the top call of its program, and prints what it comes to.
-//!
-//! Each argument names a file of rows. Its lines are printed one by one, and behind that of a row its answer:
-//!
-//! | Line | What is done |
-//! |---|---|
-//! | `file NAME` | the file of this name gets the lines that follow behind a sign |
-//! | `file NAME OLD N` | the same, but these stand in place of line N, from 1, of the file OLD |
-//! | `\|TEXT`, `/TEXT` | the text is a line of the file, with a line end or without one |
-//! | `run WORDS`, `run WORDS > NAME` | a row: the words, one blank between two; the file gets what is written |
-//! | `explain WORDS` | a row of the program `explain` |
-//! | `# TEXT`, an empty line | nothing |
+//! Runs rows of the program `bench` over real files. Each argument names a file of rows.
 #![tactic(auto)]
 
-mod draft;
-mod row;
-
-use draft::Draft;
+use answers::Run;
+use edge::{FileShelf, MemorySink, Open};
+use row_files::{Program, run_rows};
 use std::rt::Files;
 use std::thread::Threads;
-use std::{env, fs, io};
+use std::{env, io};
+use top_call::bench;
 
-/// Does what a line says that belongs to no file.
-fn obey<R: Files + Print + AllocGlobal + Threads + Sync>(
-    rt: &R,
-    line: &str,
-    draft: &mut Draft,
-) -> io::Result<()> {
-    if let Some(head) = line.strip_prefix("file ") {
-        *draft = Draft::read(rt, head)?;
-        return Ok(());
-    }
-    if line == "run" || line.starts_with("run ") || line.starts_with("explain ") {
-        return row::run(rt, line);
-    }
-    if line.is_empty() || line.starts_with("# ") {
-        return Ok(());
-    }
-    println!(rt; "this is no line of a file of rows")
-}
+/// The top call of `bench`.
+#[derive(Clone, Copy)]
+struct BenchCall;
 
-/// Does what the lines of a file of rows say, and prints each line before its answer.
-fn run_rows<R: Files + Print + AllocGlobal + Threads + Sync>(rt: &R, name: &str) -> io::Result<()> {
-    let rows = fs::read_to_string(rt, name)?;
-    let mut draft = Draft::new(rt.alloc());
-    for line in rows.as_str().split('\n') {
-        println!(rt; "{line}")?;
-        if !draft.takes(line)? {
-            draft.put(rt)?;
-            obey(rt, line, &mut draft)?;
+/// How many clauses the spent searches of a call learned, those of sharpening too.
+fn learned_by(run: &Run) -> usize {
+    let mut learned: usize = 0;
+    for log in run.logs.as_slice() {
+        learned = learned.saturating_add(log.lines.len());
+    }
+    if let Some(sharp) = &run.sharp {
+        for log in sharp.logs.as_slice() {
+            learned = learned.saturating_add(log.lines.len());
         }
     }
-    draft.put(rt)
+    learned
+}
+
+impl Program for BenchCall {
+    fn word(&self) -> &'static str {
+        "run"
+    }
+
+    fn call<R: Files + AllocGlobal + Threads + Sync>(
+        &self,
+        rt: &R,
+        words: &[String],
+        out: &mut MemorySink,
+    ) -> (u8, usize) {
+        let mut shelf = FileShelf::new(rt);
+        let run = bench(rt, rt.alloc(), words, &mut shelf, out, &Open);
+        (run.status, learned_by(&run))
+    }
 }
 
 fn main(rt: HostRuntime) -> io::Result<()> {
     for name in env::args(&rt)?.skip(1) {
-        run_rows(&rt, name.as_str())?;
+        run_rows(&BenchCall, &rt, name.as_str())?;
     }
     Ok(())
 }

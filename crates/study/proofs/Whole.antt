@@ -53,7 +53,7 @@ distinct_entries : (entries : List Entry) → have_own_names entries ≡ are_dis
 distinct_entries [] = refl
 distinct_entries (e ∷ entries) = rw (any_entry e.name entries, distinct_entries entries) refl
 
-distinct_axioms : (axioms : List Titled) → study.have_own_names axioms ≡ are_distinct (map (λ a. a.name) axioms)
+distinct_axioms : (axioms : List Titled) → study.axioms_have_own_names axioms ≡ are_distinct (map (λ a. a.name) axioms)
 distinct_axioms [] = refl
 distinct_axioms (a ∷ axioms) = rw (any_axiom a.name axioms, distinct_axioms axioms) refl
 

@@ -1,7 +1,7 @@
 use Rattle.std.proofs.Common.{[], inr, sym, subst}
 use Rattle.vocab.specs.Study.{Question}
 use Rattle.report.specs.Stands.{StandsForSome}
-use Rattle.answer_tests.proofs.report_tests.lines_are_checked_one_by_one.Goals as goal
+use Rattle.verdict_tests.proofs.report_tests.lines_are_checked_one_by_one.Goals as goal
 
 pub checks_to_the_end-requires-clause-ready : goal.checks_to_the_end-requires-clause-ready
 checks_to_the_end-requires-clause-ready g c = λ κs.

@@ -1,13 +1,11 @@
 //! A row: the words of a call, and what the call comes to.
 
-use answers::Run;
-use edge::{FileShelf, MemorySink, Open};
-use explain_call::explain;
+use crate::program::Program;
+use edge::MemorySink;
 use std::io::{ErrorKind, Write};
 use std::rt::Files;
 use std::thread::Threads;
 use std::{fs, io};
-use top_call::bench;
 
 /// Room for each text that is written.
 const ROOM: usize = 1_000_000;
@@ -32,22 +30,12 @@ impl Told {
     }
 }
 
-/// How many clauses the spent searches of a call learned, those of sharpening too.
-fn learned_by(run: &Run) -> usize {
-    let mut learned: usize = 0;
-    for log in run.logs.as_slice() {
-        learned = learned.saturating_add(log.lines.len());
-    }
-    if let Some(sharp) = &run.sharp {
-        for log in sharp.logs.as_slice() {
-            learned = learned.saturating_add(log.lines.len());
-        }
-    }
-    learned
-}
-
-/// What the words behind `run` or `explain` come to, over the files that they name.
-fn answer<R: Files + Print + AllocGlobal + Threads + Sync>(rt: &R, line: &str) -> io::Result<Told> {
+/// What the words behind the first word of a row come to, over the files that they name.
+fn answer<P: Program, R: Files + AllocGlobal + Threads + Sync>(
+    program: &P,
+    rt: &R,
+    line: &str,
+) -> io::Result<Told> {
     let alloc = rt.alloc();
     let mut words = Vec::new(alloc);
     for word in line.split(' ').skip(1) {
@@ -56,13 +44,7 @@ fn answer<R: Files + Print + AllocGlobal + Threads + Sync>(rt: &R, line: &str) -
     let Ok(mut out) = MemorySink::new(alloc, ROOM, &[]) else {
         return Err(io::Error::from(ErrorKind::OutOfMemory));
     };
-    let mut shelf = FileShelf::new(rt);
-    let (status, learned) = if line.starts_with("explain ") {
-        (explain(rt, alloc, &words, &mut shelf, &mut out, &Open), 0)
-    } else {
-        let run = bench(rt, alloc, &words, &mut shelf, &mut out, &Open);
-        (run.status, learned_by(&run))
-    };
+    let (status, learned) = program.call(rt, &words, &mut out);
     let bytes = out.bytes().to_vec(alloc)?;
     Ok(Told {
         status,
@@ -72,7 +54,8 @@ fn answer<R: Files + Print + AllocGlobal + Threads + Sync>(rt: &R, line: &str) -
 }
 
 /// What is said of the same words with a number of workers, where they may have one.
-fn among_workers<R: Files + Print + AllocGlobal + Threads + Sync>(
+fn among_workers<P: Program, R: Files + AllocGlobal + Threads + Sync>(
+    program: &P,
     rt: &R,
     line: &str,
     alone: &Told,
@@ -81,7 +64,7 @@ fn among_workers<R: Files + Print + AllocGlobal + Threads + Sync>(
     let mut refused = 0u32;
     for workers in [1, 2, 16] {
         let more = format!(in rt.alloc(); "{line} --workers {workers}")?;
-        let many = answer(rt, more.as_str())?;
+        let many = answer(program, rt, more.as_str())?;
         if many.is(alone) {
             same = same.saturating_add(1);
         }
@@ -134,14 +117,18 @@ fn print_text<R: Print>(rt: &R, text: &[u8]) -> io::Result<()> {
     Ok(())
 }
 
-/// Runs `run WORDS`, `explain WORDS` or one of them with `> NAME` behind it, and prints what it comes to; the file NAME gets the text.
-pub fn run<R: Files + Print + AllocGlobal + Threads + Sync>(rt: &R, line: &str) -> io::Result<()> {
+/// Runs a row, that may have `> NAME` behind it, and prints what it comes to; the file NAME gets the text.
+pub fn run<P: Program, R: Files + Print + AllocGlobal + Threads + Sync>(
+    program: &P,
+    rt: &R,
+    line: &str,
+) -> io::Result<()> {
     let (words, name) = match line.split_once(" > ") {
         Some((words, name)) => (words, Some(name)),
         None => (line, None),
     };
-    let alone = answer(rt, words)?;
-    let more = among_workers(rt, words, &alone)?;
+    let alone = answer(program, rt, words)?;
+    let more = among_workers(program, rt, words, &alone)?;
     let (status, learned) = (alone.status, alone.learned);
     if learned > 0 {
         println!(rt; "status {status}, {learned} learned{more}")?;
