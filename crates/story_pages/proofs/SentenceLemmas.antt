@@ -20,7 +20,7 @@ use Rattle.tellings.specs.declared.tellings.By.TheVariants.{Axiom, Outcome, Lemm
 use Rattle.tellings.specs.declared.tellings.Placed.{Placed}
 use Rattle.tellings.specs.declared.tellings.Sentence.{Sentence}
 use Rattle.story_pages.specs.Claims.{said_html, facts_html, alone_claims_html, stated_facts_html}
-use Rattle.story_pages.specs.Ends.{is_left}
+use Rattle.story_pages.specs.Ends.{is_by_outcome}
 use Rattle.story_pages.specs.Known.{grey_mark, supposed_mark, forced_mark, numbered_mark, stated_mark, known_html}
 use Rattle.story_pages.specs.Sentences.{axiom_html, facts_fold, is_left_at, is_there, says_there, there_html, many_html, facts_or_many_html, rests_html, grounds_html, since_html, given_html, given_by, by_axiom_html, by_outcome_html, by_html}
 use Rattle.story_pages.specs.Laws.{StandsIn, IsFactSaid, IsNamed, IsStated, NamesFacts, SentencesNameFacts, ClaimsStandThere, EndsNameFacts, SentencesStateFacts, CellsHaveFacts}
@@ -72,7 +72,7 @@ pub names : SentencesNameFacts
 names size steps number sentence = front_names size sentence.rests (says_there sentence.by steps number)
 
 pub ends : EndsNameFacts
-ends size last rests = front_names size rests (is_left last)
+ends size last rests = front_names size rests (is_by_outcome last)
 
 -- ---- where claims stand
 

@@ -22,10 +22,10 @@ abbrev pub voter_label : ℕ → List ℕ
 voter_label i = codes "voter " ++ decimal (i + 1)
 
 -- the reason is what is left at a profile
-abbrev pub is_left : Reason → Bool
-is_left (ByAxiom k values) = false
-is_left (ByOutcome p) = true
-is_left (ByLemma j) = false
+abbrev pub is_by_outcome : Reason → Bool
+is_by_outcome (ByAxiom k values) = false
+is_by_outcome (ByOutcome p) = true
+is_by_outcome (ByLemma j) = false
 
 -- an earlier claim that is contradicted
 abbrev pub against_claim : ℕ → List ℕ
@@ -77,4 +77,4 @@ module _ (size : Extent) where
 
   -- what it rests on, and the last reason; where nothing is left at a profile, the claims are made there (`end_there` of `IsTellingRight`)
   abbrev pub end_html : List Titled → Reason → List Literal → List ℕ
-  end_html axioms last rests = since_html size (is_left last) rests ++ reason_html axioms last
+  end_html axioms last rests = since_html size (is_by_outcome last) rests ++ reason_html axioms last

@@ -17,7 +17,7 @@ use Rattle.tellings.specs.declared.tellings.Passage.{Passage}
 use Rattle.tellings.specs.declared.tellings.Telling.{Telling}
 use Rattle.tellings.specs.declared.tellings.StoryTelling.{StoryTelling}
 use Rattle.story_pages.specs.Claims.{some_html, at_html, said_html}
-use Rattle.story_pages.specs.Ends.{is_left, end_html}
+use Rattle.story_pages.specs.Ends.{is_by_outcome, end_html}
 use Rattle.story_pages.specs.Homes.{story_html}
 use Rattle.story_pages.specs.Known.{grey_mark, numbered_mark, known_html}
 use Rattle.story_pages.specs.Lemmas.{claimed_html, suppose_html, table_html}
@@ -71,7 +71,7 @@ ClaimsStandThere =
 
 -- the end of a lemma names in front what its last reason rests on
 abbrev pub EndsNameFacts : Type 0
-EndsNameFacts = (size : Extent) (last : Reason) (rests : List Literal) → NamesFacts size (is_left last) rests
+EndsNameFacts = (size : Extent) (last : Reason) (rests : List Literal) → NamesFacts size (is_by_outcome last) rests
 
 -- each step is stated by its sentence, behind that
 abbrev pub SentencesStateFacts : Type 0

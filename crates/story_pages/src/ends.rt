@@ -6,7 +6,7 @@ ghost use Rattle.vocab.specs.Formula.{prefix_of};
 ghost use Rattle.vocab.specs.Range.{below};
 ghost use Rattle.vocab.specs.Tree.{tree_of};
 ghost use Rattle.html.specs.Facts.{alternative_html};
-ghost use Rattle.story_pages.specs.Ends.{mark_html, voter_label, is_left, against_claim, ballot_value_html, profile_value_html, value_html, valued_html, value_at, prefixed_html, values_html, against_html, nothing_left, reason_html, end_html};
+ghost use Rattle.story_pages.specs.Ends.{mark_html, voter_label, is_by_outcome, against_claim, ballot_value_html, profile_value_html, value_html, valued_html, value_at, prefixed_html, values_html, against_html, nothing_left, reason_html, end_html};
 
 use crate::sentences::{put_axiom, put_since};
 use html::{Html, put_alternative, put_ballot, put_number, put_profile};
@@ -208,8 +208,8 @@ fn put_reason(
 }
 
 /// Whether a reason is what is left at a profile.
-fn is_left(reason: &Reason) -> bool
-    ensures { result ≡ is_left reason.now }
+fn is_by_outcome(reason: &Reason) -> bool
+    ensures { result ≡ is_by_outcome reason.now }
 {
     match *reason {
         Reason::Axiom(_, _) => false,
@@ -228,7 +228,7 @@ fn put_end(
 ) -> Result<(), NoMemory>
     ensures { OnOk result (out.new ≡ out.old ++ end_html space.now axioms.now last.now rests.now) }
 {
-    put_since(out, space, is_left(last), rests)?;
+    put_since(out, space, is_by_outcome(last), rests)?;
     put_reason(out, space, axioms, last)?;
     Ok(())
 }

@@ -2,8 +2,8 @@
 
 ghost use Rattle.story_pages.specs.Laws.{SentencesNameFacts, ClaimsStandThere, EndsNameFacts, SentencesStateFacts, CellsHaveFacts, ForcedFactsStand, LemmasStand};
 
-/// Each sentence names in front each fact that it rests on, however many these are: with its profile, or by its
-/// claim alone where that claim is made at each profile of what is stated.
+/// Each sentence names in front each fact that it rests on, however many these are: with its profile, or by
+/// its claim alone where that claim is made at each profile of what is stated.
 pub fn sentences_name_facts()
     ensures { SentencesNameFacts }
 {}
@@ -14,8 +14,8 @@ pub fn claims_stand_there()
     ensures { ClaimsStandThere }
 {}
 
-/// The end of a lemma names in front each fact that its last reason rests on: with its profile, or by its claim
-/// alone where nothing is left.
+/// The end of a lemma names in front each fact that its last reason rests on: with its profile, or by its
+/// claim alone where nothing is left.
 pub fn ends_name_facts()
     ensures { EndsNameFacts }
 {}
@@ -35,8 +35,8 @@ pub fn forced_facts_stand()
     ensures { ForcedFactsStand }
 {}
 
-/// Each lemma of a story that is told right stands on the page, with its claim and its number, where it supposes
-/// something, with what it supposes, its sentences, its end and its table.
+/// Each lemma of a story that is told right stands on the page, with its claim and its number, where it
+/// supposes something, with what it supposes, its sentences, its end and its table.
 pub fn lemmas_stand()
     ensures { LemmasStand }
 {}

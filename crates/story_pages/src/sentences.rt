@@ -122,8 +122,8 @@ fn is_left_at(p: u32, reason: &Reason) -> bool
     }
 }
 
-/// Whether the fact of a step, if the sentence of a number states it, is of the profile at which the reason is
-/// what is left.
+/// Whether the fact of a step, if the sentence of a number states it, is of the profile at which the reason
+/// is what is left.
 fn is_there(number: usize, placed: &Placed) -> bool
     ensures { result ≡ is_there number placed.now }
 {
