@@ -63,9 +63,9 @@ fn full() -> &'static str {
     FULL
 }
 
-/// Studies of six pieces, how many pieces begin before those two of which the first waits for the second, and
-/// how many begin in all.
-static SHARED: [(&str, u64, u64); 3] = [(PARETIAN, 0, 6), (MEASURED, 0, 12), (MEASURED, 6, 12)];
+/// Studies of six pieces, whose clauses are made in two parts; how many of either begin before those two of which
+/// the first waits for the second, and how many begin in all.
+static SHARED: [(&str, u64, u64); 3] = [(PARETIAN, 0, 2), (MEASURED, 0, 8), (MEASURED, 6, 8)];
 
 fn shared() -> &'static [(&'static str, u64, u64)] {
     &SHARED

@@ -17,7 +17,7 @@ use Rattle.clause_form.specs.Refusals.{is_over_limits}
 use Rattle.clause_form.specs.Sources.{clauses_in, origin_of_number, sourced}
 use Rattle.grounding.specs.Distinct.{kept_with}
 use Rattle.grounding.specs.Parts.{with_origin}
-use Rattle.grounding.specs.Pieces.{IsKeptPart, end_of, rows_at, rows_from, sources_at, sources_of, start_of}
+use Rattle.grounding.specs.Pieces.{IsKeptPart, part_end, rows_at, rows_from, sources_at, sources_of, part_start}
 use Rattle.grounding.proofs.FirstsLaws.{kept_are_firsts}
 use Rattle.grounding.proofs.KeptLaws.{over-as, over-grows}
 use Rattle.grounding.proofs.PieceLaws.{rows_from-add}
@@ -57,7 +57,7 @@ instance-here n place k e h =
 
 module _ (size : Extent) (sentence : Tree) (base : ℕ) where
   -- the clauses up to a number, and those from there on
-  sources-add : (from middle to : ℕ) → from ≤ middle → middle ≤ to →
+  pub sources-add : (from middle to : ℕ) → from ≤ middle → middle ≤ to →
       sources_of size sentence base from to ≡ sources_of size sentence base from middle ++ sources_of size sentence base middle to
   sources-add from middle to low high =
       let whole : to - from ≡ middle - from + (to - middle) = omega (arith, low, high) in
@@ -72,28 +72,28 @@ module _ (size : Extent) (sentence : Tree) (base : ℕ) where
 
   -- the clauses of one piece more
   next-piece : (from to piece : ℕ) → from ≤ to →
-      sources_of size sentence base from (min (start_of from piece) to) ++ sources_of size sentence base (start_of from piece) (end_of from to piece)
-      ≡ sources_of size sentence base from (min (start_of from (piece + 1)) to)
-  next-piece from to piece rising = elim (cases_lt to (start_of from piece)) [
-    | inl past ↦ (let here : min (start_of from piece) to ≡ min (start_of from (piece + 1)) to = omega (arith, past) in
-        let none : end_of from to piece ≤ start_of from piece = omega (arith, past) in
-        ap₂ (λ m (ss : List Sourced). sources_of size sentence base from m ++ ss) here (sources-none (start_of from piece) (end_of from to piece) none)
-        ∙ append-nil (sources_of size sentence base from (min (start_of from (piece + 1)) to)))
-    | inr le ↦ (let here : min (start_of from piece) to ≡ start_of from piece = omega (arith, le) in
-        let low : from ≤ start_of from piece = omega arith in
-        let high : start_of from piece ≤ end_of from to piece = omega (arith, le) in
-        ap (λ m. sources_of size sentence base from m ++ sources_of size sentence base (start_of from piece) (end_of from to piece)) here
-        ∙ sym (sources-add from (start_of from piece) (end_of from to piece) low high))
+      sources_of size sentence base from (min (part_start from piece) to) ++ sources_of size sentence base (part_start from piece) (part_end from to piece)
+      ≡ sources_of size sentence base from (min (part_start from (piece + 1)) to)
+  next-piece from to piece rising = elim (cases_lt to (part_start from piece)) [
+    | inl past ↦ (let here : min (part_start from piece) to ≡ min (part_start from (piece + 1)) to = omega (arith, past) in
+        let none : part_end from to piece ≤ part_start from piece = omega (arith, past) in
+        ap₂ (λ m (ss : List Sourced). sources_of size sentence base from m ++ ss) here (sources-none (part_start from piece) (part_end from to piece) none)
+        ∙ append-nil (sources_of size sentence base from (min (part_start from (piece + 1)) to)))
+    | inr le ↦ (let here : min (part_start from piece) to ≡ part_start from piece = omega (arith, le) in
+        let low : from ≤ part_start from piece = omega arith in
+        let high : part_start from piece ≤ part_end from to piece = omega (arith, le) in
+        ap (λ m. sources_of size sentence base from m ++ sources_of size sentence base (part_start from piece) (part_end from to piece)) here
+        ∙ sym (sources-add from (part_start from piece) (part_end from to piece) low high))
   ]
 
   -- what is kept with the part of one piece more
-  pub next-part : (from to : ℕ) → from ≤ to → (piece : ℕ) (part : List Sourced) (kept : List Sourced) → IsKeptPart size sentence base (start_of from piece) (end_of from to piece) part
-      → fold kept_with (fold kept_with kept (sources_of size sentence base from (min (start_of from piece) to))) part
-      ≡ fold kept_with kept (sources_of size sentence base from (min (start_of from (piece + 1)) to))
+  pub next-part : (from to : ℕ) → from ≤ to → (piece : ℕ) (part : List Sourced) (kept : List Sourced) → IsKeptPart size sentence base (part_start from piece) (part_end from to piece) part
+      → fold kept_with (fold kept_with kept (sources_of size sentence base from (min (part_start from piece) to))) part
+      ≡ fold kept_with kept (sources_of size sentence base from (min (part_start from (piece + 1)) to))
   next-part from to rising piece part kept is =
-      let before = sources_of size sentence base from (min (start_of from piece) to) in
+      let before = sources_of size sentence base from (min (part_start from piece) to) in
       is (fold kept_with kept before)
-      ∙ sym (fold-append kept_with kept before (sources_of size sentence base (start_of from piece) (end_of from to piece)))
+      ∙ sym (fold-append kept_with kept before (sources_of size sentence base (part_start from piece) (part_end from to piece)))
       ∙ ap (fold kept_with kept) (next-piece from to piece rising)
 
   -- what is kept with the clauses of one round more

@@ -25,6 +25,14 @@ start_of from piece = from + 64 * piece
 abbrev pub end_of : ℕ → ℕ → ℕ → ℕ
 end_of from to piece = min (start_of from (piece + 1)) to
 
+-- where a part of four pieces of the instances from `from` on begins
+abbrev pub part_start : ℕ → ℕ → ℕ
+part_start from part = from + 256 * part
+
+-- where a part of the instances from `from` up to `to` ends
+abbrev pub part_end : ℕ → ℕ → ℕ → ℕ
+part_end from to part = min (part_start from (part + 1)) to
+
 -- what n instances from i on give, one after another
 abbrev pub rows_from : {A : Type 0} → (ℕ → List A) → ℕ → ℕ → List A
 rows_from rows i n = flat_map rows (up_from i n)
@@ -50,9 +58,9 @@ module _ (size : Extent) (sentence : Tree) where
   abbrev pub IsKeptPart : ℕ → ℕ → ℕ → List Sourced → Type 0
   IsKeptPart base from to part = KeepSame part (sources_of base from to)
 
-  -- as of those of a piece
-  abbrev pub IsPartOfPiece : ℕ → ℕ → ℕ → ℕ → List Sourced → Type 0
-  IsPartOfPiece base from to piece part = IsKeptPart base (start_of from piece) (end_of from to piece) part
+  -- as of those of four pieces
+  abbrev pub IsPartOf : ℕ → ℕ → ℕ → ℕ → List Sourced → Type 0
+  IsPartOf base from to n part = IsKeptPart base (part_start from n) (part_end from to n) part
 
   -- no instance from one number up to another is too wide
   abbrev pub AreNarrow : ℕ → ℕ → Type 0

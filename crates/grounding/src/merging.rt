@@ -11,12 +11,12 @@ ghost use Rattle.clause_form.specs.Sources.{clauses_in, sourced};
 ghost use Rattle.lanes.specs.Lanes.{IsPlan};
 ghost use Rattle.grounding.specs.Distinct.{kept_with};
 ghost use Rattle.grounding.specs.Kept.{Keeps, Overfills};
-ghost use Rattle.grounding.specs.Pieces.{AreNarrow, AreNarrowInstances, IsKeptPart, IsPartOfPiece, end_of, sources_of, start_of};
+ghost use Rattle.grounding.specs.Pieces.{AreNarrow, AreNarrowInstances, IsKeptPart, IsPartOf, part_end, sources_of, part_start};
 
 use crate::distinct::{Seen, keep};
 use crate::part::Part;
 use crate::parts::clauses_of_all;
-use crate::pieces::{MOST_CLAUSES, MOST_LITERALS, PIECE, Planned, ROUND};
+use crate::pieces::{MOST_CLAUSES, MOST_LITERALS, PART, PIECE, Planned, ROUND};
 use clause_form::{most_counts, sum};
 use cnf::{Clauses, PushFault};
 use crew::{Crew, Job, Parts, map_pieces};
@@ -41,15 +41,15 @@ struct Making<'a, F> {
 impl<F: Fn(u64, u64) -> Result<Part, NoMemory> + Sync> Job for Making<'_, F> {
     type Part = Part;
 
-    ghost has = { λ job piece. (start_of job.from piece ≤ job.to) ×
-        F.pre job.make.now (start_of job.from piece) (end_of job.from job.to piece) };
+    ghost has = { λ job piece. (part_start job.from piece ≤ job.to) ×
+        F.pre job.make.now (part_start job.from piece) (part_end job.from job.to piece) };
 
     ghost is_right = { λ job piece part.
-        F.post job.make.now (start_of job.from piece) (end_of job.from job.to piece) (Ok part) };
+        F.post job.make.now (part_start job.from piece) (part_end job.from job.to piece) (Ok part) };
 
     fn part(&self, piece: u32) -> Result<Part, NoMemory> {
-        let start = self.from + PIECE * u64::from(piece);
-        let end = start + PIECE.min(self.to - start);
+        let start = self.from + PART * u64::from(piece);
+        let end = start + PART.min(self.to - start);
         (self.make)(start, end)
     }
 }
@@ -78,10 +78,10 @@ fn keep_parts<K: OutcomeKind>(
     seen: &mut Seen,
     out: &mut Clauses,
 ) -> Result<(), PushFault>
-    requires right { AreRight (IsPartOfPiece
+    requires right { AreRight (IsPartOf
         (K.size planned.now.kind.now) planned.now.named.now.sentence planned.now.base from to) 0 parts.now }
     requires rising { from ≤ to }
-    requires whole { to ≤ start_of from (length parts.now) }
+    requires whole { to ≤ part_start from (length parts.now) }
     ensures kept { OnOk result (Keeps seen.old out.old seen.new out.new
         (sources_of (K.size planned.now.kind.now) planned.now.named.now.sentence planned.now.base from to)) }
     ensures full { result ≡ Err PushFault.Full → Overfills seen.old out.old
@@ -111,9 +111,9 @@ fn make_parts<R: Threads + Sync, K: OutcomeKind, G: Gate>(
     requires base { planned.now.base ≤ 2 ^ 60 }
     requires short { to ≤ from + 65536 }
     requires plan { IsPlan (K.size planned.now.kind.now) planned.now.named.now.sentence planned.now.plan.now }
-    ensures right { IfOk result (λ parts. AreRight (IsPartOfPiece
+    ensures right { IfOk result (λ parts. AreRight (IsPartOf
         (K.size planned.now.kind.now) planned.now.named.now.sentence planned.now.base from to) 0 parts) }
-    ensures whole { IfOk result (λ parts. to ≤ start_of from (length parts)) }
+    ensures whole { IfOk result (λ parts. to ≤ part_start from (length parts)) }
 {
     let make = |start: u64, end: u64| -> Result<Part, NoMemory>
         requires { AreNarrowInstances (K.size planned.now.kind.now) planned.now.named.now start end ×
@@ -137,7 +137,7 @@ fn make_parts<R: Threads + Sync, K: OutcomeKind, G: Gate>(
         from,
         to,
     };
-    let count = (to - from).div_ceil(PIECE) as u32;
+    let count = (to - from).div_ceil(PART) as u32;
     let parts = map_pieces(crew.rt, alloc, &job, count, crew.workers, crew.gate)?;
     Ok(parts)
 }
@@ -156,17 +156,17 @@ fn keep_beside<R: Threads + Sync, K: OutcomeKind, G: Gate>(
     seen: &mut Seen,
     out: &mut Clauses,
 ) -> (Result<Parts<Part>, NoMemory>, Result<(), PushFault>)
-    requires right { AreRight (IsPartOfPiece
+    requires right { AreRight (IsPartOf
         (K.size planned.now.kind.now) planned.now.named.now.sentence planned.now.base from to) 0 parts.now }
     requires rising { from ≤ to }
-    requires whole { to ≤ start_of from (length parts.now) }
+    requires whole { to ≤ part_start from (length parts.now) }
     requires instances { AreNarrowInstances (K.size planned.now.kind.now) planned.now.named.now to end }
     requires base { planned.now.base ≤ 2 ^ 60 }
     requires short { end ≤ to + 65536 }
     requires plan { IsPlan (K.size planned.now.kind.now) planned.now.named.now.sentence planned.now.plan.now }
-    ensures right { IfOk result.0 (λ made. AreRight (IsPartOfPiece
+    ensures right { IfOk result.0 (λ made. AreRight (IsPartOf
         (K.size planned.now.kind.now) planned.now.named.now.sentence planned.now.base to end) 0 made) }
-    ensures whole { IfOk result.0 (λ made. end ≤ start_of to (length made)) }
+    ensures whole { IfOk result.0 (λ made. end ≤ part_start to (length made)) }
     ensures kept { OnOk result.1 (Keeps seen.old out.old seen.new out.new
         (sources_of (K.size planned.now.kind.now) planned.now.named.now.sentence planned.now.base from to)) }
     ensures full { result.1 ≡ Err PushFault.Full → Overfills seen.old out.old
@@ -181,14 +181,14 @@ fn keep_beside<R: Threads + Sync, K: OutcomeKind, G: Gate>(
             (K.size planned.now.kind.now) planned.now.named.now to end ×
             (planned.now.base ≤ 2 ^ 60) × (end ≤ to + 65536) ×
             IsPlan (K.size planned.now.kind.now) planned.now.named.now.sentence planned.now.plan.now }
-        ensures right { IfOk result (λ made. AreRight (IsPartOfPiece (K.size planned.entry.now.kind.now)
+        ensures right { IfOk result (λ made. AreRight (IsPartOf (K.size planned.entry.now.kind.now)
             planned.entry.now.named.now.sentence planned.entry.now.base to end) 0 made) }
-        ensures whole { IfOk result (λ made. end ≤ start_of to (length made)) }
+        ensures whole { IfOk result (λ made. end ≤ part_start to (length made)) }
     { make_parts(alloc, crew, planned, to, end) };
     let mut keep = || -> Result<(), PushFault>
-        requires { AreRight (IsPartOfPiece (K.size planned.now.kind.now)
+        requires { AreRight (IsPartOf (K.size planned.now.kind.now)
             planned.now.named.now.sentence planned.now.base from to) 0 parts.now ×
-            (from ≤ to) × (to ≤ start_of from (length parts.now)) }
+            (from ≤ to) × (to ≤ part_start from (length parts.now)) }
         ensures kept { OnOk result (Keeps seen.entry.now out.entry.now seen.exit.now out.exit.now
             (sources_of (K.size planned.entry.now.kind.now) planned.entry.now.named.now.sentence
             planned.entry.now.base from to)) }

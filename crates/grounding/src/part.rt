@@ -105,6 +105,13 @@ impl Part {
         Ok(())
     }
 
+    /// Lets go of what the part remembers, once all its clauses are there.
+    pub(crate) fn forget(&mut self, alloc: Global)
+        ensures { self.new ≡ self.old }
+    {
+        self.recent = Vec::new(alloc);
+    }
+
     /// Adds a clause of two literals, unless it is one of those that the part remembers.
     pub(crate) fn push_two(&mut self, first: Lit, second: Lit, origin: u64) -> Result<(), NoMemory>
         ensures { OnOk result

@@ -13,10 +13,11 @@ ghost use Rattle.worlds.specs.Conditions.{IsFormulaAt};
 ghost use Rattle.clause_form.specs.Wide.{is_wide, numbered};
 ghost use Rattle.lanes.specs.Lanes.{HasKnownPremise, IsPlan, IsPremiseToldFrom, IsToldFrom};
 ghost use Rattle.grounding.specs.Parts.{KeepSame, from_rows};
-ghost use Rattle.grounding.specs.Pieces.{AreNarrow, IsFirstWide, IsKeptPart, measure_at, sources_at};
+ghost use Rattle.grounding.specs.Pieces.{AreNarrow, IsFirstWide, IsKeptPart, measure_at, sources_at, sources_of};
 
 use crate::literals::pair_of;
 use crate::part::Part;
+use crate::pieces::PIECE;
 use crate::sorting::{Sorter, push_pair, push_sorted};
 use clause_form::{ClauseList, is_wide, measure, narrow_clauses, open_clauses, sum};
 use cnf::Store;
@@ -229,8 +230,54 @@ fn push_instance<K: OutcomeKind>(
     Ok(())
 }
 
-/// The clauses of the instances from `from` up to `to`, of which none is too wide. The number of an instance
-/// is added to `base`.
+/// Appends the clauses of the instances from `from` up to `to`, of which none is too wide. The number of an
+/// instance is added to `base`. What is known is asked for 64 instances.
+fn push_piece<K: OutcomeKind>(
+    alloc: Global,
+    kind: &K,
+    named: &Axiom,
+    plan: &Plan,
+    base: u64,
+    from: u64,
+    to: u64,
+    part: &mut Part,
+) -> Result<(), NoMemory>
+    requires sentence { IsTrue (is_sentence (K.size kind.now) named.now) }
+    requires few { instance_count (K.size kind.now) named.now.sentence ≤ 40000000 }
+    requires within { to ≤ instance_count (K.size kind.now) named.now.sentence }
+    requires plan { IsPlan (K.size kind.now) named.now.sentence plan.now }
+    requires rising { from ≤ to }
+    requires base { base ≤ 2 ^ 60 }
+    requires narrow { AreNarrow (K.size kind.now) named.now.sentence from to }
+    ensures { OnOk result
+        (KeepSame part.new (part.old ++ sources_of (K.size kind.now) named.now.sentence base from to)) }
+{
+    let known = told_sides(kind, named, plan, from);
+    let mut sorter = Sorter::new(alloc);
+    let mut rows: ClauseList = Store::new(alloc);
+    for number in from..to {
+        if rows.len() > MOST_ROWS {
+            rows = Store::new(alloc);
+        }
+        push_instance(
+            alloc,
+            kind,
+            named,
+            plan,
+            base,
+            known,
+            from,
+            number,
+            &mut rows,
+            &mut sorter,
+            part,
+        )?;
+    }
+    Ok(())
+}
+
+/// The clauses of the instances from `from` up to `to`, of which none is too wide, piece by piece. The number
+/// of an instance is added to `base`.
 pub(crate) fn clauses_of_all<K: OutcomeKind>(
     alloc: Global,
     kind: &K,
@@ -249,27 +296,13 @@ pub(crate) fn clauses_of_all<K: OutcomeKind>(
     requires narrow { AreNarrow (K.size kind.now) named.now.sentence from to }
     ensures { IfOk result (IsKeptPart (K.size kind.now) named.now.sentence base from to) }
 {
-    let known = told_sides(kind, named, plan, from);
     let mut part = Part::new(alloc);
-    let mut sorter = Sorter::new(alloc);
-    let mut rows: ClauseList = Store::new(alloc);
-    for number in from..to {
-        if rows.len() > MOST_ROWS {
-            rows = Store::new(alloc);
-        }
-        push_instance(
-            alloc,
-            kind,
-            named,
-            plan,
-            base,
-            known,
-            from,
-            number,
-            &mut rows,
-            &mut sorter,
-            &mut part,
-        )?;
+    let mut start = from;
+    while start < to {
+        let end = to.min(start + PIECE);
+        push_piece(alloc, kind, named, plan, base, start, end, &mut part)?;
+        start = end;
     }
+    part.forget(alloc);
     Ok(part)
 }

@@ -6,6 +6,9 @@ use vocab::Axiom;
 /// How many instances a piece has.
 pub(crate) const PIECE: u64 = 64;
 
+/// How many instances a part has: four pieces, so that less memory is taken and given back.
+pub(crate) const PART: u64 = 256;
+
 /// How many pieces a round has at most.
 pub(crate) const ROUND: u64 = 1024;
 

@@ -1,4 +1,4 @@
-use Rattle.std.proofs.Common.{◌≡◌, ◌∙◌, [], arith}
+use Rattle.std.proofs.Common.{◌∙◌, [], arith}
 use Rattle.clause_form.specs.Sources.{sourced}
 use Rattle.grounding.proofs.KeptLaws.{kept-as, over-as}
 use Rattle.grounding.proofs.SourceLemmas.{next-round, over-rest}

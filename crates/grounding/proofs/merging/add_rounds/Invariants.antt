@@ -3,7 +3,7 @@ use Rattle.crew.specs.Right.{AreRight}
 use Rattle.clause_form.specs.Sources.{sourced}
 use Rattle.grounding.specs.Distinct.{kept_with}
 use Rattle.grounding.specs.Kept.{AreKeptClauses}
-use Rattle.grounding.specs.Pieces.{IsPartOfPiece, sources_of, start_of}
+use Rattle.grounding.specs.Pieces.{IsPartOf, sources_of, part_start}
 use Rattle.grounding.proofs.merging.add_rounds.Given as goal
 
 -- the clauses of the instances before a round are kept, and its parts are made
@@ -12,8 +12,8 @@ invariant-loop-from g l = record {
   within : l.to ≤ l.count;
   rising : l.from ≤ l.to;
   more : l.from < l.count → l.from < l.to;
-  right : AreRight (IsPartOfPiece (g.K.OutcomeKind.size l.planned.kind.now) l.planned.named.now.sentence l.planned.base l.from l.to) 0 l.parts;
-  whole : l.to ≤ start_of l.from (length l.parts);
+  right : AreRight (IsPartOf (g.K.OutcomeKind.size l.planned.kind.now) l.planned.named.now.sentence l.planned.base l.from l.to) 0 l.parts;
+  whole : l.to ≤ part_start l.from (length l.parts);
   kept : AreKeptClauses l.seen l.out (sourced l.fn.out.clauses l.fn.out.origins)
       (fold kept_with [] (sources_of (g.K.OutcomeKind.size l.planned.kind.now) l.planned.named.now.sentence l.planned.base 0 l.from));
 }

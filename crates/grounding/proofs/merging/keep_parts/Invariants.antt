@@ -1,8 +1,8 @@
 use Rattle.std.proofs.Common.{min}
 use Rattle.grounding.specs.Kept.{Keeps}
-use Rattle.grounding.specs.Pieces.{sources_of, start_of}
+use Rattle.grounding.specs.Pieces.{sources_of, part_start}
 use Rattle.grounding.proofs.merging.keep_parts.Given as goal
 
 abbrev pub invariant-loop-piece : goal.invariant-loop-piece
 invariant-loop-piece g l = Keeps l.fn.seen l.fn.out l.seen l.out
-    (sources_of (g.K.OutcomeKind.size l.planned.kind.now) l.planned.named.now.sentence l.planned.base l.from (min (start_of l.from l.piece) l.to))
+    (sources_of (g.K.OutcomeKind.size l.planned.kind.now) l.planned.named.now.sentence l.planned.base l.from (min (part_start l.from l.piece) l.to))

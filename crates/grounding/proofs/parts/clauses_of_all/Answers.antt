@@ -1,20 +1,31 @@
-use Rattle.std.proofs.Common.{arith, refl, subst, List}
+use Rattle.std.proofs.Common.{◌≡◌, arith, subst, sym, List}
 use Rattle.meaning.specs.StudyClauses.{Sourced}
 use Rattle.grounding.specs.Parts.{KeepSame}
-use Rattle.grounding.specs.Pieces.{sources_at, sources_of}
+use Rattle.grounding.specs.Pieces.{IsKeptPart, sources_of}
 use Rattle.grounding.proofs.PartLaws.{same-after}
-use Rattle.grounding.proofs.PieceLaws.{one_more}
+use Rattle.grounding.proofs.SourceLemmas.{sources-add}
 use Rattle.grounding.proofs.parts.clauses_of_all.Goals as goal
 
-pub loop-number-preserved : goal.loop-number-preserved
-loop-number-preserved g c =
+pub loop-start-preserved : goal.loop-start-preserved
+loop-start-preserved g c =
     let size = g.K.OutcomeKind.size c.args.kind.now in
     let sentence = c.args.named.now.sentence in
-    let number = c.loop-number.number in
-    let made = c.loop-number.invariant in
-    let before = sources_of size sentence c.args.base c.args.from number in
-    let more = sources_at size sentence c.args.base number in (
-      omega (arith, made.0),
-      subst (λ (ss : List Sourced). KeepSame c.push_instance.new.part ss) (one_more (sources_at size sentence c.args.base) c.args.from number before more made.0 refl refl)
-          (same-after c.push_instance.new.part c.loop-number.part more before c.in_ok-push_instance.ensures made.1),
-    )
+    let start = c.loop-start.start in
+    let made = c.loop-start.invariant in
+    let before = sources_of size sentence c.args.base c.args.from start in
+    let more = sources_of size sentence c.args.base start c.min-end.result in
+    record {
+      rising = omega (arith, made.rising, made.within);
+      within = omega (arith, made.within);
+      kept = subst (λ (ss : List Sourced). KeepSame c.push_piece.new.part ss) (sym (sources-add size sentence c.args.base c.args.from start c.min-end.result made.rising (omega (arith, made.within))))
+          (same-after c.push_piece.new.part c.loop-start.part more before c.in_ok-push_piece.ensures made.kept);
+    }
+
+pub returns : goal.returns
+returns g c =
+    let size = g.K.OutcomeKind.size c.args.kind.now in
+    let sentence = c.args.named.now.sentence in
+    let made = c.loop-start.invariant in
+    let whole : c.loop-start.start ≡ c.args.to = omega (arith, made.within) in
+    subst (λ (part : List Sourced). IsKeptPart size sentence c.args.base c.args.from c.args.to part) (sym c.forget.ensures)
+    (subst (λ n. IsKeptPart size sentence c.args.base c.args.from n c.loop-start.part) whole made.kept)
