@@ -518,7 +518,6 @@ struct Pairs { slots: Vec<u64>, count: usize }
 impl Pairs {
     fn new() -> Pairs { Pairs { slots: vec![0; 4096], count: 0 } }
     #[inline] fn hash(k: u64) -> u64 { let h = (k >> 32).wrapping_mul(0x9E37_79B9_7F4A_7C15); (h >> 32) + k }
-    #[inline] fn has(&self, k: u64) -> bool { let mask = self.slots.len() - 1; let mut at = Self::hash(k) as usize & mask; loop { let s = self.slots[at]; if s == k { return true; } if s == 0 { return false; } at = (at + 1) & mask; } }
     #[inline] fn insert(&mut self, k: u64) -> bool {
         let mask = self.slots.len() - 1;
         let mut at = Self::hash(k) as usize & mask;
@@ -541,7 +540,6 @@ impl Kept {
     #[inline] fn add(&mut self, out: &mut List, c: &[u32], origin: u64) -> bool {
         match c { [a, b] => { let fresh = self.pairs.insert((*a as u64) << 32 | *b as u64); if fresh { out.add(c, origin); } fresh } _ => self.seen.add_long(out, c, hash(c), origin) }
     }
-    #[inline] fn has(&self, out: &List, c: &[u32]) -> bool { match c { [a, b] => self.pairs.has((*a as u64) << 32 | *b as u64), _ => self.seen.find(out, c, hash(c)).is_ok() } }
 }
 impl Seen {
     fn add_long(&mut self, out: &mut List, c: &[u32], h: u64, origin: u64) -> bool {
@@ -668,9 +666,37 @@ impl Worker<'_> {
         }
     }
 }
-// The clauses of an axiom: with one worker each is kept as it comes; with more, in rounds of `ROUND` instances, of which each worker makes
-// a part and leaves out what is equal within the part or was kept before.
-const ROUND: u64 = 16_384;
+// The clauses of an axiom: with one worker each is kept as it comes; with more, in rounds of `ROUND` instances, of which the workers make parts
+// of `PART` instances each, while one thread more keeps what is new of the parts of the round before. A part leaves out a clause of two
+// literals that it has as one of the last.
+const ROUND: u64 = 65_536;
+const PART: u64 = 256;
+fn part_of(w: &mut Worker, base: u64, from: u64, to: u64) -> List {
+    let (mut list, mut recent) = (List::default(), [(0, 0); 64]);
+    w.run_lits(from, to, &mut |clause, k| {
+        if let [a, b] = *clause {
+            let place = &mut recent[b as usize % 64];
+            if *place == (a, b) { return; }
+            *place = (a, b);
+        }
+        list.add(clause, base + k);
+    });
+    list
+}
+fn parts_of(s: &Space, c: &Compiled, base: u64, from: u64, to: u64, workers: u64) -> Vec<List> {
+    let step = (to - from).div_ceil(workers * PART) * PART;
+    let run = |n: u64| {
+        let (from, to, mut w) = ((from + step * n).min(to), (from + step * (n + 1)).min(to), Worker::new(s, c));
+        (from..to).step_by(PART as usize).map(|k| part_of(&mut w, base, k, to.min(k + PART))).collect::<Vec<_>>()
+    };
+    std::thread::scope(|scope| {
+        let run = &run;
+        let others: Vec<_> = (1..workers).map(|n| scope.spawn(move || run(n))).collect();
+        let mut all = run(0);
+        for other in others { all.append(&mut other.join().unwrap()); }
+        all
+    })
+}
 fn by_masks(s: &Space, axiom: &Formula, base: u64, out: &mut List, workers: usize) {
     let c = compile(s, axiom);
     let count = c.outer * c.group as u64;
@@ -681,26 +707,15 @@ fn by_masks(s: &Space, axiom: &Formula, base: u64, out: &mut List, workers: usiz
         Worker::new(s, &c).run_lits(0, count, &mut |clause, k| { kept.add(out, clause, base + k); });
         return;
     }
-    let mut from = 0;
+    let make = |from: u64| parts_of(s, &c, base, from.min(count), count.min(from + ROUND), workers as u64);
+    let (mut from, mut parts) = (0, make(0));
     while from < count {
-        let to = count.min(from + ROUND);
-        let step = (to - from).div_ceil(workers as u64).max(1);
-        let part = |a: u64, b: u64, kept: &Kept, out: &List| -> List {
-            let (mut list, mut own) = (List::default(), Kept::new(0));
-            Worker::new(s, &c).run_lits(a, b, &mut |clause, k| if !kept.has(out, clause) { own.add(&mut list, clause, base + k); });
-            list
-        };
-        let (so_far, kept_out) = (&kept, &*out);
-        let parts: Vec<List> = std::thread::scope(|scope| {
-            let others: Vec<_> = (1..workers as u64)
-                .map(|w| { let part = &part; scope.spawn(move || part((from + step * w).min(to), (from + step * (w + 1)).min(to), so_far, kept_out)) })
-                .collect();
-            let mut all = vec![part(from, (from + step).min(to), so_far, kept_out)];
-            for other in others { all.push(other.join().unwrap()); }
-            all
+        from += ROUND;
+        parts = std::thread::scope(|scope| {
+            let more = scope.spawn(|| make(from));
+            for part in &parts { for k in 0..part.len() { kept.add(out, part.clause(k), part.origins[k]); } }
+            more.join().unwrap()
         });
-        for part in &parts { for k in 0..part.len() { kept.add(out, part.clause(k), part.origins[k]); } }
-        from = to;
     }
 }
 
