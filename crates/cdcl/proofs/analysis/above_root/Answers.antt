@@ -15,7 +15,7 @@ pub mark-requires : goal.mark-requires
 mark-requires c =
     let here : c.loop-lit.lit-index < length c.args.lower.now = omega arith in
     let below : IsBelow c.args.trail.now c.lit-item.result = subst (λ (x : Signed). IsBelow c.args.trail.now x) (sym c.lit-item.is) (c.requires.below c.loop-lit.lit-index c.lit-item.result here) in
-    omega (arith, below_within c.args.trail.now c.lit-item.result c.requires.trail below, c.loop-lit.invariant.variables, c.variable-then-is_at_root.ensures.value, c.variable-then-is_at_root.ensures.low)
+    omega (arith, below_within c.args.trail.now c.lit-item.result c.requires.marks.form below, c.loop-lit.invariant.variables, c.variable-then-is_at_root.ensures.value, c.variable-then-is_at_root.ensures.low)
 
 pub loop-lit-preserved : goal.loop-lit-preserved
 loop-lit-preserved c =
@@ -28,7 +28,7 @@ loop-lit-preserved c =
           let old : List Bool = c.loop-lit.seen in
           let new : List Bool = w.mark.new.self in
           let i : ℕ = w.variable-then-is_at_root.result - 1 in
-          let within : i < length old = omega (arith, below_within t l c.requires.trail below, c.loop-lit.invariant.variables, w.variable-then-is_at_root.ensures.value, w.variable-then-is_at_root.ensures.low) in
+          let within : i < length old = omega (arith, below_within t l c.requires.marks.form below, c.loop-lit.invariant.variables, w.variable-then-is_at_root.ensures.value, w.variable-then-is_at_root.ensures.low) in
           let more : (j : ℕ) → get_or old j false ≡ true → get_or new j false ≡ true = λ j e. rw w.mark.ensures (set_more old i j within e) in
           let at : l.variable - 1 ≡ i = omega (arith, w.variable-then-is_at_root.ensures.value) in
           let marked : get_or new (l.variable - 1) false ≡ true = rw (at, w.mark.ensures) (get_or-set_same old i true false within) in

@@ -9,7 +9,7 @@ in_range variable count places low high same = omega arith
 
 pub add_one-anew-requires : goal.add_one-anew-requires
 add_one-anew-requires c = record {
-  v = in_range c.args.variable _ _ c.requires.low c.requires.high (sym (ap (λ (o : OrderState). length o.places) c.self.view_is) ∙ c.self.invariant.index.sizes ∙ sym c.self.invariant.activities);
+  v = in_range c.args.variable _ _ c.requires.low c.requires.high (sym (ap (λ (o : OrderState). length o.places) c.self.view_is) ∙ c.self.invariant.stored.index.sizes ∙ sym c.self.invariant.stored.activities);
   low = c.self.invariant.low;
 }
 
@@ -19,14 +19,16 @@ restore-requires c =
     let heap : List ℕ = c.self.inside.heap.items in
     let place : List ℕ = c.self.inside.place.items in
     let v : ℕ = c.args.variable - 1 in
-    let in_heap : v < length heap = in_range c.args.variable _ _ c.requires.low c.requires.high (sym (ap (λ (o : OrderState). length o.places) c.self.view_is) ∙ c.self.invariant.index.sizes) in
+    let in_heap : v < length heap = in_range c.args.variable _ _ c.requires.low c.requires.high (sym (ap (λ (o : OrderState). length o.places) c.self.view_is) ∙ c.self.invariant.stored.index.sizes) in
     record {
-      index = c.self.invariant.index;
-      activities = ap (λ (xs : List ℕ). length xs) (c.as_slice.ensures.value ∙ c.add_one-anew.ensures.activity) ∙ length-raised activity v ∙ c.self.invariant.activities;
-      within = c.self.invariant.within;
+      stored = record {
+        index = c.self.invariant.stored.index;
+        activities = ap (λ (xs : List ℕ). length xs) (c.as_slice.ensures.value ∙ c.add_one-anew.ensures.activity) ∙ length-raised activity v ∙ c.self.invariant.stored.activities;
+        within = c.self.invariant.stored.within;
+      };
       v = in_heap;
       heap = λ no. subst (λ (xs : List ℕ). IsHeapBut xs heap place c.self.inside.size v) (sym (c.as_slice.ensures.value ∙ c.add_one-anew.ensures.risen no))
-          (but_raised activity heap place c.self.inside.size v (get_or activity v 0 + 1) c.self.invariant.index (subst (λ (n : ℕ). v < n) (sym c.self.invariant.activities) in_heap) c.self.invariant.activities c.self.invariant.within (omega arith) c.self.invariant.order);
+          (but_raised activity heap place c.self.inside.size v (get_or activity v 0 + 1) c.self.invariant.stored.index (subst (λ (n : ℕ). v < n) (sym c.self.invariant.stored.activities) in_heap) c.self.invariant.stored.activities c.self.invariant.stored.within (omega arith) c.self.invariant.order);
     }
 
 pub invariant_of-self : goal.invariant_of-self
@@ -37,7 +39,7 @@ invariant_of-self c =
 
 pub returns : goal.returns
 returns c =
-    let size : length c.restore.new.place.items ≡ length c.self.inside.place.items = c.restore.ensures.index.sizes ∙ c.restore.ensures.size ∙ sym c.self.invariant.index.sizes in
+    let size : length c.restore.new.place.items ≡ length c.self.inside.place.items = c.restore.ensures.index.sizes ∙ c.restore.ensures.size ∙ sym c.self.invariant.stored.index.sizes in
     record {
       activity = c.add_one-anew.ensures.activity ∙ ap (λ (o : OrderState). raised o.activity (c.args.variable - 1)) c.self.view_is;
       phases = ap (λ (o : OrderState). o.phases) c.self.view_is;
