@@ -1,65 +1,127 @@
--- Lemmas that all stand by themselves, and homes that were checked.
-use Rattle.std.proofs.Common.{◌≡◌, refl, sym, ap, ◌∙◌, subst, ℕ, zero, suc, ◌<◌, ◌≤◌, inl, inr, true, List, length, get_or, replicate, arith, Option, Some, None}
+-- Lemmas that stand where they are used.
+use Rattle.std.proofs.Common.{◌≡◌, ◌≢◌, refl, sym, ap, ◌∙◌, subst, ℕ, zero, suc, ◌+◌, ◌<◌, ◌≤◌, inl, inr, Bool, true, false, ◌&&◌, List, length, get_or, set, replicate, arith, Option, Some, None, eq-eqb, nat_lt}
 use Rattle.std.specs.Prelude.{slice_get}
 use Rattle.std.specs.List.{list_all}
-use Rattle.std.proofs.lemmas.Bool.{and_from, cases_lt}
-use Rattle.std.proofs.lemmas.List.{length-replicate}
-use Rattle.std.proofs.lemmas.Option.{slice_get_past}
+use Rattle.std.proofs.lemmas.Bool.{and_parts, and_from, cases_eq, ltb-true}
+use Rattle.std.proofs.lemmas.List.{length-set, length-replicate}
+use Rattle.std.proofs.lemmas.Option.{slice_get_within, slice_get-get_or, get_or_from_slice_get}
 use Rattle.meaning.specs.declared.stories.Lemma.{Lemma}
 use Rattle.meaning.specs.declared.stories.Reason.{Reason}
 use Rattle.meaning.specs.declared.stories.Reason.TheVariants.{Axiom as ByAxiom, Outcome as ByOutcome, Lemma as ByLemma}
-use Rattle.tellings.specs.Tellings.{home_in, home_of, is_at, is_reached, reaches, takes_in, AreHomes}
+use Rattle.tellings.specs.Tellings.{home_in, home_of, stands_in, is_home_shallow, is_shallow, greatest_depth, is_at, is_reached, names_lemma, namers, is_only, takes_in, AreHomes}
 use Rattle.tellings.specs.declared.tellings.Placed.{Placed}
 use Rattle.tellings.specs.declared.tellings.Telling.{Telling}
-use Rattle.needed_facts.proofs.TestLemmas.{all_pass, read_at}
+use Rattle.tellings.proofs.NamerLemmas.{step_names_only, last_names_only}
+use Rattle.needed_facts.proofs.TestLemmas.{all_each}
+use Rattle.premises.specs.declared.uses.Use.{Use}
+use Rattle.premises.specs.declared.uses.Use.TheVariants.{Never}
+use Rattle.premises.specs.Uses.{use_of, is_once, takes, AreUses, AreHomesFrom}
+use Rattle.premises.proofs.UseLemmas.{get_set_other, get_set_same, get_replicate, once_is}
 
-home_none : (n j : ℕ) → home_of (replicate n None) j ≡ None
-home_none zero j = refl
-home_none (suc n) zero = refl
-home_none (suc n) (suc j) = home_none n j
+-- ---- how deep lemmas stand
 
-reached_none : (n m : ℕ) (reason : Reason) → is_reached (replicate n None) m reason ≡ true
-reached_none n m (ByAxiom k values) = refl
-reached_none n m (ByOutcome p) = refl
-reached_none n m (ByLemma j) = subst (λ (o : Option ℕ). is_at o m ≡ true) (sym (home_none n j)) refl
+-- one level less
+pub shallow_less : (homes : List (Option ℕ)) (n m j : ℕ) → n ≡ suc m → is_home_shallow (is_shallow homes m) (home_of homes j) ≡ is_shallow homes n j
+shallow_less homes n m j is = ap (λ (k : ℕ). is_shallow homes k j) (sym is)
 
--- where all stand by themselves, these are homes
-pub none_are_homes : (story : List Lemma) (tellings : List Telling) → AreHomes story tellings (replicate (length story) None)
-none_are_homes story tellings = record {
-  all = length-replicate (length story) None;
-  before = λ m lemma telling at there.
-      and_from (list_all (λ (placed : Placed). is_reached (replicate (length story) None) m placed.step.reason) telling.passage.steps) (is_reached (replicate (length story) None) m lemma.last)
-      (all_pass (λ (placed : Placed). is_reached (replicate (length story) None) m placed.step.reason) (λ placed. reached_none (length story) m placed.step.reason) telling.passage.steps)
-      (reached_none (length story) m lemma.last);
-  within = λ j m e. let no : None ≡ Some m = sym (home_none (length story) j) ∙ e in cc;
+home_within : (homes : List (Option ℕ)) (j m : ℕ) → home_of homes j ≡ Some m → j < length homes
+home_within homes j m h = cases (slice_get homes j) refl h
+  where
+    cases : (o : Option (Option ℕ)) → slice_get homes j ≡ o → home_in o ≡ Some m → j < length homes
+    cases None e i = cc
+    cases (Some home) e i = slice_get_within homes j home e
+
+and_same : (b x y : Bool) → (b ≡ true → x ≡ y) → (b && x) ≡ (b && y)
+and_same true x y h = h refl
+and_same false x y h = refl
+
+-- ---- a lemma more is placed
+
+module _ (uses : List Use) (homes : List (Option ℕ)) (here next : ℕ) (after : here + 1 ≡ next) (placed : AreHomesFrom uses homes next) (home : Option ℕ) where
+  abbrev new : List (Option ℕ)
+  new = set homes here home
+
+  kept : (j : ℕ) → j ≢ here → home_of new j ≡ home_of homes j
+  kept j other = ap home_in (get_set_other homes here j home other)
+
+  -- those that are placed stand within later ones
+  later : (j m : ℕ) → next ≤ j → home_of homes j ≡ Some m → j < m
+  later j m past h =
+      let lt : j < length uses = let w = home_within homes j m h in omega (arith, w, placed.all) in
+      let own : stands_in m (home_of homes j) ≡ true = rw (h, eq-eqb m m refl) refl in
+      let used : Use = get_or uses j Never in
+      let taken : takes homes used j m ≡ true = sym (placed.placed j m used past (slice_get-get_or uses j Never lt)) ∙ own in
+      ltb-true j m (and_parts (nat_lt j m) (is_shallow homes greatest_depth m) (and_parts (nat_lt j m && is_shallow homes greatest_depth m) (is_once m used) taken).0).0
+
+  stays_shallow : (n m : ℕ) → here < m → is_shallow new n m ≡ is_shallow homes n m
+  stays_shallow zero m lt = refl
+  stays_shallow (suc n) m lt = ap (is_home_shallow (is_shallow new n)) (kept m (λ e. absurd (omega (arith, lt, e)))) ∙ cases (stays_shallow n) (home_of homes m) refl
+    where
+      cases : ((k : ℕ) → here < k → is_shallow new n k ≡ is_shallow homes n k) → (o : Option ℕ) → home_of homes m ≡ o → is_home_shallow (is_shallow new n) o ≡ is_home_shallow (is_shallow homes n) o
+      cases ih None e = refl
+      cases ih (Some k) e = let up = later m k (omega (arith, lt, after)) e in ih k (omega (arith, lt, up))
+
+  takes_kept : (used : Use) (j m : ℕ) → here ≤ j → takes homes used j m ≡ takes new used j m
+  takes_kept used j m le =
+      ap (λ (b : Bool). b && is_once m used)
+      (and_same (nat_lt j m) (is_shallow homes greatest_depth m) (is_shallow new greatest_depth m)
+      (λ lt. let up = ltb-true j m lt in sym (stays_shallow greatest_depth m (omega (arith, up, le)))))
+
+  pub placed_more : (other : Use) → here < length uses → ((m : ℕ) → stands_in m home ≡ takes homes (get_or uses here other) here m) → AreHomesFrom uses new here
+  placed_more other lt right = record {
+    all = length-set homes here home ∙ placed.all;
+    alone = λ j below. kept j (λ e. absurd (omega (arith, below, e))) ∙ placed.alone j (omega (arith, below, after));
+    placed = λ j m its past at. elim (cases_eq j here) [
+      | inl same ↦
+          let this : slice_get uses here ≡ Some its = subst (λ (i : ℕ). slice_get uses i ≡ Some its) same at in
+          let one : get_or uses here other ≡ its = get_or_from_slice_get uses here its other this in
+          let own : home_of new here ≡ home = ap home_in (get_set_same homes here home (omega (arith, lt, placed.all))) in
+          subst (λ (i : ℕ). stands_in m (home_of new i) ≡ takes new its i m) (sym same)
+          (ap (stands_in m) own ∙ right m ∙ ap (λ (u : Use). takes homes u here m) one ∙ takes_kept its here m (omega arith))
+      | inr apart ↦ ap (stands_in m) (kept j apart) ∙ placed.placed j m its (omega (arith, past, apart, after)) at ∙ takes_kept its j m past
+    ];
+  }
+
+-- at first none is
+pub none_placed : (uses : List Use) → AreHomesFrom uses (replicate (length uses) None) (length uses)
+none_placed uses = record {
+  all = length-replicate (length uses) None;
+  alone = λ j lt. ap home_in (get_replicate (length uses) j None lt);
+  placed = λ j m used past at. let within = slice_get_within uses j used at in absurd (omega (arith, past, within));
 }
 
-pub checked_homes : (story : List Lemma) (tellings : List Telling) (homes : List (Option ℕ)) (n : ℕ) → length homes ≡ length story → length story ≤ n →
-    ((m : ℕ) (lemma : Lemma) (telling : Telling) → m < n → slice_get story m ≡ Some lemma → slice_get tellings m ≡ Some telling → reaches homes m lemma telling ≡ true) →
-    ((j m : ℕ) → j < n → home_of homes j ≡ Some m → takes_in homes m j (slice_get story m) (slice_get tellings m) ≡ true) → AreHomes story tellings homes
-checked_homes story tellings homes n all most before within = record {
-  all = all;
-  before = λ m lemma telling at there. let low : m < length story = (read_at story m lemma lemma at).0 in before m lemma telling (omega arith) at there;
-  within = λ j m e. elim (cases_lt j n) [
-    | inl low ↦ within j m low e
-    | inr high ↦
-        let beyond : length homes ≤ j = omega arith in
-        let no : None ≡ Some m = sym (ap home_in (slice_get_past homes j beyond)) ∙ e in
-        cc
-  ];
-}
+-- ---- all are placed
 
--- ---- one lemma more
+module _ (story : List Lemma) (tellings : List Telling) (uses : List Use) (homes : List (Option ℕ)) (counted : AreUses story tellings uses) (placed : AreHomesFrom uses homes 0) where
+  within : (j m : ℕ) → j < length story → stands_in m (home_of homes j) ≡ takes_in homes (namers story tellings j) j m
+  within j m lt =
+      placed.placed j m (use_of (namers story tellings j)) (omega arith) (counted.each j lt)
+      ∙ ap (λ (b : Bool). nat_lt j m && is_shallow homes greatest_depth m && b) (once_is m (namers story tellings j))
 
-pub reached_more : (homes : List (Option ℕ)) (story : List Lemma) (tellings : List Telling) (place m : ℕ) (first lemma : Lemma) (its telling : Telling) → m ≡ place → first ≡ get_or story place first →
-    its ≡ get_or tellings place its → slice_get story m ≡ Some lemma → slice_get tellings m ≡ Some telling → reaches homes place first its ≡ true → reaches homes m lemma telling ≡ true
-reached_more homes story tellings place m first lemma its telling same is so at there h =
-    let one : first ≡ lemma = is ∙ ap (λ (i : ℕ). get_or story i first) (sym same) ∙ (read_at story m lemma first at).1 in
-    let two : its ≡ telling = so ∙ ap (λ (i : ℕ). get_or tellings i its) (sym same) ∙ (read_at tellings m telling its there).1 in
-    subst (λ (i : ℕ). reaches homes i lemma telling ≡ true) (sym same)
-    (subst (λ (l : Lemma). reaches homes place l telling ≡ true) one (subst (λ (t : Telling). reaches homes place first t ≡ true) two h))
+  -- where a lemma stands within another, that one alone names it
+  only_home : (k h : ℕ) → home_of homes k ≡ Some h → is_only h (namers story tellings k) ≡ true
+  only_home k h e =
+      let lt : k < length story = let w = home_within homes k h e in omega (arith, w, placed.all, counted.all) in
+      let own : stands_in h (home_of homes k) ≡ true = rw (e, eq-eqb h h refl) refl in
+      let taken : takes_in homes (namers story tellings k) k h ≡ true = sym (within k h lt) ∙ own in
+      (and_parts (nat_lt k h && is_shallow homes greatest_depth h) (is_only h (namers story tellings k)) taken).1
 
-pub taken_more : (homes : List (Option ℕ)) (story : List Lemma) (tellings : List Telling) (place j m : ℕ) → j ≡ place →
-    ((k : ℕ) → home_of homes place ≡ Some k → takes_in homes k place (slice_get story k) (slice_get tellings k) ≡ true) → home_of homes j ≡ Some m → takes_in homes m j (slice_get story m) (slice_get tellings m) ≡ true
-taken_more homes story tellings place j m same h e =
-    subst (λ (i : ℕ). takes_in homes m i (slice_get story m) (slice_get tellings m) ≡ true) (sym same) (h m (ap (home_of homes) (sym same) ∙ e))
+  reached : (m : ℕ) (reason : Reason) → ((k h : ℕ) → names_lemma k reason ≡ true → is_only h (namers story tellings k) ≡ true → m ≡ h) → is_reached homes m reason ≡ true
+  reached m (ByAxiom k values) named = refl
+  reached m (ByOutcome p) named = refl
+  reached m (ByLemma k) named = cases (home_of homes k) refl
+    where
+      cases : (o : Option ℕ) → home_of homes k ≡ o → is_at o m ≡ true
+      cases None e = refl
+      cases (Some h) e = eq-eqb h m (sym (named k h (eq-eqb k k refl) (only_home k h e)))
+
+  pub homes_are : AreHomes story tellings homes
+  homes_are = record {
+    all = placed.all ∙ counted.all;
+    before = λ m lemma telling at there.
+        and_from (list_all (λ (placed : Placed). is_reached homes m placed.step.reason) telling.passage.steps) (is_reached homes m lemma.last)
+        (all_each (λ (placed : Placed). is_reached homes m placed.step.reason) telling.passage.steps
+        (λ i step here. reached m step.step.reason (λ k h named only. step_names_only story tellings k m h i lemma telling step at there here named only)))
+        (reached m lemma.last (λ k h named only. last_names_only story tellings k m h lemma telling at there named only));
+    within = within;
+  }

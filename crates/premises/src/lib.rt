@@ -7,5 +7,6 @@ mod homes;
 mod stories;
 mod teller;
 mod telling;
+mod uses;
 
 pub use stories::tell_story;

@@ -1,5 +1,5 @@
 -- What holds of a story on a page. Each is the contract of a function of the same name in src/laws.rt.
-use Rattle.std.specs.Prelude.{◌≡◌, ℕ, ◌+◌, ◌<◌, Bool, true, false, List, ◌++◌, IsTrue, length, slice_get, Some}
+use Rattle.std.specs.Prelude.{◌≡◌, ℕ, ◌+◌, ◌<◌, Bool, true, false, List, [], ◌∷◌, ◌++◌, IsTrue, codes, length, slice_get, Some}
 use Rattle.vocab.specs.declared.literals.Literal.{Literal}
 use Rattle.vocab.specs.Literal.{profile_of}
 use Rattle.vocab.specs.Size.{Extent}
@@ -8,7 +8,7 @@ use Rattle.meaning.specs.Literals.{is_literal}
 use Rattle.meaning.specs.declared.stories.Lemma.{Lemma}
 use Rattle.meaning.specs.declared.stories.Reason.{Reason}
 use Rattle.meaning.specs.declared.stories.Reason.TheVariants.{Outcome as ByOutcome}
-use Rattle.tellings.specs.Tellings.{are_said, stand_there, IsStoryTold}
+use Rattle.tellings.specs.Tellings.{are_said, stand_there, names_lemma, namers, is_shallow, greatest_depth, IsStoryTold}
 use Rattle.tellings.specs.declared.tellings.By.{By}
 use Rattle.tellings.specs.declared.tellings.By.TheVariants.{Axiom, Outcome, Lemma as Earlier}
 use Rattle.tellings.specs.declared.tellings.Sentence.{Sentence}
@@ -117,3 +117,32 @@ LemmasStand =
     IsStoryTold size axioms core story told → (j : ℕ) (lemma : Lemma) (telling : Telling) →
     slice_get story j ≡ Some lemma → slice_get told.lemmas j ≡ Some telling →
     IsLemmaWritten size axioms told.forced.steps j lemma telling (story_html size axioms story told)
+
+-- a text stands in the item of a sentence, in front of it
+pub record StandsInItem (part sentence page : List ℕ) : Type 0 where
+  pub held : List ℕ
+  pub first : StandsIn part held
+  pub item : StandsIn (codes "<li>" ++ held ++ sentence ++ codes "</li>\n") page
+
+-- all that is told of the lemma at a place stands where another uses it: in front of the sentence that names it,
+-- or of the end, where the last reason does
+pub record StandsWhereUsed (size : Extent) (axioms : List Titled) (forced : List Placed) (j : ℕ) (lemma : Lemma)
+    (telling : Telling) (user : Lemma) (how : Telling) (page : List ℕ) : Type 0 where
+  pub text : List ℕ
+  pub written : IsLemmaWritten size axioms forced j lemma telling text
+  pub by_step : (k : ℕ) (placed : Placed) → slice_get how.passage.steps k ≡ Some placed →
+      IsTrue (names_lemma j placed.step.reason) →
+      StandsInItem text (sentence_at size axioms how.passage placed.sentence) page
+  pub by_last : IsTrue (names_lemma j user.last) →
+      StandsIn (text ++ codes "<div class=e>" ++ end_html size axioms user.last how.end) page
+
+-- each lemma of a story that is told right and that is named once in all stands where it is used, if the one that
+-- uses it does not itself stand as deep as lemmas may
+abbrev pub LemmasStandWhereUsed : Type 0
+LemmasStandWhereUsed =
+    (size : Extent) (axioms : List Titled) (core : List ℕ) (story : List Lemma) (told : StoryTelling) →
+    IsStoryTold size axioms core story told → (j m : ℕ) (lemma : Lemma) (telling : Telling) (user : Lemma)
+    (how : Telling) → slice_get story j ≡ Some lemma → slice_get told.lemmas j ≡ Some telling →
+    slice_get story m ≡ Some user → slice_get told.lemmas m ≡ Some how → namers story told.lemmas j ≡ m ∷ [] →
+    IsTrue (is_shallow told.homes greatest_depth m) →
+    StandsWhereUsed size axioms told.forced.steps j lemma telling user how (story_html size axioms story told)

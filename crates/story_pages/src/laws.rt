@@ -1,6 +1,6 @@
 //! What holds of a story on a page. Each law is the contract of a function that does nothing.
 
-ghost use Rattle.story_pages.specs.Laws.{SentencesNameFacts, ClaimsStandThere, EndsNameFacts, SentencesStateFacts, CellsHaveFacts, ForcedFactsStand, LemmasStand};
+ghost use Rattle.story_pages.specs.Laws.{SentencesNameFacts, ClaimsStandThere, EndsNameFacts, SentencesStateFacts, CellsHaveFacts, ForcedFactsStand, LemmasStand, LemmasStandWhereUsed};
 
 /// Each sentence names in front each fact that it rests on, however many these are: with its profile, or by
 /// its claim alone where that claim is made at each profile of what is stated.
@@ -39,4 +39,10 @@ pub fn forced_facts_stand()
 /// supposes something, with what it supposes, its sentences, its end and its table.
 pub fn lemmas_stand()
     ensures { LemmasStand }
+{}
+
+/// Each lemma of a story that is told right and that is used once stands where it is used, in front of the
+/// sentence or the end that names it, if the one that uses it does not itself stand as deep as lemmas may.
+pub fn lemmas_stand_where_used()
+    ensures { LemmasStandWhereUsed }
 {}

@@ -1,5 +1,5 @@
 //! How stories are told: that of anonymity and neutrality, with a lemma more in which one sentence says two steps
-//! of one shape; and one in which all facts are forced.
+//! of one shape, or with one within another; and one in which all facts are forced.
 
 ghost use Rattle.std.specs.Prelude.{◌≡◌, ◌≤◌, length, IfOk, IsTrue};
 ghost use Rattle.std.specs.List.{list_all};
@@ -42,6 +42,40 @@ fn a_wins_once(alloc: Global) -> Result<Lemma, NoMemory>
     lemma(alloc, suppose.as_slice(), steps.as_slice(), axiom_at(1, 1))
 }
 
+/// If b won at ab|ba, then it would at ba|ab by anonymity, and a by neutrality. That a does not win there is said
+/// by the way.
+fn b_does_not_win(alloc: Global) -> Result<Lemma, NoMemory>
+    ensures literals { IfOk result (λ l. IsTrue (has_literals (choice 2 2) l)) }
+    ensures short { IfOk result (λ l. IsTrue (is_short l)) }
+{
+    let steps = [
+        so(Literal::Loses(0, 1), Reason::Lemma(0)),
+        so(Literal::Wins(1, 2), axiom_at(0, 1)),
+        so(Literal::Wins(0, 2), axiom_at(1, 1)),
+    ];
+    let suppose = [Literal::Wins(1, 1)];
+    lemma(
+        alloc,
+        suppose.as_slice(),
+        steps.as_slice(),
+        Reason::Outcome(2),
+    )
+}
+
+/// So a wins at ab|ba, and both at ba|ab.
+fn a_wins_alone(alloc: Global) -> Result<Lemma, NoMemory>
+    ensures literals { IfOk result (λ l. IsTrue (has_literals (choice 2 2) l)) }
+    ensures short { IfOk result (λ l. IsTrue (is_short l)) }
+{
+    let steps = [
+        so(Literal::Loses(1, 1), Reason::Lemma(1)),
+        so(Literal::Wins(0, 1), Reason::Outcome(1)),
+        so(Literal::Wins(0, 2), axiom_at(0, 0)),
+        so(Literal::Wins(1, 2), axiom_at(1, 0)),
+    ];
+    lemma(alloc, [].as_slice(), steps.as_slice(), Reason::Outcome(2))
+}
+
 /// At ab|ab an axiom forbids b, and the other one a.
 fn both_are_forbidden(alloc: Global) -> Result<Lemma, NoMemory>
     ensures literals { IfOk result (λ l. IsTrue (has_literals (choice 2 2) l)) }
@@ -76,7 +110,7 @@ fn told(alloc: Global, study: &Study, story: &Story) -> Result<StoryTelling, Fai
 
 /// Of the facts that are forced and of each lemma how many sentences there are and how many steps, and for each
 /// lemma the one within which it stands.
-fn summary(told: &StoryTelling) -> ([(usize, usize); 4], [Option<u32>; 3]) {
+fn summary(told: &StoryTelling) -> ([(usize, usize); 4], [Option<usize>; 3]) {
     let mut counts = [(0, 0); 4];
     let mut homes = [None; 3];
     counts[0] = (told.forced.sentences.len(), told.forced.steps.len());
@@ -106,6 +140,24 @@ fn steps_of_one_shape_are_one_sentence(rt: HostRuntime) -> Result<(), Fail> {
     let (counts, homes) = summary(&told(alloc, &study, &story)?);
     assert!(rt; counts == [(0, 0), (2, 2), (1, 2), (4, 4)]);
     assert!(rt; homes == [Some(2), None, None]);
+    Ok(())
+}
+
+#[test]
+fn lemmas_that_are_used_once_stand_one_within_another(rt: HostRuntime) -> Result<(), Fail> {
+    let alloc = rt.alloc();
+    let study = study(alloc)?;
+    let (first, second, third) = (
+        a_does_not_win(alloc)?,
+        b_does_not_win(alloc)?,
+        a_wins_alone(alloc)?,
+    );
+    let mut story = Story::new(alloc);
+    story.push(first)?;
+    story.push(second)?;
+    story.push(third)?;
+    let (_, homes) = summary(&told(alloc, &study, &story)?);
+    assert!(rt; homes == [Some(1), Some(2), None]);
     Ok(())
 }
 

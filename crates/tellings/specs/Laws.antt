@@ -1,4 +1,4 @@
--- What holds of these definitions. The statement is the contract of a function of the same name in src/laws.rt.
+-- What holds of these definitions. Each statement is the contract of a function of the same name in src/laws.rt.
 use Rattle.std.specs.Prelude.{◌≡◌, ℕ, ◌||◌, ◌==◌, IsTrue, List, [], ◌∷◌, ◌++◌, filter, Some}
 use Rattle.vocab.specs.declared.literals.Literal.{Literal}
 use Rattle.vocab.specs.Literal.{opposite_of, profile_of}
@@ -9,7 +9,8 @@ use Rattle.meaning.specs.declared.stories.StoryStep.{StoryStep}
 use Rattle.meaning.specs.declared.stories.Lemma.{Lemma}
 use Rattle.meaning.specs.Stories.{is_outcome_excluded, refutes}
 use Rattle.tellings.specs.declared.tellings.Sentence.{Sentence}
-use Rattle.tellings.specs.Tellings.{says_step}
+use Rattle.tellings.specs.declared.tellings.StoryTelling.{StoryTelling}
+use Rattle.tellings.specs.Tellings.{says_step, namers, home_of, greatest_depth, is_shallow, IsStoryTold}
 
 -- the facts of a profile
 abbrev pub facts_at : ℕ → List Literal → List Literal
@@ -22,3 +23,10 @@ pub record OutcomesAreOfTheirProfiles : Type 0 where
       IsTrue (says_step size axioms core earlier (Some sentence) step) → IsTrue (profile_of step.literal == p || is_outcome_excluded size sentence.rests p)
   pub enough : (size : Extent) (axioms : List Titled) (core : List ℕ) (earlier : List Lemma) (sentence : Sentence) (step : StoryStep) (p : ℕ) → step.reason ≡ ByOutcome p →
       IsTrue (says_step size axioms core earlier (Some sentence) step) → IsTrue (refutes size axioms core earlier (facts_at p sentence.rests ++ opposite_of step.literal ∷ []) step.reason)
+
+-- in a story that is told right a lemma that is named once in all stands within the one that names it, if that one
+-- does not itself stand as deep as lemmas may
+abbrev pub UsedOnceStandWhereUsed : Type 0
+UsedOnceStandWhereUsed =
+    (size : Extent) (axioms : List Titled) (core : List ℕ) (story : List Lemma) (told : StoryTelling) → IsStoryTold size axioms core story told →
+    (j m : ℕ) → namers story told.lemmas j ≡ m ∷ [] → IsTrue (is_shallow told.homes greatest_depth m) → home_of told.homes j ≡ Some m

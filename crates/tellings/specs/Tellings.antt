@@ -1,9 +1,10 @@
 -- When a story is told right: by sentences that follow from facts which were forced, supposed or told before.
-use Rattle.std.specs.Prelude.{◌≡◌, ℕ, ◌+◌, ◌<◌, nat_lt, ◌==◌, Bool, true, false, not, ◌&&◌, ◌||◌, IsTrue, List, [], ◌∷◌, ◌++◌, map, filter, length, take, slice_get, count_by, Option, Some, None, if◌then◌else◌}
-use Rattle.std.specs.List.{list_all, list_any}
+use Rattle.std.specs.Prelude.{◌≡◌, ℕ, zero, suc, ◌<◌, nat_lt, ◌==◌, Bool, true, false, not, ◌&&◌, ◌||◌, IsTrue, List, [], ◌∷◌, ◌++◌, map, filter, length, take, slice_get, Option, Some, None, if◌then◌else◌}
+use Rattle.std.specs.List.{flat_map, list_all, list_any}
 use Rattle.vocab.specs.declared.literals.Literal.{Literal}
 use Rattle.vocab.specs.declared.literals.Literal.TheVariants.{Wins, Loses, Above}
 use Rattle.vocab.specs.Literal.{opposite_of, has, same_literal}
+use Rattle.vocab.specs.Range.{below}
 use Rattle.vocab.specs.Size.{Extent}
 use Rattle.vocab.specs.Titled.{Titled}
 use Rattle.meaning.specs.declared.stories.Reason.{Reason}
@@ -102,9 +103,24 @@ abbrev pub names_lemma : ℕ → Reason → Bool
 names_lemma j (ByLemma k) = k == j
 names_lemma j _ = false
 
--- how often a lemma that is told so names the one at a place
-abbrev pub mentions : ℕ → Lemma → Telling → ℕ
-mentions j lemma telling = count_by (λ placed. names_lemma j placed.step.reason) telling.passage.steps + (if names_lemma j lemma.last then 1 else 0)
+-- the place of a lemma, if its reason names the one at another place
+abbrev pub naming : ℕ → ℕ → Reason → List ℕ
+naming j m reason = if names_lemma j reason then m ∷ [] else []
+
+-- the place of a lemma that is told so, once for each time that it names the one at another place
+abbrev pub namings : ℕ → ℕ → Option Lemma → Option Telling → List ℕ
+namings j m (Some lemma) (Some telling) = flat_map (λ placed. naming j m placed.step.reason) telling.passage.steps ++ naming j m lemma.last
+namings j m _ _ = []
+
+-- the places of the lemmas of a story that is told so which name the one at a place, each as often as it does
+abbrev pub namers : List Lemma → List Telling → ℕ → List ℕ
+namers story tellings j = flat_map (λ m. namings j m (slice_get story m) (slice_get tellings m)) (below (length story))
+
+-- the place alone stands there, once
+abbrev pub is_only : ℕ → List ℕ → Bool
+is_only m [] = false
+is_only m (k ∷ []) = k == m
+is_only m (k ∷ l ∷ ls) = false
 
 -- the later lemma within which the one at a place stands; none for one that stands by itself
 abbrev pub home_in : Option (Option ℕ) → Option ℕ
@@ -114,12 +130,17 @@ home_in (Some home) = home
 abbrev pub home_of : List (Option ℕ) → ℕ → Option ℕ
 home_of homes j = home_in (slice_get homes j)
 
+-- a lemma stands within the one at the place
+abbrev pub stands_in : ℕ → Option ℕ → Bool
+stands_in m None = false
+stands_in m (Some home) = home == m
+
 -- a lemma stands by itself, or within the one at the place
 abbrev pub is_at : Option ℕ → ℕ → Bool
 is_at None m = true
 is_at (Some k) m = k == m
 
--- the lemma that a reason of the one at a place names stands before: by itself, or within that one
+-- the lemma that a reason of the one at a place names stands before it: by itself, or within that one
 abbrev pub is_reached : List (Option ℕ) → ℕ → Reason → Bool
 is_reached homes m (ByLemma j) = is_at (home_of homes j) m
 is_reached homes m _ = true
@@ -128,21 +149,31 @@ is_reached homes m _ = true
 abbrev pub reaches : List (Option ℕ) → ℕ → Lemma → Telling → Bool
 reaches homes m lemma telling = list_all (λ placed. is_reached homes m placed.step.reason) telling.passage.steps && is_reached homes m lemma.last
 
--- there is a lemma, which stands by itself and names an earlier one exactly once
-abbrev pub is_alone : Option ℕ → Bool
-is_alone None = true
-is_alone (Some home) = false
+-- so many lemmas stand one within another at most, within one that stands by itself
+unfoldable pub greatest_depth : ℕ
+greatest_depth = 8
 
-abbrev pub takes_in : List (Option ℕ) → (m j : ℕ) → Option Lemma → Option Telling → Bool
-takes_in homes m j (Some lemma) (Some telling) = nat_lt j m && is_alone (home_of homes m) && mentions j lemma telling == 1
-takes_in homes m j _ _ = false
+-- the lemma at a place stands within fewer than so many others, one within another
+abbrev pub is_home_shallow : (ℕ → Bool) → Option ℕ → Bool
+is_home_shallow rest None = true
+is_home_shallow rest (Some home) = rest home
 
--- a lemma stands by itself, or within a later one, which stands by itself and alone names it, once: where it is used. So each lemma stands before what names it
+abbrev pub is_shallow : List (Option ℕ) → ℕ → ℕ → Bool
+is_shallow homes zero j = false
+is_shallow homes (suc n) j = is_home_shallow (is_shallow homes n) (home_of homes j)
+
+-- where these name the lemma at the first place, the one at the second takes it in: it is a later one, does not
+-- itself stand as deep as lemmas may, and it alone names it, once
+abbrev pub takes_in : List (Option ℕ) → List ℕ → ℕ → ℕ → Bool
+takes_in homes names j m = nat_lt j m && is_shallow homes greatest_depth m && is_only m names
+
+-- a lemma stands where it is used, within the later one that alone names it, once, if that one does not itself
+-- stand as deep as lemmas may; every other lemma stands by itself. So each lemma stands before what names it
 pub record AreHomes (story : List Lemma) (tellings : List Telling) (homes : List (Option ℕ)) : Type 0 where
   pub all : length homes ≡ length story
   pub before : (m : ℕ) (lemma : Lemma) (telling : Telling) → slice_get story m ≡ Some lemma → slice_get tellings m ≡ Some telling →
       IsTrue (reaches homes m lemma telling)
-  pub within : (j m : ℕ) → home_of homes j ≡ Some m → IsTrue (takes_in homes m j (slice_get story m) (slice_get tellings m))
+  pub within : (j m : ℕ) → j < length story → stands_in m (home_of homes j) ≡ takes_in homes (namers story tellings j) j m
 
 -- ---- stories
 

@@ -1,8 +1,14 @@
-//! What holds of the definitions. The law is the contract of a function that does nothing.
+//! What holds of the definitions. Each law is the contract of a function that does nothing.
 
-ghost use Rattle.tellings.specs.Laws.{OutcomesAreOfTheirProfiles};
+ghost use Rattle.tellings.specs.Laws.{OutcomesAreOfTheirProfiles, UsedOnceStandWhereUsed};
 
 /// What a sentence says by what is left at a profile, it says of that profile, and its facts there are enough.
 pub fn outcomes_are_of_their_profiles()
     ensures { OutcomesAreOfTheirProfiles }
+{}
+
+/// A lemma that is used once stands within the one that uses it, if that one does not itself stand as deep as
+/// lemmas may.
+pub fn used_once_stand_where_used()
+    ensures { UsedOnceStandWhereUsed }
 {}

@@ -4,4 +4,4 @@
 pub mod laws;
 mod tellings;
 
-pub use tellings::{By, Passage, Placed, Sentence, StoryTelling, Telling};
+pub use tellings::{By, Passage, Placed, Sentence, StoryTelling, Telling, greatest_depth};

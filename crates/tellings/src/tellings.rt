@@ -1,5 +1,8 @@
 //! What a story is told by.
 
+ghost use Rattle.std.specs.Prelude.{◌≡◌};
+ghost use Rattle.tellings.specs.Tellings.{greatest_depth};
+
 use lists::Items;
 use meaning::{Literals, StoryStep};
 
@@ -47,5 +50,13 @@ pub struct Telling {
 pub struct StoryTelling {
     pub forced: Passage,
     pub lemmas: Items<Telling>,
-    pub homes: Items<Option<u32>>,
+    pub homes: Items<Option<usize>>,
+}
+
+/// So many lemmas stand one within another at most, within one that stands by itself.
+#[tactic(auto, unfolding(crate::specs::Tellings::greatest_depth))]
+pub fn greatest_depth() -> u32
+    ensures { result ≡ greatest_depth }
+{
+    8
 }

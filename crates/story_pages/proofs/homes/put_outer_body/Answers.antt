@@ -1,5 +1,0 @@
-use Rattle.lists.proofs.JoinLaws.{joined_7}
-use Rattle.story_pages.proofs.homes.put_outer_body.Goals as goal
-
-pub returns : goal.returns
-returns c = joined_7 _ _ _ _ _ _ _ _ _ _ _ _ _ _ _ c.in_ok-append.ensures.ok c.in_ok-put_outer_items.ensures c.in_ok-append-2.ensures.ok c.in_ok-put_held_by.ensures c.in_ok-append-3.ensures.ok c.in_ok-put_end_of.ensures c.in_ok-append-4.ensures.ok
