@@ -30,6 +30,8 @@ CLAIMS = [
     ("clauses that say a study", ["answers/RowLaws.SaysStudy"], ["an impossibility", "the study of a file"]),
     ("a refutation of a study", ["answers/RowLaws.IsProofRight"], ["clauses that say a study", "an impossibility", "the study of a file"]),
     ("clauses of a file that no assignment satisfies", ["cnf/Sat.IsUnsatisfiable", "answers/Lrat.GivesFormula"], []),
+    ("a proof of a file", ["cnf/Derived.IsAccepted", "clause_text/ReadLrat.read_lrat"], ["clauses of a file that no assignment satisfies"]),
+    ("a gain", ["call_laws/Laws.IsGainRight"], ["an impossibility", "the study of a file"]),
 ]
 # What laws give as a whole, and what they begin with.
 WHOLES = [
@@ -39,6 +41,8 @@ WHOLES = [
     ("adopt", ["answers/RowLaws.IsAdoptedRight"]),
     ("export", ["answers/RowLaws.SaysStudy"]),
     ("proof", ["answers/RowLaws.IsProofRight"]),
+    ("lrat", ["call_laws/Laws.IsRefutationConfirmed"]),
+    ("gain", ["call_laws/Laws.IsGainWritten"]),
     ("a call", ["answers/Call.IsCall"]),
     ("a call of explain", ["explain_answers/Call.IsExplainCall"]),
 ]

@@ -108,7 +108,7 @@ module _ (study : Question) (text : List ℕ) where
       (sharp_judge_sound study text v within.1, within.0)
 
 -- status 0 says that the answer is a confirmation
-zero_confirms : (a : Judgement) → judgement_status a ≡ 0 → (verdict : Verdict) × (a ≡ Confirmed verdict)
+pub zero_confirms : (a : Judgement) → judgement_status a ≡ 0 → (verdict : Verdict) × (a ≡ Confirmed verdict)
 zero_confirms (Confirmed verdict) e = (verdict, refl)
 zero_confirms (Faulty line word) e = absurd (omega (arith, e))
 zero_confirms TooLong e = absurd (omega (arith, e))

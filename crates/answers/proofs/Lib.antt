@@ -5,13 +5,13 @@ pub mod JudgedLaws
 mod DecidedLaws
 pub mod ReportLaws
 mod ClauseLaws
-mod OneAnswer
+pub mod OneAnswer
 pub mod DeviceLaws
 pub mod CallLaws
 pub mod LimitLemmas
-mod RangeLemmas
+pub mod RangeLemmas
 mod ExportLemmas
-mod ConfirmedLaws
+pub mod ConfirmedLaws
 mod AdoptLaws
 mod GainRows
 mod WrittenReports

@@ -16,8 +16,7 @@ use Rattle.answers.specs.Export.{IsExported}
 use Rattle.answers.specs.Lrat.{GivesFormula, RefusesFormula, too_long as long_cnf, no_formula, cnf_line, IsConfirmedBy, formula_refused, proof_judged, said_of}
 use Rattle.answers.specs.Gain.{Gains, other_kind, of_sets, said_of_gain}
 use Rattle.answers.specs.Lawful.{IsBenchAnswer}
-use Rattle.answers.specs.Laws.{IsSettled, AnswersAreOne}
-use Rattle.answers.specs.RowLaws.{AreSame, RowsAreOne}
+use Rattle.answers.specs.Laws.{IsSettled, AreSame, AnswersAreOne}
 use Rattle.answers.proofs.RowLemmas.{some_same, same_reading, one_study, not_refused, one_formula}
 
 -- two runs that tell of no search and of nothing sharp are one, where their statuses are
@@ -56,7 +55,7 @@ module _ (files : Files) (name : List ℕ) where
   one_over run run' text text' P P' rest (study_given s g p) (study_given s' g' p') = rest s' (subst P (one_study files name s s' g g') p) p'
 
   -- the file of a text of clauses is refused with one line, and not where it gives clauses
-  one_cnf : (text text' : List ℕ) → RefusesFormula files name text → RefusesFormula files name text' → text ≡ text'
+  pub one_cnf : (text text' : List ℕ) → RefusesFormula files name text → RefusesFormula files name text' → text ≡ text'
   one_cnf text text' (long_cnf h t) (long_cnf h' t') = t ∙ sym t'
   one_cnf text text' (long_cnf h t) (no_formula bytes fault h' read t') = absurd (long_or_not most_cnf_bytes h bytes h')
   one_cnf text text' (no_formula bytes fault h read t) (long_cnf h' t') = absurd (long_or_not most_cnf_bytes h' bytes h)
@@ -83,7 +82,7 @@ one_clauses study run run' text text' P P' rest (clauses_made e p) (clauses_refu
 one_clauses study run run' text text' P P' rest (clauses_made e p) (clauses_made e' p') = rest p p'
 
 module _ (files : Files) (run run' : Run) (text text' : List ℕ) where
-  pub one_export : (name : List ℕ) → IsExported files name run text → IsExported files name run' text' → AreSame run run' text text'
+  one_export : (name : List ℕ) → IsExported files name run text → IsExported files name run' text' → AreSame run run' text text'
   one_export name a a' =
       one_over files name run run' text text' _ _ (λ s. one_clauses s run run' text text' _ _ (λ p p'. (one_run run run' 0 0 p.0 p'.0 refl, p.1 ∙ sym p'.1))) a a'
 
@@ -129,9 +128,3 @@ module _ (files : Files) (run run' : Run) (text text' : List ℕ) where
 
 pub one_answer : AnswersAreOne
 one_answer words files run run' text text' settled a a' = one_row files run run' text text' (request_of words) settled a a'
-
-pub one_rows : RowsAreOne
-one_rows = record {
-  export = λ files name run run' text text' a a'. one_export files run run' text text' name a a';
-  lrat = λ files name proof run run' text text' a a'. one_lrat files run run' text text' name proof a a';
-}

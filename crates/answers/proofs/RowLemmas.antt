@@ -1,17 +1,18 @@
 -- A file gives one study, and is not refused where it gives one.
-use Rattle.std.proofs.Common.{◌≡◌, ◌∙◌, sym, ap, subst, ℕ, ◌<◌, ◌≤◌, List, length, Option, Some, Result, Ok, Err, arith}
+use Rattle.std.proofs.Common.{◌≡◌, ◌∙◌, sym, ap, subst, ℕ, ◌<◌, ◌≤◌, List, length, Option, None, Some, Result, Ok, Err, arith}
 use Rattle.edge.specs.Shelf.{Files}
 use Rattle.vocab.specs.Study.{Question}
 use Rattle.study.specs.declared.faults.StudyFault.{StudyFault}
 use Rattle.study.specs.Reading.{IsStudyOf}
 use Rattle.study.proofs.OneAnswer.{studies_once}
+use Rattle.clause_form.specs.declared.refusals.GroundFault.{GroundFault}
 use Rattle.clause_text.specs.ReadDimacs.{Formula, read_dimacs}
 use Rattle.words.specs.Words.{Request, request_of}
 use Rattle.answers.specs.declared.runs.Run.{Run}
 use Rattle.answers.specs.FileLimits.{most_study_bytes, HasFile}
 use Rattle.answers.specs.Studies.{GivesStudy, RefusesStudy, too_long, no_study, OverStudy, study_refused, study_given}
 use Rattle.answers.specs.Runs.{IsBare}
-use Rattle.answers.specs.Grounding.{OverClauses, clauses_refused, clauses_made}
+use Rattle.answers.specs.Grounding.{clauses_fault, refusal_line, OverClauses, clauses_refused, clauses_made}
 use Rattle.answers.specs.Lrat.{GivesFormula}
 use Rattle.answers.specs.Lawful.{IsBenchAnswer, Lawful}
 
@@ -43,6 +44,12 @@ module _ (files : Files) (name : List ℕ) where
   pub over_study : (run : Run) (text : List ℕ) (P : Question → Type 0) (study : Question) → GivesStudy files name study → OverStudy files name run text P → P study
   over_study run text P study g (study_refused r bare) = absurd (not_refused study text g r)
   over_study run text P study g (study_given s h p) = subst P (one_study s study h g) p
+
+-- where the clauses are refused, their line is said
+pub clauses_row : (study : Question) (fault : GroundFault) (run : Run) (text : List ℕ) (P : Type 0) → clauses_fault study ≡ Some fault → OverClauses study run text P
+    → (run.status ≡ 3) × (text ≡ refusal_line study fault)
+clauses_row study fault run text P is (clauses_refused other e t bare) = (bare.ends, t ∙ ap (refusal_line study) (some_same (clauses_fault study) other fault e is))
+clauses_row study fault run text P is (clauses_made none p) = let no : None ≡ Some fault = sym none ∙ is in absurd (cc)
 
 -- where a run does not end with status 3, the rest holds of the clauses
 pub past_clauses : (study : Question) (run : Run) (text : List ℕ) (P : Type 0) → (IsBare run 3 → ⊥) → OverClauses study run text P → P

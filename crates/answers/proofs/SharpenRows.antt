@@ -1,5 +1,5 @@
 -- What `sharpen` says, row by row.
-use Rattle.std.proofs.Common.{◌≡◌, ◌∙◌, sym, ap, subst, ℕ, ◌≤◌, ◌⊎◌, inl, inr, true, false, true≢false, List, None, Some}
+use Rattle.std.proofs.Common.{◌≡◌, ◌∙◌, sym, subst, ℕ, ◌≤◌, ◌⊎◌, inl, inr, true, false, true≢false, List, None, Some}
 use Rattle.std.specs.Io.KnownBytes.{Appends}
 use Rattle.edge.specs.Shelf.{Files}
 use Rattle.vocab.specs.Study.{Question}
@@ -9,7 +9,7 @@ use Rattle.words.specs.Words.{Sharpen, request_of}
 use Rattle.sharp_verdicts.specs.Totals.{passes_clause_limits, total}
 use Rattle.answers.specs.declared.runs.Run.{Run}
 use Rattle.answers.specs.Studies.{GivesStudy, RefusesStudy}
-use Rattle.answers.specs.Grounding.{clauses_fault, refusal_line, OverClauses, clauses_refused, clauses_made}
+use Rattle.answers.specs.Grounding.{clauses_fault, refusal_line, OverClauses}
 use Rattle.answers.specs.Evidence.{Decides, by_verdict, by_limit}
 use Rattle.answers.specs.Sharpen.{total_line, Sharpens, total_refused, decided, sharpened}
 use Rattle.answers.specs.Lawful.{IsBenchAnswer}
@@ -19,12 +19,7 @@ use Rattle.answers.specs.Laws.{Says}
 use Rattle.answers.specs.SharpenLaws.{SharpeningsAreAnswered}
 use Rattle.answers.proofs.DeviceLaws.{refused_row, written_at}
 use Rattle.answers.proofs.CallLaws.{given_clauses}
-use Rattle.answers.proofs.RowLemmas.{over_study, some_same}
-
-clauses_row : (study : Question) (fault : GroundFault) (run : Run) (text : List ℕ) (P : Type 0) → clauses_fault study ≡ Some fault → OverClauses study run text P
-    → (run.status ≡ 3) × (text ≡ refusal_line study fault)
-clauses_row study fault run text P is (clauses_refused other e t bare) = (bare.ends, t ∙ ap (refusal_line study) (some_same (clauses_fault study) other fault e is))
-clauses_row study fault run text P is (clauses_made none p) = let no : None ≡ Some fault = sym none ∙ is in absurd (cc)
+use Rattle.answers.proofs.RowLemmas.{clauses_row, over_study}
 
 total_row : (study : Question) (run : Run) (text : List ℕ) → passes_clause_limits (total study) ≡ true → Sharpens study run text → (run.status ≡ 3) × (text ≡ total_line (total study))
 total_row study run text over (total_refused over' is bare) = (bare.ends, is)

@@ -114,10 +114,14 @@ IsSettled (Some (Adopt study proof workers)) = ⊥
 IsSettled (Some (Sharpen study workers)) = ⊥
 IsSettled request = Unit {0}
 
+-- the same run, and the same text
+abbrev pub AreSame : Run → Run → List ℕ → List ℕ → Type 0
+AreSame run run' text text' = (run ≡ run') × (text ≡ text')
+
 -- over some files such words have one answer, so each row comes exactly where it says
 abbrev pub AnswersAreOne : Type 0
 AnswersAreOne = (words : List (List ℕ)) (files : Files) (run run' : Run) (text text' : List ℕ) → IsSettled (request_of words) →
-    Lawful words files run text → Lawful words files run' text' → (run ≡ run') × (text ≡ text')
+    Lawful words files run text → Lawful words files run' text' → AreSame run run' text text'
 
 -- ---- whatever the shelf tells
 

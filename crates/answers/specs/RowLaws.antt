@@ -280,17 +280,3 @@ pub record IsSampleRight (n : ℕ) (study : Question) (run : Run) (text : List �
 abbrev pub SampledHolds : Type 0
 SampledHolds = (n : ℕ) (run : Run) (text : List ℕ) (study : Question) →
     IsSampled n run text → IsSampleStudy n study → run.status ≡ 0 → IsSampleRight n study run text
-
--- ---- one answer
-
--- the same run, and the same text
-abbrev pub AreSame : Run → Run → List ℕ → List ℕ → Type 0
-AreSame run run' text text' = (run ≡ run') × (text ≡ text')
-
--- over some files `export` and `lrat` have one answer each, so each of their rows comes exactly where it says
-pub record RowsAreOne : Type 0 where
-  pub export : (files : Files) (name : List ℕ) (run run' : Run) (text text' : List ℕ) →
-      IsExported files name run text → IsExported files name run' text' → AreSame run run' text text'
-  pub lrat : (files : Files) (name proof : List ℕ) (run run' : Run) (text text' : List ℕ) →
-      IsConfirmedBy files name proof run text → IsConfirmedBy files name proof run' text'
-      → AreSame run run' text text'

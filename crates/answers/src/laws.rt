@@ -2,7 +2,7 @@
 
 ghost use Rattle.answers.specs.GainLaws.{GainsAreAnswered, NoneIsNoGain};
 ghost use Rattle.answers.specs.SharpenLaws.{EnoughSharpens, SharpenedAreConfirmed, SharpenedHolds, SharpeningsAreAnswered, WrittenSharpeningsAreConfirmed, WrittenSharpeningsHold};
-ghost use Rattle.answers.specs.RowLaws.{AdoptedAreConfirmed, AdoptedHolds, AdoptsAsLrat, CallsAreConclusive, ConfirmedIsUnsatisfiable, DecidedAreConfirmed, DecidedHolds, EnoughAdopts, EnoughDecides, EnoughProves, ExportedSaysStudy, ProvedAreAdopted, ProvedAreConfirmed, ProvedHolds, RowsAreOne, SampledHolds, WrittenAdoptionsHold, WrittenDecisionsHold};
+ghost use Rattle.answers.specs.RowLaws.{AdoptedAreConfirmed, AdoptedHolds, AdoptsAsLrat, CallsAreConclusive, ConfirmedIsUnsatisfiable, DecidedAreConfirmed, DecidedHolds, EnoughAdopts, EnoughDecides, EnoughProves, ExportedSaysStudy, ProvedAreAdopted, ProvedAreConfirmed, ProvedHolds, SampledHolds, WrittenAdoptionsHold, WrittenDecisionsHold};
 ghost use Rattle.answers.specs.Laws.{CheckedAreRight, ConfirmedHolds, ChecksAreAnswered, AnswersAreOne, UsageIsExact, LibraryIsWritten, RefusedLeavesUnopened, OtherWordsTouchNone, CallsAreComplete, WrittenProofsAreAdopted, WrittenProofsAreConfirmed, WrittenReportsAreConfirmed};
 
 /// `check` confirms exactly the reports of right verdicts that claim something and the texts of right sharp
@@ -163,11 +163,6 @@ pub fn calls_are_conclusive()
 /// What `sample` says of the study of a number holds.
 pub fn sampled_holds()
     ensures { SampledHolds }
-{}
-
-/// Over some files `export` and `lrat` have one answer each.
-pub fn rows_are_one()
-    ensures { RowsAreOne }
 {}
 
 /// Of the confirmed report of a rule `gain` says `none` exactly where no voter gains in the rule.

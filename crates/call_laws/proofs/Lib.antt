@@ -1,2 +1,6 @@
-mod CallRows
 mod Confirming
+mod Gaining
+mod RefusedRows
+mod LratRows
+mod OpenRows
+mod QuietRows

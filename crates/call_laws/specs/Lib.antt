@@ -1,1 +1,3 @@
+-- In reading order.
 pub mod Laws
+pub mod Rows

@@ -1,5 +1,5 @@
-//! What holds of calls. Each law is the contract of a function that does nothing but call upon the laws of
-//! rows.
+//! What holds of what calls have written. Each law is the contract of a function that does nothing but call
+//! upon the laws of rows.
 
 ghost use Rattle.call_laws.specs.Laws.{ConfirmedRefutationsHold, WrittenExportsSayStudy, WrittenGainsHold, WrittenProofsHold, WrittenSamplesHold};
 
@@ -20,12 +20,11 @@ pub fn written_proofs_hold()
     laws::proved_holds();
 }
 
-/// Where a call of `lrat` has confirmed a proof, no assignment satisfies the clauses.
+/// Where a call of `lrat` has confirmed a proof, its text gives a derivation that is accepted from the
+/// clauses that were read, so that no assignment satisfies these.
 pub fn confirmed_refutations_hold()
     ensures { ConfirmedRefutationsHold }
-{
-    laws::confirmed_is_unsatisfiable();
-}
+{}
 
 /// What a call of `sample` has written of the study of a number holds.
 pub fn written_samples_hold()
@@ -34,7 +33,9 @@ pub fn written_samples_hold()
     laws::sampled_holds();
 }
 
-/// What a call of `gain` has written of a confirmed report says `none` exactly where no voter gains in its rule.
+/// What a call of `gain` has written of a confirmed report holds: of a rule that no voter gains, or a line
+/// with a voter who gains, at which profile and by which ballot; of an impossibility that there is no rule.
+/// And of a rule it is `none` exactly where no voter gains.
 pub fn written_gains_hold()
     ensures { WrittenGainsHold }
 {
