@@ -51,7 +51,7 @@ by_sets Whole [] status e = inl e
 by_sets Whole (set ∷ open_sets) status e = inr (inl e)
 
 -- a map without open sets has status 4 only where it is cut short
-cut_at : (ending : Ending) (open_sets : List (List ℕ)) (status : ℕ) → open_sets ≡ [] → status ≡ ending_status ending open_sets → status ≡ 4 → ending ≡ Cut
+pub cut_at : (ending : Ending) (open_sets : List (List ℕ)) (status : ℕ) → open_sets ≡ [] → status ≡ ending_status ending open_sets → status ≡ 4 → ending ≡ Cut
 cut_at Cut open_sets status none e four = refl
 cut_at Whole [] status none e four = absurd (omega (arith, e, four))
 cut_at Whole (set ∷ open_sets) status none e four = absurd (cc)

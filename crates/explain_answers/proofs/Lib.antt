@@ -8,3 +8,4 @@ mod CoresLaws
 mod LookLaws
 mod CallLaws
 mod LeftLaws
+mod WrittenLaws

@@ -9,3 +9,4 @@ pub mod Lawful
 pub mod Call
 pub mod Laws
 pub mod Completeness
+pub mod Written
