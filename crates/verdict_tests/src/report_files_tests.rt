@@ -112,7 +112,7 @@ fn is_answered<R: Threads + Sync>(
     failing: u32,
 ) -> Result<bool, Fail> {
     let worth = judged(rt, alloc, text, 1, failing)?;
-    Ok(worth != Err(FileFault::Failed))
+    Ok(refused_at(worth).is_some())
 }
 
 // The calls are a rewind and then a read for each byte. The first line of the one text has two, and the first
