@@ -94,8 +94,8 @@ module _ (words : List (List ℕ)) (d : Devices) (files : Files) (run : Run) whe
     pub lawful : Lawful words files run text
     pub written : Appends d.taken_before d.taken_now text
 
-  -- the front of the text of a lawful answer was written, which has the verdict, the logs and the sharpening of
-  -- the run; and no file was touched that the answer leaves alone
+  -- a front of the text of a lawful answer was written, nothing or all of it too; that answer has the verdict, the logs and the sharpening
+  -- of the run; and no file was touched that it leaves alone
   pub record IsAnsweredInPart : Type 0 where
     pub status : ℕ
     pub text : List ℕ
@@ -118,7 +118,7 @@ pub record IsCall (words : List (List ℕ)) (d : Devices) (run : Run) : Type 0 w
   -- below 5 the answer is lawful, and its text was written
   pub lawful : (files : Files) → AreFiles d.told (files_of (request_of words)) files → run.status ≤ 4
       → IsAnswered words d files run
-  -- at 6 the front of it was
+  -- at 6 a front of it was
   pub cut_short : (files : Files) → AreFiles d.told (files_of (request_of words)) files → run.status ≡ 6
       → IsAnsweredInPart words d files run
   -- at 5 and 7 nothing was

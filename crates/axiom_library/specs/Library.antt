@@ -9,7 +9,7 @@ pub record Entry : Type 0 where
   pub name : List ℕ
   pub text : List ℕ
 
--- axioms of rules that choose an alternative. `participation` says that no absent voter does better by staying away:
+-- axioms of rules that choose an alternative; docs/START.md names the source of each. `participation` says that no absent voter does better by staying away:
 -- Moulin, "Condorcet's principle implies the no show paradox" (1988)
 unfoldable pub choice : List Entry
 choice =

@@ -9,7 +9,7 @@ use Rattle.meaning.specs.Subsets.{elements}
 use Rattle.choice_sets.specs.declared.gains.Manipulation.{Manipulation}
 
 module _ (size : Extent) where
-  -- a voter's other ballots at a profile
+  -- a voter at a profile with each ballot, the one that is cast there among them
   abbrev pub of_voter : ℕ → ℕ → List Manipulation
   of_voter p i = map (λ b. record { profile = p; voter = i; ballot = b }) (below (sort_count size Ballot))
 

@@ -7,7 +7,7 @@ use std::env;
 use std::io::ErrorKind;
 use std::process::ExitCode;
 
-/// The words after the program's name; none where one of them is no text.
+/// The words after the program's name: an empty list where one of them is no text, and `None` where memory is wanting.
 fn words_given(rt: &HostRuntime) -> Option<Vec<String>> {
     let alloc = rt.alloc();
     match env::args(rt) {

@@ -52,7 +52,7 @@ module _ (words : List (List ℕ)) (d : Devices) (files : Files) where
     pub lawful : ExplainsWords words files status text
     pub written : Appends d.taken_before d.taken_now text
 
-  -- the front of the text of a lawful answer was written; and no file was touched that the answer leaves alone
+  -- a front of the text of a lawful answer was written, nothing or all of it too; and no file was touched that the answer leaves alone
   pub record IsExplainedInPart : Type 0 where
     pub status : ℕ
     pub text : List ℕ
@@ -68,7 +68,7 @@ pub record IsExplainCall (words : List (List ℕ)) (d : Devices) (status : ℕ) 
   -- below 5 the answer is lawful, and its text was written
   pub lawful : (files : Files) → AreFiles d.told (explain_files (request_of words)) files → status ≤ 4
       → IsExplained words d files status
-  -- at 6 the front of it was
+  -- at 6 a front of it was
   pub cut_short : (files : Files) → AreFiles d.told (explain_files (request_of words)) files → status ≡ 6
       → IsExplainedInPart words d files
   -- at 5 and 7 nothing was

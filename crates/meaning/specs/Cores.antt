@@ -1,4 +1,5 @@
--- Cores: axioms that no rule satisfies together, and for each of them a rule that satisfies the others.
+-- Cores: axioms by their places, and for each of them a rule that satisfies the others. That no rule satisfies all of them is said by a
+-- story (`Stories`), and not here.
 use Rattle.std.specs.Prelude.{ℕ, Bool, true, not, ◌&&◌, ◌==◌, ◌+◌, nat_lt, List, [], ◌∷◌, length, filter}
 use Rattle.std.specs.Cmp.Lexicographic.{pointwise}
 use Rattle.vocab.specs.Titled.{Titled}
@@ -18,6 +19,6 @@ module _ (size : Extent) (axioms : List Titled) (conflicts : ℕ) where
   is_witness core k (Rule table) = satisfies size axioms (filter (λ c. not (c == k)) core) table
   is_witness core k (Open limit) = limit == conflicts
 
-  -- a core is right: it names axioms of the study, each once and in order, and each has its witness
+  -- a core is right, as far as its form and its witnesses go: it names axioms of the study, each once and in order, and each has its witness
   abbrev pub is_core_right : List ℕ → List Witness → Bool
   is_core_right core witnesses = is_core_from 0 (length axioms) core && pointwise (is_witness core) core witnesses

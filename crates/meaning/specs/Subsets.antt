@@ -3,8 +3,8 @@ use Rattle.std.specs.Prelude.{ℕ, ◌+◌, Bool, List, filter}
 use Rattle.vocab.specs.Size.{is_digit_set}
 use Rattle.meaning.specs.Space.{below}
 
--- an alternative x is an element of the set of a code where 2^x is a term of the code and one, written as a sum of
--- different powers of two; so the codes below 2^m - 1 stand for the sets of the first m alternatives that are not empty
+-- an alternative x is an element of the set of a code where 2^x is one of the different powers of two whose sum is
+-- code + 1; so the codes below 2^m - 1 stand for the sets of the first m alternatives that are not empty
 abbrev pub is_element : (code x : ℕ) → Bool
 is_element code x = is_digit_set (code + 1) x
 
