@@ -31,8 +31,8 @@ fn variables<K: OutcomeKind>(kind: &K) -> u32
 /// The story of a simpler proof than the given one, a trimmed derivation over the clauses of a core; where
 /// none is found, that of the given one. The story is accepted, and each of its lemmas and steps is needed.
 /// A lemma supposes the opposites of the literals of its line. What a simpler proof has of these is promised
-/// by `simplify`: at most one a line, or in each line part of a given line's. That the lemmas suppose no more
-/// is in no clause here, and is tested.
+/// by `simplify`: at most one a line, or at most two, each of which is needed, or in each line part of a given
+/// line's. That the lemmas suppose no more is in no clause here, and is tested.
 pub fn retell_simply<K: OutcomeKind>(
     alloc: Global,
     kind: &K,

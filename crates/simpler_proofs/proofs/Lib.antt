@@ -1,3 +1,4 @@
 pub mod Entries
+pub mod Named
 pub mod Passing
 pub mod Reordering

@@ -1,6 +1,7 @@
 -- Derivations that are made in place of a given one.
-use Rattle.std.specs.Prelude.{◌≡◌, ℕ, ◌+◌, ◌-◌, ◌<◌, ◌≤◌, ◌^◌, nat_le, ◌&&◌, ◌||◌, Bool, List, length, get_or, IsPermutation, IsTrue, ◌⊎◌}
-use Rattle.std.specs.List.{list_all, list_any}
+use Rattle.std.specs.Prelude.{◌≡◌, ℕ, zero, suc, ◌+◌, ◌-◌, ◌<◌, ◌≤◌, ◌^◌, nat_le, ◌&&◌, ◌||◌, Bool, List, [], ◌++◌, map, length, get_or, slice_index_or, All, ⊤, IsPermutation, IsTrue, ◌⊎◌}
+use Rattle.std.specs.List.{list_all, list_any, Contains}
+use Rattle.cnf.specs.Signed.{Signed}
 use Rattle.cnf.specs.Sat.{Clause, contains_clause}
 use Rattle.cnf.specs.Derived.{IsAccepted}
 use Rattle.cnf.specs.Fresh.{added_by, AreOver}
@@ -19,6 +20,10 @@ EachPasses test lines = IsTrue (list_all (λ l. test (added_by l.step)) lines)
 abbrev pub is_single : Clause → Bool
 is_single clause = nat_le (length clause) 1
 
+-- a clause has at most two
+abbrev pub is_pair : Clause → Bool
+is_pair clause = nat_le (length clause) 2
+
 -- a clause has no literal but those of another, and no more of them
 abbrev pub is_part : Clause → Clause → Bool
 is_part whole clause = contains_clause whole clause && nat_le (length clause) (length whole)
@@ -27,9 +32,34 @@ is_part whole clause = contains_clause whole clause && nat_le (length clause) (l
 abbrev pub is_part_of : List Line → Clause → Bool
 is_part_of given clause = is_empty_clause clause || list_any (λ g. is_part (added_by g.step) clause) given
 
--- each clause has at most one literal, or each is empty or part of one that the given lines add
-abbrev pub AreSimpler : List Line → List Line → Type 0
-AreSimpler given lines = EachPasses is_single lines ⊎ EachPasses (is_part_of given) lines
+-- the clauses that lines add
+abbrev pub all_added : List Line → List Clause
+all_added lines = map (λ l. added_by l.step) lines
+
+-- the clause under an id, where ids are 1, 2, 3 ..
+abbrev pub clause_of_id : List Clause → ℕ → Clause
+clause_of_id all zero = []
+clause_of_id all (suc k) = slice_index_or all k []
+
+-- a literal stands in the clause of a hint
+pub record IsNamed (all : List Clause) (hints : List ℕ) (l : Signed) : Type 0 where
+  pub id : ℕ
+  pub hint : Contains hints id
+  pub literal : Contains (clause_of_id all id) l
+
+-- each literal of an added clause stands in the clause of a hint: by these hints the clause does not follow without it
+abbrev pub NamesEach : List Clause → Step → Type 0
+NamesEach all (Add id clause hints) = All (IsNamed all hints) clause
+NamesEach all (Drop ids) = ⊤
+
+-- each clause has at most two literals, and needs each of them: by its hints one supposition does not do in place of two
+pub record ArePaired (clauses : List Clause) (lines : List Line) : Type 0 where
+  pub pairs : EachPasses is_pair lines
+  pub needed : All (λ line. NamesEach (clauses ++ all_added lines) line.step) lines
+
+-- each clause has at most one literal, or each at most two and needs them, or each is empty or part of one that the given lines add
+abbrev pub AreSimpler : List Clause → List Line → List Line → Type 0
+AreSimpler clauses given lines = EachPasses is_single lines ⊎ (ArePaired clauses lines ⊎ EachPasses (is_part_of given) lines)
 
 -- a step adds the clause of a given one under its id, by the given one's hints in some order; or it takes away the same
 abbrev pub HasHintsOf : Step → Step → Type 0

@@ -145,7 +145,7 @@ fn turned(place: u32, first: u32, variables: u32) -> u32
 }
 
 /// Both literals of each variable in turn, those of the variables after the first ones before these.
-fn literals_in_turn(alloc: Global, variables: u32, first: u32) -> Result<Lits, NoMemory>
+pub fn literals_in_turn(alloc: Global, variables: u32, first: u32) -> Result<Lits, NoMemory>
     requires few { variables < 2 ^ 31 }
     requires first { first ≤ variables }
 {

@@ -1,12 +1,15 @@
-//! Simpler proofs of what a given one proves: by failed literals, so that each clause has at most one literal,
-//! or with shorter clauses.
+//! Simpler proofs of what a given one proves: by failed literals, so that each clause has at most one literal;
+//! or by failed literals under one assumption, so that each has at most two; or with shorter clauses.
 #![tactic(auto)]
 
 mod failed_literals;
 mod leaving_out;
 mod literal_sets;
 mod made;
+mod needed;
 mod ordering;
+mod paired;
+mod pairs;
 mod reasons;
 mod rebuilding;
 mod simplifying;

@@ -1,11 +1,11 @@
 //! Refutations by failed literals made again over the clauses that some of them cite.
 
-ghost use Rattle.std.specs.Prelude.{◌≡◌, ◌<◌, ◌≤◌, ◌+◌, Bool, length, OnOk, IfOk, IfSome, IsTrue};
+ghost use Rattle.std.specs.Prelude.{◌≡◌, ◌<◌, ◌≤◌, ◌+◌, ◌++◌, Bool, length, OnOk, IfOk, IfSome, IsTrue};
 ghost use Rattle.std.specs.List.{list_all};
 ghost use Rattle.cnf.specs.Sat.{Clause};
-ghost use Rattle.cnf.specs.Fresh.{AreOver, is_over};
+ghost use Rattle.cnf.specs.Fresh.{AreOver, added_by, is_over};
 ghost use Rattle.lrat_check.specs.Ranges.{has_next};
-ghost use Rattle.simpler_proofs.specs.Made.{EachPasses, IsProof, is_single};
+ghost use Rattle.simpler_proofs.specs.Made.{EachPasses, IsProof, all_added, clause_of_id, is_single};
 
 use crate::literal_sets::{LiteralSet, Standing, add_clause, clause_at, origin_at, service};
 use crate::made::{MOST_LINES, finish};
@@ -16,7 +16,9 @@ use lists::{Items, NoMemory};
 use std::alloc::Global;
 
 /// The clause that a line adds.
-pub fn clause_of_line(line: &Line) -> &[Lit] {
+pub fn clause_of_line(line: &Line) -> &[Lit]
+    ensures { result.now ≡ added_by line.now.step }
+{
     match &line.step {
         Step::Add { clause, .. } => clause.as_slice(),
         Step::Drop { .. } => &[],
@@ -32,7 +34,10 @@ pub fn hints_of_line(line: &Line) -> &[u64] {
 }
 
 /// The clause under an id: one of the clauses, or the one that an earlier line adds; else the empty one.
-pub fn clause_of<'a>(clauses: &'a Clauses, earlier: &'a [Line], id: u64) -> &'a [Lit] {
+#[tactic(auto, using(crate::proofs::Named::of_list, crate::proofs::Named::of_line, crate::proofs::Named::of_none))]
+pub fn clause_of<'a>(clauses: &'a Clauses, earlier: &'a [Line], id: u64) -> &'a [Lit]
+    ensures { result.now ≡ clause_of_id (clauses.now.clauses ++ all_added earlier.now) id }
+{
     if id == 0 {
         return &[];
     }

@@ -7,6 +7,7 @@ ghost use Rattle.simpler_proofs.specs.Made.{EachPasses, IsProof, AreSimpler, is_
 use crate::failed_literals::by_failed_literals;
 use crate::leaving_out::{mark_cited, marked_clauses, shorter, with_fewer_lines};
 use crate::ordering::ordered;
+use crate::paired::by_two;
 use crate::rebuilding::thinned;
 use crate::vivification::vivify;
 use cnf::{Clauses, Derivation};
@@ -134,7 +135,7 @@ fn by_single(
     }
 }
 
-/// A refutation by failed literals or else by vivification.
+/// A refutation by failed literals, or else by failed literals under one assumption, or else by vivification.
 fn chosen(
     alloc: Global,
     clauses: &Clauses,
@@ -146,23 +147,25 @@ fn chosen(
     requires over { AreOver variables given.now }
     ensures proof { IfOk result (λ made. IfSome made (IsProof clauses.now.clauses)) }
     ensures over { IfOk result (λ made. IfSome made (AreOver variables)) }
-    ensures simpler { IfOk result (λ made. IfSome made (AreSimpler given.now)) }
+    ensures simpler { IfOk result (λ made. IfSome made (AreSimpler clauses.now.clauses given.now)) }
 {
-    match by_single(alloc, clauses, variables)? {
-        Some(made) => Ok(Some(made)),
-        None => {
-            let made = vivify(alloc, clauses, variables, given, BUDGET)?;
-            Ok(made)
-        }
+    if let Some(made) = by_single(alloc, clauses, variables)? {
+        return Ok(Some(made));
     }
+    if let Some(made) = by_two(alloc, clauses, variables)? {
+        return Ok(Some(made));
+    }
+    let made = vivify(alloc, clauses, variables, given, BUDGET)?;
+    Ok(made)
 }
 
-/// A simpler refutation of the same clauses, by failed literals or else by vivification, each within a budget;
-/// none where neither comes to an end. Each of its clauses has at most one literal, or each is empty or part
-/// of one of the given lines', with no more literals. The hints of a line that don't rest on the literals of
-/// its clause come first; and those of one axiom, which the upper half of a clause's origin tells, stand
-/// together where what follows from what allows it.
-#[tactic(auto, using(crate::proofs::Reordering::over_reordered, crate::proofs::Reordering::simpler_reordered))]
+/// A simpler refutation of the same clauses, by failed literals, or else by failed literals under one
+/// assumption, or else by vivification, each within a budget; none where none comes to an end. Each of its
+/// clauses has at most one literal, or each has at most two and needs them, or each is empty or part of one of
+/// the given lines', with no more literals. The hints of a line that don't rest on the literals of its clause
+/// come first; and those of one axiom, which the upper half of a clause's origin tells, stand together where
+/// what follows from what allows it.
+#[tactic(auto, using(crate::proofs::Reordering::over_reordered))]
 pub fn simplify(
     alloc: Global,
     clauses: &Clauses,
@@ -174,7 +177,7 @@ pub fn simplify(
     requires over { AreOver variables given.now }
     ensures proof { IfOk result (λ made. IfSome made (IsProof clauses.now.clauses)) }
     ensures over { IfOk result (λ made. IfSome made (AreOver variables)) }
-    ensures simpler { IfOk result (λ made. IfSome made (AreSimpler given.now)) }
+    ensures simpler { IfOk result (λ made. IfSome made (AreSimpler clauses.now.clauses given.now)) }
 {
     match chosen(alloc, clauses, variables, given)? {
         None => Ok(None),

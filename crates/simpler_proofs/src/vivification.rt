@@ -63,7 +63,7 @@ fn marked(alloc: Global, clause: &[Lit], seen: &mut Vec<bool>) -> Result<Lits, N
 }
 
 /// Adds what is left of a clause. The answer is whether a conflict was found.
-fn shorten(
+pub fn shorten(
     alloc: Global,
     clauses: &Clauses,
     trail: &mut Trail,

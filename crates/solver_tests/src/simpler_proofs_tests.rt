@@ -80,6 +80,13 @@ static CUBE: [i32; 32] = [
     -1, -2, -3, 0,
 ];
 
+/// The sixteen clauses over four variables: no two literals of them are refuted together.
+static HYPERCUBE: [i32; 80] = [
+    1, 2, 3, 4, 0, 1, 2, 3, -4, 0, 1, 2, -3, 4, 0, 1, 2, -3, -4, 0, 1, -2, 3, 4, 0, 1, -2, 3, -4,
+    0, 1, -2, -3, 4, 0, 1, -2, -3, -4, 0, -1, 2, 3, 4, 0, -1, 2, 3, -4, 0, -1, 2, -3, 4, 0, -1, 2,
+    -3, -4, 0, -1, -2, 3, 4, 0, -1, -2, 3, -4, 0, -1, -2, -3, 4, 0, -1, -2, -3, -4, 0,
+];
+
 /// The clauses of the cube, and the four over two further variables, whose literals fail.
 static CUBE_AND_SQUARE: [i32; 44] = [
     1, 2, 3, 0, 1, 2, -3, 0, 1, -2, 3, 0, 1, -2, -3, 0, -1, 2, 3, 0, -1, 2, -3, 0, -1, -2, 3, 0,
@@ -111,6 +118,10 @@ static ONE_STEP_TOO_MANY: [i32; 45] = [
 // Each list is handed out as a slice, so that the proof of a test need not read it.
 fn cube() -> &'static [i32] {
     &CUBE
+}
+
+fn hypercube() -> &'static [i32] {
+    &HYPERCUBE
 }
 
 fn cube_and_square() -> &'static [i32] {
@@ -186,29 +197,40 @@ fn simplified(alloc: Global, numbers: &[i32], rows: &[&[i32]]) -> Result<usize, 
     Ok(shape(&made))
 }
 
-// The lines of the cube would do for the third list too, but failed literals refute it.
+// The lines of the cube would do for the second list too, but failed literals refute it; and what two together
+// refute needs no lines.
 #[test]
-fn what_failed_literals_leave_is_vivified(rt: HostRuntime) -> Result<(), Fail> {
+fn what_failed_literals_leave_is_refuted_under_two(rt: HostRuntime) -> Result<(), Fail> {
     let alloc = rt.alloc();
     let rows: [&[i32]; 3] = [&[1, 2, 4], &[1, 4], &[2, 4, -1]];
-    // A pigeon in one hole and another in the next, with a literal that plays no part. Once the first pair
-    // is excluded, the second takes the first pigeon alone from its hole, and the third line is true.
-    let pairs: [&[i32]; 7] = [
-        &[-1, -5, 12],
-        &[-1, -6, 12],
-        &[-1, 12],
-        &[-2, -4, 12],
-        &[-2, -6, 12],
-        &[-2, 12],
-        &[-4, 12],
-    ];
     let found = [
-        simplified(alloc, pigeons(), &pairs)?,
         simplified(alloc, cube(), &rows)?,
         simplified(alloc, cube_and_square(), &rows)?,
         simplified(alloc, cube(), &[])?,
+        simplified(alloc, pigeons(), &[])?,
     ];
-    assert!(rt; found == [1212110, 12110, 110, 0]);
+    assert!(rt; found == [12110, 110, 12110, 1211110]);
+    Ok(())
+}
+
+// Over four variables no two literals together are refuted. 12 plays no part.
+#[test]
+fn what_two_literals_leave_is_vivified(rt: HostRuntime) -> Result<(), Fail> {
+    let alloc = rt.alloc();
+    let rows: [&[i32]; 7] = [
+        &[1, 2, 3, 12],
+        &[1, 2, 12],
+        &[1, -2, 3, 12],
+        &[1, 12],
+        &[2, 3, 12],
+        &[2, 12],
+        &[3, 12],
+    ];
+    let found = [
+        simplified(alloc, hypercube(), &rows)?,
+        simplified(alloc, hypercube(), &[])?,
+    ];
+    assert!(rt; found == [132212110, 0]);
     Ok(())
 }
 

@@ -1,0 +1,210 @@
+//! Refutations by failed literals under one assumption, in several orders and with fewer lines.
+
+ghost use Rattle.std.specs.Prelude.{◌<◌, ◌≤◌, ◌^◌, Bool, All, OnOk, IfOk, IfSome, IsTrue};
+ghost use Rattle.cnf.specs.Sat.{Clause};
+ghost use Rattle.cnf.specs.Fresh.{AreOver, added_by};
+ghost use Rattle.simpler_proofs.specs.Made.{ArePaired, EachPasses, IsProof, is_pair};
+
+use crate::failed_literals::literals_in_turn;
+use crate::leaving_out::shorter;
+use crate::needed::are_needed;
+use crate::pairs::by_pairs;
+use crate::rebuilding::clause_of_line;
+use crate::vivification::vivify;
+use cnf::{Clauses, Derivation, Ids, Line, Step};
+use lists::{Items, NoMemory};
+use std::alloc::Global;
+
+/// How many entries propagation may make, and look at for what a conflict rests on.
+const BUDGET: u32 = 2_000_000;
+
+/// How many entries, clauses and variables the tries may take in which lines are left out.
+const LINES: u32 = 1_000_000;
+
+/// In how many orders literals are tried.
+const ORDERS: u32 = 8;
+
+/// Adds the clause of a line without its hints, unless it is left out.
+fn add_unless(
+    alloc: Global,
+    line: &Line,
+    is_left_out: bool,
+    lines: &mut Derivation,
+) -> Result<(), NoMemory>
+    ensures { OnOk result ((test : Clause → Bool) → IsTrue (test (added_by line.now.step)) →
+        EachPasses test lines.old → EachPasses test lines.new) }
+{
+    if is_left_out {
+        return Ok(());
+    }
+    let mut clause = Items::new(alloc);
+    clause.append(clause_of_line(line))?;
+    lines.push(Line {
+        at: 1,
+        step: Step::Add {
+            id: 1,
+            clause,
+            hints: Ids::new(alloc),
+        },
+    })?;
+    Ok(())
+}
+
+/// The lines but for the one at a place, without their hints.
+fn all_but(alloc: Global, lines: &Derivation, place: usize) -> Result<Derivation, NoMemory>
+    ensures { IfOk result (λ rest. (test : Clause → Bool) →
+        EachPasses test lines.now → EachPasses test rest) }
+{
+    let mut rest = Items::new(alloc);
+    for k in 0..lines.len() {
+        add_unless(alloc, lines.get(k), k == place, &mut rest)?;
+    }
+    Ok(rest)
+}
+
+/// A refutation by parts of clauses that have at most two literals.
+fn by_parts(
+    alloc: Global,
+    clauses: &Clauses,
+    variables: u32,
+    given: &Derivation,
+    budget: u32,
+) -> Result<Option<Derivation>, NoMemory>
+    requires few { variables < 2 ^ 31 }
+    requires range { All (λ clause. All (λ l. l.variable ≤ variables) clause) clauses.now.clauses }
+    requires over { AreOver variables given.now }
+    requires pairs { EachPasses is_pair given.now }
+    ensures proof { IfOk result (λ made. IfSome made (IsProof clauses.now.clauses)) }
+    ensures over { IfOk result (λ made. IfSome made (AreOver variables)) }
+    ensures pairs { IfOk result (λ made. IfSome made (EachPasses is_pair)) }
+{
+    let made = vivify(alloc, clauses, variables, given, budget)?;
+    Ok(made)
+}
+
+/// A refutation, or a shorter one by its clauses without that of one line. `budget` is how many entries
+/// propagation may make.
+fn without(
+    alloc: Global,
+    clauses: &Clauses,
+    variables: u32,
+    lines: Derivation,
+    place: usize,
+    budget: u32,
+) -> Result<Option<Derivation>, NoMemory>
+    requires few { variables < 2 ^ 31 }
+    requires range { All (λ clause. All (λ l. l.variable ≤ variables) clause) clauses.now.clauses }
+    requires proof { IsProof clauses.now.clauses lines }
+    requires over { AreOver variables lines }
+    requires pairs { EachPasses is_pair lines }
+    ensures proof { IfOk result (λ made. IfSome made (IsProof clauses.now.clauses)) }
+    ensures over { IfOk result (λ made. IfSome made (AreOver variables)) }
+    ensures pairs { IfOk result (λ made. IfSome made (EachPasses is_pair)) }
+{
+    if place.saturating_add(1) >= lines.len() {
+        return Ok(Some(lines));
+    }
+    let rest = all_but(alloc, &lines, place)?;
+    match by_parts(alloc, clauses, variables, &rest, budget)? {
+        None => Ok(Some(lines)),
+        Some(made) => Ok(shorter(Some(lines), made)),
+    }
+}
+
+/// What each of so many tries may take.
+fn share_of(count: usize) -> u32 {
+    if count == 0 || count > LINES as usize {
+        return 0;
+    }
+    LINES / count as u32
+}
+
+/// A refutation by the clauses of a given one, or by fewer of them: each line is left out in turn, from the last
+/// to the first, and stays so where that has fewer hints. Each try may take as many entries, clauses and
+/// variables as the others.
+fn with_fewer_lines(
+    alloc: Global,
+    clauses: &Clauses,
+    variables: u32,
+    given: Derivation,
+) -> Result<Option<Derivation>, NoMemory>
+    requires few { variables < 2 ^ 31 }
+    requires range { All (λ clause. All (λ l. l.variable ≤ variables) clause) clauses.now.clauses }
+    requires proof { IsProof clauses.now.clauses given }
+    requires over { AreOver variables given }
+    requires pairs { EachPasses is_pair given }
+    ensures proof { IfOk result (λ made. IfSome made (IsProof clauses.now.clauses)) }
+    ensures over { IfOk result (λ made. IfSome made (AreOver variables)) }
+    ensures pairs { IfOk result (λ made. IfSome made (EachPasses is_pair)) }
+{
+    let count = given.len();
+    let share = share_of(count)
+        .saturating_sub(clauses.len())
+        .saturating_sub(variables);
+    let mut best = Some(given);
+    if share == 0 {
+        return Ok(best);
+    }
+    for turn in 0..count {
+        let Some(lines) = best else {
+            return Ok(None);
+        };
+        let place = count.saturating_sub(turn).saturating_sub(1);
+        best = without(alloc, clauses, variables, lines, place, share)?;
+    }
+    Ok(best)
+}
+
+/// The refutation with the fewest hints of those in orders that begin at different variables, each with as few
+/// lines as it does with. Of the budget each order takes as many as there are clauses, beside its entries.
+fn shortest(
+    alloc: Global,
+    clauses: &Clauses,
+    variables: u32,
+) -> Result<Option<Derivation>, NoMemory>
+    requires few { variables < 2 ^ 31 }
+    requires range { All (λ clause. All (λ l. l.variable ≤ variables) clause) clauses.now.clauses }
+    ensures proof { IfOk result (λ made. IfSome made (IsProof clauses.now.clauses)) }
+    ensures over { IfOk result (λ made. IfSome made (AreOver variables)) }
+    ensures pairs { IfOk result (λ made. IfSome made (EachPasses is_pair)) }
+{
+    let mut budget = BUDGET;
+    let mut best = None;
+    for turn in 0..ORDERS {
+        let first = turn * (variables / ORDERS);
+        let tried = literals_in_turn(alloc, variables, first)?;
+        match by_pairs(alloc, clauses, variables, tried.as_slice(), &mut budget)? {
+            None => return Ok(best),
+            Some(made) => {
+                if let Some(fewer) = with_fewer_lines(alloc, clauses, variables, made)? {
+                    best = shorter(best, fewer);
+                }
+            }
+        }
+        budget = budget.saturating_sub(clauses.len());
+    }
+    Ok(best)
+}
+
+/// A refutation of the clauses in which each clause has at most two literals, by failed literals under one
+/// assumption, with few hints, none of which does with one literal fewer; none where there is none, or a budget
+/// is spent. No variable of a clause is above the number of variables.
+pub fn by_two(
+    alloc: Global,
+    clauses: &Clauses,
+    variables: u32,
+) -> Result<Option<Derivation>, NoMemory>
+    requires few { variables < 2 ^ 31 }
+    requires range { All (λ clause. All (λ l. l.variable ≤ variables) clause) clauses.now.clauses }
+    ensures proof { IfOk result (λ made. IfSome made (IsProof clauses.now.clauses)) }
+    ensures over { IfOk result (λ made. IfSome made (AreOver variables)) }
+    ensures paired { IfOk result (λ made. IfSome made (ArePaired clauses.now.clauses)) }
+{
+    let Some(made) = shortest(alloc, clauses, variables)? else {
+        return Ok(None);
+    };
+    if are_needed(clauses, &made) {
+        return Ok(Some(made));
+    }
+    Ok(None)
+}
