@@ -4,8 +4,7 @@ ghost use Rattle.std.specs.Prelude.{◌≡◌, ◌<◌, ◌-◌, ◌^◌, length
 ghost use Rattle.std.specs.List.{list_all};
 ghost use Rattle.cnf.specs.Derived.{IsAccepted, first_fault};
 ghost use Rattle.cnf.specs.Fresh.{AreOver};
-ghost use Rattle.meaning.specs.Laws.{clauses_for};
-ghost use Rattle.meaning.specs.StudyClauses.{study_clauses};
+ghost use Rattle.meaning.specs.StudyClauses.{study_clauses, clauses_for};
 ghost use Rattle.meaning.specs.Variables.{variable_count};
 ghost use Rattle.lrat_check.specs.Ranges.{has_next};
 ghost use Rattle.search_logs.specs.Spent.{all_places};

@@ -14,7 +14,7 @@ use Rattle.answers.specs.Grounding.{clauses_fault, OverClauses, clauses_refused,
 use Rattle.answers.specs.Evidence.{by_verdict}
 use Rattle.answers.specs.Export.{export_text, exported_formula}
 use Rattle.answers.specs.Proof.{Proves}
-use Rattle.answers.specs.Lrat.{GivesFormula, Said, said_of, of_derivation, IsConfirmedBy, proof_judged}
+use Rattle.answers.specs.Lrat.{GivesFormula, Said, said_of, of_derivation, IsLratAnswer, proof_judged}
 use Rattle.answers.specs.Adopt.{IsRefutedBy, IsRetold, Adopts, proof_refused, proof_retold, IsAdoption}
 use Rattle.answers.specs.Devices.{Devices}
 use Rattle.answers.specs.Call.{IsCall, are_told}
@@ -106,7 +106,7 @@ adopted_as_said files name proof run text bytes study row g none held =
     as_said files proof study run text bytes held (rest_of files name run text (λ s. Adopts files proof s run text) study g none row)
 
 -- `lrat` says this over what `export` writes
-confirmed_as_said : (study : Question) (files : Files) (cnf proof : List ℕ) (run : Run) (text bytes : List ℕ) → IsReadAgain study → IsConfirmedBy files cnf proof run text
+confirmed_as_said : (study : Question) (files : Files) (cnf proof : List ℕ) (run : Run) (text bytes : List ℕ) → IsReadAgain study → IsLratAnswer files cnf proof run text
     → files cnf ≡ Some (export_text study) → files proof ≡ Some bytes
     → (run.status ≡ (said_of (exported_formula study) bytes).status) × (text ≡ (said_of (exported_formula study) bytes).text)
 confirmed_as_said study files cnf proof run text bytes again row exported held =

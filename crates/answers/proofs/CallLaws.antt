@@ -8,7 +8,7 @@ use Rattle.edge.specs.Shelf.{Files}
 use Rattle.vocab.specs.declared.kinds.Kind.{Kind}
 use Rattle.vocab.specs.declared.kinds.Kind.TheVariants.{Sets}
 use Rattle.vocab.specs.Study.{Question}
-use Rattle.verdicts.specs.Report.{IsConfirmed}
+use Rattle.verdicts.specs.Report.{IsSomeReport}
 use Rattle.clause_text.specs.ReadDimacs.{Formula}
 use Rattle.samples.specs.Sample.{IsSampleStudy}
 use Rattle.words.specs.Words.{Request, Decide, Check, Export, Proof, Lrat, Axioms, Sample, Adopt, Gain, Sharpen, request_of}
@@ -25,7 +25,7 @@ use Rattle.answers.specs.Decide.{IsReported}
 use Rattle.answers.specs.Adopt.{Adopts, proof_refused, proof_retold}
 use Rattle.answers.specs.Export.{exported_formula, IsWritten}
 use Rattle.answers.specs.Proof.{Proves, refuted, possible, undecided}
-use Rattle.answers.specs.Lrat.{GivesFormula, IsConfirmedBy, formula_refused, proof_judged, said_of}
+use Rattle.answers.specs.Lrat.{GivesFormula, IsLratAnswer, formula_refused, proof_judged, said_of}
 use Rattle.answers.specs.Sample.{IsSampled}
 use Rattle.answers.specs.Gain.{Gains, other_kind, of_sets}
 use Rattle.answers.specs.Sharpen.{Sharpens, total_refused, decided, sharpened}
@@ -95,7 +95,7 @@ by_shown study run text (possible table found t) = inl found.ends
 by_shown study run text (undecided u t) = inr (inl u.ends)
 
 by_judged : (files : Files) (name proof : List ℕ) (run : Run) (text : List ℕ) (formula : Formula) (bytes : List ℕ) → GivesFormula files name formula
-    → files proof ≡ Some bytes → (said_of formula bytes).status ≡ 0 → IsConfirmedBy files name proof run text → run.status ≡ 0
+    → files proof ≡ Some bytes → (said_of formula bytes).status ≡ 0 → IsLratAnswer files name proof run text → run.status ≡ 0
 by_judged files name proof run text formula bytes g held zero_is (formula_refused r b) = absurd (cnf_given files name formula text g r)
 by_judged files name proof run text formula bytes g held zero_is (proof_judged f bytes' g' held' b t) =
     let formulas : f ≡ formula = one_formula files name f formula g' g in
@@ -198,7 +198,7 @@ module _ (words : List (List ℕ)) (d : Devices) (run : Run) (call : IsCall word
   ]
 
   gain_settled : (files : Files) (name report bytes : List ℕ) (study : Question) → d.told ≡ Some files → request_of words ≡ Some (Gain name report)
-      → GivesStudy files name study → study.size.kind ≡ Sets → files report ≡ Some bytes → IsConfirmed study bytes → length bytes ≤ most_report_bytes
+      → GivesStudy files name study → study.size.kind ≡ Sets → files report ≡ Some bytes → IsSomeReport study bytes → length bytes ≤ most_report_bytes
       → (run.status ≡ 0) ⊎ (run.status ≡ 7)
   gain_settled files name report bytes study told asked g sets held c fits = elim (settled_row (Some (Gain name report)) files asked told) [
     | inl a ↦ inl (

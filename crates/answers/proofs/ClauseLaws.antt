@@ -23,7 +23,7 @@ use Rattle.verdicts.specs.Claims.{IsRuleFor, HasNoRule}
 use Rattle.answers.specs.Grounding.{all_clauses}
 use Rattle.answers.specs.Export.{IsWritten}
 use Rattle.answers.specs.Proof.{Proves, refuted, possible, undecided}
-use Rattle.answers.specs.Lrat.{GivesFormula, IsConfirmedBy, formula_refused, proof_judged, said_of, of_reading, of_derivation}
+use Rattle.answers.specs.Lrat.{GivesFormula, IsLratAnswer, formula_refused, proof_judged, said_of, of_reading, of_derivation}
 use Rattle.answers.specs.RowLaws.{ExportedSaysStudy, IsProofRight, a_refutation, its_rule, ProvedHolds, ConfirmedIsUnsatisfiable}
 use Rattle.answers.proofs.RowLemmas.{granted, one_formula}
 
@@ -75,7 +75,7 @@ accepted_said formula bytes true long e = let one : (said_of formula bytes).stat
 accepted_said formula bytes false long e = accepted_reading formula (read_lrat formula.variables bytes) (rw long at e)
 
 module _ (files : Files) (name proof : List ℕ) (run : Run) (text : List ℕ) (formula : Formula) (g : GivesFormula files name formula) (zero_is : run.status ≡ 0) where
-  confirmed_row : IsConfirmedBy files name proof run text → IsUnsatisfiable formula.clauses
+  confirmed_row : IsLratAnswer files name proof run text → IsUnsatisfiable formula.clauses
   confirmed_row (formula_refused r bare) = let three : 0 ≡ 3 = sym zero_is ∙ bare.ends in absurd (omega (arith, three))
   confirmed_row (proof_judged f bytes h held bare is) =
       let same : f ≡ formula = one_formula files name f formula h g in

@@ -18,7 +18,7 @@ use Rattle.answers.specs.Studies.{GivesStudy}
 use Rattle.answers.specs.Grounding.{all_clauses, clauses_fault, OverClauses, clauses_refused, clauses_made}
 use Rattle.answers.specs.Export.{export_text, exported_formula, IsWritten, IsExported}
 use Rattle.answers.specs.Proof.{Refutes, Proves, refuted, possible, undecided, IsProved}
-use Rattle.answers.specs.Lrat.{GivesFormula, Said, refused, said_of, of_reading, of_derivation, IsConfirmedBy, proof_judged}
+use Rattle.answers.specs.Lrat.{GivesFormula, Said, refused, said_of, of_reading, of_derivation, IsLratAnswer, proof_judged}
 use Rattle.answers.specs.Lawful.{IsBenchAnswer}
 use Rattle.answers.specs.Devices.{Devices}
 use Rattle.answers.specs.Call.{IsCall, are_told}
@@ -84,7 +84,7 @@ module _ (study : Question) (files : Files) (cnf proof clauses refutation : List
   confirmed_said : said_of (exported_formula study) refutation ≡ of_derivation None
   confirmed_said = said_of_written study refutation lines again refutes proved holds.fits
 
-  row_there : (run : Run) (text : List ℕ) → IsBare run 0 → text ≡ codes "confirmed\n" → IsConfirmedBy files cnf proof run text
+  row_there : (run : Run) (text : List ℕ) → IsBare run 0 → text ≡ codes "confirmed\n" → IsLratAnswer files cnf proof run text
   row_there run text bare is =
       proof_judged (exported_formula study) refutation formula_given holds.held
       (subst (λ (s : Said). IsBare run s.status) (sym confirmed_said) bare) (is ∙ ap (λ (s : Said). s.text) (sym confirmed_said))
@@ -92,7 +92,7 @@ module _ (study : Question) (files : Files) (cnf proof clauses refutation : List
   abbrev confirming_run : Run
   confirming_run = record { status = 0; verdict = None; logs = []; sharp = None }
 
-  row_alone : (run : Run) (text : List ℕ) → IsConfirmedBy files cnf proof run text → IsBare run 0 × (text ≡ codes "confirmed\n")
+  row_alone : (run : Run) (text : List ℕ) → IsLratAnswer files cnf proof run text → IsBare run 0 × (text ≡ codes "confirmed\n")
   row_alone run text row =
       let there = row_there confirming_run (codes "confirmed\n") (record { ends = refl; no_verdict = refl; no_logs = refl; no_sharp = refl }) refl in
       let same = one_lrat files run confirming_run text (codes "confirmed\n") cnf proof row there in

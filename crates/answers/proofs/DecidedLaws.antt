@@ -11,7 +11,7 @@ use Rattle.meaning.specs.declared.cores.Witness.{Witness}
 use Rattle.meaning.specs.declared.cores.Witness.TheVariants.{Rule, Open}
 use Rattle.meaning.specs.declared.stories.Lemma.{Lemma}
 use Rattle.meaning.specs.Cores.{is_core_from, is_core_right, is_witness}
-use Rattle.meaning.specs.Laws.{clauses_for}
+use Rattle.meaning.specs.StudyClauses.{clauses_for}
 use Rattle.meaning.specs.Stories.{is_story}
 use Rattle.meaning.specs.Truth.{satisfies}
 use Rattle.meaning.specs.Variables.{variable_count}

@@ -28,7 +28,7 @@ use Rattle.answers.specs.Runs.{with_status}
 use Rattle.answers.specs.FileLimits.{most_report_bytes}
 use Rattle.answers.specs.Studies.{GivesStudy, RefusesStudy, OverStudy, study_refused, study_given}
 use Rattle.answers.specs.Grounding.{clauses_fault, OverClauses, clauses_refused, clauses_made}
-use Rattle.answers.specs.Lrat.{GivesFormula, IsConfirmedBy, formula_refused, proof_judged}
+use Rattle.answers.specs.Lrat.{GivesFormula, IsLratAnswer, formula_refused, proof_judged}
 use Rattle.answers.specs.Usage.{usage_line}
 use Rattle.answers.specs.Check.{IsJudged, judged, judged_status}
 use Rattle.answers.specs.Axioms.{library_text}
@@ -224,7 +224,7 @@ gained_untaken files report study run text other (other_kind ne t bare) = bare.e
 gained_untaken files report study run text other (of_sets is said) = absurd (other is)
 
 confirmed_untaken : (files : Files) (name proof first : List ℕ) (run : Run) (text : List ℕ) → name ≡ first → (((formula : Formula) × GivesFormula files first formula) → ⊥)
-    → IsConfirmedBy files name proof run text → run.status ≡ 3
+    → IsLratAnswer files name proof run text → run.status ≡ 3
 confirmed_untaken files name proof first run text same untaken (formula_refused r bare) = bare.ends
 confirmed_untaken files name proof first run text same untaken (proof_judged formula bytes g held bare is) =
     absurd (untaken (formula, subst (λ (n : List ℕ). GivesFormula files n formula) same g))

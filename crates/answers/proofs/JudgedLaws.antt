@@ -75,16 +75,16 @@ module _ (study : Question) (text : List ℕ) where
   report_judged : (verdict : Verdict) → judgement study text ≡ Confirmed verdict → judged study text ≡ AsReport (Confirmed verdict)
   report_judged verdict e = by (has_sharp_title text) refl
     where
-      by : (b : Bool) → has_sharp_title text ≡ b → cond b (AsSharp (sharp_answer_within study most_report_bytes text)) (AsReport (judgement study text)) ≡ AsReport (Confirmed verdict)
+      by : (b : Bool) → has_sharp_title text ≡ b → cond b (AsSharp (sharp_answer_within most_report_bytes study text)) (AsReport (judgement study text)) ≡ AsReport (Confirmed verdict)
       by true h = let no : Faulty 1 Form ≡ Confirmed verdict = sym (titled_is_faulty h) ∙ e in absurd (cc)
       by false h = ap AsReport e
 
   -- a sharp text that its judge confirms is judged as one
-  sharp_judged : (v : Pointed) → sharp_answer_within study most_report_bytes text ≡ SharpConfirmed v → judged study text ≡ AsSharp (SharpConfirmed v)
+  sharp_judged : (v : Pointed) → sharp_answer_within most_report_bytes study text ≡ SharpConfirmed v → judged study text ≡ AsSharp (SharpConfirmed v)
   sharp_judged v e =
       let is = (sharp_judge_sound study text v ((sharp_within_limit most_report_bytes study text v).0 e).1).is in
       let titled : has_sharp_title text ≡ true = ap has_sharp_title is ∙ text_titled study v in
-      ap (λ (b : Bool). cond b (AsSharp (sharp_answer_within study most_report_bytes text)) (AsReport (judgement study text))) titled ∙ ap AsSharp e
+      ap (λ (b : Bool). cond b (AsSharp (sharp_answer_within most_report_bytes study text)) (AsReport (judgement study text))) titled ∙ ap AsSharp e
 
   -- ---- texts of what is right
 
@@ -99,11 +99,11 @@ module _ (study : Question) (text : List ℕ) where
   -- ---- what is confirmed
 
   pub report_answered : (a : Judgement) → judged study text ≡ AsReport a → judgement study text ≡ a
-  report_answered a e = report_given (has_sharp_title text) (sharp_answer_within study most_report_bytes text) (judgement study text) a e
+  report_answered a e = report_given (has_sharp_title text) (sharp_answer_within most_report_bytes study text) (judgement study text) a e
 
   pub sharp_answered : (v : Pointed) → judged study text ≡ AsSharp (SharpConfirmed v) → IsSharpText study v text × (length text ≤ most_report_bytes)
   sharp_answered v e =
-      let is = sharp_given (has_sharp_title text) (sharp_answer_within study most_report_bytes text) (judgement study text) (SharpConfirmed v) e in
+      let is = sharp_given (has_sharp_title text) (sharp_answer_within most_report_bytes study text) (judgement study text) (SharpConfirmed v) e in
       let within = (sharp_within_limit most_report_bytes study text v).0 is in
       (sharp_judge_sound study text v within.1, within.0)
 

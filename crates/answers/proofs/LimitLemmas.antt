@@ -13,9 +13,8 @@ use Rattle.vocab.specs.Study.{Question}
 use Rattle.vocab.specs.Titled.{Titled}
 use Rattle.cnf.specs.Sat.{Clause}
 use Rattle.meaning.specs.declared.clauses.Origin.TheVariants.{Frame}
-use Rattle.meaning.specs.Laws.{clauses_for}
 use Rattle.meaning.specs.Space.{below}
-use Rattle.meaning.specs.StudyClauses.{Sourced, clauses_of, frame_of, from_frame}
+use Rattle.meaning.specs.StudyClauses.{Sourced, clauses_of, frame_of, from_frame, clauses_for}
 use Rattle.meaning.specs.Variables.{bits, variable_count}
 use Rattle.meaning.proofs.SpaceLaws.{length-up_from}
 use Rattle.clause_form.specs.declared.refusals.GroundFault.{GroundFault}

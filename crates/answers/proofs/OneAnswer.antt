@@ -13,7 +13,7 @@ use Rattle.answers.specs.Studies.{RefusesStudy, too_long, no_study, OverStudy, s
 use Rattle.answers.specs.Check.{IsJudged, judgement, judged, judgement_status, judged_status}
 use Rattle.answers.specs.Grounding.{clauses_fault, refusal_line, OverClauses, clauses_refused, clauses_made}
 use Rattle.answers.specs.Export.{IsExported}
-use Rattle.answers.specs.Lrat.{GivesFormula, RefusesFormula, too_long as long_cnf, no_formula, cnf_line, IsConfirmedBy, formula_refused, proof_judged, said_of}
+use Rattle.answers.specs.Lrat.{GivesFormula, RefusesFormula, too_long as long_cnf, no_formula, cnf_line, IsLratAnswer, formula_refused, proof_judged, said_of}
 use Rattle.answers.specs.Gain.{Gains, other_kind, of_sets, said_of_gain}
 use Rattle.answers.specs.Lawful.{IsBenchAnswer}
 use Rattle.answers.specs.Laws.{IsSettled, AreSame, AnswersAreOne}
@@ -86,7 +86,7 @@ module _ (files : Files) (run run' : Run) (text text' : List ℕ) where
   one_export name a a' =
       one_over files name run run' text text' _ _ (λ s. one_clauses s run run' text text' _ _ (λ p p'. (one_run run run' 0 0 p.0 p'.0 refl, p.1 ∙ sym p'.1))) a a'
 
-  pub one_lrat : (name proof : List ℕ) → IsConfirmedBy files name proof run text → IsConfirmedBy files name proof run' text' → AreSame run run' text text'
+  pub one_lrat : (name proof : List ℕ) → IsLratAnswer files name proof run text → IsLratAnswer files name proof run' text' → AreSame run run' text text'
   one_lrat name proof (formula_refused r b) (formula_refused r' b') = (one_run run run' 3 3 b b' refl, one_cnf files name text text' r r')
   one_lrat name proof (formula_refused r b) (proof_judged f bytes g held b' t') = absurd (cnf_given files name f text g r)
   one_lrat name proof (proof_judged f bytes g held b t) (formula_refused r b') = absurd (cnf_given files name f text' g r)

@@ -7,7 +7,7 @@ use Rattle.verdicts.specs.declared.verdicts.Verdict.{Verdict}
 use Rattle.verdicts.specs.declared.verdicts.Verdict.TheVariants.{Possible, Impossible, Undecided}
 use Rattle.verdicts.specs.Judge.{Confirmed}
 use Rattle.verdicts.specs.Laws.{IsReportable}
-use Rattle.verdicts.specs.Report.{IsConfirmed, IsReport}
+use Rattle.verdicts.specs.Report.{IsSomeReport, IsReport}
 use Rattle.verdicts.proofs.ClaimLaws.{claims_hold, within_limit}
 use Rattle.verdicts.proofs.JudgeLaws.{judge_sound}
 use Rattle.verdicts.proofs.ReportLaws.{printed_is_report}
@@ -65,7 +65,7 @@ module _ (study : Question) (bytes : List ℕ) where
   by_text whole few (inr c) fits = ap judged_status (sharp_checked study bytes c.0 whole few c.1 fits)
 
   -- a confirmed report within its limit has it for `gain` too
-  pub by_report : IsReportable study → HasFewAxioms study → IsConfirmed study bytes → length bytes ≤ most_report_bytes → judgement_status (judgement study bytes) ≡ 0
+  pub by_report : IsReportable study → HasFewAxioms study → IsSomeReport study bytes → length bytes ≤ most_report_bytes → judgement_status (judgement study bytes) ≡ 0
   by_report whole few c fits = ap judgement_status (right_judged study bytes c.0 whole few c.1 fits)
 
 checked_row : (files : Files) (name report : List ℕ) (run : Run) (text : List ℕ) (study : Question) (bytes : List ℕ) → GivesStudy files name study → files report ≡ Some bytes

@@ -4,7 +4,7 @@ use Rattle.vocab.specs.Study.{Question}
 use Rattle.meaning.specs.Tidy.{is_tidy}
 use Rattle.verdicts.specs.declared.verdicts.Verdict.{Verdict}
 use Rattle.verdicts.specs.declared.verdicts.Verdict.TheVariants.{Impossible, Undecided}
-use Rattle.verdicts.specs.Report.{claims, is_right}
+use Rattle.verdicts.specs.Report.{is_claim, is_right}
 use Rattle.search_logs.specs.declared.logs.SearchLog.{SearchLog}
 use Rattle.search_logs.specs.Spent.{IsOfAll, HaveEvidence, AreSpentLogs}
 use Rattle.answers.specs.declared.runs.Run.{Run}
@@ -21,7 +21,7 @@ module _ (study : Question) where
   pub record IsFound (run : Run) (verdict : Verdict) : Type 0 where
     pub ends : run.status ≡ 0
     pub told : run.verdict ≡ Some verdict
-    pub claims_some : IsTrue (claims study verdict)
+    pub claims_some : IsTrue (is_claim study verdict)
     pub right : IsTrue (is_right study verdict)
     pub backed : IsBacked run.logs verdict
     pub logs : AreSpentLogs study run.logs

@@ -4,7 +4,7 @@ use Rattle.std.specs.Fmt.{decimal}
 use Rattle.vocab.specs.Study.{Question}
 use Rattle.cnf.specs.Sat.{Clause}
 use Rattle.meaning.specs.declared.clauses.Counts.{Counts}
-use Rattle.meaning.specs.Laws.{clauses_for}
+use Rattle.meaning.specs.StudyClauses.{clauses_for}
 use Rattle.clause_form.specs.declared.refusals.GroundFault.{GroundFault}
 use Rattle.clause_form.specs.declared.refusals.GroundFault.TheVariants.{Wide, Full, NoMemory}
 use Rattle.clause_form.specs.Refusals.{ground_fault}

@@ -8,7 +8,7 @@ use Rattle.answers.specs.Decide.{IsDecided}
 use Rattle.answers.specs.Check.{IsChecked}
 use Rattle.answers.specs.Export.{IsExported}
 use Rattle.answers.specs.Proof.{IsProved}
-use Rattle.answers.specs.Lrat.{IsConfirmedBy}
+use Rattle.answers.specs.Lrat.{IsLratAnswer}
 use Rattle.answers.specs.Axioms.{IsListed}
 use Rattle.answers.specs.Sample.{IsSampled}
 use Rattle.answers.specs.Adopt.{IsAdoption}
@@ -22,7 +22,7 @@ IsBenchAnswer (Some (Decide study workers)) files run text = IsDecided files stu
 IsBenchAnswer (Some (Check study report workers)) files run text = IsChecked files study report run text
 IsBenchAnswer (Some (Export study workers)) files run text = IsExported files study run text
 IsBenchAnswer (Some (Proof study workers)) files run text = IsProved files study run text
-IsBenchAnswer (Some (Lrat cnf proof)) files run text = IsConfirmedBy files cnf proof run text
+IsBenchAnswer (Some (Lrat cnf proof)) files run text = IsLratAnswer files cnf proof run text
 IsBenchAnswer (Some (Axioms kind)) files run text = IsListed kind run text
 IsBenchAnswer (Some (Sample number)) files run text = IsSampled number run text
 IsBenchAnswer (Some (Adopt study proof workers)) files run text = IsAdoption files study proof run text

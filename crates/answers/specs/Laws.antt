@@ -10,7 +10,7 @@ use Rattle.edge.specs.Told.{AppendsPrefix}
 use Rattle.vocab.specs.Study.{Question}
 use Rattle.verdicts.specs.declared.verdicts.Verdict.{Verdict}
 use Rattle.verdicts.specs.Judge.{Confirmed}
-use Rattle.verdicts.specs.Report.{IsReport, IsConfirmed}
+use Rattle.verdicts.specs.Report.{IsReport, IsSomeReport}
 use Rattle.verdicts.specs.Words.{answer_text}
 use Rattle.words.specs.Words.{Request, Decide, Check, Export, Proof, Lrat, Axioms, Sample, Adopt, Gain, Sharpen, request_of}
 use Rattle.sharp_verdicts.specs.Judged.{judged_text}
@@ -45,7 +45,7 @@ confirmed_sharp_line = codes "confirmed sharp\n"
 
 -- the bytes are the report of a right verdict that claims something, or the text of a right sharp verdict
 abbrev pub IsRightText : Question → List ℕ → Type 0
-IsRightText study bytes = IsConfirmed study bytes ⊎ ((v : Pointed) × IsSharpText study v bytes)
+IsRightText study bytes = IsSomeReport study bytes ⊎ ((v : Pointed) × IsSharpText study v bytes)
 
 -- `check` confirms exactly the reports of right verdicts that claim something and the texts of right sharp verdicts,
 -- within the limit
@@ -208,7 +208,7 @@ pub record AreAnswered (words : List (List ℕ)) (d : Devices) (run : Run) : Typ
       → (said_of (exported_formula study) bytes).status ≡ 0 → (run.status ≡ 0) ⊎ (run.status ≡ 7)
   pub gain : (files : Files) (name report bytes : List ℕ) (study : Question)
       → d.told ≡ Some files → request_of words ≡ Some (Gain name report)
-      → GivesStudy files name study → study.size.kind ≡ Sets → files report ≡ Some bytes → IsConfirmed study bytes
+      → GivesStudy files name study → study.size.kind ≡ Sets → files report ≡ Some bytes → IsSomeReport study bytes
       → length bytes ≤ most_report_bytes → (run.status ≡ 0) ⊎ (run.status ≡ 7)
   pub sharpen : (files : Files) (name : List ℕ) (workers : ℕ) (study : Question) → d.told ≡ Some files → request_of words ≡ Some (Sharpen name workers)
       → GivesStudy files name study → clauses_fault study ≡ None → IsFalse (passes_clause_limits (total study)) → IsDecidedOrWanting run

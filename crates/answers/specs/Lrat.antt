@@ -92,9 +92,9 @@ said_of formula bytes =
 -- ---- the row
 
 -- the file of the clauses is refused; or the text is what is said of the bytes of the proof, confirmed or not
-pub data IsConfirmedBy (files : Files) (name proof : List ℕ) (run : Run) (text : List ℕ) : Type 0 where
-  formula_refused : RefusesFormula files name text → IsBare run 3 → IsConfirmedBy files name proof run text
+pub data IsLratAnswer (files : Files) (name proof : List ℕ) (run : Run) (text : List ℕ) : Type 0 where
+  formula_refused : RefusesFormula files name text → IsBare run 3 → IsLratAnswer files name proof run text
   proof_judged : (formula : Formula) (bytes : List ℕ) → GivesFormula files name formula
       → files proof ≡ Some bytes
       → IsBare run (said_of formula bytes).status → text ≡ (said_of formula bytes).text
-      → IsConfirmedBy files name proof run text
+      → IsLratAnswer files name proof run text

@@ -41,7 +41,7 @@ use Rattle.answers.specs.Check.{judged}
 use Rattle.answers.specs.Export.{export_text, IsExported}
 use Rattle.answers.specs.Decide.{IsDecided}
 use Rattle.answers.specs.Proof.{IsProved}
-use Rattle.answers.specs.Lrat.{GivesFormula, IsConfirmedBy}
+use Rattle.answers.specs.Lrat.{GivesFormula, IsLratAnswer}
 use Rattle.answers.specs.Sample.{summary_line, IsSampled}
 use Rattle.answers.specs.Adopt.{AreCited, IsAdoption}
 
@@ -159,13 +159,13 @@ ProvedHolds = (files : Files) (name : List ℕ) (run : Run) (text : List ℕ) (s
 abbrev pub ConfirmedIsUnsatisfiable : Type 0
 ConfirmedIsUnsatisfiable =
     (files : Files) (name proof : List ℕ) (run : Run) (text : List ℕ) (formula : Formula) →
-    IsConfirmedBy files name proof run text → GivesFormula files name formula → run.status ≡ 0 →
+    IsLratAnswer files name proof run text → GivesFormula files name formula → run.status ≡ 0 →
     IsUnsatisfiable formula.clauses
 
 -- over these files `lrat` confirms, and answers nothing else
 abbrev pub IsConfirming : Files → List ℕ → List ℕ → Type 0
 IsConfirming files cnf proof = (run : Run) (text : List ℕ) →
-    IsConfirmedBy files cnf proof run text ↔ (IsBare run 0 × (text ≡ codes "confirmed\n"))
+    IsLratAnswer files cnf proof run text ↔ (IsBare run 0 × (text ≡ codes "confirmed\n"))
 
 -- where `export` and `proof` end with status 0 over files that give one study, `lrat` confirms over files that
 -- hold what they write, whatever else these hold; but where `proof` writes that there is a rule, or a text that is
@@ -230,7 +230,7 @@ AdoptsAsLrat =
     (text text' bytes : List ℕ) →
     IsAdoption adopted name proof run text → GivesStudy adopted name study → clauses_fault study ≡ None →
     adopted proof ≡ Some bytes →
-    IsConfirmedBy confirmed cnf proof' run' text' → confirmed cnf ≡ Some (export_text study) →
+    IsLratAnswer confirmed cnf proof' run' text' → confirmed cnf ≡ Some (export_text study) →
     confirmed proof' ≡ Some bytes → EndsAs run run' text text'
 
 -- what `proof` writes of a study with status 0 is adopted over files that hold it and give that study; but

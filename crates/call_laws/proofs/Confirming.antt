@@ -13,7 +13,7 @@ use Rattle.clause_text.specs.ReadLrat.{read_lrat}
 use Rattle.answers.specs.declared.runs.Run.{Run}
 use Rattle.answers.specs.Devices.{Devices}
 use Rattle.answers.specs.FileLimits.{most_proof_bytes}
-use Rattle.answers.specs.Lrat.{IsConfirmedBy, formula_refused, proof_judged, of_derivation, of_reading, said_of}
+use Rattle.answers.specs.Lrat.{IsLratAnswer, formula_refused, proof_judged, of_derivation, of_reading, said_of}
 use Rattle.answers.proofs.ConfirmedLaws.{said_accepted}
 use Rattle.answers.proofs.RowLemmas.{not_three}
 use Rattle.call_laws.specs.Laws.{IsRefutationConfirmed}
@@ -39,7 +39,7 @@ zero_said formula bytes false short e =
     (ltb-false most_proof_bytes (length bytes) short, r.0, r.1, r.2)
 
 pub confirmed_row : (d : Devices) (files : Files) (name proof : List ℕ) (run : Run) (text : List ℕ) → run.status ≡ 0 → Appends d.taken_before d.taken_now text
-    → IsConfirmedBy files name proof run text → IsRefutationConfirmed d files name proof
+    → IsLratAnswer files name proof run text → IsRefutationConfirmed d files name proof
 confirmed_row d files name proof run text zero_is written (formula_refused r bare) = absurd (not_three run zero_is bare)
 confirmed_row d files name proof run text zero_is written (proof_judged formula bytes g held bare is) =
     let c = zero_said formula bytes (nat_lt most_proof_bytes (length bytes)) refl (sym bare.ends ∙ zero_is) in

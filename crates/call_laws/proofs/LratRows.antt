@@ -12,7 +12,7 @@ use Rattle.answers.specs.Call.{IsCall, are_told}
 use Rattle.answers.specs.Devices.{Devices}
 use Rattle.answers.specs.FileLimits.{most_proof_bytes, HasFile}
 use Rattle.answers.specs.Laws.{Says}
-use Rattle.answers.specs.Lrat.{GivesFormula, RefusesFormula, IsConfirmedBy, formula_refused, proof_judged, Said, said_of}
+use Rattle.answers.specs.Lrat.{GivesFormula, RefusesFormula, IsLratAnswer, formula_refused, proof_judged, Said, said_of}
 use Rattle.answers.proofs.ConfirmedLaws.{said_accepted}
 use Rattle.answers.proofs.DeviceLaws.{written_at}
 use Rattle.answers.proofs.OneAnswer.{cnf_given, one_cnf}
@@ -20,13 +20,13 @@ use Rattle.answers.proofs.RowLemmas.{one_formula, some_same}
 use Rattle.call_laws.specs.Rows.{RefutationsAreAnswered}
 use Rattle.call_laws.proofs.RefusedRows.{said}
 
-refused_row : (files : Files) (name proof : List ℕ) (run : Run) (text line : List ℕ) → RefusesFormula files name line → IsConfirmedBy files name proof run text
+refused_row : (files : Files) (name proof : List ℕ) (run : Run) (text line : List ℕ) → RefusesFormula files name line → IsLratAnswer files name proof run text
     → (run.status ≡ 3) × (text ≡ line)
 refused_row files name proof run text line refuses (formula_refused r bare) = (bare.ends, one_cnf files name text line r refuses)
 refused_row files name proof run text line refuses (proof_judged formula bytes g held bare is) = absurd (cnf_given files name formula line g refuses)
 
 judged_row : (files : Files) (name proof : List ℕ) (run : Run) (text : List ℕ) (formula : Formula) (bytes : List ℕ) → GivesFormula files name formula → files proof ≡ Some bytes
-    → IsConfirmedBy files name proof run text → (run.status ≡ (said_of formula bytes).status) × (text ≡ (said_of formula bytes).text)
+    → IsLratAnswer files name proof run text → (run.status ≡ (said_of formula bytes).status) × (text ≡ (said_of formula bytes).text)
 judged_row files name proof run text formula bytes g held (formula_refused r bare) = absurd (cnf_given files name formula text g r)
 judged_row files name proof run text formula bytes g held (proof_judged f bytes' g' held' bare is) =
     let same : said_of f bytes' ≡ said_of formula bytes = ap₂ said_of (one_formula files name f formula g' g) (some_same (files proof) bytes' bytes held' held) in
@@ -34,7 +34,7 @@ judged_row files name proof run text formula bytes g held (proof_judged f bytes'
 
 module _ (words : List (List ℕ)) (d : Devices) (run : Run) (files : Files) (name proof : List ℕ) (call : IsCall words d run) (told : d.told ≡ Some files)
     (asked : request_of words ≡ Some (Lrat name proof)) (low : run.status ≤ 4) where
-  row_there : (text : List ℕ) × IsConfirmedBy files name proof run text × Appends d.taken_before d.taken_now text
+  row_there : (text : List ℕ) × IsLratAnswer files name proof run text × Appends d.taken_before d.taken_now text
   row_there = written_at words d run call (Some (Lrat name proof)) asked files (are_told told) low
 
   refused_says : (text : List ℕ) → RefusesFormula files name text → Says d run 3 text

@@ -7,7 +7,7 @@ use Rattle.clause_text.specs.CnfReadings.{IsCnfRefused}
 use Rattle.clause_text.specs.ReadDimacs.{Formula, read_dimacs}
 use Rattle.words.specs.Words.{Lrat}
 use Rattle.answers.specs.FileLimits.{most_cnf_bytes}
-use Rattle.answers.specs.Lrat.{GivesFormula, RefusesFormula, no_formula, cnf_line, IsConfirmedBy, formula_refused, proof_judged}
+use Rattle.answers.specs.Lrat.{GivesFormula, RefusesFormula, no_formula, cnf_line, IsLratAnswer, formula_refused, proof_judged}
 use Rattle.answers.specs.Call.{AreFiles, are_told, none_read}
 use Rattle.command_parts.specs.declared.answer.Answer.{Answer}
 use Rattle.command_parts.specs.declared.answer.Stop.{Stop}
@@ -53,7 +53,7 @@ module _ (told : Option Files) (name proof : List ℕ) where
   -- the proof is judged over them
   pub said_rows : (formula : Formula) (result : Result Answer Stop) → IsCnf told name formula
       → IfOk result (λ answer. (files : Files) → told ≡ Some files → IsProofSaid files proof formula (run_of answer) (text_of answer))
-      → (files : Files) → AreFiles told (name ∷ proof ∷ []) files → IfOk result (λ answer. IsConfirmedBy files name proof (run_of answer) (text_of answer))
+      → (files : Files) → AreFiles told (name ∷ proof ∷ []) files → IfOk result (λ answer. IsLratAnswer files name proof (run_of answer) (text_of answer))
   said_rows formula (Ok answer) read said files (are_told e) =
       let s = said files e in proof_judged formula s.bytes (given formula files read e) s.held s.ends s.is
   said_rows formula (Ok answer) read said files (none_read e) = absurd (cc)
@@ -61,6 +61,6 @@ module _ (told : Option Files) (name proof : List ℕ) where
 
   -- the clauses are refused
   pub refused_row : (answer : Answer) → RefusesCnf told name answer → (files : Files) → AreFiles told (name ∷ proof ∷ []) files
-      → IsConfirmedBy files name proof (run_of answer) (text_of answer)
+      → IsLratAnswer files name proof (run_of answer) (text_of answer)
   refused_row answer refuses files (are_told e) = formula_refused (refuses.line files e) refuses.bare
   refused_row answer refuses files (none_read e) = absurd (cc)

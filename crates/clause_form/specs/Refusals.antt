@@ -7,10 +7,9 @@ use Rattle.vocab.specs.Titled.{Titled}
 use Rattle.vocab.specs.Tree.{Tree}
 use Rattle.cnf.specs.Sat.{Clause}
 use Rattle.meaning.specs.declared.clauses.Counts.{Counts}
-use Rattle.meaning.specs.Laws.{clauses_for}
 use Rattle.meaning.specs.Measure.{measure_of}
 use Rattle.meaning.specs.Space.{below}
-use Rattle.meaning.specs.StudyClauses.{instance_of}
+use Rattle.meaning.specs.StudyClauses.{instance_of, clauses_for}
 use Rattle.clause_form.specs.Wide.{is_wide}
 use Rattle.clause_form.specs.declared.refusals.GroundFault.{GroundFault}
 use Rattle.clause_form.specs.declared.refusals.GroundFault.TheVariants.{Wide, Full, NoMemory}

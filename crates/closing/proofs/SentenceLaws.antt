@@ -7,7 +7,8 @@ use Rattle.std.specs.Prelude.{nat_le, nat_lt, slice_get, slice_index}
 use Rattle.vocab.specs.declared.kinds.Sort.{Sort}
 use Rattle.vocab.specs.declared.kinds.Sort.TheVariants.{Voter, Alt, Ballot, Profile}
 use Rattle.vocab.specs.Formula.{prefix_of, body_of, quantifier_depth}
-use Rattle.vocab.specs.Limits.{term_depth, atom_depth, depth, bases_of, product, instance_count, atom_count, is_within_limits}
+use Rattle.vocab.specs.Range.{product}
+use Rattle.vocab.specs.Limits.{term_depth, atom_depth, depth, bases_of, instance_count, atom_count, is_within_limits}
 use Rattle.vocab.specs.Size.{Extent, has_all_ballots, sort_count}
 use Rattle.vocab.specs.Sorted.{same_sort, all_sorts, is_option_sort, has_winners, is_of_sort, is_atom_sorted, is_sorted, are_of_sorts}
 use Rattle.vocab.specs.Study.{is_sentence}

@@ -5,7 +5,7 @@ use Rattle.std.specs.List.{list_all, AllByRecursion}
 use Rattle.std.proofs.lemmas.Bool.{and_parts, or_cases, or_from, not-true, both_ways, false_from_ne_true}
 use Rattle.vocab.specs.Study.{Question}
 use Rattle.cnf.proofs.SpentLaws.{spent_is_short}
-use Rattle.meaning.specs.Laws.{clauses_for}
+use Rattle.meaning.specs.StudyClauses.{clauses_for}
 use Rattle.meaning.specs.Variables.{variable_count}
 use Rattle.search_logs.specs.Spent.{has_place}
 use Rattle.axiom_sets.specs.Sets.{is_set, is_within, has_part, has_whole}

@@ -7,9 +7,8 @@ use Rattle.vocab.specs.Study.{Question, is_sentence}
 use Rattle.cnf.specs.Sat.{is_clause_true, is_satisfied}
 use Rattle.meaning.specs.declared.clauses.Origin.{Origin}
 use Rattle.meaning.specs.declared.clauses.Origin.TheVariants.{Frame, Instance}
-use Rattle.meaning.specs.Laws.{clauses_for}
 use Rattle.meaning.specs.Space.{below}
-use Rattle.meaning.specs.StudyClauses.{Sourced, study_clauses}
+use Rattle.meaning.specs.StudyClauses.{Sourced, study_clauses, clauses_for}
 use Rattle.meaning.proofs.RuleLaws.{are_satisfiable}
 use Rattle.meaning.proofs.CoreLaws.{core_in_range}
 use Rattle.clause_form.specs.Cited.{is_of_axiom}

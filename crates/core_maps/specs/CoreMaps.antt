@@ -4,7 +4,7 @@ use Rattle.std.specs.List.{AllByRecursion}
 use Rattle.vocab.specs.Study.{Question}
 use Rattle.cnf.specs.Fresh.{IsSpent}
 use Rattle.cnf.specs.declared.derivations.Line.{Line}
-use Rattle.meaning.specs.Laws.{clauses_for}
+use Rattle.meaning.specs.StudyClauses.{clauses_for}
 use Rattle.meaning.specs.Truth.{satisfies}
 use Rattle.meaning.specs.Variables.{variable_count}
 use Rattle.axiom_sets.specs.declared.maps.AxiomMap.{AxiomMap}

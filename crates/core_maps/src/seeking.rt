@@ -3,8 +3,7 @@
 ghost use Rattle.std.specs.Prelude.{◌≡◌, ◌<◌, ◌-◌, ◌^◌, length, IfOk, IsTrue};
 ghost use Rattle.cnf.specs.Derived.{IsAccepted};
 ghost use Rattle.cnf.specs.Fresh.{AreOver};
-ghost use Rattle.meaning.specs.Laws.{clauses_for};
-ghost use Rattle.meaning.specs.StudyClauses.{study_clauses};
+ghost use Rattle.meaning.specs.StudyClauses.{study_clauses, clauses_for};
 ghost use Rattle.meaning.specs.Variables.{variable_count};
 ghost use Rattle.search_logs.specs.Spent.{all_places};
 ghost use Rattle.axiom_sets.specs.Sets.{is_set};

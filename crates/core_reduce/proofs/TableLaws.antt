@@ -13,9 +13,9 @@ use Rattle.vocab.specs.Titled.{Titled}
 use Rattle.cnf.specs.Sat.{Clause, is_clause_true, is_satisfied}
 use Rattle.cnf.specs.Signed.{Signed}
 use Rattle.meaning.specs.declared.clauses.Origin.TheVariants.{Frame}
-use Rattle.meaning.specs.Laws.{clauses_for, AreBitsOf}
+use Rattle.meaning.specs.Laws.{AreBitsOf}
 use Rattle.meaning.specs.Space.{below}
-use Rattle.meaning.specs.StudyClauses.{Sourced, clauses_of, frame_of, from_axiom, from_frame, study_clauses}
+use Rattle.meaning.specs.StudyClauses.{Sourced, clauses_of, frame_of, from_axiom, from_frame, study_clauses, clauses_for}
 use Rattle.meaning.specs.Truth.{holds_of, is_axiom_true, is_rule, satisfies}
 use Rattle.meaning.specs.Variables.{bits, literal_of, variable_count}
 use Rattle.meaning.proofs.RuleLaws.{are_rules}

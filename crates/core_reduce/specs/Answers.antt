@@ -7,8 +7,7 @@ use Rattle.cnf.specs.Fresh.{AreOver}
 use Rattle.cnf.specs.Derived.{IsAccepted}
 use Rattle.cnf.specs.Trimmed.{is_trimmed}
 use Rattle.meaning.specs.Cores.{is_core_right}
-use Rattle.meaning.specs.Laws.{clauses_for}
-use Rattle.meaning.specs.StudyClauses.{study_clauses}
+use Rattle.meaning.specs.StudyClauses.{study_clauses, clauses_for}
 use Rattle.meaning.specs.Truth.{satisfies}
 use Rattle.meaning.specs.Variables.{variable_count}
 use Rattle.core_reduce.specs.declared.answers.Decision.{Decision}

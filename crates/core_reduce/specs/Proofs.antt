@@ -3,7 +3,7 @@ use Rattle.std.specs.Prelude.{List, Any, IsTrue}
 use Rattle.vocab.specs.Study.{Question}
 use Rattle.cnf.specs.Fresh.{AreOver}
 use Rattle.cnf.specs.Trimmed.{is_trimmed}
-use Rattle.meaning.specs.Laws.{clauses_for}
+use Rattle.meaning.specs.StudyClauses.{clauses_for}
 use Rattle.meaning.specs.Truth.{satisfies}
 use Rattle.meaning.specs.Variables.{variable_count}
 use Rattle.search_logs.specs.declared.logs.SearchLog.{SearchLog}

@@ -4,8 +4,7 @@ ghost use Rattle.std.specs.Prelude.{◌≡◌, ◌<◌, ◌-◌, ◌^◌, length
 ghost use Rattle.cnf.specs.Derived.{IsAccepted};
 ghost use Rattle.cnf.specs.Fresh.{AreOver};
 ghost use Rattle.meaning.specs.Cores.{is_core_from};
-ghost use Rattle.meaning.specs.Laws.{clauses_for};
-ghost use Rattle.meaning.specs.StudyClauses.{study_clauses};
+ghost use Rattle.meaning.specs.StudyClauses.{study_clauses, clauses_for};
 ghost use Rattle.meaning.specs.Variables.{variable_count};
 ghost use Rattle.search_logs.specs.Spent.{all_places};
 ghost use Rattle.core_reduce.specs.Answers.{IsDecision, IsReduced};

@@ -23,7 +23,7 @@ use Rattle.answers.specs.Studies.{GivesStudy, RefusesStudy, OverStudy, study_ref
 use Rattle.answers.proofs.RowLemmas.{some_same}
 use Rattle.answers.proofs.DeviceLaws.{none_of_none}
 use Rattle.explain_words.specs.Words.{ExplainRequest, Story, Instance, Rules, Cores, Look, request_of}
-use Rattle.explain_answers.specs.Story.{IsStory, bare_run}
+use Rattle.explain_answers.specs.Story.{IsStoryAnswer, bare_run}
 use Rattle.explain_answers.specs.Instance.{instance_status}
 use Rattle.explain_answers.specs.Rules.{rules_status}
 use Rattle.explain_answers.specs.Cores.{ending_status}
@@ -87,7 +87,7 @@ three_refused (Some (Look study workers)) files first line text others status na
     look_refused files study first line text status (first_same study first _ others named) refuses row
 
 by_judged : (files : Files) (name report bytes text : List ℕ) (status : ℕ) (study : Question) → GivesStudy files name study → files report ≡ Some bytes
-    → IsStory files name report status text → status ≡ judged_status (judged study bytes)
+    → IsStoryAnswer files name report status text → status ≡ judged_status (judged study bytes)
 by_judged files name report bytes text status study g held row =
     let is = told_of files name study g report text status row in
     is.ends ∙ ap (λ (b : List ℕ). judged_status (judged study b)) (some_same (files report) is.bytes bytes is.held held)

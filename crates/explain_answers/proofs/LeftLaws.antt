@@ -11,7 +11,7 @@ use Rattle.answers.specs.Devices.{Devices}
 use Rattle.answers.specs.Studies.{GivesStudy, study_refused, study_given}
 use Rattle.answers.proofs.DeviceLaws.{other_name}
 use Rattle.explain_words.specs.Words.{ExplainRequest, Story, request_of}
-use Rattle.explain_answers.specs.Story.{IsStory}
+use Rattle.explain_answers.specs.Story.{IsStoryAnswer}
 use Rattle.explain_answers.specs.Lawful.{IsExplanation}
 use Rattle.explain_answers.specs.Call.{HasCauseAtFile, IsExplainCall, at_study, at_report, explain_files}
 use Rattle.explain_answers.specs.Completeness.{RefusedExplainLeavesUnopened}
@@ -36,7 +36,7 @@ module _ (words : List (List ℕ)) (d : Devices) where
     named : explain_files (request_of words) ≡ name ∷ report ∷ []
     named = subst (λ (r : Option ExplainRequest). explain_files r ≡ name ∷ report ∷ []) (sym asked) refl
 
-    ends_with_three : (status : ℕ) (text : List ℕ) → IsStory files name report status text → status ≡ 3
+    ends_with_three : (status : ℕ) (text : List ℕ) → IsStoryAnswer files name report status text → status ≡ 3
     ends_with_three status text (study_refused r bare) = bare.ends
     ends_with_three status text (study_given study g rest) = absurd (none (study, g))
 

@@ -23,7 +23,7 @@ use Rattle.answers.proofs.ReportLaws.{reportable, listed}
 use Rattle.answers.proofs.RowLemmas.{some_same}
 use Rattle.explain_words.specs.Words.{ExplainRequest, request_of}
 use Rattle.explain_answers.specs.Page.{IsPageText, IsSharpPageText}
-use Rattle.explain_answers.specs.Story.{IsSaid, IsStory, IsToldOf, bare_run}
+use Rattle.explain_answers.specs.Story.{IsSaid, IsStoryAnswer, IsToldOf, bare_run}
 use Rattle.explain_answers.specs.Lawful.{IsExplanation}
 use Rattle.explain_answers.specs.Call.{explain_files}
 use Rattle.explain_answers.specs.Laws.{IsPageOf, IsPageExact, PagesAreExact, PagesAreWritten}
@@ -47,7 +47,7 @@ module _ (files : Files) (name : List ℕ) (study : Question) (g : GivesStudy fi
   one_study s h =
       let same = studies_once g.bytes (Ok s) (Ok study) (subst (λ (b : List ℕ). IsStudyOf b (Ok s)) (same_bytes h.bytes h.holds.held) h.read) g.read in cc
 
-  pub told_of : (report text : List ℕ) (status : ℕ) → IsStory files name report status text → IsToldOf files name report study status text
+  pub told_of : (report text : List ℕ) (status : ℕ) → IsStoryAnswer files name report status text → IsToldOf files name report study status text
   told_of report text status (study_refused r bare) = absurd (not_refused text r)
   told_of report text status (study_given s h told) = subst (λ (q : Question). IsToldOf files name report q status text) (one_study s h) told
 
@@ -112,7 +112,7 @@ module _ (files : Files) (name report bytes : List ℕ) (study : Question) (g : 
 
 pub pages_exact : PagesAreExact
 pages_exact words files status workers text name report bytes study lawful asked g held =
-    let row : IsStory files name report status text = subst (λ (r : Option ExplainRequest). IsExplanation r files status text) asked lawful in
+    let row : IsStoryAnswer files name report status text = subst (λ (r : Option ExplainRequest). IsExplanation r files status text) asked lawful in
     exact files name report bytes study g held status text (told_of files name study g report text status row)
 
 pub pages_written : PagesAreWritten

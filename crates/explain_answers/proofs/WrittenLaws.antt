@@ -27,7 +27,7 @@ use Rattle.answers.proofs.ReportLaws.{by_status, confirmed_claims, confirmed_rep
 use Rattle.answers.proofs.RowLemmas.{clauses_row, over_study}
 use Rattle.explain_words.specs.Words.{ExplainRequest, Story, Instance, Rules, Cores, Look, request_of}
 use Rattle.explain_answers.specs.Instance.{IsInstanceSaid}
-use Rattle.explain_answers.specs.Story.{IsSaid, IsStory, IsToldOf, bare_run}
+use Rattle.explain_answers.specs.Story.{IsSaid, IsStoryAnswer, IsToldOf, bare_run}
 use Rattle.explain_answers.specs.Rules.{IsRuleListWritten, rules_status}
 use Rattle.explain_answers.specs.Cores.{IsMapped, ending_status}
 use Rattle.explain_answers.specs.Lawful.{IsExplanation}
@@ -68,7 +68,7 @@ module _ (d : Devices) (study : Question) (name report bytes text : List ℕ) (s
   ]
 
 page_of : (d : Devices) (files : Files) (name report text : List ℕ) (status : ℕ) → status ≡ 0 → Appends d.taken_before d.taken_now text
-    → IsStory files name report status text → IsPageOfFiles d files name report
+    → IsStoryAnswer files name report status text → IsPageOfFiles d files name report
 page_of d files name report text status zero written (study_refused r bare) = let no : 0 ≡ 3 = sym zero ∙ bare.ends in absurd (omega (arith, no))
 page_of d files name report text status zero written (study_given study g told) =
     let confirms : judged_status (judged study told.bytes) ≡ 0 = sym told.ends ∙ zero in

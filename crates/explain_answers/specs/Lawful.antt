@@ -6,7 +6,7 @@ use Rattle.explain_answers.specs.Cores.{AreCores}
 use Rattle.explain_answers.specs.Instance.{IsInstance}
 use Rattle.explain_answers.specs.Look.{IsLook}
 use Rattle.explain_answers.specs.Rules.{AreRules}
-use Rattle.explain_answers.specs.Story.{IsStory}
+use Rattle.explain_answers.specs.Story.{IsStoryAnswer}
 
 -- what is said to words that are no command
 abbrev pub explain_usage : List ℕ
@@ -15,7 +15,7 @@ explain_usage = codes "usage: explain story STUDY REPORT [--workers K] | instanc
 -- a row for each request; where a file that is needed is not held, no answer is lawful; the number of workers changes none
 abbrev pub IsExplanation : Option ExplainRequest → Files → ℕ → List ℕ → Type 0
 IsExplanation None files status text = (status ≡ 2) × (text ≡ explain_usage)
-IsExplanation (Some (Story study report workers)) files status text = IsStory files study report status text
+IsExplanation (Some (Story study report workers)) files status text = IsStoryAnswer files study report status text
 IsExplanation (Some (Instance study axiom_name number)) files status text = IsInstance files study axiom_name number status text
 IsExplanation (Some (Rules study most workers)) files status text = AreRules files study most status text
 IsExplanation (Some (Cores study workers)) files status text = AreCores files study status text

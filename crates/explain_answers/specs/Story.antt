@@ -31,5 +31,5 @@ abbrev pub bare_run : ℕ → Run
 bare_run status = record { status = status; verdict = None; logs = []; sharp = None }
 
 -- the file of the study is refused as `check` refuses it, or it gives a study over which the report is judged
-abbrev pub IsStory : Files → (name report : List ℕ) → (status : ℕ) → (text : List ℕ) → Type 0
-IsStory files name report status text = OverStudy files name (bare_run status) text (λ study. IsToldOf files name report study status text)
+abbrev pub IsStoryAnswer : Files → (name report : List ℕ) → (status : ℕ) → (text : List ℕ) → Type 0
+IsStoryAnswer files name report status text = OverStudy files name (bare_run status) text (λ study. IsToldOf files name report study status text)

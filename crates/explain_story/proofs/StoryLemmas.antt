@@ -24,7 +24,7 @@ use Rattle.verdict_reading.specs.declared.reading.Reading.TheVariants as reading
 use Rattle.verdict_reading.specs.Readings.{reading_of, IsReadOf}
 use Rattle.command_parts.proofs.PairLemmas.{both_touched, rose_since}
 use Rattle.explain_words.specs.Words.{ExplainRequest, Story}
-use Rattle.explain_answers.specs.Story.{IsSaid, IsStory, IsToldOf}
+use Rattle.explain_answers.specs.Story.{IsSaid, IsStoryAnswer, IsToldOf}
 use Rattle.explain_answers.specs.Call.{at_study, at_report}
 use Rattle.explain_answers.proofs.StatusLemmas.{found_among}
 use Rattle.explain_parts.specs.declared.reply.Reply.{Reply}
@@ -126,14 +126,14 @@ module _ (name report : List ℕ) (workers : ℕ) (told : Option Files) where
   -- the report is judged over it
   pub story_rows : (study : Question) (result : Result Reply Stop) → IsStudyRead told name study
       → IfOk result (λ reply. (files : Files) → told ≡ Some files → IsToldOf files name report study (status_of reply) (reply_text reply))
-      → (files : Files) → AreFiles told (name ∷ report ∷ []) files → IfOk result (λ reply. IsStory files name report (status_of reply) (reply_text reply))
+      → (files : Files) → AreFiles told (name ∷ report ∷ []) files → IfOk result (λ reply. IsStoryAnswer files name report (status_of reply) (reply_text reply))
   story_rows study (Ok r) read judged files (are_told e) = study_given study (given told name study files read e) (judged files e)
   story_rows study (Ok r) read judged files (none_read e) = absurd (cc)
   story_rows study (Err s) read judged files h = tt
 
   -- the study is refused
   refused_row : (answer : Answer) → Refuses told name answer → (files : Files) → AreFiles told (name ∷ report ∷ []) files
-      → IsStory files name report (status_of (reply.Refused answer)) (reply_text (reply.Refused answer))
+      → IsStoryAnswer files name report (status_of (reply.Refused answer)) (reply_text (reply.Refused answer))
   refused_row answer refuses files (are_told e) = study_refused (refuses.line files e) (record { ends = refuses.bare.ends; no_verdict = refl; no_logs = refl; no_sharp = refl })
   refused_row answer refuses files (none_read e) = absurd (cc)
 
@@ -148,7 +148,7 @@ module _ (name report : List ℕ) (workers : ℕ) (told : Option Files) where
 
       -- the study is given, and the report was read
       pub report_read : (result : Result Reply Stop) → IfSome told (λ files. (study : Question) × GivesStudy files name study) → NoneFell faults_before faults_middle
-          → ((files : Files) → AreFiles told (name ∷ report ∷ []) files → IfOk result (λ reply. IsStory files name report (status_of reply) (reply_text reply)))
+          → ((files : Files) → AreFiles told (name ∷ report ∷ []) files → IfOk result (λ reply. IsStoryAnswer files name report (status_of reply) (reply_text reply)))
           → IfOk result (λ reply. status_of reply ≤ 1) → IfOk result HasReplyText
           → (IsErrOf result stop.ReadFault → Rose (faults_middle report) (faults_now report)) → OthersStay left_middle left_now report → Promised result
       report_read (Ok r) taken fell row low has_text rose more = record {

@@ -5,11 +5,11 @@ use Rattle.std.proofs.lemmas.List.Folds.{list_any-append}
 use Rattle.std.specs.Bool.{beq}
 use Rattle.std.specs.List.{list_any}
 use Rattle.std.specs.Cmp.Lexicographic.{pointwise}
-use Rattle.cnf.specs.Signed.{Signed}
+use Rattle.cnf.specs.Signed.{Signed, literal_code}
 use Rattle.cnf.specs.Sat.{Clause, same_lit}
 use Rattle.meaning.specs.StudyClauses.{Sourced, firsts}
 use Rattle.meaning.proofs.TestLaws.{or-false}
-use Rattle.grounding.specs.Distinct.{literal_code, is_seen, kept_with, same_clause}
+use Rattle.grounding.specs.Distinct.{is_seen, kept_with, same_clause}
 
 or_swap : (a b : Bool) → (a || b) ≡ (b || a)
 or_swap true true = refl

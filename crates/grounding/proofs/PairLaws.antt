@@ -4,10 +4,10 @@ use Rattle.std.specs.Prelude.{All}
 use Rattle.std.proofs.lemmas.List.Elements.{All-head}
 use Rattle.std.specs.List.{list_any}
 use Rattle.std.proofs.lemmas.Bool.{cases_lt, or_cases, or_left, or_right}
-use Rattle.cnf.specs.Signed.{Signed}
+use Rattle.cnf.specs.Signed.{Signed, literal_code}
 use Rattle.cnf.specs.Sat.{Clause, has_lit, is_tautology, opposite_lit, same_lit}
 use Rattle.cnf.proofs.LitLaws.{same_lit-equal, same_lit-refl}
-use Rattle.grounding.specs.Distinct.{literal_code, codes_of}
+use Rattle.grounding.specs.Distinct.{codes_of}
 use Rattle.grounding.specs.Rising.{RisesFrom, includes, pair_after}
 use Rattle.grounding.proofs.RisingLaws.{above_not}
 use Rattle.grounding.proofs.SortLaws.{has_codes}

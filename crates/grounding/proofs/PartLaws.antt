@@ -7,13 +7,13 @@ use Rattle.std.proofs.lemmas.List.Elements.{filter-append}
 use Rattle.std.proofs.lemmas.List.Folds.{list_any-append}
 use Rattle.std.proofs.lemmas.List.Sums.{fold-append}
 use Rattle.std.proofs.lemmas.Option.{slice_get-get_or, same_Some}
-use Rattle.cnf.specs.Signed.{Signed}
+use Rattle.cnf.specs.Signed.{Signed, literal_code}
 use Rattle.cnf.specs.Sat.{Clause, is_tautology, same_lit}
 use Rattle.cnf.proofs.LitLaws.{same_lit-equal}
 use Rattle.meaning.specs.StudyClauses.{Sourced, sorted}
 use Rattle.clause_form.specs.Sources.{clauses_in, origin_of_number, origins_in, sourced}
 use Rattle.clause_form.proofs.SourceLaws.{clauses-sourced}
-use Rattle.grounding.specs.Distinct.{literal_code, is_seen, kept_with, plain_rows, same_clause}
+use Rattle.grounding.specs.Distinct.{is_seen, kept_with, plain_rows, same_clause}
 use Rattle.grounding.specs.Parts.{IsThere, KeepSame, from_rows, with_origin}
 use Rattle.grounding.proofs.FirstsLaws.{same_codes}
 

@@ -6,10 +6,10 @@ use Rattle.std.proofs.lemmas.List.{map-append}
 use Rattle.std.proofs.lemmas.List.Folds.{list_any-append}
 use Rattle.std.specs.List.{list_any}
 use Rattle.std.specs.Cmp.Lexicographic.{pointwise}
-use Rattle.cnf.specs.Signed.{Signed}
+use Rattle.cnf.specs.Signed.{Signed, literal_code}
 use Rattle.cnf.specs.Sat.{Clause, same_lit}
 use Rattle.meaning.proofs.TestLaws.{and-true, list_any-map, or-false}
-use Rattle.grounding.specs.Distinct.{Codes, HasSeen, literal_code, codes_of, has_codes, has_pair_code, is_seen, same_clause, seen_with}
+use Rattle.grounding.specs.Distinct.{Codes, HasSeen, codes_of, has_codes, has_pair_code, is_seen, same_clause, seen_with}
 use Rattle.grounding.proofs.FirstsLaws.{pointwise_codes, same_codes}
 
 -- ---- clauses of different lengths

@@ -4,11 +4,11 @@ use Rattle.std.specs.Bool.{beq}
 use Rattle.std.specs.List.{list_any}
 use Rattle.std.specs.Prelude.{All}
 use Rattle.std.proofs.lemmas.List.Elements.{All-head, All-tail}
-use Rattle.cnf.specs.Signed.{Signed}
+use Rattle.cnf.specs.Signed.{Signed, literal_code}
 use Rattle.cnf.specs.Sat.{Clause, has_lit, is_tautology, opposite_lit, same_lit}
 use Rattle.meaning.specs.StudyClauses.{sorted, sorted_in}
 use Rattle.meaning.proofs.TestLaws.{or_swap}
-use Rattle.grounding.specs.Distinct.{literal_code, codes_of}
+use Rattle.grounding.specs.Distinct.{codes_of}
 use Rattle.grounding.specs.Rising.{ArePositive, RisesFrom, includes, literal_of_code}
 use Rattle.grounding.proofs.FirstsLaws.{same_codes}
 use Rattle.grounding.proofs.RisingLaws.{rising_same}

@@ -1,10 +1,10 @@
 -- The clauses of some instances, of which some that repeat an earlier one are left out.
 use Rattle.std.specs.Prelude.{◌≡◌, ℕ, ◌<◌, IsTrue, List, [], ◌∷◌, map, fold}
-use Rattle.cnf.specs.Signed.{Signed}
+use Rattle.cnf.specs.Signed.{Signed, literal_code}
 use Rattle.cnf.specs.Sat.{Clause}
 use Rattle.meaning.specs.StudyClauses.{Sourced}
 use Rattle.clause_form.specs.Sources.{origin_of_number}
-use Rattle.grounding.specs.Distinct.{literal_code, is_seen, kept_with, plain_rows}
+use Rattle.grounding.specs.Distinct.{is_seen, kept_with, plain_rows}
 
 -- a clause with the origin that a number says
 abbrev pub with_origin : Clause → ℕ → Sourced

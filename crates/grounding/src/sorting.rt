@@ -5,7 +5,7 @@ ghost use Rattle.std.specs.List.Sorted.{IsNonDecreasing};
 ghost use Rattle.cnf.specs.Sat.{is_tautology, opposite_lit};
 ghost use Rattle.meaning.specs.StudyClauses.{sorted};
 ghost use Rattle.grounding.specs.Rising.{RisesFrom, ArePositive, includes, literal_of_code, pair_after};
-ghost use Rattle.grounding.specs.Distinct.{literal_code};
+ghost use Rattle.cnf.specs.Signed.{literal_code};
 ghost use Rattle.grounding.specs.Parts.{KeepSame, from_rows};
 
 use crate::part::Part;
@@ -18,11 +18,7 @@ pub(crate) fn literal_code(lit: Lit) -> u32
     ensures code { result ≡ literal_code lit }
     ensures some { 1 < result }
 {
-    if lit.positive() {
-        2 * lit.variable() + 1
-    } else {
-        2 * lit.variable()
-    }
+    lit.code()
 }
 
 /// Equal codes once each, of codes that do not fall.

@@ -7,9 +7,8 @@ use Rattle.vocab.specs.Study.{Question}
 use Rattle.cnf.specs.declared.derivations.Line.{Line}
 use Rattle.cnf.specs.Fresh.{AreOver, added_by, is_over}
 use Rattle.cnf.specs.Sat.{Clause}
-use Rattle.meaning.specs.Laws.{clauses_for}
 use Rattle.meaning.specs.Space.{below}
-use Rattle.meaning.specs.StudyClauses.{Sourced, study_clauses}
+use Rattle.meaning.specs.StudyClauses.{Sourced, study_clauses, clauses_for}
 use Rattle.clause_form.specs.Sources.{clauses_in}
 use Rattle.search_logs.specs.Spent.{all_places}
 use Rattle.sharp_verdicts.specs.declared.instances.Cited.{Cited}

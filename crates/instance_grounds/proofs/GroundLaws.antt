@@ -25,10 +25,9 @@ use Rattle.meaning.specs.declared.clauses.Counts.{Counts}
 use Rattle.meaning.specs.declared.clauses.Origin.TheVariants.{Instance}
 use Rattle.meaning.specs.Clauses.{Disjunction, plus}
 use Rattle.meaning.specs.Instances.{instance_values}
-use Rattle.meaning.specs.Laws.{clauses_for}
 use Rattle.meaning.specs.Measure.{measure_of}
 use Rattle.meaning.specs.Space.{up_from, below}
-use Rattle.meaning.specs.StudyClauses.{Sourced, sorted_in, sorted, firsts, clauses_of, instance_of, from_frame, from_instance, from_axiom}
+use Rattle.meaning.specs.StudyClauses.{Sourced, sorted_in, sorted, firsts, clauses_of, instance_of, from_frame, from_instance, from_axiom, clauses_for}
 use Rattle.meaning.specs.Variables.{lit_of}
 use Rattle.meaning.specs.Written.{Written}
 use Rattle.clause_form.specs.Refusals.{is_over_limits, counts_at, wide_instance, first_wide, first_full, ground_fault}

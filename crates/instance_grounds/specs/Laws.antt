@@ -5,9 +5,8 @@ use Rattle.vocab.specs.Study.{Question, IsStudy}
 use Rattle.cnf.specs.Sat.{Clause}
 use Rattle.meaning.specs.declared.clauses.Origin.{Origin}
 use Rattle.meaning.specs.declared.clauses.Origin.TheVariants.{Frame, Instance}
-use Rattle.meaning.specs.Laws.{clauses_for}
 use Rattle.meaning.specs.Space.{below}
-use Rattle.meaning.specs.StudyClauses.{Sourced, study_clauses}
+use Rattle.meaning.specs.StudyClauses.{Sourced, study_clauses, clauses_for}
 use Rattle.sharp_verdicts.specs.declared.instances.Cited.{Cited}
 use Rattle.clause_form.specs.Refusals.{ground_fault}
 use Rattle.sharp_verdicts.specs.Derived.{axioms_from}

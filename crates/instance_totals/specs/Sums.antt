@@ -4,7 +4,7 @@ use Rattle.vocab.specs.Range.{up_from}
 use Rattle.vocab.specs.Size.{Extent}
 use Rattle.vocab.specs.Study.{Question}
 use Rattle.meaning.specs.declared.clauses.Counts.{Counts}
-use Rattle.meaning.specs.Laws.{clauses_for}
+use Rattle.meaning.specs.StudyClauses.{clauses_for}
 use Rattle.clause_form.specs.Wide.{is_wide}
 use Rattle.sharp_verdicts.specs.declared.instances.Cited.{Cited}
 use Rattle.sharp_verdicts.specs.Instances.{count_at, is_present}

@@ -1,6 +1,6 @@
 -- What is told with one more value of a quantifier.
 use Rattle.std.proofs.Common.{◌≡◌, subst, ap, ◌∙◌, ℕ, ◌+◌, ◌<◌, ◌≤◌, List, [], ◌∷◌, ◌++◌, length, length-append, arith}
-use Rattle.vocab.specs.Limits.{product}
+use Rattle.vocab.specs.Range.{product}
 use Rattle.vocab.specs.Size.{Extent}
 use Rattle.vocab.specs.Tree.{Tree}
 use Rattle.meaning.specs.Written.{write_out}

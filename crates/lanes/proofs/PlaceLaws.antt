@@ -4,7 +4,7 @@ use Rattle.std.proofs.Math.Nat.{div-add-mod'}
 use Rattle.std.proofs.lemmas.Nat.{div-mul-add, mod-mul-add, div_below, mod_below}
 use Rattle.std.proofs.lemmas.List.{take-append-le, drop-append-le, append_assoc, append-nil, length-drop}
 use Rattle.std.proofs.Math.Seq.{drop-append_seam}
-use Rattle.vocab.specs.Limits.{product}
+use Rattle.vocab.specs.Range.{product}
 use Rattle.meaning.specs.Space.{digits_of}
 use Rattle.meaning.proofs.DigitLaws.{positive_right, length-digits_of}
 use Rattle.lanes.specs.Lanes.{lane_values, place_in}

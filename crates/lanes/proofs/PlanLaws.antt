@@ -2,7 +2,8 @@
 use Rattle.std.proofs.Common.{◌≡◌, sym, ◌∙◌, ap, subst, ℕ, ◌+◌, ◌-◌, ◌<◌, ◌≤◌, ◌++◌, List, length, arith}
 use Rattle.std.specs.Int.{bit_at}
 use Rattle.vocab.specs.Formula.{body_of}
-use Rattle.vocab.specs.Limits.{bases_of, instance_count, product}
+use Rattle.vocab.specs.Range.{product}
+use Rattle.vocab.specs.Limits.{bases_of, instance_count}
 use Rattle.vocab.specs.Size.{Extent}
 use Rattle.vocab.specs.Tree.{Tree}
 use Rattle.meaning.specs.Instances.{instance_values}

@@ -4,7 +4,8 @@ use Rattle.std.proofs.Math.Seq.{drop-cons}
 use Rattle.std.proofs.Math.ListN.{drop_of_length-le}
 use Rattle.std.proofs.lemmas.Nat.{mod_below}
 use Rattle.vocab.specs.declared.kinds.Sort.{Sort}
-use Rattle.vocab.specs.Limits.{bases_of, instance_count, product}
+use Rattle.vocab.specs.Range.{product}
+use Rattle.vocab.specs.Limits.{bases_of, instance_count}
 use Rattle.vocab.specs.Size.{Extent, IsSize, sort_count}
 use Rattle.vocab.specs.Tree.{Tree, Leaf, Not, Both, Either, Implies, Same, All, Exists}
 use Rattle.meaning.specs.Space.{digits_of}

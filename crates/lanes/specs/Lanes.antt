@@ -4,7 +4,8 @@ use Rattle.std.specs.List.{list_any}
 use Rattle.std.specs.Int.{bit_at}
 use Rattle.vocab.specs.declared.kinds.Sort.{Sort}
 use Rattle.vocab.specs.Formula.{body_of}
-use Rattle.vocab.specs.Limits.{bases_of, instance_count, product}
+use Rattle.vocab.specs.Range.{product}
+use Rattle.vocab.specs.Limits.{bases_of, instance_count}
 use Rattle.vocab.specs.Size.{Extent}
 use Rattle.vocab.specs.Study.{is_sentence}
 use Rattle.vocab.specs.Titled.{Titled}

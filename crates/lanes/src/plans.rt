@@ -2,7 +2,7 @@
 
 ghost use Rattle.std.specs.Prelude.{◌≡◌, ℕ, ◌<◌, ◌≤◌, ◌+◌, length, IfOk, IsTrue};
 ghost use Rattle.std.specs.Int.{bit_at};
-ghost use Rattle.vocab.specs.Limits.{product};
+ghost use Rattle.vocab.specs.Range.{product};
 ghost use Rattle.vocab.specs.Size.{Extent, IsSize, sort_count};
 ghost use Rattle.vocab.specs.Tree.{Tree, tree_of};
 ghost use Rattle.meaning.specs.Written.{write_out};

@@ -1,7 +1,8 @@
 //! Which leading universals of a sentence are lanes.
 
 ghost use Rattle.std.specs.Prelude.{◌≡◌, ◌≤◌, ◌<◌, ◌+◌, ◌-◌, ◌^◌, ◌++◌, min, drop, length, IsTrue};
-ghost use Rattle.vocab.specs.Limits.{bases_of, instance_count, product};
+ghost use Rattle.vocab.specs.Range.{product};
+ghost use Rattle.vocab.specs.Limits.{bases_of, instance_count};
 ghost use Rattle.vocab.specs.Study.{is_sentence};
 ghost use Rattle.vocab.specs.Tree.{tree_of};
 ghost use Rattle.lanes.specs.Lanes.{IsShape, place_in};

@@ -1,7 +1,7 @@
 //! How large tables are, and what they cost.
 
 ghost use Rattle.std.specs.Prelude.{◌≡◌, drop, IfSome};
-ghost use Rattle.vocab.specs.Limits.{product};
+ghost use Rattle.vocab.specs.Range.{product};
 
 use crate::covers::rests_on;
 use crate::shapes::Shape;

@@ -1,7 +1,7 @@
 //! What is known of an atom at the lanes, by the values of the other variables that it reads.
 
 ghost use Rattle.std.specs.Prelude.{◌≡◌, ℕ, ◌<◌, ◌≤◌, ◌+◌, ◌-◌, ◌%◌, length, slice_index, slice_index_or, IsTrue};
-ghost use Rattle.vocab.specs.Limits.{product};
+ghost use Rattle.vocab.specs.Range.{product};
 ghost use Rattle.vocab.specs.Size.{Extent};
 ghost use Rattle.vocab.specs.Tree.{Tree};
 ghost use Rattle.meaning.specs.Written.{write_out};

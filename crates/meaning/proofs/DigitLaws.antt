@@ -10,7 +10,7 @@ use Rattle.vocab.specs.declared.kinds.Sort.TheVariants.{Profile}
 use Rattle.vocab.specs.Size.{Extent, ballot_count, cast_count, lists_of, sort_count}
 use Rattle.meaning.specs.Space.{number_of, digits_of}
 use Rattle.meaning.specs.Digits.{AreDigits, AreOneToOne, AreProfiles}
-use Rattle.vocab.specs.Limits.{product}
+use Rattle.vocab.specs.Range.{product}
 
 -- a product that is above some number has no factor 0
 pub positive_right : (b p k : ℕ) → k < b * p → 0 < p

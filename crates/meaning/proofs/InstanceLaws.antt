@@ -13,7 +13,8 @@ use Rattle.meaning.proofs.SpaceLaws.{all_at, all_from}
 use Rattle.meaning.proofs.TestLaws.{list_all-ext}
 use Rattle.meaning.proofs.WrittenLaws.{truth_written}
 use Rattle.vocab.specs.Tree.{Tree, All}
-use Rattle.vocab.specs.Limits.{product, bases_of, instance_count}
+use Rattle.vocab.specs.Range.{product}
+use Rattle.vocab.specs.Limits.{bases_of, instance_count}
 use Rattle.meaning.proofs.DigitLaws.{positive_right}
 
 -- two tests are the same, where each follows from the other

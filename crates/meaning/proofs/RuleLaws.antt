@@ -21,10 +21,10 @@ use Rattle.vocab.specs.declared.kinds.Sort.TheVariants.{Profile}
 use Rattle.vocab.specs.declared.literals.Literal.{Literal}
 use Rattle.vocab.specs.declared.literals.Literal.TheVariants.{Above, Loses, Wins}
 use Rattle.cnf.specs.Sat.{is_satisfied}
-use Rattle.meaning.specs.Laws.{AllFacts, AreBitsOf, AreOf, are_instances_true, clauses_for, is_frame_true, literal_under}
+use Rattle.meaning.specs.Laws.{AllFacts, AreBitsOf, AreOf, are_instances_true, is_frame_true, literal_under}
 use Rattle.meaning.specs.Literals.{is_literal, is_literal_of, is_of_winner}
 use Rattle.meaning.specs.Space.{below}
-use Rattle.meaning.specs.StudyClauses.{no_circle, not_both, some_winner, frame_of, instance_of}
+use Rattle.meaning.specs.StudyClauses.{no_circle, not_both, some_winner, frame_of, instance_of, clauses_for}
 use Rattle.meaning.specs.Truth.{holds, holds_of, is_axiom_true, is_rule, is_true_at, satisfies}
 use Rattle.meaning.specs.Variables.{bits_of, pairs, triples}
 use Rattle.meaning.specs.Written.{And, Fact, Iff, Known, Neg, Or, Written, evaluate}

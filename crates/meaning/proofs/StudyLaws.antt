@@ -20,11 +20,11 @@ use Rattle.cnf.proofs.SoundLaws.{opposite_true, tautology_true}
 use Rattle.cnf.specs.Sat.{Clause, is_clause_true, is_lit_true, is_satisfied, is_tautology, same_lit}
 use Rattle.cnf.specs.Signed.{Signed}
 use Rattle.meaning.specs.Clauses.{Disjunction, plus}
-use Rattle.meaning.specs.Laws.{AllFacts, IsProper, are_instances_true, clauses_for, is_frame_true, literal_under}
+use Rattle.meaning.specs.Laws.{AllFacts, IsProper, are_instances_true, is_frame_true, literal_under}
 use Rattle.meaning.specs.Literals.{is_literal, is_literal_of}
 use Rattle.meaning.specs.Space.{below}
 use Rattle.meaning.specs.declared.clauses.Origin.TheVariants.{Frame, Instance}
-use Rattle.meaning.specs.StudyClauses.{Sourced, clauses_of, firsts, frame_of, from_axiom, from_frame, from_instance, instance_of, sorted, sorted_in, study_clauses}
+use Rattle.meaning.specs.StudyClauses.{Sourced, clauses_of, firsts, frame_of, from_axiom, from_frame, from_instance, instance_of, sorted, sorted_in, study_clauses, clauses_for}
 use Rattle.meaning.specs.Variables.{lit_of}
 use Rattle.meaning.specs.Written.{And, Fact, Iff, Known, Neg, Or, Written, evaluate}
 use Rattle.meaning.proofs.ClauseLaws.{clauses_true}

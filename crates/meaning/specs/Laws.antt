@@ -174,10 +174,6 @@ FramesSayOutcome = (size : Extent) → (p : ℕ) → p < sort_count size Profile
 
 -- ---- the clauses of a study
 
--- the clauses alone
-abbrev pub clauses_for : Extent → List Titled → List ℕ → List (List Signed)
-clauses_for size axioms chosen = map (λ s. s.clause) (study_clauses size axioms chosen)
-
 -- the assignment satisfies the frame of each profile
 abbrev pub is_frame_true : Extent → (ℕ → Bool) → Bool
 is_frame_true size v = list_all (λ p. list_all (list_any (literal_under size v)) (frame_of size size.kind p)) (below (sort_count size Profile))

@@ -89,3 +89,7 @@ module _ (size : Extent) where
   abbrev pub study_clauses : List Titled → List ℕ → List Sourced
   study_clauses axioms chosen =
       flat_map from_frame (below (sort_count size Profile)) ++ flat_map (λ place. from_axiom place (slice_get axioms place)) chosen
+
+  -- the clauses alone
+  abbrev pub clauses_for : List Titled → List ℕ → List Clause
+  clauses_for axioms chosen = map (λ s. s.clause) (study_clauses axioms chosen)

@@ -9,7 +9,7 @@ use Rattle.std.proofs.lemmas.List.Sums.{sum_by-cons}
 use Rattle.std.proofs.lemmas.Nat.{div_below, mod_below}
 use Rattle.std.proofs.Math.Seq.{drop-cons}
 use mir.Val.{bool_byte}
-use Rattle.vocab.specs.Limits.{product}
+use Rattle.vocab.specs.Range.{product}
 use Rattle.vocab.specs.Size.{Extent, IsSize, cast_count}
 use Rattle.meaning.specs.Digits.{AreDigits}
 use Rattle.meaning.specs.Space.{number_of, digits_of, cast_bases, casts_of, profile_number, with_ballot, with_voters_swapped}

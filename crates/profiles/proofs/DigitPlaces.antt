@@ -5,7 +5,7 @@ use Rattle.std.proofs.Math.Nat.{div-add-mod', mod-eq_of_lt, mul-add-div_right, m
 use Rattle.std.proofs.lemmas.List.{length-replicate, get_or-replicate, get_or_append_left, get_or-append_right, take_all}
 use Rattle.std.proofs.Math.Seq.{drop-cons, take-append_seam}
 use Rattle.vocab.specs.InPlace.{padded}
-use Rattle.vocab.specs.Limits.{product}
+use Rattle.vocab.specs.Range.{product}
 use Rattle.vocab.specs.Size.{Extent, IsSize, cast_count, sort_count}
 use Rattle.vocab.specs.declared.kinds.Sort.TheVariants.{Profile}
 use Rattle.vocab.proofs.Powers.{pow_positive}

@@ -6,7 +6,7 @@ use Rattle.verdicts.specs.declared.verdicts.Confirmed.TheVariants as claim
 use Rattle.verdicts.specs.declared.verdicts.Verdict.TheVariants.{Possible}
 use Rattle.verdicts.specs.Report.{IsReport}
 use Rattle.verdicts.specs.Claims.{claim_of, IsClaimed, ClaimHolds}
-use Rattle.verdicts.specs.Judge.{Judgement, Confirmed as IsConfirmed, Faulty, TooLong}
+use Rattle.verdicts.specs.Judge.{Judgement, Confirmed as IsSomeReport, Faulty, TooLong}
 use Rattle.verdicts.specs.Laws.{IsReportable}
 use Rattle.report_lines.specs.declared.places.Place.{Place}
 use Rattle.report_lines.specs.declared.places.Place.TheVariants as place
@@ -20,7 +20,7 @@ told_of (Some fault) = Err fault
 
 -- what is answered of a report that is not cut off
 abbrev pub Concludes : Judgement → Result Confirmed ReportFault → Type 0
-Concludes (IsConfirmed verdict) result = IsSomeAnd (claim_of verdict) (λ claim. result ≡ Ok claim)
+Concludes (IsSomeReport verdict) result = IsSomeAnd (claim_of verdict) (λ claim. result ≡ Ok claim)
 Concludes (Faulty line word) result = result ≡ Err (AtLine line word)
 Concludes TooLong result = ⊥
 

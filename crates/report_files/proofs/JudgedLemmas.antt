@@ -7,7 +7,7 @@ use Rattle.vocab.specs.Study.{Question, HasFewAxioms}
 use Rattle.verdicts.specs.declared.refusals.Refusal.TheVariants.{Form}
 use Rattle.verdicts.specs.declared.verdicts.Confirmed.{Confirmed}
 use Rattle.verdicts.specs.Claims.{claim_of}
-use Rattle.verdicts.specs.Judge.{pieces, front, Confirmed as IsConfirmed, Faulty, answer, answer_within}
+use Rattle.verdicts.specs.Judge.{pieces, front, Confirmed as IsSomeReport, Faulty, answer, answer_within}
 use Rattle.verdicts.specs.Report.{lemma_count}
 use Rattle.verdicts.proofs.ClaimLaws.{within_limit}
 use Rattle.verdicts.proofs.LineEndLaws.{lemmas_fit}
@@ -70,25 +70,25 @@ title_of_file r e known left bytes held admits ended k stands = by_lines (front 
 
 module _ (study : Question) (held : List ℕ) where
   pub judged_report : (w : Worth) → has_sharp_title held ≡ false → IsWorth (answer_within most_verdict_bytes study held) w → IsJudgedWorth (judged_within most_verdict_bytes study held) (Report w)
-  judged_report w e h = subst (λ b. IsJudgedWorth (cond b (AsSharp (sharp_answer_within study most_verdict_bytes held)) (AsReport (answer_within most_verdict_bytes study held))) (Report w)) (sym e) h
+  judged_report w e h = subst (λ b. IsJudgedWorth (cond b (AsSharp (sharp_answer_within most_verdict_bytes study held)) (AsReport (answer_within most_verdict_bytes study held))) (Report w)) (sym e) h
 
-  pub judged_sharp : (w : SharpWorth) → has_sharp_title held ≡ true → IsSharpWorth (sharp_answer_within study most_verdict_bytes held) w → IsJudgedWorth (judged_within most_verdict_bytes study held) (Sharp w)
-  judged_sharp w e h = subst (λ b. IsJudgedWorth (cond b (AsSharp (sharp_answer_within study most_verdict_bytes held)) (AsReport (answer_within most_verdict_bytes study held))) (Sharp w)) (sym e) h
+  pub judged_sharp : (w : SharpWorth) → has_sharp_title held ≡ true → IsSharpWorth (sharp_answer_within most_verdict_bytes study held) w → IsJudgedWorth (judged_within most_verdict_bytes study held) (Sharp w)
+  judged_sharp w e h = subst (λ b. IsJudgedWorth (cond b (AsSharp (sharp_answer_within most_verdict_bytes study held)) (AsReport (answer_within most_verdict_bytes study held))) (Sharp w)) (sym e) h
 
   -- and back
   report_judged : (w : Worth) → IsJudgedWorth (judged_within most_verdict_bytes study held) (Report w) → (has_sharp_title held ≡ false) × IsWorth (answer_within most_verdict_bytes study held) w
   report_judged w h = by_title (has_sharp_title held) refl h
     where
-      by_title : (b : Bool) → has_sharp_title held ≡ b → IsJudgedWorth (cond b (AsSharp (sharp_answer_within study most_verdict_bytes held)) (AsReport (answer_within most_verdict_bytes study held))) (Report w)
+      by_title : (b : Bool) → has_sharp_title held ≡ b → IsJudgedWorth (cond b (AsSharp (sharp_answer_within most_verdict_bytes study held)) (AsReport (answer_within most_verdict_bytes study held))) (Report w)
           → (has_sharp_title held ≡ false) × IsWorth (answer_within most_verdict_bytes study held) w
       by_title true e h = absurd h
       by_title false e h = (e, h)
 
-  sharp_judged : (w : SharpWorth) → IsJudgedWorth (judged_within most_verdict_bytes study held) (Sharp w) → (has_sharp_title held ≡ true) × IsSharpWorth (sharp_answer_within study most_verdict_bytes held) w
+  sharp_judged : (w : SharpWorth) → IsJudgedWorth (judged_within most_verdict_bytes study held) (Sharp w) → (has_sharp_title held ≡ true) × IsSharpWorth (sharp_answer_within most_verdict_bytes study held) w
   sharp_judged w h = by_title (has_sharp_title held) refl h
     where
-      by_title : (b : Bool) → has_sharp_title held ≡ b → IsJudgedWorth (cond b (AsSharp (sharp_answer_within study most_verdict_bytes held)) (AsReport (answer_within most_verdict_bytes study held))) (Sharp w)
-          → (has_sharp_title held ≡ true) × IsSharpWorth (sharp_answer_within study most_verdict_bytes held) w
+      by_title : (b : Bool) → has_sharp_title held ≡ b → IsJudgedWorth (cond b (AsSharp (sharp_answer_within most_verdict_bytes study held)) (AsReport (answer_within most_verdict_bytes study held))) (Sharp w)
+          → (has_sharp_title held ≡ true) × IsSharpWorth (sharp_answer_within most_verdict_bytes study held) w
       by_title true e h = (e, h)
       by_title false e h = absurd h
 
@@ -151,15 +151,15 @@ module _ (study : Question) (files : Files) (name : List ℕ) where
       let same : held ≡ c.bytes = same_bytes (files name) held c.bytes at c.held in
       let v = c.right.verdict in
       let few : lemma_count v < 2 ^ 64 = omega (arith, lemmas_fit study c.bytes v c.right.report, c.fits) in
-      let whole : answer study c.bytes ≡ IsConfirmed v = right_is_confirmed study is listed c.bytes v c.right.report few in
-      let confirmed : answer_within most_verdict_bytes study c.bytes ≡ IsConfirmed v = (within_limit most_verdict_bytes study c.bytes v).1 (c.fits, whole) in
-      let none : has_sharp_title c.bytes ≡ false = untitled c.bytes (has_sharp_title c.bytes) refl (λ e. let wrong : IsConfirmed v ≡ Faulty 1 Form = sym whole ∙ e in absurd (cc)) in
+      let whole : answer study c.bytes ≡ IsSomeReport v = right_is_confirmed study is listed c.bytes v c.right.report few in
+      let confirmed : answer_within most_verdict_bytes study c.bytes ≡ IsSomeReport v = (within_limit most_verdict_bytes study c.bytes v).1 (c.fits, whole) in
+      let none : has_sharp_title c.bytes ≡ false = untitled c.bytes (has_sharp_title c.bytes) refl (λ e. let wrong : IsSomeReport v ≡ Faulty 1 Form = sym whole ∙ e in absurd (cc)) in
       by_worth w
       (subst (λ a. IsJudgedWorth (AsReport a) w) confirmed
-      (subst (λ b. IsJudgedWorth (cond b (AsSharp (sharp_answer_within study most_verdict_bytes c.bytes)) (AsReport (answer_within most_verdict_bytes study c.bytes))) w) none
+      (subst (λ b. IsJudgedWorth (cond b (AsSharp (sharp_answer_within most_verdict_bytes study c.bytes)) (AsReport (answer_within most_verdict_bytes study c.bytes))) w) none
       (subst (λ (xs : List ℕ). IsJudgedWorth (judged_within most_verdict_bytes study xs) w) same is_worth)))
     where
-      by_worth : (w : JudgedWorth) → IsJudgedWorth (AsReport (IsConfirmed c.right.verdict)) w → w ≡ Report (worth.Confirmed claim)
+      by_worth : (w : JudgedWorth) → IsJudgedWorth (AsReport (IsSomeReport c.right.verdict)) w → w ≡ Report (worth.Confirmed claim)
       by_worth (Report x) h = ap Report (confirmed_some (claim_of c.right.verdict) claim x c.right.claims h)
       by_worth (Sharp x) h = absurd h
 
@@ -167,11 +167,11 @@ module _ (study : Question) (files : Files) (name : List ℕ) where
   sharp_confirmed listed w (held, at, is_worth) is s =
       let same : held ≡ s.bytes = same_bytes (files name) held s.bytes at s.held in
       let low : most_verdict_bytes < 2 ^ 64 = omega arith in
-      let confirmed : sharp_answer_within study most_verdict_bytes s.bytes ≡ SharpConfirmed s.verdict = (texts_confirmed most_verdict_bytes study is listed low s.bytes s.verdict).1 (s.fits, s.text) in
+      let confirmed : sharp_answer_within most_verdict_bytes study s.bytes ≡ SharpConfirmed s.verdict = (texts_confirmed most_verdict_bytes study is listed low s.bytes s.verdict).1 (s.fits, s.text) in
       let titled : has_sharp_title s.bytes ≡ true = ap has_sharp_title s.text.is ∙ begins_titled in
       by_worth w
       (subst (λ a. IsJudgedWorth (AsSharp a) w) confirmed
-      (subst (λ b. IsJudgedWorth (cond b (AsSharp (sharp_answer_within study most_verdict_bytes s.bytes)) (AsReport (answer_within most_verdict_bytes study s.bytes))) w) titled
+      (subst (λ b. IsJudgedWorth (cond b (AsSharp (sharp_answer_within most_verdict_bytes study s.bytes)) (AsReport (answer_within most_verdict_bytes study s.bytes))) w) titled
       (subst (λ (xs : List ℕ). IsJudgedWorth (judged_within most_verdict_bytes study xs) w) same is_worth)))
     where
       begins_titled : has_sharp_title (sharp_text study s.verdict) ≡ true

@@ -60,7 +60,7 @@ module _ (study : Question) where
   -- all was read
   pub sharp_whole_worth : (e : Ending) (known left : Option (List ℕ)) (faulty : Bool) (bytes held : List ℕ) (result : Result (Unit {0}) SharpFault) (w : SharpWorth)
       → e ≡ ending.Whole → IsEndedAt e known left faulty bytes → known ≡ Some held
-      → SharpConcludes (sharp_answer study bytes) result → ((a : SharpJudgement) → SharpConcludes a result → IsSharpWorth a w) → IsSharpWorth (sharp_answer_within study most_verdict_bytes held) w
+      → SharpConcludes (sharp_answer study bytes) result → ((a : SharpJudgement) → SharpConcludes a result → IsSharpWorth a w) → IsSharpWorth (sharp_answer_within most_verdict_bytes study held) w
   sharp_whole_worth e known left faulty bytes held result w same ended k concluded worth_of =
       let whole : IsEndedAt ending.Whole known left faulty bytes = subst (λ x. IsEndedAt x known left faulty bytes) same ended in
       subst (λ a. IsSharpWorth a w) (sym (whole_within (sharp_judge study) (sharp_conclude study) (sharp_beyond study) known left faulty bytes held whole k)) (worth_of (sharp_answer study bytes) concluded)
@@ -68,15 +68,15 @@ module _ (study : Question) where
   -- a line is faulty
   pub sharp_faulty_worth : (p : SharpProgress) (e : Ending) (known left : Option (List ℕ)) (faulty : Bool) (bytes held : List ℕ) (fault : SharpFault) (w : SharpWorth)
       → p.fault ≡ Some fault → IsEndedAt e known left faulty bytes → known ≡ Some held → SharpStandsFor study p (front (pieces bytes))
-      → ((a : SharpJudgement) → SharpConcludes a (Err fault) → IsSharpWorth a w) → IsSharpWorth (sharp_answer_within study most_verdict_bytes held) w
+      → ((a : SharpJudgement) → SharpConcludes a (Err fault) → IsSharpWorth a w) → IsSharpWorth (sharp_answer_within most_verdict_bytes study held) w
   sharp_faulty_worth p e known left faulty bytes held fault w f ended k stands worth_of = by_told (sharp_judge study (front (pieces bytes))) refl stands.1
     where
-      by_told : (told : SharpTold) → sharp_judge study (front (pieces bytes)) ≡ told → SharpStandsAs study (length (front (pieces bytes))) p.fault p.judging told → IsSharpWorth (sharp_answer_within study most_verdict_bytes held) w
+      by_told : (told : SharpTold) → sharp_judge study (front (pieces bytes)) ≡ told → SharpStandsAs study (length (front (pieces bytes))) p.fault p.judging told → IsSharpWorth (sharp_answer_within most_verdict_bytes study held) w
       by_told (SharpGood s) told h = let wrong : Some fault ≡ None = sym f ∙ h.0 in absurd (cc)
       by_told (SharpRefused m word) told h =
           let same : Some fault ≡ Some (AtLine m word) = sym f ∙ h in
           let fault_is : fault ≡ AtLine m word = cc in
-          let answered : sharp_answer_within study most_verdict_bytes held ≡ SharpFaulty m word =
+          let answered : sharp_answer_within most_verdict_bytes study held ≡ SharpFaulty m word =
           faulty_within (sharp_judge study) (sharp_conclude study) (sharp_beyond study) e known left faulty bytes held (SharpRefused m word) (SharpFaulty m word) ended k
           (λ more. sharp_refused_more study (front (pieces bytes)) more m word told) refl (λ n rest. refl) in
           subst (λ a. IsSharpWorth a w) (sym answered) (worth_of (SharpFaulty m word) (ap Err fault_is))
@@ -88,7 +88,7 @@ module _ (study : Question) where
 
   pub sharp_long_worth : (p : SharpProgress) (e : Ending) (known left : Option (List ℕ)) (faulty : Bool) (bytes held : List ℕ)
       → p.fault ≡ None → faulty ≡ false → e ≢ ending.Whole → IsEndedAt e known left faulty bytes → known ≡ Some held → SharpStandsFor study p (front (pieces bytes))
-      → IsSharpWorth (sharp_answer_within study most_verdict_bytes held) worth.TooLong
+      → IsSharpWorth (sharp_answer_within most_verdict_bytes study held) worth.TooLong
   sharp_long_worth p e known left faulty bytes held f none differs ended k stands =
       subst (λ a. IsSharpWorth a worth.TooLong)
       (sym (beyond_within (sharp_judge study) (sharp_conclude study) (sharp_beyond study) e known left faulty bytes held differs none ended k ∙ faultless_is p (length (front (pieces bytes))) (sharp_judge study (front (pieces bytes))) f stands.1)) refl
@@ -96,9 +96,9 @@ module _ (study : Question) where
   -- ---- what is confirmed
 
   -- it is the text of a right sharp verdict
-  pub sharp_in : (files : Files) (name held : List ℕ) → files name ≡ Some held → IsSharpWorth (sharp_answer_within study most_verdict_bytes held) worth.Confirmed → IsSharpIn study files name
+  pub sharp_in : (files : Files) (name held : List ℕ) → files name ≡ Some held → IsSharpWorth (sharp_answer_within most_verdict_bytes study held) worth.Confirmed → IsSharpIn study files name
   sharp_in files name held at is =
-      let found = sharp_worth_verdict (sharp_answer_within study most_verdict_bytes held) is in
+      let found = sharp_worth_verdict (sharp_answer_within most_verdict_bytes study held) is in
       let within = (within_limit most_verdict_bytes study held found.0).0 found.1 in
       record { bytes = held; held = at; fits = within.0; verdict = found.0; text = judge_sound study held found.0 within.1 }
 

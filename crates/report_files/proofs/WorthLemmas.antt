@@ -8,7 +8,7 @@ use Rattle.verdicts.specs.declared.refusals.Refusal.{Refusal}
 use Rattle.verdicts.specs.declared.verdicts.Confirmed.{Confirmed}
 use Rattle.verdicts.specs.declared.verdicts.Verdict.{Verdict}
 use Rattle.verdicts.specs.Claims.{claim_of}
-use Rattle.verdicts.specs.Judge.{Told, Good, Refused, judge, pieces, front, Judgement, Confirmed as IsConfirmed, Faulty, TooLong, conclude, answer, beyond, answer_within}
+use Rattle.verdicts.specs.Judge.{Told, Good, Refused, judge, pieces, front, Judgement, Confirmed as IsSomeReport, Faulty, TooLong, conclude, answer, beyond, answer_within}
 use Rattle.verdicts.proofs.ClaimLaws.{within_limit}
 use Rattle.verdicts.proofs.JudgeLaws.{judge_sound}
 use Rattle.report.specs.declared.faults.ReportFault.{ReportFault}
@@ -42,12 +42,12 @@ some_worth None c h = absurd h
 some_worth (Some a) c h = let same : c ≡ a = cc in ap worth.Confirmed same
 
 pub concludes_ok : (a : Judgement) (c : Confirmed) → Concludes a (Ok c) → IsWorth a (worth.Confirmed c)
-concludes_ok (IsConfirmed verdict) c h = some_worth (claim_of verdict) c h
+concludes_ok (IsSomeReport verdict) c h = some_worth (claim_of verdict) c h
 concludes_ok (Faulty n word) c h = absurd (cc)
 concludes_ok TooLong c h = absurd h
 
 pub concludes_line : (a : Judgement) (m : ℕ) (word : Refusal) → Concludes a (Err (AtLine m word)) → IsWorth a (worth.Faulty m word)
-concludes_line (IsConfirmed verdict) m word h = absurd (none_claimed (claim_of verdict) h)
+concludes_line (IsSomeReport verdict) m word h = absurd (none_claimed (claim_of verdict) h)
   where
     none_claimed : (o : Option Confirmed) → IsSomeAnd o (λ claim. refuses m word ≡ Ok claim) → ⊥
     none_claimed None h = h
@@ -105,8 +105,8 @@ confirmed_some None c w e h = absurd h
 confirmed_some (Some a) c w e h = let same : a ≡ c = cc in h ∙ ap worth.Confirmed same
 
 -- the verdict whose claim it is
-worth_claim : (a : Judgement) (c : Confirmed) (w : Worth) → w ≡ worth.Confirmed c → IsWorth a w → (v : Verdict) × (a ≡ IsConfirmed v) × (claim_of v ≡ Some c)
-worth_claim (IsConfirmed v) c w e h = (v, refl, some_confirmed (claim_of v) c w e h)
+worth_claim : (a : Judgement) (c : Confirmed) (w : Worth) → w ≡ worth.Confirmed c → IsWorth a w → (v : Verdict) × (a ≡ IsSomeReport v) × (claim_of v ≡ Some c)
+worth_claim (IsSomeReport v) c w e h = (v, refl, some_confirmed (claim_of v) c w e h)
 worth_claim (Faulty n word) c w e h = absurd (cc)
 worth_claim TooLong c w e h = absurd (cc)
 

@@ -5,7 +5,7 @@ use Rattle.edge.specs.Shelf.{Files}
 use Rattle.edge.specs.declared.faults.RewindFault.{RewindFault}
 use Rattle.edge.specs.declared.faults.RewindFault.TheVariants as rewind
 use Rattle.vocab.specs.Study.{Question}
-use Rattle.verdicts.specs.Judge.{Judgement, Confirmed as IsConfirmed, Faulty, TooLong, answer_within}
+use Rattle.verdicts.specs.Judge.{Judgement, Confirmed as IsSomeReport, Faulty, TooLong, answer_within}
 use Rattle.verdicts.specs.Claims.{claim_of, IsClaimed, ClaimHolds}
 use Rattle.verdicts.specs.Laws.{IsReportable}
 use Rattle.verdicts.specs.declared.verdicts.Confirmed.{Confirmed}
@@ -47,7 +47,7 @@ IsEndedAt ending.Faulty before now faulty bytes = Consumes before now bytes ×
 
 -- an answer to a report
 abbrev pub IsWorth : Judgement → Worth → Type 0
-IsWorth (IsConfirmed verdict) w = IsSomeAnd (claim_of verdict) (λ claim. w ≡ worth.Confirmed claim)
+IsWorth (IsSomeReport verdict) w = IsSomeAnd (claim_of verdict) (λ claim. w ≡ worth.Confirmed claim)
 IsWorth (Faulty line word) w = w ≡ worth.Faulty line word
 IsWorth TooLong w = w ≡ worth.TooLong
 

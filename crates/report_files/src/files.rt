@@ -155,7 +155,7 @@ fn sharp_worth_at<K: OutcomeKind>(
     ensures worth { IfOk result (λ worth. (known left : Option (List ℕ)) (bytes held : List ℕ) →
         IsEndedAt ending known left (has_fault reader.now.checker) bytes → known ≡ Some held →
         StandsForText reader.now bytes →
-        IsSharpWorth (sharp_answer_within reader.now.checker.study most_verdict_bytes held) worth) }
+        IsSharpWorth (sharp_answer_within most_verdict_bytes reader.now.checker.study held) worth) }
     ensures holds { IfOk result (λ worth. (bytes : List ℕ) → IsSize reader.now.checker.study.size →
         StandsForText reader.now bytes → SharpWorthHolds reader.now.checker.study worth) }
 {

@@ -14,7 +14,8 @@ use Rattle.cnf.specs.Derived.{IsAccepted}
 use Rattle.cnf.specs.Fresh.{is_over, IsSpent}
 use Rattle.cnf.specs.Sat.{Clause, is_clause_true, is_satisfied}
 use Rattle.cnf.proofs.SoundLaws.{accepted_unsatisfiable}
-use Rattle.meaning.specs.Laws.{clauses_for, AreBitsOf}
+use Rattle.meaning.specs.StudyClauses.{clauses_for}
+use Rattle.meaning.specs.Laws.{AreBitsOf}
 use Rattle.meaning.specs.Space.{below}
 use Rattle.meaning.specs.Variables.{bits_of, variable_count}
 use Rattle.meaning.proofs.RuleLaws.{are_rules}

@@ -7,7 +7,8 @@ use Rattle.cnf.specs.ClauseList.{ClauseList, IsFullFor}
 use Rattle.cnf.specs.Fresh.{IsSpent}
 use Rattle.cnf.specs.Sat.{Clause, is_clause_true}
 use Rattle.cnf.specs.declared.derivations.Line.{Line}
-use Rattle.meaning.specs.Laws.{clauses_for, AreBitsOf}
+use Rattle.meaning.specs.StudyClauses.{clauses_for}
+use Rattle.meaning.specs.Laws.{AreBitsOf}
 use Rattle.meaning.specs.Truth.{satisfies}
 use Rattle.meaning.specs.Variables.{variable_count}
 use Rattle.search_logs.specs.Spent.{all_places}

@@ -6,7 +6,7 @@ use Rattle.cnf.specs.Fresh.{IsSpent}
 use Rattle.meaning.specs.declared.cores.Witness.{Witness}
 use Rattle.meaning.specs.declared.cores.Witness.TheVariants.{Rule, Open}
 use Rattle.meaning.specs.Cores.{is_core_from}
-use Rattle.meaning.specs.Laws.{clauses_for}
+use Rattle.meaning.specs.StudyClauses.{clauses_for}
 use Rattle.meaning.specs.Space.{below}
 use Rattle.meaning.specs.Variables.{variable_count}
 use Rattle.search_logs.specs.declared.logs.SearchLog.{SearchLog}

@@ -215,7 +215,7 @@ module _ (study : Question) (is : IsReportable study) where
 
 -- where at most so many bytes are read, exactly the texts of right sharp verdicts that have no more are confirmed
 pub texts_confirmed : (limit : ℕ) (study : Question) → IsReportable study → HasFewAxioms study → limit < 2 ^ 64 → (text : List ℕ) (v : Pointed)
-    → (sharp_answer_within study limit text ≡ SharpConfirmed v) ↔ ((length text ≤ limit) × IsSharpText study v text)
+    → (sharp_answer_within limit study text ≡ SharpConfirmed v) ↔ ((length text ≤ limit) × IsSharpText study v text)
 texts_confirmed limit study is listed low text v = (
   λ e. let r = (within_limit limit study text v).0 e in (r.0, judge_sound study text v r.1),
   λ h.

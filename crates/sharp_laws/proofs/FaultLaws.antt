@@ -123,7 +123,7 @@ module _ (study : Question) where
       ∙ ap (λ rest. sharp_conclude study (length lines + 1) rest (sharp_judge study (front (lines ++ [] ∷ [])))) (final_snoc lines [])
       ∙ ap (λ ls. sharp_conclude study (length lines + 1) [] (sharp_judge study ls)) (front_snoc lines [])
 
-pub within_limit : (limit : ℕ) (study : Question) (text : List ℕ) (v : Pointed) → (sharp_answer_within study limit text ≡ SharpConfirmed v) ↔ ((length text ≤ limit) × (sharp_answer study text ≡ SharpConfirmed v))
+pub within_limit : (limit : ℕ) (study : Question) (text : List ℕ) (v : Pointed) → (sharp_answer_within limit study text ≡ SharpConfirmed v) ↔ ((length text ≤ limit) × (sharp_answer study text ≡ SharpConfirmed v))
 within_limit limit study text v = (
   λ e. elim (cases_lt limit (length text)) [
     | inl less ↦ absurd (not_beyond (sharp_judge study (front (pieces (take limit text)))) (sym (chosen true (lt-ltb limit (length text) less)) ∙ e))
@@ -132,7 +132,7 @@ within_limit limit study text v = (
   λ h. chosen false (le-ltb limit (length text) h.0) ∙ h.1,
 )
   where
-    chosen : (b : Bool) → nat_lt limit (length text) ≡ b → sharp_answer_within study limit text ≡ cond b (sharp_beyond study (sharp_judge study (front (pieces (take limit text))))) (sharp_answer study text)
+    chosen : (b : Bool) → nat_lt limit (length text) ≡ b → sharp_answer_within limit study text ≡ cond b (sharp_beyond study (sharp_judge study (front (pieces (take limit text))))) (sharp_answer study text)
     chosen b e = ap (λ c. cond c (sharp_beyond study (sharp_judge study (front (pieces (take limit text))))) (sharp_answer study text)) e
 
     not_beyond : (told : SharpTold) → sharp_beyond study told ≡ SharpConfirmed v → ⊥

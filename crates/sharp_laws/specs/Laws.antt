@@ -73,7 +73,7 @@ SharpLinesAreAnswered =
 abbrev pub SharpConfirmedWithinLimit : Type 0
 SharpConfirmedWithinLimit =
     (limit : ℕ) (study : Question) (text : List ℕ) (v : Pointed)
-    → (sharp_answer_within study limit text ≡ SharpConfirmed v) ↔ ((length text ≤ limit) × (sharp_answer study text ≡ SharpConfirmed v))
+    → (sharp_answer_within limit study text ≡ SharpConfirmed v) ↔ ((length text ≤ limit) × (sharp_answer study text ≡ SharpConfirmed v))
 
 -- lines without a fault have given at most as many lemmas as they are
 abbrev pub SharpLemmasAreFew : Type 0
@@ -95,7 +95,7 @@ SharpTextsAreNoReports = (study : Question) (text rest : List ℕ) → text ≡ 
 abbrev pub SharpTextsAreConfirmed : Type 0
 SharpTextsAreConfirmed =
     (limit : ℕ) (study : Question) → IsReportable study → HasFewAxioms study → limit < 2 ^ 64 → (text : List ℕ) (v : Pointed)
-    → (sharp_answer_within study limit text ≡ SharpConfirmed v) ↔ ((length text ≤ limit) × IsSharpText study v text)
+    → (sharp_answer_within limit study text ≡ SharpConfirmed v) ↔ ((length text ≤ limit) × IsSharpText study v text)
 
 -- ---- what they claim
 

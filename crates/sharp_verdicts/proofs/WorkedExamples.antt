@@ -154,7 +154,7 @@ with_neutrality_twice = record { size = choice 2 2; conflicts = 100000; axioms =
 axiom_that_is_not_cited_is_core : sharp_answer with_neutrality_twice (text_of (slice_set (slice_set two_instances_text 4 (codes "axioms anonymity neutrality again")) 6 (codes "core anonymity neutrality again"))) ≡ SharpFaulty 19 (Report refusal.Core)
 axiom_that_is_not_cited_is_core = refl
 
-text_beyond_the_limit_is_too_long : map (λ limit. sharp_answer_within symmetric limit (text_of two_instances_text)) (500 ∷ []) ≡ SharpTooLong ∷ []
+text_beyond_the_limit_is_too_long : map (λ limit. sharp_answer_within limit symmetric (text_of two_instances_text)) (500 ∷ []) ≡ SharpTooLong ∷ []
 text_beyond_the_limit_is_too_long = refl
 
 -- ---- open marks

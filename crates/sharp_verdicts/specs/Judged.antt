@@ -27,7 +27,7 @@ pub data Judged : Type 0 where
 -- the answer to a text of which so many bytes are read: a text with the title of a sharp text is judged as one, and each other text as a report
 abbrev pub judged_within : ℕ → Question → List ℕ → Judged
 judged_within limit study text =
-    if has_sharp_title text then AsSharp (sharp_answer_within study limit text) else AsReport (answer_within limit study text)
+    if has_sharp_title text then AsSharp (sharp_answer_within limit study text) else AsReport (answer_within limit study text)
 
 -- ---- what is printed
 

@@ -108,6 +108,7 @@ module _ (study : Question) where
   sharp_beyond (SharpRefused line word) = SharpFaulty line word
   sharp_beyond (SharpGood s) = SharpTooLong
 
-  -- the answer to a text of which so many bytes are read: of a longer one the lines are judged that end within them
-  abbrev pub sharp_answer_within : ℕ → List ℕ → SharpJudgement
-  sharp_answer_within limit text = if nat_lt limit (length text) then sharp_beyond (sharp_judge study (front (pieces (take limit text)))) else sharp_answer text
+-- the answer to a text of which so many bytes are read: of a longer one the lines are judged that end within them
+abbrev pub sharp_answer_within : ℕ → Question → List ℕ → SharpJudgement
+sharp_answer_within limit study text =
+    if nat_lt limit (length text) then sharp_beyond study (sharp_judge study (front (pieces (take limit text)))) else sharp_answer study text

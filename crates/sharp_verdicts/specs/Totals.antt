@@ -4,7 +4,7 @@ use Rattle.std.specs.Option.{option_map_or}
 use Rattle.vocab.specs.Study.{Question}
 use Rattle.vocab.specs.Titled.{Titled}
 use Rattle.meaning.specs.declared.clauses.Counts.{Counts}
-use Rattle.meaning.specs.Laws.{clauses_for}
+use Rattle.meaning.specs.StudyClauses.{clauses_for}
 use Rattle.clause_form.specs.Refusals.{counts_at, first_wide}
 use Rattle.search_logs.specs.Spent.{all_places}
 use Rattle.sharp_verdicts.specs.declared.instances.Cited.{Cited}

@@ -3,8 +3,7 @@
 ghost use Rattle.std.specs.Prelude.{◌≡◌, ◌<◌, ◌-◌, ◌^◌, length, IfOk, IsTrue};
 ghost use Rattle.cnf.specs.Fresh.{AreOver};
 ghost use Rattle.cnf.specs.Trimmed.{is_trimmed};
-ghost use Rattle.meaning.specs.Laws.{clauses_for};
-ghost use Rattle.meaning.specs.StudyClauses.{study_clauses};
+ghost use Rattle.meaning.specs.StudyClauses.{study_clauses, clauses_for};
 ghost use Rattle.meaning.specs.Variables.{variable_count};
 ghost use Rattle.sharp_verdicts.specs.Derived.{derived_study};
 ghost use Rattle.sharp_verdicts.specs.Instances.{is_present};

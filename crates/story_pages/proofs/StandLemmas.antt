@@ -3,7 +3,8 @@ use Rattle.std.proofs.Common.{◌≡◌, sym, ap, ◌∙◌, subst, ℕ, zero, s
 use Rattle.std.specs.List.{flat_map, list_all}
 use Rattle.std.proofs.lemmas.Bool.{and_parts}
 use Rattle.std.proofs.lemmas.List.Sums.{sum_by-cons}
-use Rattle.vocab.specs.Range.{up_from, below}
+use Rattle.vocab.specs.Range.{below}
+use Rattle.vocab.proofs.Ranges.{at_below}
 use Rattle.story_pages.specs.Laws.{StandsIn}
 
 -- a text in itself
@@ -39,24 +40,6 @@ in_map f (y ∷ ys) zero x h =
     let same : y ≡ x = cc in
     in_front (f x) (f y) (flat_map f ys) (subst (λ z. StandsIn (f x) (f z)) (sym same) (whole (f x)))
 in_map f (y ∷ ys) (suc k) x h = behind (f x) (f y) (flat_map f ys) (in_map f ys k x h)
-
--- the numbers below a number
-at_up_from : (n a k : ℕ) → k < n → slice_get (up_from a n) k ≡ Some (a + k)
-at_up_from zero a k h = absurd (omega arith)
-at_up_from (suc n) a zero h = ap (λ (j : ℕ). Some j) here
-  where
-    here : a ≡ a + 0
-    here = omega arith
-at_up_from (suc n) a (suc k) h = at_up_from n (suc a) k (omega arith) ∙ ap (λ (j : ℕ). Some j) here
-  where
-    here : suc a + k ≡ a + suc k
-    here = omega arith
-
-pub at_below : (n k : ℕ) → k < n → slice_get (below n) k ≡ Some k
-at_below n k h = at_up_from n 0 k h ∙ ap (λ (j : ℕ). Some j) here
-  where
-    here : 0 + k ≡ k
-    here = omega arith
 
 -- the text of a number among those of all below another
 pub in_below : (f : ℕ → List ℕ) (n k : ℕ) → k < n → StandsIn (f k) (flat_map f (below n))

@@ -6,9 +6,10 @@ use Rattle.std.proofs.lemmas.Option.{slice_get_within}
 use Rattle.lists.proofs.TestLaws.{all_get}
 use Rattle.vocab.specs.declared.literals.Literal.{Literal}
 use Rattle.vocab.specs.Literal.{opposite_of}
-use Rattle.vocab.specs.Range.{up_from, below}
+use Rattle.vocab.specs.Range.{below}
 use Rattle.vocab.specs.Size.{Extent}
 use Rattle.vocab.specs.Titled.{Titled}
+use Rattle.vocab.proofs.Ranges.{at_below}
 use Rattle.meaning.specs.declared.stories.Reason.{Reason}
 use Rattle.meaning.specs.declared.stories.Reason.TheVariants.{Axiom as ByAxiom, Outcome as ByOutcome, Lemma as ByLemma}
 use Rattle.meaning.specs.declared.stories.Lemma.{Lemma}
@@ -49,17 +50,6 @@ any_flat t f (y ∷ xs) zero x at h =
     any_left t (f y) (flat_map f xs) (subst (λ z. list_any t (f z) ≡ true) (sym same) h)
 any_flat t f (y ∷ xs) (suc i) x at h = any_right t (f y) (flat_map f xs) (any_flat t f xs i x at h)
 
-at_up_from : (n a k : ℕ) → k < n → slice_get (up_from a n) k ≡ Some (a + k)
-at_up_from zero a k h = absurd (omega arith)
-at_up_from (suc n) a zero h = ap (λ (j : ℕ). Some j) here
-  where
-    here : a ≡ a + 0
-    here = omega arith
-at_up_from (suc n) a (suc k) h = at_up_from n (suc a) k (omega arith) ∙ ap (λ (j : ℕ). Some j) here
-  where
-    here : suc a + k ≡ a + suc k
-    here = omega arith
-
 own_name : (j m : ℕ) (reason : Reason) → names_lemma j reason ≡ true → list_any (λ k. k == m) (naming j m reason) ≡ true
 own_name j m reason h = rw (h, eq-eqb m m refl) refl
 
@@ -80,10 +70,7 @@ module _ (story : List Lemma) (tellings : List Telling) where
   among : (j m : ℕ) (lemma : Lemma) (telling : Telling) → slice_get story m ≡ Some lemma → slice_get tellings m ≡ Some telling →
       list_any (λ k. k == m) (namings j m (Some lemma) (Some telling)) ≡ true → list_any (λ k. k == m) (namers story tellings j) ≡ true
   among j m lemma telling at there h =
-      any_flat (λ k. k == m) (of_place j) (below (length story)) m m (at_up_from (length story) 0 m (slice_get_within story m lemma at) ∙ ap (λ (k : ℕ). Some k) own) (rw (at, there) h)
-    where
-      own : 0 + m ≡ m
-      own = omega arith
+      any_flat (λ k. k == m) (of_place j) (below (length story)) m m (at_below (length story) m (slice_get_within story m lemma at)) (rw (at, there) h)
 
   pub step_names_only : (j m h i : ℕ) (lemma : Lemma) (telling : Telling) (placed : Placed) → slice_get story m ≡ Some lemma → slice_get tellings m ≡ Some telling →
       slice_get telling.passage.steps i ≡ Some placed → names_lemma j placed.step.reason ≡ true → is_only h (namers story tellings j) ≡ true → m ≡ h

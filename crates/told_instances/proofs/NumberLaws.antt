@@ -6,7 +6,8 @@ use Rattle.std.specs.Cmp.Lexicographic.{pointwise}
 use Rattle.std.proofs.Math.Nat.{mul-le-mul_right}
 use Rattle.std.proofs.lemmas.Bool.{and_parts, cases_lt}
 use Rattle.std.proofs.lemmas.List.{drop_all}
-use Rattle.vocab.specs.Limits.{bases_of, instance_count, product}
+use Rattle.vocab.specs.Range.{product}
+use Rattle.vocab.specs.Limits.{bases_of, instance_count}
 use Rattle.vocab.specs.Size.{Extent, sort_count}
 use Rattle.vocab.specs.Study.{Question, IsStudy}
 use Rattle.vocab.specs.Titled.{Titled}

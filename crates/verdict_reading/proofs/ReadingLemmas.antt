@@ -60,10 +60,10 @@ module _ (study : Question) (text : List ℕ) where
   right_within : (r : Reading) → r ≡ reading_of (judged_within most_verdict_bytes study text) → IsRightOf study text r
   right_within r e = record {
     report = λ v is.
-        let confirmed = by_report (has_sharp_title text) (sharp_answer_within study most_verdict_bytes text) (answer_within most_verdict_bytes study text) (Confirmed v) (confirmed_is (judged_within most_verdict_bytes study text) v (sym e ∙ is)) in
+        let confirmed = by_report (has_sharp_title text) (sharp_answer_within most_verdict_bytes study text) (answer_within most_verdict_bytes study text) (Confirmed v) (confirmed_is (judged_within most_verdict_bytes study text) v (sym e ∙ is)) in
         judge_sound study text v ((within_limit most_verdict_bytes study text v).0 confirmed).1;
     sharp = λ v is.
-        let confirmed = by_sharp (has_sharp_title text) (sharp_answer_within study most_verdict_bytes text) (SharpConfirmed (as_said v)) (answer_within most_verdict_bytes study text) (sharp_is (judged_within most_verdict_bytes study text) v (sym e ∙ is)) in
+        let confirmed = by_sharp (has_sharp_title text) (sharp_answer_within most_verdict_bytes study text) (SharpConfirmed (as_said v)) (answer_within most_verdict_bytes study text) (sharp_is (judged_within most_verdict_bytes study text) v (sym e ∙ is)) in
         sharp_judge_sound study text (as_said v) ((sharp_within_limit most_verdict_bytes study text (as_said v)).0 confirmed).1;
   }
 
@@ -126,7 +126,7 @@ module _ (study : Question) where
       let sharp = front_within (sharp_judge study) (sharp_conclude study) (sharp_beyond study) whole known left bytes held h k in
       let report = front_within (judge study) conclude beyond whole known left bytes held h k in
       e ∙ sym (ap reading_of (
-      ap (λ b. cond b (AsSharp (sharp_answer_within study most_verdict_bytes held)) (AsReport (answer_within most_verdict_bytes study held))) (front_title whole known left bytes held h k)
+      ap (λ b. cond b (AsSharp (sharp_answer_within most_verdict_bytes study held)) (AsReport (answer_within most_verdict_bytes study held))) (front_title whole known left bytes held h k)
       ∙ ap (λ x. cond (has_sharp_title bytes) (AsSharp x) (AsReport (answer_within most_verdict_bytes study held))) sharp
       ∙ ap (λ y. cond (has_sharp_title bytes) (AsSharp (sharp_judged_end study whole n (final (pieces bytes)) (sharp_judge study (front (pieces bytes))))) (AsReport y)) report))
 

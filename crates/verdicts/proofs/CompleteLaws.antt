@@ -33,14 +33,14 @@ use Rattle.cnf.proofs.LitLaws.{beq-refl}
 use Rattle.meaning.specs.StoryFaults.{unless, literal_fault, reason_fault}
 use Rattle.meaning.proofs.SpaceLaws.{all_from, some_profile as size_has_profile}
 use Rattle.meaning.proofs.StoryFaultLaws.{passes_reason, passes_literal}
-use Rattle.verdicts.specs.Lines.{Line, Title, KindIs, VotersAre, AlternativesAre, BallotsAre, AbsentIs, AxiomsAre, SaysImpossible, Row, CoreIs, LemmasAre, Suppose, So, Clash, End, name_at}
+use Rattle.verdicts.specs.Lines.{Line, Title, KindIs, VotersAre, AlternativesAre, BallotsAre, AbsentIs, AxiomsAre, SaysImpossible, Row, CoreIs, LemmasAre, Suppose, So, Clash, End, name_at, is_version}
 use Rattle.verdicts.specs.Reading.{read_axiom}
 use Rattle.verdicts.specs.declared.verdicts.Verdict.{Verdict}
 use Rattle.verdicts.specs.declared.verdicts.Verdict.TheVariants.{Possible, Impossible, Undecided}
-use Rattle.verdicts.specs.Report.{row_lines, step_line, lemma_lines, story_lines, domain_lines, head_lines, witness_lines, all_witness_lines, verdict_lines, report_lines, is_reason, is_lemma_text, is_witness_text, has_text, is_right, claims}
+use Rattle.verdicts.specs.Report.{row_lines, step_line, lemma_lines, story_lines, domain_lines, head_lines, witness_lines, all_witness_lines, verdict_lines, report_lines, is_reason, is_lemma_text, is_witness_text, has_text, is_right, is_claim}
 use Rattle.verdicts.specs.Places.{Place, AtBallots, AtAxioms, AtVerdict, AtRow, AtLemmas, AtLemma, AtSuppose, AtStep, AtWitness, AtWitnessRow, AtEnd, AtNothing, Standing, start}
 use Rattle.verdicts.specs.declared.refusals.Refusal.{Refusal}
-use Rattle.verdicts.specs.Faults.{refusal_of, unless_so, same_kind, is_version, named_places, is_core, next_after, rest_of, failing, table_fault, name_fault, fault_of}
+use Rattle.verdicts.specs.Faults.{refusal_of, unless_so, same_kind, named_places, is_core, next_after, rest_of, failing, table_fault, name_fault, fault_of}
 use Rattle.verdicts.specs.Judge.{witness_place, after_witness, after_lemma, advance}
 use Rattle.verdicts.proofs.WordLaws.{IsIn, named_below}
 use Rattle.verdicts.proofs.TextLaws.{names_own}
@@ -536,7 +536,7 @@ module _ (study : Question) (is : IsReportable study) (strict : Bool) where
 
     -- the lines of a report lead to its end
     pub report_run : IsIn versions version → Asked (is_version study.size version ≡ true) → (v : Verdict)
-        → Asked (claims study v ≡ true) → Asked (is_right study v ≡ true) → has_text study v ≡ true → Ends v
+        → Asked (is_claim study v ≡ true) → Asked (is_right study v ≡ true) → has_text study v ≡ true → Ends v
     report_run known allowed (Possible table) c h t =
         whole_run (known, allowed) (Possible table) (in_rows table) (possible_run table t h) refl
     report_run known allowed (Impossible core story witnesses) c h t =

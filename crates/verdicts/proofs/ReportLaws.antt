@@ -7,11 +7,10 @@ use Rattle.std.proofs.lemmas.Bool.{and_parts, and_from, cases_lt, not-true}
 use Rattle.vocab.specs.Size.{is_full}
 use Rattle.vocab.specs.Study.{Question, HasFewAxioms}
 use Rattle.verdicts.specs.Texts.{words_of}
-use Rattle.verdicts.specs.Lines.{Line, line_text}
+use Rattle.verdicts.specs.Lines.{Line, line_text, is_version}
 use Rattle.verdicts.specs.declared.verdicts.Verdict.{Verdict}
 use Rattle.verdicts.specs.declared.refusals.Refusal.TheVariants.{Form}
-use Rattle.verdicts.specs.Faults.{is_version}
-use Rattle.verdicts.specs.Report.{lemma_count, report_lines, report_text_in, own_version, report_text, has_text, is_right, claims, IsReport, IsConfirmed}
+use Rattle.verdicts.specs.Report.{lemma_count, report_lines, report_text_in, own_version, report_text, has_text, is_right, is_claim, IsReport, IsSomeReport}
 use Rattle.verdicts.specs.Places.{Place, AtTitle, AtKind, AtVoters, AtAlternatives, AtBallots, AtAbsent, AtAxioms, AtVerdict, AtLimit, AtRule, AtRow, AtCore, AtLemmas, AtLemma, AtSuppose, AtStep, AtWitness, AtWitnessRow, AtEnd, AtNothing, Standing, start, wanted}
 use Rattle.verdicts.specs.Judge.{advance, Good, read_line, judge_from, judge, ended, pieces, front, final, Confirmed, Faulty, at_end, conclude, answer}
 use Rattle.verdicts.specs.Laws.{IsReportable, IsVersion, HasShortLines}
@@ -230,7 +229,7 @@ module _ (study : Question) (is : IsReportable study) where
           ap (λ t. pieces (t ++ rest)) (sym (ended_map study said))
           ∙ split_ended 10 (texts_of study m v) rest (lines_lack study is false start s said r)
 
-pub no_confirmed_prefix : (study : Question) → IsReportable study → (text rest : List ℕ) → IsConfirmed study text → IsConfirmed study (text ++ rest) → rest ≡ []
+pub no_confirmed_prefix : (study : Question) → IsReportable study → (text rest : List ℕ) → IsSomeReport study text → IsSomeReport study (text ++ rest) → rest ≡ []
 no_confirmed_prefix study is text rest a b =
     let known = allowed_known study.size a.1.version a.1.allowed in
     let other = allowed_known study.size b.1.version b.1.allowed in
@@ -383,7 +382,7 @@ own_allowed study = by_test (is_full study.size) refl
 
 -- what is printed of a right verdict that claims something is its report
 pub printed_is_report : (study : Question) (text : List ℕ) (v : Verdict)
-    → claims study v ≡ true → is_right study v ≡ true → text ≡ report_text study v → IsReport study v text
+    → is_claim study v ≡ true → is_right study v ≡ true → text ≡ report_text study v → IsReport study v text
 printed_is_report study text v some right e = record {
   claims_some = some;
   right = right;
@@ -393,6 +392,6 @@ printed_is_report study text v some right e = record {
 }
 
 pub printed_are_reports : (study : Question) → (is_version study.size (own_version study) ≡ true)
-    × ((text : List ℕ) (v : Verdict) → claims study v ≡ true → is_right study v ≡ true
+    × ((text : List ℕ) (v : Verdict) → is_claim study v ≡ true → is_right study v ≡ true
     → text ≡ report_text study v → IsReport study v text)
 printed_are_reports study = (own_allowed study, printed_is_report study)

@@ -38,7 +38,7 @@ use Rattle.verdicts.specs.Lines.{Line, Title, KindIs, VotersAre, AlternativesAre
 use Rattle.verdicts.specs.Reading.{read_axiom}
 use Rattle.verdicts.specs.declared.verdicts.Verdict.{Verdict}
 use Rattle.verdicts.specs.declared.verdicts.Verdict.TheVariants.{Possible, Impossible}
-use Rattle.verdicts.specs.Report.{row_lines, step_line, lemma_lines, story_lines, domain_lines, head_lines, witness_lines, all_witness_lines, verdict_lines, report_lines, is_reason, is_lemma_text, has_text, is_right, claims}
+use Rattle.verdicts.specs.Report.{row_lines, step_line, lemma_lines, story_lines, domain_lines, head_lines, witness_lines, all_witness_lines, verdict_lines, report_lines, is_reason, is_lemma_text, has_text, is_right, is_claim}
 use Rattle.verdicts.specs.Places.{Place, AtTitle, AtKind, AtVoters, AtAlternatives, AtBallots, AtAbsent, AtAxioms, AtVerdict, AtLimit, AtRule, AtRow, AtCore, AtLemmas, AtLemma, AtSuppose, AtStep, AtWitness, AtWitnessRow, AtEnd, AtNothing, Standing}
 use Rattle.verdicts.specs.declared.refusals.Refusal.{Refusal}
 use Rattle.verdicts.specs.Faults.{refusal_of, unless_so, same_kind, named_places, is_core, known_of, next_core, rest_of, failing, table_fault, name_fault, fault_of}
@@ -186,7 +186,7 @@ module _ (study : Question) where
   AreRows s = (list_all (λ o. nat_lt o K) s.rows ≡ true) × (0 < P → length s.rows < P)
 
   abbrev pub IsJudgedRight : Verdict → Type 0
-  IsJudgedRight v = (is_right study v ≡ true) × (has_text study v ≡ true) × (claims study v ≡ true)
+  IsJudgedRight v = (is_right study v ≡ true) × (has_text study v ≡ true) × (is_claim study v ≡ true)
 
   -- the outcomes that are held are those of the rule, where the verdict has one
   abbrev pub HasRowsOf : Verdict → List ℕ → Type 0

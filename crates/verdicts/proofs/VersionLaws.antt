@@ -6,9 +6,9 @@ use Rattle.vocab.specs.Size.{sort_count}
 use Rattle.vocab.specs.Study.{Question}
 use Rattle.meaning.specs.declared.stories.Lemma.{Lemma}
 use Rattle.verdicts.specs.declared.refusals.Refusal.TheVariants.{StudyDiffers}
-use Rattle.verdicts.specs.Lines.{Line, Title, Row, Clash}
+use Rattle.verdicts.specs.Lines.{Line, Title, Row, Clash, is_version}
 use Rattle.verdicts.specs.Places.{Place, AtTitle, AtLemma, AtWitnessRow, Standing}
-use Rattle.verdicts.specs.Faults.{is_version, fault_of}
+use Rattle.verdicts.specs.Faults.{fault_of}
 use Rattle.verdicts.specs.Judge.{after_witness, after_lemma, after_row, advance}
 use Rattle.verdicts.proofs.FitLaws.{Fits}
 use Rattle.verdicts.proofs.SoundLaws.{none_unless}

@@ -18,7 +18,7 @@ IsRuleFor study table = IsTrue (satisfies study.size study.axioms (below (length
 abbrev pub HasNoRule : Question → List ℕ → Type 0
 HasNoRule study core = (table : List ℕ) → ¬ IsTrue (satisfies study.size study.axioms core table)
 
--- what a verdict claims is so: this rule satisfies all axioms, or none satisfies those of the core. (`Report.claims` is not the test of it)
+-- what a verdict claims is so: this rule satisfies all axioms, or none satisfies those of the core. (`Report.is_claim` is not the test of it)
 abbrev pub Claims : Question → Verdict → Type 0
 Claims study (Possible table) = IsRuleFor study table
 Claims study (Impossible core story witnesses) = HasNoRule study core

@@ -17,10 +17,11 @@ use Rattle.verdicts.specs.declared.refusals.Refusal.TheVariants.{Form, Fails}
 use Rattle.verdicts.specs.declared.verdicts.Confirmed.{Confirmed as Claim}
 use Rattle.verdicts.specs.declared.verdicts.Verdict.{Verdict}
 use Rattle.verdicts.specs.declared.verdicts.Verdict.TheVariants.{Possible, Impossible}
-use Rattle.verdicts.specs.Report.{lemma_count, has_text, report_text_in, own_version, report_text, is_right, claims, IsReport, IsConfirmed}
+use Rattle.verdicts.specs.Report.{lemma_count, has_text, report_text_in, own_version, report_text, is_right, is_claim, IsReport, IsSomeReport}
 use Rattle.verdicts.specs.Claims.{IsClaimed, ClaimHolds}
 use Rattle.verdicts.specs.Places.{Standing}
-use Rattle.verdicts.specs.Faults.{is_version, table_fault}
+use Rattle.verdicts.specs.Lines.{is_version}
+use Rattle.verdicts.specs.Faults.{table_fault}
 use Rattle.verdicts.specs.Judge.{Good, Refused, line_fault, judge, has_no_end, ended, Confirmed, Faulty, conclude, answer, answer_within, pieces}
 
 -- what the laws ask of a study: the bench takes it, at a size, and its axioms have names
@@ -63,7 +64,7 @@ LinesAreShort =
 abbrev pub PrintedTextsAreReports : Type 0
 PrintedTextsAreReports =
     (study : Question) → IsTrue (is_version study.size (own_version study))
-    × ((text : List ℕ) (verdict : Verdict) → IsTrue (claims study verdict) → IsTrue (is_right study verdict)
+    × ((text : List ℕ) (verdict : Verdict) → IsTrue (is_claim study verdict) → IsTrue (is_right study verdict)
     → text ≡ report_text study verdict → IsReport study verdict text)
 
 -- ---- confirmed reports
@@ -118,7 +119,7 @@ ConfirmedClaimsHold = (study : Question) → IsSize study.size → (text : List 
 
 -- no proper prefix of a confirmed report is confirmed
 abbrev pub HasNoConfirmedPrefix : Type 0
-HasNoConfirmedPrefix = (study : Question) → IsReportable study → (text rest : List ℕ) → IsConfirmed study text → IsConfirmed study (text ++ rest) → rest ≡ []
+HasNoConfirmedPrefix = (study : Question) → IsReportable study → (text rest : List ℕ) → IsSomeReport study text → IsSomeReport study (text ++ rest) → rest ≡ []
 
 -- where only so many bytes of a text are read, exactly those confirmed reports are confirmed that have no more
 abbrev pub ConfirmedWithinLimit : Type 0

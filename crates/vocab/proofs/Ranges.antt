@@ -1,5 +1,5 @@
 -- The numbers below a number, one after another, and the texts that a loop over them adds.
-use Rattle.std.proofs.Common.{◌≡◌, ◌≢◌, ◌^◌, ◌/◌, bit_and, eq-eqb, eqb-true, sym, ◌∙◌, ap, ℕ, zero, suc, ◌+◌, Bool, true, false, cond, List, [], ◌∷◌, ◌++◌, length, filter, arith, length-append, add-one, append-nil, append_assoc}
+use Rattle.std.proofs.Common.{◌≡◌, ◌≢◌, ◌<◌, ◌^◌, ◌/◌, bit_and, eq-eqb, eqb-true, sym, ◌∙◌, ap, ℕ, zero, suc, ◌+◌, Bool, true, false, cond, List, [], ◌∷◌, ◌++◌, length, filter, arith, Some, slice_get, length-append, add-one, append-nil, append_assoc}
 use Rattle.std.specs.List.{flat_map}
 use Rattle.std.proofs.lemmas.Grind.{flat_map-append}
 use Rattle.std.proofs.lemmas.List.Elements.{filter-append}
@@ -18,6 +18,24 @@ below_more n =
     let next : n + 1 ≡ suc n = add-one n in
     let here : 0 + n ≡ n = omega arith in
     ap below next ∙ up_from-more 0 n ∙ ap (λ x. below n ++ x ∷ []) here
+
+-- the number at a place
+at_up_from : (n a k : ℕ) → k < n → slice_get (up_from a n) k ≡ Some (a + k)
+at_up_from zero a k h = absurd (omega arith)
+at_up_from (suc n) a zero h = ap (λ (j : ℕ). Some j) here
+  where
+    here : a ≡ a + 0
+    here = omega arith
+at_up_from (suc n) a (suc k) h = at_up_from n (suc a) k (omega arith) ∙ ap (λ (j : ℕ). Some j) here
+  where
+    here : suc a + k ≡ a + suc k
+    here = omega arith
+
+pub at_below : (n k : ℕ) → k < n → slice_get (below n) k ≡ Some k
+at_below n k h = at_up_from n 0 k h ∙ ap (λ (j : ℕ). Some j) here
+  where
+    here : 0 + k ≡ k
+    here = omega arith
 
 pub next_below : (f : ℕ → List ℕ) (n : ℕ) → flat_map f (below (n + 1)) ≡ flat_map f (below n) ++ f n
 next_below f n =

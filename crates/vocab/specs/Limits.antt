@@ -1,6 +1,7 @@
 -- How large a sentence is.
-use Rattle.std.specs.Prelude.{ℕ, ◌+◌, ◌*◌, max, Bool, ◌&&◌, nat_le, List, [], ◌∷◌, map}
+use Rattle.std.specs.Prelude.{ℕ, ◌+◌, ◌*◌, max, Bool, ◌&&◌, nat_le, List, map}
 use Rattle.vocab.specs.Formula.{prefix_of, body_of}
+use Rattle.vocab.specs.Range.{product}
 use Rattle.vocab.specs.Size.{Extent, sort_count}
 use Rattle.vocab.specs.Tree.{TermTree, Var, Const, With, SwapVoters, SwapAlts, Swap, AtomTree, Equal, Prefers, Better, Casts, Majority, WinsAt, Ranks, Tree, Leaf, Not, Both, Either, Implies, Same, All, Exists}
 
@@ -37,11 +38,6 @@ depth (Exists s f) = depth f + 1
 -- how many values each leading universal ranges over
 abbrev pub bases_of : Extent → Tree → List ℕ
 bases_of size sentence = map (sort_count size) (prefix_of sentence)
-
--- the product of some numbers, which for none is 1
-abbrev pub product : List ℕ → ℕ
-product [] = 1
-product (b ∷ bases) = b * product bases
 
 -- a sentence has an instance for each list of values of its leading universals
 abbrev pub instance_count : Extent → Tree → ℕ

@@ -3,7 +3,7 @@ use Rattle.std.specs.Prelude.{nat_lt, Any}
 use Rattle.std.specs.List.{list_all, AllByRecursion}
 use Rattle.std.proofs.lemmas.List.Quantifiers.{Any-push}
 use Rattle.cdcl.specs.Answer.{IsSearchAnswer}
-use Rattle.meaning.specs.Laws.{clauses_for}
+use Rattle.meaning.specs.StudyClauses.{clauses_for}
 use Rattle.meaning.specs.Variables.{variable_count}
 use Rattle.meaning.specs.Cores.{is_core_from}
 use Rattle.meaning.specs.Space.{below}

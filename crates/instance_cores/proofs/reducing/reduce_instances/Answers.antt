@@ -5,8 +5,7 @@ use Rattle.cnf.specs.Sat.{Clause}
 use Rattle.cnf.specs.Trimmed.{is_trimmed}
 use Rattle.cnf.proofs.TrimmedLaws.{trimmed_accepted}
 use Rattle.meaning.specs.Cores.{is_core_from}
-use Rattle.meaning.specs.Laws.{clauses_for}
-use Rattle.meaning.specs.StudyClauses.{Sourced}
+use Rattle.meaning.specs.StudyClauses.{Sourced, clauses_for}
 use Rattle.search_logs.specs.Spent.{all_places}
 use Rattle.meaning.specs.Variables.{variable_count}
 use Rattle.search_logs.proofs.PlaceLaws.{core_below}

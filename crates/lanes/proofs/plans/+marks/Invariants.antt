@@ -1,5 +1,5 @@
 use Rattle.std.proofs.Common.{◌-◌, ◌+◌, ◌<◌, ◌≤◌, ◌++◌, ◌∷◌, [], ℕ, length}
-use Rattle.vocab.specs.Limits.{product}
+use Rattle.vocab.specs.Range.{product}
 use Rattle.vocab.specs.Tree.{tree_of}
 use Rattle.meaning.specs.Written.{write_out}
 use Rattle.worlds.proofs.ChainLemmas.{all_from, some_from}

@@ -1,6 +1,7 @@
 use Rattle.std.proofs.Common.{◌≡◌, ◌∙◌, ap, min, drop, arith}
 use Rattle.vocab.specs.Formula.{body_of}
-use Rattle.vocab.specs.Limits.{bases_of, instance_count, product}
+use Rattle.vocab.specs.Range.{product}
+use Rattle.vocab.specs.Limits.{bases_of, instance_count}
 use Rattle.vocab.specs.Tree.{tree_of}
 use Rattle.meaning.specs.Instances.{instance_values}
 use Rattle.worlds.proofs.ConditionLemmas.{evaluable}

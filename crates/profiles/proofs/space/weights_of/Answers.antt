@@ -1,6 +1,6 @@
 use Rattle.std.proofs.Common.{◌≡◌, cond, refl, ◌∙◌, ◌<◌, ◌+◌, ◌-◌, ◌/◌, ◌++◌, ap, length, drop, replicate, set, arith, ◌≤◌}
 use Rattle.std.proofs.lemmas.List.{take_all}
-use Rattle.vocab.specs.Limits.{product}
+use Rattle.vocab.specs.Range.{product}
 use Rattle.meaning.specs.Space.{cast_bases}
 use Rattle.meaning.proofs.SpaceLaws.{cast_positive}
 use Rattle.meaning.proofs.DigitLaws.{lists_are}

@@ -1,5 +1,5 @@
 use Rattle.std.proofs.Common.{◌≡◌, ◌-◌, ◌++◌, take, drop, replicate}
-use Rattle.vocab.specs.Limits.{product}
+use Rattle.vocab.specs.Range.{product}
 use Rattle.meaning.specs.Space.{cast_bases}
 use Rattle.profiles.specs.Weights.{place_values}
 use Rattle.profiles.proofs.space.weights_of.Given as goal

@@ -9,9 +9,8 @@ use Rattle.cnf.specs.Fresh.{is_over, added_by}
 use Rattle.cnf.specs.Sat.{opposite_lit, is_tautology}
 use Rattle.cnf.specs.Trimmed.{is_trimmed, are_hints_trimmed}
 use Rattle.meaning.specs.declared.stories.Lemma.{Lemma}
-use Rattle.meaning.specs.Laws.{clauses_for}
 use Rattle.meaning.specs.Stories.{is_story}
-use Rattle.meaning.specs.StudyClauses.{Sourced, study_clauses}
+use Rattle.meaning.specs.StudyClauses.{Sourced, study_clauses, clauses_for}
 use Rattle.meaning.specs.Tidy.{is_tidy}
 use Rattle.meaning.specs.Variables.{variable_count}
 use Rattle.clause_form.proofs.OverLaws.{clauses_over}

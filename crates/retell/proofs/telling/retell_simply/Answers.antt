@@ -4,7 +4,7 @@ use Rattle.vocab.specs.Size.{Extent}
 use Rattle.cnf.specs.Sat.{Clause}
 use Rattle.cnf.specs.Fresh.{is_over}
 use Rattle.cnf.proofs.OverLaws.{stay_within}
-use Rattle.meaning.specs.Laws.{clauses_for}
+use Rattle.meaning.specs.StudyClauses.{clauses_for}
 use Rattle.meaning.specs.Variables.{variable_count}
 use Rattle.clause_form.specs.Sources.{clauses_in}
 use Rattle.clause_form.proofs.OverLaws.{clauses_over}

@@ -5,7 +5,7 @@ use Rattle.cnf.specs.Sat.{Clause}
 use Rattle.cnf.specs.Trimmed.{is_trimmed}
 use Rattle.cnf.proofs.TrimmedLaws.{trimmed_accepted}
 use Rattle.meaning.specs.declared.cores.Witness.{Witness}
-use Rattle.meaning.specs.Laws.{clauses_for}
+use Rattle.meaning.specs.StudyClauses.{clauses_for}
 use Rattle.meaning.specs.Cores.{is_core_right}
 use Rattle.clause_form.specs.Sources.{clauses_in}
 use Rattle.search_logs.specs.Spent.{HaveEvidence}

@@ -1,5 +1,5 @@
 use Rattle.std.proofs.Common.{sym, subst, ℕ, ◌<◌, arith}
-use Rattle.vocab.specs.Limits.{product}
+use Rattle.vocab.specs.Range.{product}
 use Rattle.meaning.specs.Space.{cast_bases}
 use Rattle.profiles.proofs.DigitPlaces.{lists_few}
 use Rattle.profiles.proofs.DigitChanges.{is_replaced, replaced_within}
