@@ -243,10 +243,14 @@ fn calm_devices_never_fail(rt: HostRuntime) -> Result<(), Fail> {
 fn files_of_the_system_are_read(rt: HostRuntime) -> Result<(), Fail> {
     let alloc = rt.alloc();
     fs::write(&rt, "held", "kind = 1\n")?;
-    let mut shelf = FileShelf::new(&rt);
+    let mut shelf = FileShelf::new(&rt, alloc);
     let mut byte = [0];
     assert!(rt; shelf.read("held", &mut byte) == Err(Failed));
     assert!(rt; gives(alloc, &mut shelf, "held", 9, Ok(STUDY)));
+    // What is open is read by its own name alone.
+    assert!(rt; shelf.rewind("held") == Ok(()));
+    assert!(rt; shelf.read("other", &mut byte) == Err(Failed));
+    assert!(rt; shelf.read("held", &mut byte) == Ok(1));
     for (name, limit, fault) in refused() {
         assert!(rt; gives(alloc, &mut shelf, name, *limit, Err(*fault)));
     }

@@ -26,7 +26,7 @@ fn main(rt: HostRuntime) -> ExitCode {
     let Some(words) = words_given(&rt) else {
         return ExitCode::from(7);
     };
-    let mut shelf = FileShelf::new(&rt);
+    let mut shelf = FileShelf::new(&rt, rt.alloc());
     let mut out = StdSink::new(&rt);
     let status = explain(&rt, rt.alloc(), &words, &mut shelf, &mut out, &Open);
     ExitCode::from(status)

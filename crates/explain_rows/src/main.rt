@@ -23,7 +23,7 @@ impl Program for ExplainCall {
         words: &[String],
         out: &mut MemorySink,
     ) -> (u8, usize) {
-        let mut shelf = FileShelf::new(rt);
+        let mut shelf = FileShelf::new(rt, rt.alloc());
         let status = explain(rt, rt.alloc(), words, &mut shelf, out, &Open);
         (status, 0)
     }

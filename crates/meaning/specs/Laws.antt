@@ -30,7 +30,7 @@ use Rattle.meaning.specs.Measure.{plus_counts, minus_counts, counts_of}
 use Rattle.meaning.specs.Variables.{bits, variable_count, lit_of, literal_of, bits_of}
 use Rattle.meaning.specs.declared.clauses.Origin.{Origin}
 use Rattle.meaning.specs.declared.clauses.Origin.TheVariants.{Frame, Instance}
-use Rattle.meaning.specs.StudyClauses.{Sourced, frame_of, instance_of, study_clauses}
+use Rattle.meaning.specs.StudyClauses.{Sourced, clauses_for, frame_of, instance_of, study_clauses}
 
 -- ---- terms and formulas
 

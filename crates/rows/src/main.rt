@@ -38,7 +38,7 @@ impl Program for BenchCall {
         words: &[String],
         out: &mut MemorySink,
     ) -> (u8, usize) {
-        let mut shelf = FileShelf::new(rt);
+        let mut shelf = FileShelf::new(rt, rt.alloc());
         let run = bench(rt, rt.alloc(), words, &mut shelf, out, &Open);
         (run.status, learned_by(&run))
     }
