@@ -3,9 +3,9 @@
 # studies of studies/, the axioms of the theorems of Arrow, of Gibbard and Satterthwaite and of Muller and Satterthwaite for 3 voters and
 # 3 alternatives and for 2 and 4, `pareto`, `anonymity` and `strategyproof` for 3 and 3, and of every seventh number from 0 to 2047 the
 # study that `sample` decides. Each runs once. Then, for all of these and for those of numbers: how many they are, and their sums.
-# The last line is the number of those that have a lemma which supposes more than one thing, but for the studies whose clauses no failed
-# literals refute, so that their stories need such a lemma: `wilson`. Where it is not 0 the status is 1. The line before has the number with
-# these.
+# The last line is the number of those that have a lemma which supposes more than one thing, or more than two for the studies whose clauses
+# no failed literals refute, so that their stories need a lemma that supposes two: `wilson`. Where it is not 0 the status is 1. The line
+# before has the number of those with a lemma that supposes more than one.
 set -eu
 . "$(dirname -- "$(readlink -f -- "${BASH_SOURCE[0]}")")/setup.sh"
 build_program
@@ -56,9 +56,9 @@ for name, path in studies:
 for what, some in (("all", rows), ("of numbers", [row for row in rows if row[0].startswith("sample_")])):
     lemmas, _, steps, supposed, spent = (sum(row[at] for row in some) for at in range(1, 6))
     print("%s: %d impossible, %d lemmas, %d supposed, %d steps, %.1f s" % (what, len(some), lemmas, supposed, steps, spent))
-many = [row[0] for row in rows if row[2] > 1]
-more = len(set(many) - HARD)
-print("with %s: %d" % (", ".join(sorted(HARD)), len(many)))
+many = sum(row[2] > 1 for row in rows)
+more = sum(row[2] > (2 if row[0] in HARD else 1) for row in rows)
+print("with %s: %d" % (", ".join(sorted(HARD)), many))
 print(more)
 sys.exit(more > 0)
 PY

@@ -22,7 +22,7 @@ const BUDGET: u32 = 10_000_000;
 const LINES: u32 = 1_000_000;
 
 /// How many clauses and variables may be looked at for shorter ways to conflicts, each time.
-const LOOKS: u32 = 4_000_000;
+const LOOKS: u32 = 40_000_000;
 
 /// In how many orders literals are tried.
 const ORDERS: u32 = 8;
