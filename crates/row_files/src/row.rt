@@ -2,6 +2,7 @@
 
 use crate::program::Program;
 use edge::MemorySink;
+use std::alloc::{AllocError, Global};
 use std::io::{ErrorKind, Write};
 use std::rt::Files;
 use std::thread::Threads;
@@ -53,6 +54,14 @@ fn answer<P: Program, R: Files + AllocGlobal + Threads + Sync>(
     })
 }
 
+/// The line with a number of workers, which stands before a word `--`, since behind that each word is a file.
+fn with_workers(alloc: Global, line: &str, workers: u32) -> Result<String, AllocError> {
+    match line.split_once(" -- ") {
+        Some((words, files)) => format!(in alloc; "{words} --workers {workers} -- {files}"),
+        None => format!(in alloc; "{line} --workers {workers}"),
+    }
+}
+
 /// What is said of the same words with a number of workers, where they may have one.
 fn among_workers<P: Program, R: Files + AllocGlobal + Threads + Sync>(
     program: &P,
@@ -63,7 +72,7 @@ fn among_workers<P: Program, R: Files + AllocGlobal + Threads + Sync>(
     let mut same = 0u32;
     let mut refused = 0u32;
     for workers in [1, 2, 16] {
-        let more = format!(in rt.alloc(); "{line} --workers {workers}")?;
+        let more = with_workers(rt.alloc(), line, workers)?;
         let many = answer(program, rt, more.as_str())?;
         if many.is(alone) {
             same = same.saturating_add(1);
