@@ -7,7 +7,7 @@
 # line says so.
 # Commands that share work run with 2 workers too, over inputs for which threads are started; with 1 worker an allocation has the same
 # number at each run. The commands are all of both programs, most of them over what the tests over failing devices have (fault_tests.rt of
-# crates/top_call and crates/explain_tests), and over more: larger studies, studies of sets with their reports for `gain`, clauses that are
+# crates/call_tests and crates/explain_tests), and over more: larger studies, studies of sets with their reports for `gain`, clauses that are
 # refused, searches that spend their limit, and reports with open marks.
 # What are tried are the programs that LLVM built, on the paths of these commands, where a call from its own code of malloc and the like is
 # refused (measure/refuse.c). What the C library and the loader ask for themselves, as for the stack of a thread, is always given; the

@@ -4,10 +4,3 @@
 mod top;
 
 pub use top::{bench, bench_calmly};
-
-#[cfg(test)]
-mod fault_tests;
-#[cfg(test)]
-mod test_calls;
-#[cfg(test)]
-mod worker_tests;

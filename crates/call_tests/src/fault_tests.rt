@@ -1,7 +1,6 @@
 //! The commands over devices that fail at a call, that move one byte at a time, that have little room, and that
 //! never fail.
 
-use crate::bench_calmly;
 use crate::test_calls::{
     ARROW, SYMMETRIC, SYMMETRIC_SHARP, SYMMETRIC_STORY, Told, UNANIMITY, answered, answered_into,
     answered_over, counts, shelf_of, with_files, words_of,
@@ -10,6 +9,7 @@ use edge::{CalmShelf, MemoryShelf, MemorySink, Open};
 use std::alloc::Global;
 use std::test::Fail;
 use std::thread::Threads;
+use top_call::bench_calmly;
 
 /// The bytes of a page, which a sink is given at once.
 const PAGE: usize = 4_096;

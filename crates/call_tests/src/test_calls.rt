@@ -1,11 +1,11 @@
 //! Calls of the bench over devices in memory, for the tests, and the texts that these share.
 
-use crate::bench;
 use answers::Run;
 use edge::{Gate, MemoryShelf, MemorySink, Shelf, Sink};
 use std::alloc::{AllocError, Global};
 use std::test::Fail;
 use std::thread::Threads;
+use top_call::bench;
 
 /// Of one voter and two alternatives.
 pub const UNANIMITY: &str =
