@@ -1,8 +1,8 @@
 -- Where no fault is counted, a call answers what was asked.
-use Rattle.std.proofs.Common.{◌≡◌, ◌≢◌, ◌∙◌, ap, ap₂, sym, subst, ℕ, ◌≤◌, ◌⊎◌, inl, inr, true, false, true≢false, eqb-true, List, [], ◌∷◌, length, Option, None, Some, arith, refl}
-use Rattle.std.specs.Prelude.{◌==◌, nat_le}
-use Rattle.std.specs.List.{list_all, list_any}
-use Rattle.std.proofs.lemmas.Bool.{or_cases, and_parts, cases_lt, leb-true}
+use Rattle.std.proofs.Common.{◌≡◌, ◌≢◌, ◌∙◌, ap, ap₂, sym, subst, ℕ, ◌≤◌, ◌⊎◌, inl, inr, true, false, true≢false, List, [], ◌∷◌, length, Option, None, Some, arith, refl}
+use Rattle.std.specs.Prelude.{nat_le}
+use Rattle.std.specs.List.{list_all}
+use Rattle.std.proofs.lemmas.Bool.{cases_lt, leb-true}
 use Rattle.edge.specs.Faults.{Rose}
 use Rattle.edge.specs.Shelf.{Files}
 use Rattle.vocab.specs.declared.kinds.Kind.{Kind}
@@ -33,19 +33,10 @@ use Rattle.answers.specs.Lawful.{IsBenchAnswer, Lawful}
 use Rattle.answers.specs.Devices.{Devices}
 use Rattle.answers.specs.Call.{IsCall, AreFiles, are_told, none_read, HasReadCause, at_first, at_second, files_of, statuses_of}
 use Rattle.answers.specs.Laws.{IsRightText, AreQuiet, HasNoFault, IsDecidedOrWanting, CallsAreComplete}
+use Rattle.answers.proofs.AmongLemmas.{of_one}
 use Rattle.answers.proofs.ReportLaws.{by_report, checked_right, listed, reportable}
 use Rattle.answers.proofs.OneAnswer.{cnf_given}
 use Rattle.answers.proofs.RowLemmas.{row_of, over_study, one_formula, some_same}
-
--- one of some statuses up to 7 is up to 7
-any_below : (statuses : List ℕ) (n : ℕ) → list_all (λ s. nat_le s 7) statuses ≡ true → list_any (λ s. s == n) statuses ≡ true → n ≤ 7
-any_below [] n low here = absurd (true≢false (sym here))
-any_below (s ∷ statuses) n low here =
-    let p = and_parts (nat_le s 7) _ low in
-    elim (or_cases (s == n) (list_any (λ s. s == n) statuses) here) [
-      | inl same ↦ subst (λ (k : ℕ). k ≤ 7) (eqb-true s n same) (leb-true s 7 p.0)
-      | inr later ↦ any_below statuses n p.1 later
-    ]
 
 few_statuses : (request : Option Request) → list_all (λ s. nat_le s 7) (statuses_of request) ≡ true
 few_statuses None = refl
@@ -62,7 +53,7 @@ few_statuses (Some (Sharpen study workers)) = refl
 
 -- each status is at most 7
 pub low_status : (words : List (List ℕ)) (d : Devices) (run : Run) → IsCall words d run → run.status ≤ 7
-low_status words d run call = any_below (statuses_of (request_of words)) run.status (few_statuses (request_of words)) call.status
+low_status words d run call = leb-true run.status 7 (of_one (λ s. nat_le s 7) (statuses_of (request_of words)) run.status (few_statuses (request_of words)) call.status)
 
 no_read_cause : (request : Option Request) (d : Devices) (names : List (List ℕ)) → AreQuiet d names → HasReadCause request d.told d.left_before d.left_now d.faults_before d.faults_now names → ⊥
 no_read_cause request d names quiet (at_first name others is rose stay) = (subst (λ (xs : List (List ℕ)). AreQuiet d xs) is quiet).0 rose

@@ -1,12 +1,10 @@
 -- What a call says and touches, by the devices.
 use Rattle.std.proofs.Common.{◌≡◌, ◌∙◌, ◌≢◌, refl, sym, ap, subst, ℕ, ◌≤◌, inl, inr, Bool, true, false, cond, true≢false, List, [], ◌∷◌, take, length, Option, None, Some, arith}
-use Rattle.std.specs.Prelude.{◌==◌, IfSome}
+use Rattle.std.specs.Prelude.{◌==◌, Contains, IfSome}
 use Rattle.std.specs.List.{list_any}
-use Rattle.std.specs.Str.{bytes_eq}
 use Rattle.std.specs.Io.KnownBytes.{Appends}
 use Rattle.std.proofs.lemmas.Bool.{cases_lt}
 use Rattle.lists.proofs.PlaceLaws.{head_same}
-use Rattle.lists.proofs.TextLaws.{same_from_test}
 use Rattle.edge.specs.Shelf.{Files, OthersStay}
 use Rattle.edge.specs.Told.{AppendsPrefix}
 use Rattle.vocab.specs.declared.kinds.Kind.{Kind}
@@ -38,6 +36,7 @@ use Rattle.answers.specs.Devices.{Devices}
 use Rattle.answers.specs.Call.{IsCall, AreFiles, are_told, none_read, AreUntouched, HasReadCause, at_first, at_second, IsFirstTaken, files_of, statuses_of, touched_at}
 use Rattle.answers.specs.Laws.{confirmed_sharp_line, Says, IsConfirmedAs, as_report, as_sharp_text, IsConfirmedRight, ConfirmedHolds, ChecksAreAnswered, UsageIsExact, LibraryIsWritten, RefusedLeavesUnopened, OtherWordsTouchNone}
 use Rattle.answers.specs.RowLaws.{WrittenDecisionsHold}
+use Rattle.answers.proofs.AmongLemmas.{among_found, none_among, not_alone}
 use Rattle.answers.proofs.DecidedLaws.{decided_hold}
 use Rattle.answers.proofs.JudgedLaws.{report_checked, sharp_checked, report_answered, sharp_answered, zero_judged}
 use Rattle.answers.proofs.OneAnswer.{one_refusal}
@@ -88,7 +87,7 @@ no_command (Some (Sharpen study workers)) e = absurd (true≢false (sym e))
 
 pub usage_exact : UsageIsExact
 usage_exact words d run call = record {
-  only = λ two. no_command (request_of words) (subst (λ (n : ℕ). list_any (λ s. s == n) (statuses_of (request_of words)) ≡ true) two call.status);
+  only = λ two. no_command (request_of words) (among_found (statuses_of (request_of words)) 2 (subst (λ (n : ℕ). Contains (statuses_of (request_of words)) n) two call.status));
   written = usage_written words d run call;
   cut_short = usage_front words d run call;
 }
@@ -198,16 +197,12 @@ decisions_hold words d run files name workers study call told asked g zero_is =
 
 -- ---- files that are not opened
 
-pub other_name : (name other : List ℕ) (b : Bool) → bytes_eq name other ≡ b → name ≢ other → list_any (bytes_eq name) (other ∷ []) ≡ false
-other_name name other true e ne = absurd (ne (same_from_test name other e))
-other_name name other false e ne = rw e refl
-
 at_three : (words : List (List ℕ)) (d : Devices) (run : Run) → IsCall words d run → run.status ≡ 3 → (first : List ℕ) (others : List (List ℕ))
     → files_of (request_of words) ≡ first ∷ others → OthersStay d.left_before d.left_now first
 at_three words d run call three first others named other ne =
     call.untouched other
-    (subst (λ (n : ℕ). list_any (bytes_eq other) (touched_at n (files_of (request_of words))) ≡ false) (sym three)
-    (subst (λ (names : List (List ℕ)). list_any (bytes_eq other) (touched_at 3 names) ≡ false) (sym named) (other_name other first _ refl ne)))
+    (subst (λ (n : ℕ). ¬ Contains (touched_at n (files_of (request_of words))) other) (sym three)
+    (subst (λ (names : List (List ℕ)). ¬ Contains (touched_at 3 names) other) (sym named) (not_alone other first ne)))
 
 -- a command over two files ends with status 3 where the first is not taken
 over_untaken : (files : Files) (name first : List ℕ) (run : Run) (text : List ℕ) (P : Question → Type 0) → name ≡ first
@@ -254,7 +249,7 @@ module _ (words : List (List ℕ)) (d : Devices) (run : Run) (files : Files) (fi
   kept_at status three untouched other ne =
       let kept : AreUntouched 3 (first ∷ second ∷ []) d.left_before d.left_now =
       subst (λ (names : List (List ℕ)). AreUntouched 3 names d.left_before d.left_now) two (subst (λ (s : ℕ). AreUntouched s (files_of (request_of words)) d.left_before d.left_now) three untouched) in
-      kept other (other_name other first _ refl ne)
+      kept other (not_alone other first ne)
 
   below_five : run.status ≤ 4 → OthersStay d.left_before d.left_now first
   below_five low =
@@ -290,12 +285,12 @@ left_unopened words d run call = record {
   at_pair = λ files first second told two untaken few. kept words d run files first second call told two untaken few;
 }
 
-pub none_of_none : (name : List ℕ) (b : Bool) → list_any (bytes_eq name) (cond b (take 1 []) []) ≡ false
-none_of_none name true = refl
-none_of_none name false = refl
+pub none_of_none : (name : List ℕ) (b : Bool) → ¬ Contains (cond b (take 1 []) []) name
+none_of_none name true = none_among name
+none_of_none name false = none_among name
 
 pub none_touched : OtherWordsTouchNone
 none_touched words d run call none name = (
-  call.untouched name (subst (λ (names : List (List ℕ)). list_any (bytes_eq name) (touched_at run.status names) ≡ false) (sym none) (none_of_none name (run.status == 3))),
+  call.untouched name (subst (λ (names : List (List ℕ)). ¬ Contains (touched_at run.status names) name) (sym none) (none_of_none name (run.status == 3))),
   call.uncounted none name,
 )

@@ -1,4 +1,5 @@
 -- In proof order.
+pub mod AmongLemmas
 pub mod RowLemmas
 mod FitLemmas
 pub mod JudgedLaws

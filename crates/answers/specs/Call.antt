@@ -1,8 +1,6 @@
 -- What each call of the bench promises, whatever the words and the devices. The fields of `IsCall` stay as
 -- commands are added.
-use Rattle.std.specs.Prelude.{◌≡◌, ℕ, ◌≤◌, ◌==◌, ◌⊎◌, List, [], ◌∷◌, take, Option, None, Some, IfSome, IsTrue, IsFalse, if◌then◌else◌}
-use Rattle.std.specs.List.{list_any}
-use Rattle.std.specs.Str.{bytes_eq}
+use Rattle.std.specs.Prelude.{◌≡◌, ℕ, ◌≤◌, ◌==◌, ◌⊎◌, List, [], ◌∷◌, take, Contains, Option, None, Some, IfSome, if◌then◌else◌}
 use Rattle.std.specs.Io.KnownBytes.{Appends, Keeps}
 use Rattle.edge.specs.Shelf.{Files, OthersStay}
 use Rattle.edge.specs.Faults.{Rose}
@@ -56,7 +54,7 @@ touched_at status names = if status == 3 then take 1 names else names
 -- files that a command may not touch at a status keep what was left of them
 abbrev pub AreUntouched : ℕ → List (List ℕ) → (before now : Files) → Type 0
 AreUntouched status names before now =
-    (name : List ℕ) → IsFalse (list_any (bytes_eq name) (touched_at status names)) → now name ≡ before name
+    (name : List ℕ) → ¬ Contains (touched_at status names) name → now name ≡ before name
 
 -- the first of two files is not refused, nor are the clauses that `adopt` makes of it; and for `gain` its kind is
 -- that of sets
@@ -114,7 +112,7 @@ pub record IsSilent (run : Run) (before now : Option (List ℕ)) : Type 0 where
 -- stay as they were
 pub record IsCall (words : List (List ℕ)) (d : Devices) (run : Run) : Type 0 where
   -- the status is one of the command's
-  pub status : IsTrue (list_any (λ s. s == run.status) (statuses_of (request_of words)))
+  pub status : Contains (statuses_of (request_of words)) run.status
   -- below 5 the answer is lawful, and its text was written
   pub lawful : (files : Files) → AreFiles d.told (files_of (request_of words)) files → run.status ≤ 4
       → IsAnswered words d files run

@@ -1,11 +1,12 @@
 -- What each command promises of its answer, at its simplest.
-use Rattle.std.proofs.Common.{refl, ℕ, ◌≤◌, List, Option, None, Some, Ok, Err}
-use Rattle.std.specs.Prelude.{◌==◌, IsTrue}
+use Rattle.std.proofs.Common.{◌≡◌, refl, ℕ, ◌≤◌, true, List, Option, None, Some, Ok, Err}
+use Rattle.std.specs.Prelude.{◌==◌, Contains}
 use Rattle.std.specs.List.{list_any}
 use Rattle.edge.specs.Shelf.{Files}
 use Rattle.words.specs.Words.{Request, Decide, Check, Export, Proof, Lrat, Axioms, Sample, Adopt, Gain, Sharpen}
 use Rattle.answers.specs.Lawful.{IsBenchAnswer}
 use Rattle.answers.specs.Call.{statuses_of}
+use Rattle.answers.proofs.AmongLemmas.{found_among}
 use Rattle.command_parts.specs.declared.answer.Answer.{Answer}
 use Rattle.command_parts.specs.declared.answer.Stop.TheVariants as stop
 use Rattle.command_parts.specs.Answers.{HasText, run_of, answer_status, text_of}
@@ -13,19 +14,22 @@ use Rattle.command_parts.specs.Answered.{Answers}
 
 -- ---- commands
 
+wants_memory : (request : Option Request) → list_any (λ n. n == 7) (statuses_of request) ≡ true
+wants_memory None = refl
+wants_memory (Some (Check study report workers)) = refl
+wants_memory (Some (Axioms kind)) = refl
+wants_memory (Some (Decide study workers)) = refl
+wants_memory (Some (Export study workers)) = refl
+wants_memory (Some (Proof study workers)) = refl
+wants_memory (Some (Lrat cnf proof)) = refl
+wants_memory (Some (Sample number)) = refl
+wants_memory (Some (Adopt study proof workers)) = refl
+wants_memory (Some (Gain study report)) = refl
+wants_memory (Some (Sharpen study workers)) = refl
+
 -- each command may want memory
-pub may_want_memory : (request : Option Request) → IsTrue (list_any (λ n. n == 7) (statuses_of request))
-may_want_memory None = refl
-may_want_memory (Some (Check study report workers)) = refl
-may_want_memory (Some (Axioms kind)) = refl
-may_want_memory (Some (Decide study workers)) = refl
-may_want_memory (Some (Export study workers)) = refl
-may_want_memory (Some (Proof study workers)) = refl
-may_want_memory (Some (Lrat cnf proof)) = refl
-may_want_memory (Some (Sample number)) = refl
-may_want_memory (Some (Adopt study proof workers)) = refl
-may_want_memory (Some (Gain study report)) = refl
-may_want_memory (Some (Sharpen study workers)) = refl
+pub may_want_memory : (request : Option Request) → Contains (statuses_of request) 7
+may_want_memory request = found_among (statuses_of request) 7 (wants_memory request)
 
 module _ (request : Option Request) (told : Option Files) (left : Files) (faults : List ℕ → ℕ) where
   -- want of memory, where the shelf is as it was
@@ -41,7 +45,7 @@ module _ (request : Option Request) (told : Option Files) (left : Files) (faults
   }
 
   -- an answer that read no file
-  pub bare_answer : (answer : Answer) → answer_status answer ≤ 4 → HasText answer → IsTrue (list_any (λ s. s == answer_status answer) (statuses_of request))
+  pub bare_answer : (answer : Answer) → answer_status answer ≤ 4 → HasText answer → Contains (statuses_of request) (answer_status answer)
       → ((files : Files) → IsBenchAnswer request files (run_of answer) (text_of answer)) → Answers request told left left faults faults (Ok answer)
   bare_answer answer low has_text one lawful = record {
     lawful = λ files h. lawful files;

@@ -1,21 +1,19 @@
 -- Commands over two files, of which the second is read where the first is not refused.
-use Rattle.std.proofs.Common.{◌≡◌, ◌∙◌, sym, refl, subst, ℕ, ◌≤◌, true, false, List, [], ◌∷◌, Option, IfSome, Result, Ok, Err, IfOk, IsErrOf, arith, zero, suc, Bool, cond, take, ◌||◌}
-use Rattle.std.specs.Prelude.{◌==◌, IsFalse}
+use Rattle.std.proofs.Common.{◌≡◌, ◌∙◌, sym, refl, subst, ℕ, ◌≤◌, true, false, List, [], ◌∷◌, Option, IfSome, Result, Ok, Err, IfOk, IsErrOf, arith, zero, suc, Bool, cond, take}
+use Rattle.std.specs.Prelude.{◌==◌, Contains}
 use Rattle.std.specs.List.{list_any}
-use Rattle.std.specs.Str.{bytes_eq}
-use Rattle.std.proofs.lemmas.Bool.{or_parts}
 use Rattle.edge.specs.Shelf.{Files, OthersStay, NoneFell}
 use Rattle.edge.specs.Faults.{Rose}
 use Rattle.words.specs.Words.{Request}
 use Rattle.answers.specs.Runs.{IsBare}
 use Rattle.answers.specs.Lawful.{IsBenchAnswer}
 use Rattle.answers.specs.Call.{AreFiles, IsFirstTaken, at_first, at_second, files_of, statuses_of, touched_at}
+use Rattle.answers.proofs.AmongLemmas.{found_among, not_alone, not_first, not_later}
 use Rattle.command_parts.specs.declared.answer.Answer.{Answer}
 use Rattle.command_parts.specs.declared.answer.Stop.{Stop}
 use Rattle.command_parts.specs.declared.answer.Stop.TheVariants as stop
 use Rattle.command_parts.specs.Answers.{HasText, run_of, answer_status, text_of}
 use Rattle.command_parts.specs.Answered.{Answers}
-use Rattle.command_parts.proofs.StudyLemmas.{not_first}
 
 -- ---- statuses
 
@@ -27,18 +25,15 @@ low_status zero low = refl
 low_status (suc zero) low = refl
 low_status (suc (suc s)) low = absurd (omega (arith, low))
 
-pub not_in_front : (test : List ℕ → Bool) (s : ℕ) (names : List (List ℕ)) → list_any test names ≡ false → list_any test (touched_at s names) ≡ false
-not_in_front test s names free = by_status (s == 3) names free
+-- a status lets no other files be touched than those of the command
+pub not_in_front : (name : List ℕ) (s : ℕ) (names : List (List ℕ)) → ¬ Contains names name → ¬ Contains (touched_at s names) name
+not_in_front name s names free = by_status (s == 3) names free
   where
-    first_alone : (names : List (List ℕ)) → list_any test names ≡ false → list_any test (take 1 names) ≡ false
-    first_alone [] free = refl
-    first_alone (name ∷ names) free = one (test name) (list_any test names) free
-      where
-        one : (a b : Bool) → (a || b) ≡ false → (a || false) ≡ false
-        one true b e = e
-        one false b e = refl
+    first_alone : (names : List (List ℕ)) → ¬ Contains names name → ¬ Contains (take 1 names) name
+    first_alone [] free = free
+    first_alone (other ∷ names) free = not_alone name other (not_first name other names free)
 
-    by_status : (b : Bool) (names : List (List ℕ)) → list_any test names ≡ false → list_any test (cond b (take 1 names) names) ≡ false
+    by_status : (b : Bool) (names : List (List ℕ)) → ¬ Contains names name → ¬ Contains (cond b (take 1 names) names) name
     by_status true names free = first_alone names free
     by_status false names free = free
 
@@ -58,8 +53,8 @@ pub record IsPairCommand (request : Option Request) (name second : List ℕ) : T
 
 module _ (request : Option Request) (name second : List ℕ) (command : IsPairCommand request name second)
     (told : Option Files) (left_before left_middle : Files) (faults_before faults_middle : List ℕ → ℕ) (others : OthersStay left_before left_middle name) where
-  status_is : (s : ℕ) → list_any (λ n. n == s) pair_statuses ≡ true → list_any (λ n. n == s) (statuses_of request) ≡ true
-  status_is s h = subst (λ (ss : List ℕ). list_any (λ n. n == s) ss ≡ true) (sym command.statuses) h
+  status_is : (s : ℕ) → list_any (λ n. n == s) pair_statuses ≡ true → Contains (statuses_of request) s
+  status_is s h = subst (λ (ss : List ℕ). Contains ss s) (sym command.statuses) (found_among pair_statuses s h)
 
   reads_two : files_of request ≡ [] → ⊥
   reads_two e = let no : name ∷ second ∷ [] ≡ [] = sym command.two ∙ e in cc
@@ -68,17 +63,16 @@ module _ (request : Option Request) (name second : List ℕ) (command : IsPairCo
   files_are files h = subst (λ (names : List (List ℕ)). AreFiles told names files) command.two h
 
   -- a name that is none of those that a status lets be touched
-  free_at : (s : ℕ) (other : List ℕ) → IsFalse (list_any (bytes_eq other) (touched_at s (files_of request)))
-      → IsFalse (list_any (bytes_eq other) (touched_at s (name ∷ second ∷ [])))
-  free_at s other free = subst (λ (names : List (List ℕ)). list_any (bytes_eq other) (touched_at s names) ≡ false) command.two free
+  free_at : (s : ℕ) (other : List ℕ) → ¬ Contains (touched_at s (files_of request)) other → ¬ Contains (touched_at s (name ∷ second ∷ [])) other
+  free_at s other free = subst (λ (names : List (List ℕ)). ¬ Contains (touched_at s names) other) command.two free
 
   module _ (left_now : Files) (faults_now : List ℕ → ℕ) where
     abbrev Promised : Result Answer Stop → Type 0
     Promised result = Answers request told left_before left_now faults_before faults_now result
 
-    two_files : OthersStay left_middle left_now second → (other : List ℕ) → list_any (bytes_eq other) (name ∷ second ∷ []) ≡ false → left_now other ≡ left_before other
+    two_files : OthersStay left_middle left_now second → (other : List ℕ) → ¬ Contains (name ∷ second ∷ []) other → left_now other ≡ left_before other
     two_files more other free =
-        more other (not_first other second [] (or_parts (bytes_eq other name) _ free).1) ∙ others other (not_first other name (second ∷ []) free)
+        more other (not_first other second [] (not_later other name (second ∷ []) free)) ∙ others other (not_first other name (second ∷ []) free)
 
     -- the first file is taken, and the second was judged
     pub second_judged : (result : Result Answer Stop) → IfSome told (λ files. IsFirstTaken request files name) → NoneFell faults_before faults_middle
@@ -92,7 +86,7 @@ module _ (request : Option Request) (name second : List ℕ) (command : IsPairCo
       has_text = has_text;
       read_fault = λ e. absurd (cc);
       untouched = λ other free. two_files more other
-          (subst (λ (names : List (List ℕ)). list_any (bytes_eq other) names ≡ false) (both_touched (answer_status answer) (name ∷ second ∷ []) low) (free_at (answer_status answer) other free));
+          (subst (λ (names : List (List ℕ)). ¬ Contains names other) (both_touched (answer_status answer) (name ∷ second ∷ []) low) (free_at (answer_status answer) other free));
       uncounted = λ e. absurd (reads_two e);
     }
     second_judged (Err stop.ReadFault) taken fell row low has_text rose more = record {
@@ -125,7 +119,7 @@ module _ (request : Option Request) (name second : List ℕ) (command : IsPairCo
     has_text = has_text;
     read_fault = λ e. absurd (cc);
     untouched = λ other free. others other (not_first other name []
-        (subst (λ (s : ℕ). list_any (bytes_eq other) (touched_at s (name ∷ second ∷ [])) ≡ false) bare.ends (free_at (answer_status answer) other free)));
+        (subst (λ (s : ℕ). ¬ Contains (touched_at s (name ∷ second ∷ [])) other) bare.ends (free_at (answer_status answer) other free)));
     uncounted = λ e. absurd (reads_two e);
   }
 

@@ -1,10 +1,7 @@
 -- Commands over the study of a file, from what each part promises to what the command does.
-use Rattle.std.proofs.Common.{◌≡◌, ◌∙◌, sym, refl, subst, cond, ℕ, ◌≤◌, Bool, true, false, true≢false, List, [], ◌∷◌, Option, Result, Ok, Err, IfOk, IsErrOf}
-use Rattle.std.specs.Prelude.{◌≢◌, ◌==◌, IsTrue, IsFalse}
+use Rattle.std.proofs.Common.{◌≡◌, ◌∙◌, sym, refl, subst, cond, ℕ, ◌≤◌, Bool, true, false, List, [], ◌∷◌, Option, Result, Ok, Err, IfOk, IsErrOf}
+use Rattle.std.specs.Prelude.{◌≢◌, ◌==◌, Contains}
 use Rattle.std.specs.List.{list_any}
-use Rattle.std.specs.Str.{bytes_eq}
-use Rattle.std.proofs.lemmas.Bool.{or_parts}
-use Rattle.lists.proofs.TextLaws.{same_bytes}
 use Rattle.edge.specs.Shelf.{Files, OthersStay}
 use Rattle.edge.specs.Faults.{Rose}
 use Rattle.vocab.specs.Study.{Question}
@@ -14,6 +11,7 @@ use Rattle.answers.specs.Studies.{GivesStudy, OverStudy, study_refused, study_gi
 use Rattle.answers.specs.Grounding.{OverClauses, clauses_refused, clauses_made}
 use Rattle.answers.specs.Lawful.{IsBenchAnswer}
 use Rattle.answers.specs.Call.{AreFiles, are_told, none_read, at_first, files_of, statuses_of, touched_at}
+use Rattle.answers.proofs.AmongLemmas.{found_among, not_first}
 use Rattle.command_parts.specs.declared.answer.Answer.{Answer}
 use Rattle.command_parts.specs.declared.answer.Stop.{Stop}
 use Rattle.command_parts.specs.declared.answer.Stop.TheVariants as stop
@@ -25,11 +23,6 @@ use Rattle.command_parts.proofs.AnswerLemmas.{may_want_memory}
 
 -- ---- names
 
--- a name that is none of some is not the first of them
-pub not_first : (name other : List ℕ) (names : List (List ℕ)) → list_any (bytes_eq name) (other ∷ names) ≡ false → name ≢ other
-not_first name other names free same =
-    true≢false (sym (subst (λ (n : List ℕ). bytes_eq name n ≡ true) same (same_bytes name)) ∙ (or_parts (bytes_eq name other) _ free).0)
-
 -- of one file the status takes none away
 pub touched_one : (s : ℕ) (name : List ℕ) → touched_at s (name ∷ []) ≡ name ∷ []
 touched_one s name = go (s == 3)
@@ -40,15 +33,18 @@ touched_one s name = go (s == 3)
 
 -- the one file of a command is read: what is left of the others stays
 one_file : (s : ℕ) (name : List ℕ) (before now : Files) → OthersStay before now name → (other : List ℕ)
-    → IsFalse (list_any (bytes_eq other) (touched_at s (name ∷ []))) → now other ≡ before other
+    → ¬ Contains (touched_at s (name ∷ [])) other → now other ≡ before other
 one_file s name before now others other free =
-    others other (not_first other name [] (subst (λ (names : List (List ℕ)). list_any (bytes_eq other) names ≡ false) (touched_one s name) free))
+    others other (not_first other name [] (subst (λ (names : List (List ℕ)). ¬ Contains names other) (touched_one s name) free))
 
 -- ---- statuses
 
 -- a status of a command that is below 5
 abbrev pub IsLow : Option Request → ℕ → Type 0
-IsLow request s = IsTrue (list_any (λ n. n == s) (statuses_of request)) × (s ≤ 4)
+IsLow request s = Contains (statuses_of request) s × (s ≤ 4)
+
+pub low_among : (request : Option Request) (s : ℕ) → list_any (λ n. n == s) (statuses_of request) ≡ true → s ≤ 4 → IsLow request s
+low_among request s found low = (found_among (statuses_of request) s found, low)
 
 pub low_at : (request : Option Request) (s status : ℕ) → status ≡ s → IsLow request s → IsLow request status
 low_at request s status e h = subst (IsLow request) (sym e) h
@@ -66,7 +62,7 @@ pub record IsStudyCommand (request : Option Request) (name : List ℕ) (IsRest :
   pub one : files_of request ≡ name ∷ []
   pub into : (files : Files) (run : Run) (text : List ℕ) → OverStudy files name run text (λ study. IsRest study run text) → IsBenchAnswer request files run text
   pub can_refuse : IsLow request 3
-  pub can_fail : IsTrue (list_any (λ n. n == 5) (statuses_of request))
+  pub can_fail : Contains (statuses_of request) 5
   pub ends : (study : Question) (run : Run) (text : List ℕ) → IsRest study run text → IsLow request run.status
 
 -- the study as the table has it
@@ -88,10 +84,10 @@ module _ (request : Option Request) (name : List ℕ) (IsRest : Question → Run
   files_are : (files : Files) → AreFiles told (files_of request) files → AreFiles told (name ∷ []) files
   files_are files h = subst (λ (names : List (List ℕ)). AreFiles told names files) command.one h
 
-  others_stay : (s : ℕ) (other : List ℕ) → IsFalse (list_any (bytes_eq other) (touched_at s (files_of request))) → left_now other ≡ left_before other
+  others_stay : (s : ℕ) (other : List ℕ) → ¬ Contains (touched_at s (files_of request)) other → left_now other ≡ left_before other
   others_stay s other free =
       one_file s name left_before left_now others other
-      (subst (λ (names : List (List ℕ)). list_any (bytes_eq other) (touched_at s names) ≡ false) command.one free)
+      (subst (λ (names : List (List ℕ)). ¬ Contains (touched_at s names) other) command.one free)
 
   reads_one : files_of request ≡ [] → ⊥
   reads_one e = let no : name ∷ [] ≡ [] = sym command.one ∙ e in cc

@@ -1,6 +1,5 @@
 -- What each command promises of its answer: the same clauses for all.
-use Rattle.std.specs.Prelude.{◌≡◌, ℕ, ◌==◌, ◌≤◌, List, [], Option, Result, Ok, Err, IfOk, IsErrOf, IsTrue}
-use Rattle.std.specs.List.{list_any}
+use Rattle.std.specs.Prelude.{◌≡◌, ℕ, ◌≤◌, List, [], Contains, Option, Result, Ok, Err, IfOk, IsErrOf}
 use Rattle.edge.specs.Shelf.{Files}
 use Rattle.words.specs.Words.{Request}
 use Rattle.answers.specs.Lawful.{IsBenchAnswer}
@@ -22,7 +21,7 @@ pub record Answers (request : Option Request) (told : Option Files) (left_before
     (faults_before faults_now : List ℕ → ℕ) (result : Result Answer Stop) : Type 0 where
   pub lawful : (files : Files) → AreFiles told (files_of request) files
       → IfOk result (λ answer. IsBenchAnswer request files (run_of answer) (text_of answer))
-  pub status : IsTrue (list_any (λ s. s == ended_with result) (statuses_of request))
+  pub status : Contains (statuses_of request) (ended_with result)
   pub low : IfOk result (λ answer. answer_status answer ≤ 4)
   pub has_text : IfOk result HasText
   pub read_fault : IsErrOf result stop.ReadFault

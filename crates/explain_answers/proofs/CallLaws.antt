@@ -1,8 +1,7 @@
 -- What calls come to where no device fails, and what words that are no command come to.
-use Rattle.std.proofs.Common.{◌≡◌, ◌≢◌, ◌∙◌, refl, sym, ap, subst, ℕ, ◌≤◌, ◌⊎◌, inl, inr, true, false, true≢false, List, [], ◌∷◌, Option, None, Some, arith}
+use Rattle.std.proofs.Common.{◌≡◌, ◌≢◌, ◌∙◌, refl, sym, ap, subst, ℕ, ◌≤◌, ◌⊎◌, inl, inr, true, true≢false, List, [], ◌∷◌, Option, None, Some, arith}
 use Rattle.std.specs.Prelude.{◌==◌, Contains}
 use Rattle.std.specs.List.{list_any}
-use Rattle.std.specs.Str.{bytes_eq}
 use Rattle.std.specs.Io.KnownBytes.{Appends}
 use Rattle.std.proofs.lemmas.Bool.{cases_lt}
 use Rattle.edge.specs.Shelf.{Files}
@@ -21,6 +20,7 @@ use Rattle.answers.specs.Grounding.{clauses_fault}
 use Rattle.answers.specs.Laws.{AreQuiet}
 use Rattle.answers.specs.Studies.{GivesStudy, RefusesStudy, OverStudy, study_refused, study_given}
 use Rattle.answers.proofs.RowLemmas.{some_same}
+use Rattle.answers.proofs.AmongLemmas.{among_found}
 use Rattle.answers.proofs.DeviceLaws.{none_of_none}
 use Rattle.explain_words.specs.Words.{ExplainRequest, Story, Instance, Rules, Cores, Look, request_of}
 use Rattle.explain_answers.specs.Story.{IsStoryAnswer, bare_run}
@@ -31,7 +31,7 @@ use Rattle.explain_answers.specs.Look.{IsLook, long, refused, told, within}
 use Rattle.explain_answers.specs.Lawful.{IsExplanation, explain_usage}
 use Rattle.explain_answers.specs.Call.{HasCauseAtFile, IsExplained, IsExplainCall, at_study, at_report, explain_files, explain_statuses}
 use Rattle.explain_answers.specs.Completeness.{NoCountRose, IsSearchedOrWanting, ExplainCallsAreComplete, ExplainUsageIsExact, EnoughMaps}
-use Rattle.explain_answers.proofs.StatusLemmas.{among_found, few_statuses}
+use Rattle.explain_answers.proofs.StatusLemmas.{few_statuses}
 use Rattle.explain_answers.proofs.PageLaws.{not_refused, told_of}
 use Rattle.explain_answers.proofs.InstanceLaws.{instances_exact}
 use Rattle.explain_answers.proofs.RulesLaws.{rules_exact}
@@ -191,7 +191,7 @@ module _ (words : List (List ℕ)) (d : Devices) (status : ℕ) (call : IsExplai
 
   usage_untouched : request_of words ≡ None → (name : List ℕ) → (d.left_now name ≡ d.left_before name) × (d.faults_now name ≡ d.faults_before name)
   usage_untouched asked name =
-      let free = subst (λ (names : List (List ℕ)). list_any (bytes_eq name) (touched_at status names) ≡ false) (sym (no_files asked)) (none_of_none name (status == 3)) in
+      let free = subst (λ (names : List (List ℕ)). ¬ Contains (touched_at status names) name) (sym (no_files asked)) (none_of_none name (status == 3)) in
       (call.untouched name free, call.uncounted (no_files asked) name)
 
 -- no command has status 2

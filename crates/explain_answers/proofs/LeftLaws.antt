@@ -1,15 +1,13 @@
 -- Which files a call leaves alone.
-use Rattle.std.proofs.Common.{◌≡◌, ◌∙◌, refl, sym, subst, ℕ, ◌≤◌, inl, inr, false, List, [], ◌∷◌, Option, Some, arith}
-use Rattle.std.specs.Prelude.{IfSome}
-use Rattle.std.specs.List.{list_any}
-use Rattle.std.specs.Str.{bytes_eq}
+use Rattle.std.proofs.Common.{◌≡◌, ◌∙◌, refl, sym, subst, ℕ, ◌≤◌, inl, inr, List, [], ◌∷◌, Option, Some, arith}
+use Rattle.std.specs.Prelude.{Contains, IfSome}
 use Rattle.std.proofs.lemmas.Bool.{cases_lt}
 use Rattle.edge.specs.Shelf.{Files, OthersStay}
 use Rattle.vocab.specs.Study.{Question}
 use Rattle.answers.specs.Call.{are_told, AreUntouched, touched_at}
 use Rattle.answers.specs.Devices.{Devices}
 use Rattle.answers.specs.Studies.{GivesStudy, study_refused, study_given}
-use Rattle.answers.proofs.DeviceLaws.{other_name}
+use Rattle.answers.proofs.AmongLemmas.{not_alone}
 use Rattle.explain_words.specs.Words.{ExplainRequest, Story, request_of}
 use Rattle.explain_answers.specs.Story.{IsStoryAnswer}
 use Rattle.explain_answers.specs.Lawful.{IsExplanation}
@@ -27,8 +25,8 @@ module _ (words : List (List ℕ)) (d : Devices) where
       → AreUntouched status (explain_files (request_of words)) d.left_before d.left_now → OthersStay d.left_before d.left_now first
   kept_at status first others three named untouched other ne =
       untouched other
-      (subst (λ (n : ℕ). list_any (bytes_eq other) (touched_at n (explain_files (request_of words))) ≡ false) (sym three)
-      (subst (λ (names : List (List ℕ)). list_any (bytes_eq other) (touched_at 3 names) ≡ false) (sym named) (other_name other first _ refl ne)))
+      (subst (λ (n : ℕ). ¬ Contains (touched_at n (explain_files (request_of words))) other) (sym three)
+      (subst (λ (names : List (List ℕ)). ¬ Contains (touched_at 3 names) other) (sym named) (not_alone other first ne)))
 
   -- `story` over a file that gives no study
   module _ (files : Files) (name report : List ℕ) (workers : ℕ) (told_files : d.told ≡ Some files) (asked : request_of words ≡ Some (Story name report workers))

@@ -1,5 +1,5 @@
 -- In proof order.
-pub mod StatusLemmas
+mod StatusLemmas
 mod PageLaws
 mod InstanceLaws
 mod ClauseLaws

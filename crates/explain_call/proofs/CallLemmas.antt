@@ -1,8 +1,7 @@
 -- From the reply of a command to the promises of a call.
 use Rattle.std.proofs.Common.{◌≡◌, ◌≢◌, sym, refl, subst, ℕ, ◌≤◌, inl, inr, true, List, [], Option, None, Some, Result, Ok, Err, arith}
-use Rattle.std.specs.Prelude.{◌==◌, Contains, IsFalse}
+use Rattle.std.specs.Prelude.{◌==◌, Contains}
 use Rattle.std.specs.List.{list_any}
-use Rattle.std.specs.Str.{bytes_eq}
 use Rattle.std.specs.Io.KnownBytes.{Appends, Keeps}
 use Rattle.edge.specs.Shelf.{Files}
 use Rattle.edge.specs.Faults.{Rose}
@@ -10,12 +9,12 @@ use Rattle.edge.specs.Told.{AppendsPrefix}
 use Rattle.texts.proofs.PageLemmas.{keeps_same}
 use Rattle.answers.specs.Call.{touched_at}
 use Rattle.answers.specs.Devices.{Devices}
+use Rattle.answers.proofs.AmongLemmas.{found_among}
 use Rattle.command_parts.specs.declared.answer.Stop.{Stop}
 use Rattle.command_parts.specs.declared.answer.Stop.TheVariants as stop
 use Rattle.command_parts.proofs.PairLemmas.{not_in_front}
 use Rattle.explain_words.specs.Words.{ExplainRequest, Story, Instance, Rules, Cores, Look, request_of}
 use Rattle.explain_answers.specs.Call.{IsExplainCall, HasCauseAtFile, explain_files, explain_statuses}
-use Rattle.explain_answers.proofs.StatusLemmas.{found_among}
 use Rattle.explain_parts.specs.declared.reply.Reply.{Reply}
 use Rattle.explain_parts.specs.declared.reply.Reply.TheVariants as reply
 use Rattle.explain_parts.specs.Replies.{Replies, status_of, reply_text}
@@ -95,14 +94,14 @@ module _ (words : List (List ℕ)) (d : Devices) where
     silent = λ e. elim e [ inl five ↦ absurd (omega (arith, five)) | inr seven ↦ absurd (omega (arith, seven)) ];
     read_fault = λ five. absurd (omega (arith, five));
     write_fault = λ six. rose;
-    untouched = λ name free. a.untouched name (not_in_front (bytes_eq name) (status_of r) (explain_files (request_of words)) free);
+    untouched = λ name free. a.untouched name (not_in_front name (status_of r) (explain_files (request_of words)) free);
     uncounted = a.uncounted;
   }
 
   -- nothing was
   silent_call : (s : ℕ) → 5 ≤ s → s ≢ 6 → d.taken_now ≡ d.taken_before → Contains (explain_statuses (request_of words)) s
       → (s ≡ 5 → HasCauseAtFile d.told d.left_before d.left_now d.faults_before d.faults_now (explain_files (request_of words)))
-      → ((name : List ℕ) → IsFalse (list_any (bytes_eq name) (touched_at s (explain_files (request_of words)))) → d.left_now name ≡ d.left_before name)
+      → ((name : List ℕ) → ¬ Contains (touched_at s (explain_files (request_of words))) name → d.left_now name ≡ d.left_before name)
       → (explain_files (request_of words) ≡ [] → (name : List ℕ) → d.faults_now name ≡ d.faults_before name) → IsExplainCall words d s
   silent_call s high other same one cause untouched uncounted = record {
     known = one;

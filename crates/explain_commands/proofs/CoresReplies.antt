@@ -12,11 +12,11 @@ use Rattle.core_maps.specs.declared.answers.Ending.TheVariants.{Whole, Cut}
 use Rattle.core_maps.specs.CoreMaps.{IsMapping}
 use Rattle.map_text.specs.MapText.{HasNames, are_named, are_axiom_places, map_text}
 use Rattle.answers.specs.Grounding.{clauses_fault, OverClauses, clauses_made}
+use Rattle.answers.proofs.AmongLemmas.{found_among}
 use Rattle.explain_words.specs.Words.{ExplainRequest, Cores}
 use Rattle.explain_answers.specs.Cores.{IsMapped, cores_status, ending_status}
 use Rattle.explain_answers.specs.Story.{bare_run}
 use Rattle.explain_answers.specs.Call.{explain_statuses}
-use Rattle.explain_answers.proofs.StatusLemmas.{found_among}
 use Rattle.explain_parts.proofs.StudyReplies.{IsLow, IsStudyCommand, low_at, over_clauses}
 
 -- `cores` is such a command

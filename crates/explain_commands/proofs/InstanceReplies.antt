@@ -1,10 +1,10 @@
 -- `instance`, as a command over a study.
 use Rattle.std.proofs.Common.{◌≡◌, sym, refl, subst, ℕ, Bool, true, false, List, Option, Some, arith}
 use Rattle.instance_text.specs.Said.{is_there}
+use Rattle.answers.proofs.AmongLemmas.{found_among}
 use Rattle.explain_words.specs.Words.{ExplainRequest, Instance}
 use Rattle.explain_answers.specs.Instance.{IsInstanceSaid, instance_status}
 use Rattle.explain_answers.specs.Call.{explain_statuses}
-use Rattle.explain_answers.proofs.StatusLemmas.{found_among}
 use Rattle.explain_parts.proofs.StudyReplies.{IsLow, IsStudyCommand, low_at}
 
 -- `instance` is such a command

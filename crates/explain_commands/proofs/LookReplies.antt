@@ -6,6 +6,7 @@ use Rattle.vocab.specs.Study.{Question}
 use Rattle.study.specs.Reading.{IsStudyOf}
 use Rattle.answers.specs.FileLimits.{most_study_bytes}
 use Rattle.answers.specs.Grounding.{OverClauses}
+use Rattle.answers.proofs.AmongLemmas.{found_among}
 use Rattle.command_parts.specs.declared.answer.Answer.TheVariants.{LongStudy}
 use Rattle.command_parts.specs.declared.answer.Stop.{Stop}
 use Rattle.command_parts.specs.declared.answer.Stop.TheVariants as stop
@@ -14,7 +15,6 @@ use Rattle.explain_words.specs.Words.{ExplainRequest, Look}
 use Rattle.explain_answers.specs.Look.{IsLookAt, IsLooked, long, refused, told, within}
 use Rattle.explain_answers.specs.Story.{bare_run}
 use Rattle.explain_answers.specs.Call.{explain_statuses}
-use Rattle.explain_answers.proofs.StatusLemmas.{found_among}
 use Rattle.explain_parts.specs.declared.reply.Reply.{Reply}
 use Rattle.explain_parts.specs.declared.reply.Reply.TheVariants as reply
 use Rattle.explain_parts.specs.Replies.{HasReplyText, Replies, status_of, reply_text}

@@ -11,11 +11,11 @@ use Rattle.rule_lists.specs.RuleLists.{IsRuleOf, IsRuleList}
 use Rattle.rule_lists.proofs.LeavingLaws.{rule_of}
 use Rattle.rules_text.specs.RulesText.{are_rules, rules_text}
 use Rattle.answers.specs.Grounding.{clauses_fault, OverClauses, clauses_made}
+use Rattle.answers.proofs.AmongLemmas.{found_among}
 use Rattle.explain_words.specs.Words.{ExplainRequest, Rules}
 use Rattle.explain_answers.specs.Rules.{IsRuleListWritten, rules_status}
 use Rattle.explain_answers.specs.Story.{bare_run}
 use Rattle.explain_answers.specs.Call.{explain_statuses}
-use Rattle.explain_answers.proofs.StatusLemmas.{found_among}
 use Rattle.explain_parts.proofs.StudyReplies.{IsLow, IsStudyCommand, low_at, over_clauses}
 
 -- `rules` is such a command

@@ -1,8 +1,7 @@
 -- Commands over the study of one file, from what each part promises to what the command does.
-use Rattle.std.proofs.Common.{◌≡◌, ◌∙◌, sym, refl, subst, ℕ, ◌≤◌, true, false, List, [], ◌∷◌, Option, None, Some, Result, Ok, Err, IfOk, IsErrOf}
-use Rattle.std.specs.Prelude.{◌==◌, ◌≢◌, Contains, IsFalse}
+use Rattle.std.proofs.Common.{◌≡◌, ◌∙◌, sym, refl, subst, ℕ, ◌≤◌, true, List, [], ◌∷◌, Option, None, Some, Result, Ok, Err, IfOk, IsErrOf}
+use Rattle.std.specs.Prelude.{◌==◌, ◌≢◌, Contains}
 use Rattle.std.specs.List.{list_any}
-use Rattle.std.specs.Str.{bytes_eq}
 use Rattle.edge.specs.Shelf.{Files, OthersStay}
 use Rattle.edge.specs.Faults.{Rose}
 use Rattle.vocab.specs.Study.{Question}
@@ -12,6 +11,7 @@ use Rattle.clause_form.specs.Refusals.{IsRefused}
 use Rattle.answers.specs.Grounding.{clauses_fault, OverClauses, clauses_refused, clauses_made}
 use Rattle.answers.specs.Studies.{OverStudy, study_refused, study_given}
 use Rattle.answers.specs.Call.{AreFiles, are_told, none_read, touched_at}
+use Rattle.answers.proofs.AmongLemmas.{found_among, not_first}
 use Rattle.command_parts.specs.declared.answer.Answer.{Answer}
 use Rattle.command_parts.specs.declared.answer.Answer.TheVariants.{NoClauses}
 use Rattle.command_parts.specs.declared.answer.Stop.{Stop}
@@ -19,12 +19,11 @@ use Rattle.command_parts.specs.declared.answer.Stop.TheVariants as stop
 use Rattle.command_parts.specs.declared.studies.Opened.{Opened}
 use Rattle.command_parts.specs.Opened.{IsStudyRead, Refuses}
 use Rattle.command_parts.proofs.OpenLemmas.{given}
-use Rattle.command_parts.proofs.StudyLemmas.{not_first, touched_one}
+use Rattle.command_parts.proofs.StudyLemmas.{touched_one}
 use Rattle.explain_words.specs.Words.{ExplainRequest, Story, Instance, Rules, Cores, Look}
 use Rattle.explain_answers.specs.Lawful.{IsExplanation}
 use Rattle.explain_answers.specs.Story.{bare_run}
 use Rattle.explain_answers.specs.Call.{at_study, explain_files, explain_statuses}
-use Rattle.explain_answers.proofs.StatusLemmas.{found_among}
 use Rattle.explain_parts.specs.declared.reply.Reply.{Reply}
 use Rattle.explain_parts.specs.declared.reply.Reply.TheVariants as reply
 use Rattle.explain_parts.specs.Replies.{HasReplyText, Replies, status_of, reply_text}
@@ -62,10 +61,10 @@ module _ (request : Option ExplainRequest) (name : List ℕ) (reads : ReadsOne r
   files_are files (are_told e) = e
   files_are files (none_read e) = let no : name ∷ [] ≡ [] = sym reads.one ∙ e in absurd (cc)
 
-  others_stay : (s : ℕ) (other : List ℕ) → IsFalse (list_any (bytes_eq other) (touched_at s (explain_files request))) → left_now other ≡ left_before other
+  others_stay : (s : ℕ) (other : List ℕ) → ¬ Contains (touched_at s (explain_files request)) other → left_now other ≡ left_before other
   others_stay s other free =
       let names : touched_at s (explain_files request) ≡ name ∷ [] = subst (λ (ns : List (List ℕ)). touched_at s ns ≡ name ∷ []) (sym reads.one) (touched_one s name) in
-      others other (not_first other name [] (subst (λ (ns : List (List ℕ)). list_any (bytes_eq other) ns ≡ false) names free))
+      others other (not_first other name [] (subst (λ (ns : List (List ℕ)). ¬ Contains ns other) names free))
 
   reads_one : explain_files request ≡ [] → ⊥
   reads_one e = let no : name ∷ [] ≡ [] = sym reads.one ∙ e in cc

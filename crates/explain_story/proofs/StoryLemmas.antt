@@ -1,9 +1,7 @@
 -- The command `story`, from what each part promises to what it promises of its reply.
-use Rattle.std.proofs.Common.{◌≡◌, ◌∙◌, sym, refl, subst, ℕ, ◌≤◌, true, false, List, [], ◌∷◌, Option, None, Some, IfSome, Result, Ok, Err, IfOk, IsErrOf, arith, zero, suc}
+use Rattle.std.proofs.Common.{◌≡◌, ◌∙◌, sym, refl, subst, ℕ, ◌≤◌, true, List, [], ◌∷◌, Option, None, Some, IfSome, Result, Ok, Err, IfOk, IsErrOf, arith, zero, suc}
 use Rattle.std.specs.Prelude.{◌==◌, Contains}
 use Rattle.std.specs.List.{list_any}
-use Rattle.std.specs.Str.{bytes_eq}
-use Rattle.std.proofs.lemmas.Bool.{or_parts}
 use Rattle.edge.specs.Shelf.{Files, OthersStay, NoneFell}
 use Rattle.edge.specs.Faults.{Rose}
 use Rattle.vocab.specs.Study.{Question}
@@ -13,12 +11,12 @@ use Rattle.sharp_verdicts.specs.SharpJudge.{SharpConfirmed, SharpFaulty, SharpTo
 use Rattle.answers.specs.Check.{judged, judged_status}
 use Rattle.answers.specs.Studies.{GivesStudy, study_refused, study_given}
 use Rattle.answers.specs.Call.{AreFiles, are_told, none_read, touched_at}
+use Rattle.answers.proofs.AmongLemmas.{found_among, not_first, not_later}
 use Rattle.command_parts.specs.declared.answer.Answer.{Answer}
 use Rattle.command_parts.specs.declared.answer.Stop.{Stop}
 use Rattle.command_parts.specs.declared.answer.Stop.TheVariants as stop
 use Rattle.command_parts.specs.Opened.{IsStudyRead, Refuses}
 use Rattle.command_parts.proofs.OpenLemmas.{given, if_some}
-use Rattle.command_parts.proofs.StudyLemmas.{not_first}
 use Rattle.verdict_reading.specs.declared.reading.Reading.{Reading}
 use Rattle.verdict_reading.specs.declared.reading.Reading.TheVariants as reading
 use Rattle.verdict_reading.specs.Readings.{reading_of, IsReadOf}
@@ -26,7 +24,6 @@ use Rattle.command_parts.proofs.PairLemmas.{both_touched, rose_since}
 use Rattle.explain_words.specs.Words.{ExplainRequest, Story}
 use Rattle.explain_answers.specs.Story.{IsSaid, IsStoryAnswer, IsToldOf}
 use Rattle.explain_answers.specs.Call.{at_study, at_report}
-use Rattle.explain_answers.proofs.StatusLemmas.{found_among}
 use Rattle.explain_parts.specs.declared.reply.Reply.{Reply}
 use Rattle.explain_parts.specs.declared.reply.Reply.TheVariants as reply
 use Rattle.explain_parts.specs.Replies.{HasReplyText, Replies, status_of, reply_text}
@@ -142,9 +139,9 @@ module _ (name report : List ℕ) (workers : ℕ) (told : Option Files) where
       abbrev Promised : Result Reply Stop → Type 0
       Promised result = Replies asked told left_before left_now faults_before faults_now result
 
-      two_files : OthersStay left_middle left_now report → (other : List ℕ) → list_any (bytes_eq other) (name ∷ report ∷ []) ≡ false → left_now other ≡ left_before other
+      two_files : OthersStay left_middle left_now report → (other : List ℕ) → ¬ Contains (name ∷ report ∷ []) other → left_now other ≡ left_before other
       two_files more other free =
-          more other (not_first other report [] (or_parts (bytes_eq other name) _ free).1) ∙ others other (not_first other name (report ∷ []) free)
+          more other (not_first other report [] (not_later other name (report ∷ []) free)) ∙ others other (not_first other name (report ∷ []) free)
 
       -- the study is given, and the report was read
       pub report_read : (result : Result Reply Stop) → IfSome told (λ files. (study : Question) × GivesStudy files name study) → NoneFell faults_before faults_middle
@@ -157,7 +154,7 @@ module _ (name report : List ℕ) (workers : ℕ) (told : Option Files) where
         low = omega (arith, low);
         has_text = has_text;
         read_fault = λ e. absurd (cc);
-        untouched = λ other free. two_files more other (subst (λ (names : List (List ℕ)). list_any (bytes_eq other) names ≡ false) (both_touched (status_of r) (name ∷ report ∷ []) low) free);
+        untouched = λ other free. two_files more other (subst (λ (names : List (List ℕ)). ¬ Contains names other) (both_touched (status_of r) (name ∷ report ∷ []) low) free);
         uncounted = λ e. absurd (cc);
       }
       report_read (Err stop.ReadFault) taken fell row low has_text rose more = record {
@@ -189,7 +186,7 @@ module _ (name report : List ℕ) (workers : ℕ) (told : Option Files) where
           low = omega (arith, three);
           has_text = refuses.has_text;
           read_fault = λ e. absurd (cc);
-          untouched = λ other free. others other (not_first other name [] (subst (λ (s : ℕ). list_any (bytes_eq other) (touched_at s (name ∷ report ∷ [])) ≡ false) three free));
+          untouched = λ other free. others other (not_first other name [] (subst (λ (s : ℕ). ¬ Contains (touched_at s (name ∷ report ∷ [])) other) three free));
           uncounted = λ e. absurd (cc);
         }
 

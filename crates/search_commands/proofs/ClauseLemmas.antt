@@ -13,9 +13,11 @@ use Rattle.search_logs.specs.Spent.{all_places}
 use Rattle.answers.specs.declared.runs.Run.{Run}
 use Rattle.answers.specs.Export.{IsWritten}
 use Rattle.answers.specs.Grounding.{clauses_fault, OverClauses, clauses_refused, clauses_made}
+use Rattle.answers.specs.Call.{statuses_of}
+use Rattle.answers.proofs.AmongLemmas.{found_among}
 use Rattle.command_parts.specs.declared.answer.Answer.TheVariants as answer
 use Rattle.command_parts.specs.Answers.{run_of, text_of}
-use Rattle.command_parts.proofs.StudyLemmas.{IsStudyCommand, low_at, over_low}
+use Rattle.command_parts.proofs.StudyLemmas.{IsStudyCommand, low_among, low_at, over_low}
 
 -- a refusal other than want of memory is the one of the clauses
 refused_as : (fault : GroundFault) (wanted : Option GroundFault) → fault ≢ NoMemory → IsRefused fault wanted → wanted ≡ Some fault
@@ -49,9 +51,9 @@ pub export_command : (name : List ℕ) (workers : ℕ) → IsStudyCommand (Some 
 export_command name workers = record {
   one = refl;
   into = λ files run text h. h;
-  can_refuse = (refl, omega arith);
-  can_fail = refl;
+  can_refuse = low_among (Some (Export name workers)) 3 refl (omega arith);
+  can_fail = found_among (statuses_of (Some (Export name workers))) 5 refl;
   ends = λ study run text.
-      over_low (Some (Export name workers)) study run text (IsWritten study run text) (refl, omega arith)
-      (λ r. low_at (Some (Export name workers)) 0 run.status r.0.ends (refl, omega arith));
+      over_low (Some (Export name workers)) study run text (IsWritten study run text) (low_among (Some (Export name workers)) 3 refl (omega arith))
+      (λ r. low_at (Some (Export name workers)) 0 run.status r.0.ends (low_among (Some (Export name workers)) 0 refl (omega arith)));
 }

@@ -14,10 +14,12 @@ use Rattle.answers.specs.declared.runs.Run.{Run}
 use Rattle.answers.specs.Decide.{IsReported}
 use Rattle.answers.specs.Evidence.{Decides, by_verdict, by_limit}
 use Rattle.answers.specs.Grounding.{OverClauses}
+use Rattle.answers.specs.Call.{statuses_of}
+use Rattle.answers.proofs.AmongLemmas.{found_among}
 use Rattle.command_parts.specs.declared.answer.Answer.TheVariants as answer
 use Rattle.command_parts.specs.Answers.{HasText, report_status, run_of, text_of}
 use Rattle.search_commands.specs.Found.{IsVerdict}
-use Rattle.command_parts.proofs.StudyLemmas.{IsStudyCommand, IsLow, low_at, over_low}
+use Rattle.command_parts.proofs.StudyLemmas.{IsStudyCommand, IsLow, low_among, low_at, over_low}
 
 -- a verdict that was found decides the study, in every run that has it with its status and its logs
 pub decided : (study : Question) (logs : List SearchLog) (verdict : Verdict) → IsVerdict study logs verdict → AreSpentLogs study logs
@@ -56,9 +58,9 @@ pub decide_command : (name : List ℕ) (workers : ℕ) → IsStudyCommand (Some 
 decide_command name workers = record {
   one = refl;
   into = λ files run text h. h;
-  can_refuse = (refl, omega arith);
-  can_fail = refl;
+  can_refuse = low_among (Some (Decide name workers)) 3 refl (omega arith);
+  can_fail = found_among (statuses_of (Some (Decide name workers))) 5 refl;
   ends = λ study run text.
-      over_low (Some (Decide name workers)) study run text (IsReported study run text) (refl, omega arith)
-      (λ r. decides_low (Some (Decide name workers)) study run r.verdict (refl, omega arith) (refl, omega arith) r.decides);
+      over_low (Some (Decide name workers)) study run text (IsReported study run text) (low_among (Some (Decide name workers)) 3 refl (omega arith))
+      (λ r. decides_low (Some (Decide name workers)) study run r.verdict (low_among (Some (Decide name workers)) 0 refl (omega arith)) (low_among (Some (Decide name workers)) 4 refl (omega arith)) r.decides);
 }

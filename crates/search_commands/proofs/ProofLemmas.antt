@@ -11,9 +11,11 @@ use Rattle.core_reduce.specs.Proofs.{IsShown}
 use Rattle.answers.specs.declared.runs.Run.{Run}
 use Rattle.answers.specs.Proof.{Proves, refuted, possible, undecided}
 use Rattle.answers.specs.Grounding.{OverClauses}
+use Rattle.answers.specs.Call.{statuses_of}
+use Rattle.answers.proofs.AmongLemmas.{found_among}
 use Rattle.command_parts.specs.declared.answer.Answer.TheVariants as answer
 use Rattle.command_parts.specs.Answers.{run_of, text_of}
-use Rattle.command_parts.proofs.StudyLemmas.{IsStudyCommand, IsLow, low_at, over_low}
+use Rattle.command_parts.proofs.StudyLemmas.{IsStudyCommand, IsLow, low_among, low_at, over_low}
 
 module _ (study : Question) where
   pub rule_shown : (table : List ℕ) (logs : List SearchLog) → IsShown study logs (found.Possible table) → AreSpentLogs study logs
@@ -44,9 +46,9 @@ pub proof_command : (name : List ℕ) (workers : ℕ) → IsStudyCommand (Some (
 proof_command name workers = record {
   one = refl;
   into = λ files run text h. h;
-  can_refuse = (refl, omega arith);
-  can_fail = refl;
+  can_refuse = low_among (Some (Proof name workers)) 3 refl (omega arith);
+  can_fail = found_among (statuses_of (Some (Proof name workers))) 5 refl;
   ends = λ study run text.
-      over_low (Some (Proof name workers)) study run text (Proves study run text) (refl, omega arith)
-      (shown_low (Some (Proof name workers)) study run text (refl, omega arith) (refl, omega arith));
+      over_low (Some (Proof name workers)) study run text (Proves study run text) (low_among (Some (Proof name workers)) 3 refl (omega arith))
+      (shown_low (Some (Proof name workers)) study run text (low_among (Some (Proof name workers)) 0 refl (omega arith)) (low_among (Some (Proof name workers)) 4 refl (omega arith)));
 }

@@ -17,7 +17,7 @@ use Rattle.command_parts.specs.Answers.{HasText, run_of, text_of}
 use Rattle.command_parts.specs.Answered.{Answers}
 use Rattle.search_commands.specs.Found.{IsVerdict}
 use Rattle.command_parts.proofs.AnswerLemmas.{bare_answer, no_memory}
-use Rattle.command_parts.proofs.StudyLemmas.{IsLow, over_low}
+use Rattle.command_parts.proofs.StudyLemmas.{IsLow, low_among, over_low}
 use Rattle.search_commands.proofs.DecideLemmas.{decides_low, decided}
 
 -- the summary of a verdict that was found decides the study
@@ -33,8 +33,8 @@ summed n clauses study logs verdict count v spent = record {
 -- statuses of a sample
 sampled_low : (n : ℕ) (run : Run) (text : List ℕ) → IsSampled n run text → IsLow (Some (Sample n)) run.status
 sampled_low n run text (study, sample, row) =
-    over_low (Some (Sample n)) study run text (IsSummed n study run text) (refl, omega arith)
-    (λ r. decides_low (Some (Sample n)) study run r.verdict (refl, omega arith) (refl, omega arith) r.decides) row
+    over_low (Some (Sample n)) study run text (IsSummed n study run text) (low_among (Some (Sample n)) 3 refl (omega arith))
+    (λ r. decides_low (Some (Sample n)) study run r.verdict (low_among (Some (Sample n)) 0 refl (omega arith)) (low_among (Some (Sample n)) 4 refl (omega arith)) r.decides) row
 
 -- `sample` reads no file
 pub sample_answer : (request : Option Request) (told : Option Files) (left : Files) (faults : List ℕ → ℕ) (n : ℕ) (result : Result Answer Stop) → request ≡ Some (Sample n)

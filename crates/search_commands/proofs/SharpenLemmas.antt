@@ -19,9 +19,11 @@ use Rattle.words.specs.Words.{Request, Sharpen}
 use Rattle.answers.specs.declared.runs.Run.{Run}
 use Rattle.answers.specs.Grounding.{OverClauses, clauses_fault}
 use Rattle.answers.specs.Sharpen.{Sharpens, is_impossible, total_line, total_refused, decided, sharpened}
+use Rattle.answers.specs.Call.{statuses_of}
+use Rattle.answers.proofs.AmongLemmas.{found_among}
 use Rattle.command_parts.specs.declared.answer.Answer.TheVariants as answer
 use Rattle.command_parts.specs.Answers.{run_of, text_of}
-use Rattle.command_parts.proofs.StudyLemmas.{IsStudyCommand, IsLow, low_at, over_low}
+use Rattle.command_parts.proofs.StudyLemmas.{IsStudyCommand, IsLow, low_among, low_at, over_low}
 use Rattle.search_commands.specs.Found.{IsVerdict}
 use Rattle.search_commands.proofs.DecideLemmas.{decided as verdict_decided, decides_low}
 
@@ -78,9 +80,9 @@ pub sharpen_command : (name : List ℕ) (workers : ℕ) → IsStudyCommand (Some
 sharpen_command name workers = record {
   one = refl;
   into = λ files run text h. h;
-  can_refuse = (refl, omega arith);
-  can_fail = refl;
+  can_refuse = low_among (Some (Sharpen name workers)) 3 refl (omega arith);
+  can_fail = found_among (statuses_of (Some (Sharpen name workers))) 5 refl;
   ends = λ study run text.
-      over_low (Some (Sharpen name workers)) study run text (Sharpens study run text) (refl, omega arith)
-      (sharpens_low (Some (Sharpen name workers)) study run text (refl, omega arith) (refl, omega arith) (refl, omega arith));
+      over_low (Some (Sharpen name workers)) study run text (Sharpens study run text) (low_among (Some (Sharpen name workers)) 3 refl (omega arith))
+      (sharpens_low (Some (Sharpen name workers)) study run text (low_among (Some (Sharpen name workers)) 0 refl (omega arith)) (low_among (Some (Sharpen name workers)) 3 refl (omega arith)) (low_among (Some (Sharpen name workers)) 4 refl (omega arith)));
 }

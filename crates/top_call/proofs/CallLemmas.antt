@@ -1,8 +1,7 @@
 -- From the answer of a command to the promises of a call.
-use Rattle.std.proofs.Common.{◌≡◌, ◌≢◌, ◌∙◌, sym, refl, subst, ℕ, ◌≤◌, inl, inr, List, [], Option, None, Some, Result, Ok, Err, arith}
-use Rattle.std.specs.Prelude.{◌==◌, IsTrue, IsFalse}
+use Rattle.std.proofs.Common.{◌≡◌, ◌≢◌, ◌∙◌, sym, refl, subst, ℕ, ◌≤◌, inl, inr, true, List, [], Option, None, Some, Result, Ok, Err, arith}
+use Rattle.std.specs.Prelude.{◌==◌, Contains}
 use Rattle.std.specs.List.{list_any}
-use Rattle.std.specs.Str.{bytes_eq}
 use Rattle.std.specs.Io.KnownBytes.{Appends, Keeps}
 use Rattle.edge.specs.Shelf.{Files}
 use Rattle.edge.specs.Faults.{Rose}
@@ -14,6 +13,7 @@ use Rattle.answers.specs.declared.runs.Run.{Run}
 use Rattle.answers.specs.Runs.{IsBare, with_status}
 use Rattle.answers.specs.Devices.{Devices}
 use Rattle.answers.specs.Call.{IsCall, HasReadCause, files_of, statuses_of, touched_at}
+use Rattle.answers.proofs.AmongLemmas.{found_among}
 use Rattle.command_parts.specs.declared.answer.Answer.{Answer}
 use Rattle.command_parts.specs.declared.answer.Answer.TheVariants.{Usage, Library}
 use Rattle.command_parts.specs.declared.answer.Stop.{Stop}
@@ -25,32 +25,35 @@ use Rattle.command_parts.proofs.PairLemmas.{not_in_front}
 
 -- ---- commands
 
+cuts_short : (request : Option Request) → list_any (λ n. n == 6) (statuses_of request) ≡ true
+cuts_short None = refl
+cuts_short (Some (Check study report workers)) = refl
+cuts_short (Some (Axioms kind)) = refl
+cuts_short (Some (Decide study workers)) = refl
+cuts_short (Some (Export study workers)) = refl
+cuts_short (Some (Proof study workers)) = refl
+cuts_short (Some (Lrat cnf proof)) = refl
+cuts_short (Some (Sample number)) = refl
+cuts_short (Some (Adopt study proof workers)) = refl
+cuts_short (Some (Gain study report)) = refl
+cuts_short (Some (Sharpen study workers)) = refl
+
 -- the text of each command may be cut short
-pub may_be_cut : (request : Option Request) → IsTrue (list_any (λ n. n == 6) (statuses_of request))
-may_be_cut None = refl
-may_be_cut (Some (Check study report workers)) = refl
-may_be_cut (Some (Axioms kind)) = refl
-may_be_cut (Some (Decide study workers)) = refl
-may_be_cut (Some (Export study workers)) = refl
-may_be_cut (Some (Proof study workers)) = refl
-may_be_cut (Some (Lrat cnf proof)) = refl
-may_be_cut (Some (Sample number)) = refl
-may_be_cut (Some (Adopt study proof workers)) = refl
-may_be_cut (Some (Gain study report)) = refl
-may_be_cut (Some (Sharpen study workers)) = refl
+pub may_be_cut : (request : Option Request) → Contains (statuses_of request) 6
+may_be_cut request = found_among (statuses_of request) 6 (cuts_short request)
 
 module _ (request : Option Request) (told : Option Files) (left : Files) (faults : List ℕ → ℕ) where
   -- the library, for the words that ask for it
   pub library_answer : (kind : Kind) → request ≡ Some (Axioms kind) → Answers request told left left faults faults (Ok (Library kind))
   library_answer kind asked =
       subst (λ (r : Option Request). Answers r told left left faults faults (Ok (Library kind))) (sym asked)
-      (bare_answer (Some (Axioms kind)) told left faults (Library kind) (omega arith) tt refl (λ files. (record { ends = refl; no_verdict = refl; no_logs = refl; no_sharp = refl }, refl)))
+      (bare_answer (Some (Axioms kind)) told left faults (Library kind) (omega arith) tt (found_among (statuses_of (Some (Axioms kind))) 0 refl) (λ files. (record { ends = refl; no_verdict = refl; no_logs = refl; no_sharp = refl }, refl)))
 
   -- the usage line, for words that are no command
   pub usage_answer : request ≡ None → Answers request told left left faults faults (Ok Usage)
   usage_answer asked =
       subst (λ (r : Option Request). Answers r told left left faults faults (Ok Usage)) (sym asked)
-      (bare_answer None told left faults Usage (omega arith) tt refl (λ files. (record { ends = refl; no_verdict = refl; no_logs = refl; no_sharp = refl }, refl)))
+      (bare_answer None told left faults Usage (omega arith) tt (found_among (statuses_of None) 2 refl) (λ files. (record { ends = refl; no_verdict = refl; no_logs = refl; no_sharp = refl }, refl)))
 
 -- what a command promises of its answer is promised of the words that are that command
 pub asked_answer : (request asked : Option Request) (told : Option Files) (left_before left_now : Files) (faults_before faults_now : List ℕ → ℕ) (result : Result Answer Stop)
@@ -88,23 +91,23 @@ module _ (words : List (List ℕ)) (d : Devices) where
     silent = λ e. elim e [ inl five ↦ absurd (omega (arith, five)) | inr seven ↦ absurd (omega (arith, seven)) ];
     read_fault = λ five. absurd (omega (arith, five));
     write_fault = λ six. rose;
-    untouched = λ name free. a.untouched name (not_in_front (bytes_eq name) (answer_status answer) (files_of (request_of words)) free);
+    untouched = λ name free. a.untouched name (not_in_front name (answer_status answer) (files_of (request_of words)) free);
     uncounted = a.uncounted;
   }
 
   -- nothing was
-  silent_call : (run : Run) (s : ℕ) → IsBare run s → 5 ≤ s → s ≢ 6 → d.taken_now ≡ d.taken_before → IsTrue (list_any (λ n. n == s) (statuses_of (request_of words)))
+  silent_call : (run : Run) (s : ℕ) → IsBare run s → 5 ≤ s → s ≢ 6 → d.taken_now ≡ d.taken_before → Contains (statuses_of (request_of words)) s
       → (s ≡ 5 → HasReadCause (request_of words) d.told d.left_before d.left_now d.faults_before d.faults_now (files_of (request_of words)))
-      → ((name : List ℕ) → IsFalse (list_any (bytes_eq name) (touched_at s (files_of (request_of words)))) → d.left_now name ≡ d.left_before name)
+      → ((name : List ℕ) → ¬ Contains (touched_at s (files_of (request_of words))) name → d.left_now name ≡ d.left_before name)
       → (files_of (request_of words) ≡ [] → (name : List ℕ) → d.faults_now name ≡ d.faults_before name) → IsCall words d run
   silent_call run s bare high other same one cause untouched uncounted = record {
-    status = subst (λ (n : ℕ). IsTrue (list_any (λ m. m == n) (statuses_of (request_of words)))) (sym bare.ends) one;
+    status = subst (λ (n : ℕ). Contains (statuses_of (request_of words)) n) (sym bare.ends) one;
     lawful = λ files h low. let e = bare.ends in absurd (omega (arith, low, e, high));
     cut_short = λ files h six. absurd (other (sym bare.ends ∙ six));
     silent = λ e. record { kept = subst (λ (o : Option (List ℕ)). Keeps d.taken_before o) (sym same) (keeps_same d.taken_before); no_verdict = bare.no_verdict; no_logs = bare.no_logs; no_sharp = bare.no_sharp };
     read_fault = λ five. cause (sym bare.ends ∙ five);
     write_fault = λ six. absurd (other (sym bare.ends ∙ six));
-    untouched = λ name free. untouched name (subst (λ (n : ℕ). IsFalse (list_any (bytes_eq name) (touched_at n (files_of (request_of words))))) bare.ends free);
+    untouched = λ name free. untouched name (subst (λ (n : ℕ). ¬ Contains (touched_at n (files_of (request_of words))) name) bare.ends free);
     uncounted = uncounted;
   }
 
