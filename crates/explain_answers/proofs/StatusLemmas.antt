@@ -1,5 +1,5 @@
 -- The statuses of a command.
-use Rattle.std.proofs.Common.{◌≡◌, refl, ℕ, ◌≤◌, true, List, Option, None, Some}
+use Rattle.std.proofs.Common.{◌≡◌, refl, ℕ, ◌≤◌, true, Option, None, Some}
 use Rattle.std.specs.Prelude.{Contains, nat_le}
 use Rattle.std.specs.List.{list_all}
 use Rattle.std.proofs.lemmas.Bool.{leb-true}
