@@ -1,8 +1,8 @@
 -- A lemma that is told so far.
-use Rattle.std.specs.Prelude.{ℕ, nat_lt, not, Bool, IsTrue, Option, List, map, filter, length, slice_get}
+use Rattle.std.specs.Prelude.{ℕ, nat_lt, not, Bool, IsTrue, Option, List, [], ◌∷◌, map, filter, length, slice_get}
 use Rattle.std.specs.List.{list_all}
 use Rattle.vocab.specs.declared.literals.Literal.{Literal}
-use Rattle.vocab.specs.Literal.{has}
+use Rattle.vocab.specs.Literal.{has, opposite_of}
 use Rattle.vocab.specs.Size.{Extent}
 use Rattle.meaning.specs.declared.stories.Lemma.{Lemma}
 use Rattle.meaning.specs.declared.stories.Reason.{Reason}
@@ -14,6 +14,7 @@ use Rattle.tellings.specs.declared.tellings.Sentence.{Sentence}
 use Rattle.tellings.specs.declared.tellings.Telling.{Telling}
 use Rattle.tellings.specs.Tellings.{are_said, rests_of, says_step, stands_before, IsTellingRight, AllSay}
 use Rattle.needed_facts.specs.declared.basis.Basis.{Basis}
+use Rattle.needed_facts.specs.Rests.{are_there, RestsOn}
 
 -- the steps without their places
 abbrev pub bare_steps : List Placed → List StoryStep
@@ -49,6 +50,11 @@ module _ (size : Extent) (basis : Basis) where
   abbrev pub IsLemmaToldBy : List Literal → Lemma → Telling → Type 0
   IsLemmaToldBy forced lemma telling =
       IsTellingRight size basis.study.now.axioms basis.core.now basis.earlier.now forced lemma telling
+
+  -- the fact of a step follows from these facts, which are known
+  pub record FollowsFrom (known : List Literal) (step : StoryStep) (rests : List Literal) : Type 0 where
+    pub rest : RestsOn size basis known (opposite_of step.literal ∷ []) step.reason rests
+    pub there : IsTrue (are_there step.reason rests)
 
   -- some steps of a lemma are told right, and all that is known was forced or supposed, or is stated
   pub record IsToldSoFar (forced suppose known : List Literal) (passage : Passage) : Type 0 where

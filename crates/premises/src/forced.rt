@@ -1,217 +1,319 @@
-//! Facts that an axiom forces where nothing is supposed.
+//! Facts that are forced where nothing is supposed.
 
-ghost use Rattle.std.specs.Prelude.{◌≡◌, ℕ, List, [], ◌∷◌, ◌++◌, IsTrue, IsFalse, IfOk, OnOk};
+ghost use Rattle.std.specs.Prelude.{◌≡◌, ◌&&◌, not, is_some, [], ◌∷◌, ◌++◌, IsTrue, IsFalse, IfOk, IfSome, OnOk};
 ghost use Rattle.std.specs.List.{list_all};
 ghost use Rattle.vocab.specs.Literal.{has, opposite_of};
 ghost use Rattle.vocab.specs.Size.{Extent};
-ghost use Rattle.vocab.specs.Titled.{Titled};
 ghost use Rattle.meaning.specs.Literals.{is_literal};
-ghost use Rattle.meaning.specs.Stories.{has_literals, refutes};
+ghost use Rattle.meaning.specs.Stories.{has_literals};
 ghost use Rattle.story.specs.Conditions.{has_places};
-ghost use Rattle.tellings.specs.Tellings.{by_of, facts_of, is_axiom, is_covered, IsForced};
-ghost use Rattle.premises.specs.Forcing.{are_covered, AreForcedSoFar, AreKept};
+ghost use Rattle.needed_facts.specs.declared.basis.Basis.{Basis};
+ghost use Rattle.needed_facts.specs.Rests.{refutes_by};
+ghost use Rattle.premises.specs.Forcing.{is_forced_by, with_lemmas, with_step, with_steps, AreForced, AreGathered, AreStated};
+ghost use Rattle.premises.specs.SoFar.{FollowsFrom};
 
-use joined_sentences::{Chains, by_of, join};
+use crate::checking::all_say;
+use crate::teller::Teller;
+use crate::telling::say;
+use joined_sentences::{Chains, StepIndex, reshape};
 use lists::{Items, NoMemory};
 use meaning::{Lemma, Literals, Reason, StoryStep};
+use needed_facts::{Basis, Grounds};
 use outcomes::OutcomeKind;
 use std::alloc::Global;
 use story::refutes;
-use tellings::{Passage, Placed};
-use vocab::{Places, Study};
+use tellings::Passage;
+use vocab::{Places, Sort, Study};
 use worlds::Board;
 
-/// Facts that are forced, with the sentences that state them: one for each axiom.
+/// The facts of a story that are forced, with the sentences that state them.
 #[derive(Drop)]
 pub(crate) struct Forced {
     pub(crate) board: Board,
+    pub(crate) passage: Passage,
+}
+
+/// Facts that are forced, so far: the steps that state them, in order, and the sentences that say these.
+#[derive(Drop)]
+struct Gathered {
+    board: Board,
+    steps: Items<StoryStep>,
     passage: Passage,
     chains: Chains,
 }
 
-impl Forced {
+impl Gathered {
     /// No fact yet.
-    fn new<K: OutcomeKind>(alloc: Global, kind: &K) -> Result<Forced, NoMemory>
-        ensures { (axioms : List Titled) (core : List ℕ) →
-            IfOk result (AreForcedSoFar (K.size kind.now) axioms core) }
+    fn new<K: OutcomeKind>(alloc: Global, kind: &K) -> Result<Gathered, NoMemory>
+        ensures so_far { (basis : Basis) → IfOk result (AreGathered (K.size kind.now) basis) }
+        ensures none { IfOk result (λ gathered. gathered.board.literals ≡ []) }
     {
-        Ok(Forced {
+        let keys = kind.space().size().sort_len(Sort::Profile) as usize;
+        Ok(Gathered {
             board: Board::new(alloc, kind)?,
+            steps: Items::new(alloc),
             passage: Passage {
                 sentences: Items::new(alloc),
                 steps: Items::new(alloc),
             },
-            chains: Chains::new(alloc, 1)?,
+            chains: Chains::new(alloc, keys.saturating_add(1))?,
         })
     }
 
-    /// Takes the fact of a step among them, of which the reason refutes the opposite.
-    fn state(&mut self, alloc: Global, step: &StoryStep) -> Result<(), NoMemory>
+    /// Takes the fact of a step among them, which follows from these facts.
+    fn state(&mut self, step: &StoryStep, rests: Literals) -> Result<(), NoMemory>
         requires literal { IsTrue (is_literal self.old.board.size step.now.literal) }
         requires fresh { IsFalse (has self.old.board.literals step.now.literal) }
-        ensures so_far { (axioms : List Titled) (core : List ℕ) →
-            AreForcedSoFar self.old.board.size axioms core self.old →
-            IsTrue (refutes self.old.board.size axioms core []
-            (opposite_of step.now.literal ∷ []) step.now.reason) →
-            OnOk result (AreForcedSoFar self.old.board.size axioms core self.new) }
+        ensures so_far { (basis : Basis) → AreGathered self.old.board.size basis self.old →
+            FollowsFrom self.old.board.size basis self.old.board.literals step.now rests →
+            OnOk result (AreGathered self.old.board.size basis self.new) }
         ensures stated { OnOk result
             (self.new.board.literals ≡ self.old.board.literals ++ step.now.literal ∷ []) }
     {
-        let by = by_of(&step.reason);
-        let sentence = join(
-            &mut self.passage.sentences,
-            &mut self.chains,
-            by,
-            Literals::new(alloc),
-        )?;
-        self.passage.steps.push(Placed {
-            sentence,
-            step: *step,
-        })?;
+        say(&mut self.passage, &mut self.chains, step, rests)?;
+        self.steps.push(*step)?;
         self.board.add(&step.literal);
         Ok(())
     }
 
-    /// Takes the fact of a step among them, if it is not yet there, and the step's reason is an axiom that
-    /// forces it.
+    /// Takes the fact of a step among them, if it is not yet there and they force it.
     fn take<K: OutcomeKind>(
         &mut self,
         alloc: Global,
-        kind: &K,
-        study: &Study,
-        core: &Places,
+        grounds: &Grounds<K>,
         tried: &mut Board,
         step: &StoryStep,
     ) -> Result<(), NoMemory>
-        requires study { study.now.size ≡ K.size kind.now }
-        requires core { IsTrue (has_places study.now.axioms core.now) }
-        requires tried { tried.old.size ≡ K.size kind.now }
-        requires literal { IsTrue (is_literal (K.size kind.now) step.now.literal) }
-        requires so_far { AreForcedSoFar (K.size kind.now) study.now.axioms core.now self.old }
+        requires tried { tried.old.size ≡ K.size grounds.now.kind.now }
+        requires literal { IsTrue (is_literal (K.size grounds.now.kind.now) step.now.literal) }
+        requires so_far { AreGathered (K.size grounds.now.kind.now) grounds.now.basis self.old }
         ensures tried { tried.new.size ≡ tried.old.size }
-        ensures so_far { OnOk result (AreForcedSoFar (K.size kind.now) study.now.axioms core.now self.new) }
-        ensures kept { OnOk result (AreKept self.old.board.literals self.new.board.literals) }
-        ensures covered { OnOk result (IsTrue (is_covered (K.size kind.now) study.now.axioms core.now
-            self.new.board.literals step.now)) }
+        ensures so_far { OnOk result
+            (AreGathered (K.size grounds.now.kind.now) grounds.now.basis self.new) }
+        ensures facts { OnOk result (self.new.board.literals ≡
+            with_step (K.size grounds.now.kind.now) grounds.now.basis self.old.board.literals step.now) }
     {
         if self.board.has(&step.literal) {
             return Ok(());
         }
-        if !is_by_axiom(step) || !is_forced(kind, study, core, tried, step) {
-            return Ok(());
+        match grounds_of(alloc, grounds, &mut self.board, tried, step)? {
+            Some(rests) => self.state(step, rests),
+            None => Ok(()),
         }
-        self.state(alloc, step)?;
-        Ok(())
     }
 
-    /// Takes the facts of some steps among them.
+    /// Takes the facts of some steps among them, one after another.
     fn take_all<K: OutcomeKind>(
         &mut self,
         alloc: Global,
-        kind: &K,
-        study: &Study,
-        core: &Places,
+        grounds: &Grounds<K>,
         tried: &mut Board,
         steps: &[StoryStep],
     ) -> Result<(), NoMemory>
-        requires study { study.now.size ≡ K.size kind.now }
-        requires core { IsTrue (has_places study.now.axioms core.now) }
-        requires tried { tried.old.size ≡ K.size kind.now }
-        requires literals { IsTrue (list_all (λ step. is_literal (K.size kind.now) step.literal) steps.now) }
-        requires so_far { AreForcedSoFar (K.size kind.now) study.now.axioms core.now self.old }
+        requires tried { tried.old.size ≡ K.size grounds.now.kind.now }
+        requires literals { IsTrue
+            (list_all (λ step. is_literal (K.size grounds.now.kind.now) step.literal) steps.now) }
+        requires so_far { AreGathered (K.size grounds.now.kind.now) grounds.now.basis self.old }
         ensures tried { tried.new.size ≡ tried.old.size }
-        ensures so_far { OnOk result (AreForcedSoFar (K.size kind.now) study.now.axioms core.now self.new) }
-        ensures kept { OnOk result (AreKept self.old.board.literals self.new.board.literals) }
-        ensures covered { OnOk result (IsTrue (are_covered (K.size kind.now) study.now.axioms core.now
-            self.new.board.literals steps.now)) }
+        ensures so_far { OnOk result
+            (AreGathered (K.size grounds.now.kind.now) grounds.now.basis self.new) }
+        ensures facts { OnOk result (self.new.board.literals ≡
+            with_steps (K.size grounds.now.kind.now) grounds.now.basis self.old.board.literals steps.now) }
     {
         for step in steps {
-            self.take(alloc, kind, study, core, tried, step)?;
+            self.take(alloc, grounds, tried, step)?;
         }
         Ok(())
     }
-
-    /// The sentences that state them.
-    pub(crate) fn told(self) -> Passage
-        ensures forced { (size : Extent) (axioms : List Titled) (core : List ℕ) →
-            AreForcedSoFar size axioms core self → IsForced size axioms core result }
-        ensures facts { (size : Extent) (axioms : List Titled) (core : List ℕ) →
-            AreForcedSoFar size axioms core self → facts_of result.steps ≡ self.board.literals }
-    {
-        let _facts = self.board.as_slice();
-        let Forced {
-            board: _,
-            passage,
-            chains: _,
-        } = self;
-        passage
-    }
 }
 
-/// Whether the reason of a step is an axiom.
-fn is_by_axiom(step: &StoryStep) -> bool
-    ensures { result ≡ is_axiom (by_of step.now.reason) }
+/// Whether a reason refutes what is on a board, exactly.
+fn is_refuted<K: OutcomeKind>(grounds: &Grounds<K>, board: &Board, reason: &Reason) -> bool
+    requires { board.now.size ≡ K.size grounds.now.kind.now }
+    ensures { result ≡ refutes_by (K.size grounds.now.kind.now) grounds.now.basis
+        board.now.literals reason.now }
 {
-    match step.reason {
-        Reason::Axiom(_, _) => true,
-        Reason::Outcome(_) => false,
-        Reason::Lemma(_) => false,
-    }
-}
-
-/// Whether the reason of a step refutes the opposite of its fact alone.
-fn is_forced<K: OutcomeKind>(
-    kind: &K,
-    study: &Study,
-    core: &Places,
-    tried: &mut Board,
-    step: &StoryStep,
-) -> bool
-    requires study { study.now.size ≡ K.size kind.now }
-    requires core { IsTrue (has_places study.now.axioms core.now) }
-    requires tried { tried.old.size ≡ K.size kind.now }
-    requires literal { IsTrue (is_literal (K.size kind.now) step.now.literal) }
-    ensures tried { tried.new.size ≡ tried.old.size }
-    ensures refuted { result ≡ refutes (K.size kind.now) study.now.axioms core.now []
-        (opposite_of step.now.literal ∷ []) step.now.reason }
-{
-    let other = step.literal.opposite();
-    tried.clear();
-    tried.add(&other);
-    match refutes(kind, study, core, &[], tried, &step.reason) {
+    let Basis {
+        study,
+        core,
+        earlier,
+    } = &grounds.basis;
+    match refutes(grounds.kind, study, core, earlier, board, reason) {
         Ok(()) => true,
         Err(_) => false,
     }
 }
 
-/// The facts of a story's lemmas that an axiom of the core forces where nothing is supposed. What is on the
-/// board does not count.
-fn forced_in<K: OutcomeKind>(
-    alloc: Global,
-    kind: &K,
-    study: &Study,
-    core: &Places,
+/// Whether the reason of a step refutes the opposite of its fact alone.
+fn is_forced_alone<K: OutcomeKind>(
+    grounds: &Grounds<K>,
     tried: &mut Board,
-    story: &[Lemma],
-) -> Result<Forced, NoMemory>
-    requires study { study.now.size ≡ K.size kind.now }
-    requires core { IsTrue (has_places study.now.axioms core.now) }
-    requires tried { tried.old.size ≡ K.size kind.now }
-    requires literals { IsTrue (list_all (has_literals (K.size kind.now)) story.now) }
-    ensures so_far { IfOk result (AreForcedSoFar (K.size kind.now) study.now.axioms core.now) }
-    ensures covered { IfOk result (λ forced. IsTrue (list_all (λ lemma. are_covered (K.size kind.now)
-        study.now.axioms core.now forced.board.literals lemma.steps) story.now)) }
+    step: &StoryStep,
+) -> bool
+    requires tried { tried.old.size ≡ K.size grounds.now.kind.now }
+    requires literal { IsTrue (is_literal (K.size grounds.now.kind.now) step.now.literal) }
+    ensures tried { tried.new.size ≡ tried.old.size }
+    ensures refuted { result ≡ refutes_by (K.size grounds.now.kind.now) grounds.now.basis
+        (opposite_of step.now.literal ∷ []) step.now.reason }
 {
-    let mut forced = Forced::new(alloc, kind)?;
-    for place in 0..story.len() {
-        let steps = story[place].steps.as_slice();
-        forced.take_all(alloc, kind, study, core, tried, steps)?;
-    }
-    Ok(forced)
+    let other = step.literal.opposite();
+    tried.clear();
+    tried.add(&other);
+    is_refuted(grounds, tried, &step.reason)
 }
 
-/// The facts of a story's lemmas that an axiom of the core forces where nothing is supposed. The board on which
-/// they are tried is let go with the return.
+/// Whether the reason of a step refutes the opposite of its fact together with facts that are forced, where that
+/// opposite is none of them. It stands among them meanwhile.
+fn is_forced_with<K: OutcomeKind>(
+    grounds: &Grounds<K>,
+    facts: &mut Board,
+    step: &StoryStep,
+) -> bool
+    requires facts { facts.old.size ≡ K.size grounds.now.kind.now }
+    requires literal { IsTrue (is_literal (K.size grounds.now.kind.now) step.now.literal) }
+    ensures size { facts.new.size ≡ facts.old.size }
+    ensures same { facts.new.literals ≡ facts.old.literals }
+    ensures refuted { result ≡ (not (has facts.old.literals (opposite_of step.now.literal)) &&
+        refutes_by (K.size grounds.now.kind.now) grounds.now.basis
+        (facts.old.literals ++ opposite_of step.now.literal ∷ []) step.now.reason) }
+{
+    let other = step.literal.opposite();
+    if facts.has(&other) {
+        return false;
+    }
+    facts.add(&other);
+    let refuted = is_refuted(grounds, facts, &step.reason);
+    facts.remove(&other);
+    refuted
+}
+
+/// What the fact of a step rests on of facts that are forced, if they force it: nothing, where its reason does so
+/// alone.
+fn grounds_of<K: OutcomeKind>(
+    alloc: Global,
+    grounds: &Grounds<K>,
+    facts: &mut Board,
+    tried: &mut Board,
+    step: &StoryStep,
+) -> Result<Option<Literals>, NoMemory>
+    requires facts { facts.old.size ≡ K.size grounds.now.kind.now }
+    requires tried { tried.old.size ≡ K.size grounds.now.kind.now }
+    requires literal { IsTrue (is_literal (K.size grounds.now.kind.now) step.now.literal) }
+    ensures size { facts.new.size ≡ facts.old.size }
+    ensures same { facts.new.literals ≡ facts.old.literals }
+    ensures tried { tried.new.size ≡ tried.old.size }
+    ensures forced { IfOk result (λ found. is_some found ≡
+        is_forced_by (K.size grounds.now.kind.now) grounds.now.basis facts.old.literals step.now) }
+    ensures rests { IfOk result (λ found. IfSome found
+        (FollowsFrom (K.size grounds.now.kind.now) grounds.now.basis facts.old.literals step.now)) }
+{
+    if is_forced_alone(grounds, tried, step) {
+        return Ok(Some(Literals::new(alloc)));
+    }
+    if !is_forced_with(grounds, facts, step) {
+        return Ok(None);
+    }
+    let others = [step.literal.opposite()];
+    let rests = grounds.rests_on(alloc, facts, tried, &others, &step.reason)?;
+    Ok(Some(rests))
+}
+
+/// The facts of the steps of lemmas that are forced, one after another. What is on the board where they are tried
+/// does not count.
+fn gather<K: OutcomeKind>(
+    alloc: Global,
+    grounds: &Grounds<K>,
+    tried: &mut Board,
+    story: &[Lemma],
+) -> Result<Gathered, NoMemory>
+    requires tried { tried.old.size ≡ K.size grounds.now.kind.now }
+    requires literals { IsTrue (list_all (has_literals (K.size grounds.now.kind.now)) story.now) }
+    ensures tried { tried.new.size ≡ tried.old.size }
+    ensures so_far { IfOk result (AreGathered (K.size grounds.now.kind.now) grounds.now.basis) }
+    ensures facts { IfOk result (λ gathered. gathered.board.literals ≡
+        with_lemmas (K.size grounds.now.kind.now) grounds.now.basis [] story.now) }
+{
+    let mut gathered = Gathered::new(alloc, grounds.kind)?;
+    for place in 0..story.len() {
+        let steps = story[place].steps.as_slice();
+        gathered.take_all(alloc, grounds, tried, steps)?;
+    }
+    Ok(gathered)
+}
+
+/// The facts that were gathered, in the sentences in which they were.
+fn as_gathered(gathered: Gathered) -> Forced
+    ensures { (size : Extent) (basis : Basis) → AreGathered size basis gathered →
+        AreStated size basis gathered.board.literals result }
+{
+    let _facts = gathered.board.as_slice();
+    let Gathered {
+        board,
+        steps: _,
+        passage,
+        chains: _,
+    } = gathered;
+    Forced { board, passage }
+}
+
+impl<K: OutcomeKind> Teller<'_, K> {
+    /// The facts that were gathered, with sentences of one shape as one, where that tells them right. Nothing is
+    /// forced before, nor supposed.
+    fn shorten_forced(
+        &self,
+        alloc: Global,
+        tried: &mut Board,
+        gathered: Gathered,
+    ) -> Result<Option<Forced>, NoMemory>
+        requires none { self.now.forced.now.literals ≡ [] }
+        requires tried { tried.old.size ≡ K.size self.now.grounds.kind.now }
+        requires gathered { AreGathered (K.size self.now.grounds.kind.now) self.now.grounds.basis gathered }
+        ensures tried { tried.new.size ≡ tried.old.size }
+        ensures stated { IfOk result (λ found. IfSome found
+            (AreStated (K.size self.now.grounds.kind.now) self.now.grounds.basis gathered.board.literals)) }
+    {
+        let size = self.grounds.kind.space().size();
+        let _facts = gathered.board.as_slice();
+        let Gathered {
+            board,
+            steps,
+            passage,
+            chains: _,
+        } = gathered;
+        let mut index = StepIndex::new(alloc, size)?;
+        index.enter_all(passage.steps.as_slice());
+        let reshaped = reshape(alloc, size, tried, &index, passage)?;
+        let passage = self.told_in(alloc, reshaped, steps.as_slice())?;
+        if !all_say(alloc, &passage)? {
+            return Ok(None);
+        }
+        if self.upholds(self.forced, tried, &index, &passage, &[]) {
+            return Ok(Some(Forced { board, passage }));
+        }
+        Ok(None)
+    }
+
+    /// The facts of a story's steps that are forced, with sentences of one shape as one where that tells them
+    /// right; else they are gathered again. Nothing is forced before, nor supposed.
+    fn forced_in(&self, alloc: Global, story: &[Lemma]) -> Result<Forced, NoMemory>
+        requires none { self.now.forced.now.literals ≡ [] }
+        requires literals { IsTrue
+            (list_all (has_literals (K.size self.now.grounds.kind.now)) story.now) }
+        ensures { IfOk result (AreStated (K.size self.now.grounds.kind.now) self.now.grounds.basis
+            (with_lemmas (K.size self.now.grounds.kind.now) self.now.grounds.basis [] story.now)) }
+    {
+        let mut tried = Board::new(alloc, self.grounds.kind)?;
+        let gathered = gather(alloc, &self.grounds, &mut tried, story)?;
+        let shorter = self.shorten_forced(alloc, &mut tried, gathered)?;
+        match shorter {
+            Some(forced) => Ok(forced),
+            None => Ok(as_gathered(gather(alloc, &self.grounds, &mut tried, story)?)),
+        }
+    }
+}
+
+/// The facts of a story's steps that are forced where nothing is supposed, by no lemma. The boards on which they
+/// are tried are let go with the return.
 pub(crate) fn forced_facts<K: OutcomeKind>(
     alloc: Global,
     kind: &K,
@@ -222,11 +324,21 @@ pub(crate) fn forced_facts<K: OutcomeKind>(
     requires study { study.now.size ≡ K.size kind.now }
     requires core { IsTrue (has_places study.now.axioms core.now) }
     requires literals { IsTrue (list_all (has_literals (K.size kind.now)) story.now) }
-    ensures so_far { IfOk result (AreForcedSoFar (K.size kind.now) study.now.axioms core.now) }
-    ensures covered { IfOk result (λ forced. IsTrue (list_all (λ lemma. are_covered (K.size kind.now)
-        study.now.axioms core.now forced.board.literals lemma.steps) story.now)) }
+    ensures { IfOk result (AreForced (K.size kind.now) study.now.axioms core.now story.now) }
 {
-    let mut tried = Board::new(alloc, kind)?;
-    let forced = forced_in(alloc, kind, study, core, &mut tried, story)?;
+    let none = Board::new(alloc, kind)?;
+    let grounds = Grounds {
+        kind,
+        basis: Basis {
+            study,
+            core,
+            earlier: &[],
+        },
+    };
+    let teller = Teller {
+        grounds,
+        forced: &none,
+    };
+    let forced = teller.forced_in(alloc, story)?;
     Ok(forced)
 }

@@ -9,7 +9,7 @@ ghost use Rattle.premises.specs.SoFar.{is_lemma_by, IsLemmaToldBy};
 ghost use Rattle.premises.specs.Told.{AreTold};
 
 use crate::checking::all_say;
-use crate::forced::forced_facts;
+use crate::forced::{Forced, forced_facts};
 use crate::homes::homes_of;
 use crate::teller::Teller;
 use crate::telling::suppose;
@@ -78,7 +78,7 @@ impl<K: OutcomeKind> Teller<'_, K> {
         let Telling { passage, end } = telling;
         desk.index.enter_all(passage.steps.as_slice());
         let reshaped = reshape(alloc, size, &mut desk.tried, &desk.index, passage)?;
-        let passage = self.told_in(alloc, reshaped, lemma)?;
+        let passage = self.told_in(alloc, reshaped, lemma.steps.as_slice())?;
         if !all_say(alloc, &passage)? {
             return Ok(None);
         }
@@ -175,8 +175,8 @@ fn tell_lemmas<'a, K: OutcomeKind>(
     Ok(tellings)
 }
 
-/// Tells an accepted story over the axioms of a core: first the facts that an axiom forces where nothing is
-/// supposed, then each lemma by the lemmas before it. The only error is want of memory.
+/// Tells an accepted story over the axioms of a core: first the facts that are forced where nothing is supposed,
+/// then each lemma by the lemmas before it. The only error is want of memory.
 pub fn tell_story<K: OutcomeKind>(
     alloc: Global,
     kind: &K,
@@ -192,8 +192,12 @@ pub fn tell_story<K: OutcomeKind>(
     let forced = forced_facts(alloc, kind, study, core, story.as_slice())?;
     let lemmas = tell_lemmas(alloc, kind, study, core, &forced.board, story)?;
     let homes = homes_of(alloc, story.as_slice(), lemmas.as_slice())?;
+    let Forced {
+        board: _,
+        passage: forced,
+    } = forced;
     Ok(StoryTelling {
-        forced: forced.told(),
+        forced,
         lemmas,
         homes,
     })

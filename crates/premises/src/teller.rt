@@ -1,13 +1,13 @@
-//! What lemmas are told by, and the steps of a lemma in given sentences.
+//! What lemmas are told by, and steps in given sentences.
 
 ghost use Rattle.std.specs.Prelude.{◌≡◌, [], ◌∷◌, ◌++◌, IsTrue, IfOk, OnOk};
+ghost use Rattle.std.specs.List.{list_all};
 ghost use Rattle.meaning.specs.Literals.{is_literal};
-ghost use Rattle.meaning.specs.Stories.{has_literals};
-ghost use Rattle.premises.specs.SoFar.{bare_steps, unforced, is_lemma_by};
+ghost use Rattle.premises.specs.SoFar.{bare_steps, unforced};
 
 use joined_sentences::Reshaped;
 use lists::{Items, NoMemory};
-use meaning::{Lemma, StoryStep};
+use meaning::StoryStep;
 use needed_facts::Grounds;
 use outcomes::OutcomeKind;
 use std::alloc::Global;
@@ -54,37 +54,39 @@ impl<K: OutcomeKind> Teller<'_, K> {
         Ok(())
     }
 
-    /// The steps of a lemma with the numbers of their sentences, but for those whose facts are forced.
+    /// Steps with the numbers of their sentences, but for those whose facts are forced.
     fn place_all(
         &self,
         alloc: Global,
         numbers: &[u32],
-        lemma: &Lemma,
+        steps: &[StoryStep],
     ) -> Result<Items<Placed>, NoMemory>
-        requires { IsTrue (has_literals (K.size self.now.grounds.kind.now) lemma.now) }
+        requires { IsTrue
+            (list_all (λ step. is_literal (K.size self.now.grounds.kind.now) step.literal) steps.now) }
         ensures { IfOk result (λ placed.
-            bare_steps placed ≡ unforced self.now.forced.now.literals lemma.now.steps) }
+            bare_steps placed ≡ unforced self.now.forced.now.literals steps.now) }
     {
         let mut placed = Items::with_room(alloc, numbers.len())?;
-        for step in lemma.steps.as_slice() {
+        for step in steps {
             self.place(&mut placed, numbers, step)?;
         }
         Ok(placed)
     }
 
-    /// A lemma in these sentences.
+    /// Steps in these sentences, but for those whose facts are forced.
     pub(crate) fn told_in(
         &self,
         alloc: Global,
         reshaped: Reshaped,
-        lemma: &Lemma,
+        steps: &[StoryStep],
     ) -> Result<Passage, NoMemory>
-        requires { IsTrue (is_lemma_by (K.size self.now.grounds.kind.now) self.now.grounds.basis lemma.now) }
+        requires { IsTrue
+            (list_all (λ step. is_literal (K.size self.now.grounds.kind.now) step.literal) steps.now) }
         ensures { IfOk result (λ passage.
-            bare_steps passage.steps ≡ unforced self.now.forced.now.literals lemma.now.steps) }
+            bare_steps passage.steps ≡ unforced self.now.forced.now.literals steps.now) }
     {
         let Reshaped { sentences, numbers } = reshaped;
-        let steps = self.place_all(alloc, numbers.as_slice(), lemma)?;
+        let steps = self.place_all(alloc, numbers.as_slice(), steps)?;
         Ok(Passage { sentences, steps })
     }
 }

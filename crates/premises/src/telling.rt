@@ -4,16 +4,18 @@ ghost use Rattle.std.specs.Prelude.{◌≡◌, ◌++◌, [], ◌∷◌, List, Is
 ghost use Rattle.std.specs.List.{list_all};
 ghost use Rattle.vocab.specs.declared.literals.Literal.{Literal};
 ghost use Rattle.vocab.specs.Literal.{has, opposite_of};
+ghost use Rattle.vocab.specs.Size.{Extent};
 ghost use Rattle.meaning.specs.Literals.{is_literal};
 ghost use Rattle.meaning.specs.Stories.{are_new, has_literals};
+ghost use Rattle.needed_facts.specs.declared.basis.Basis.{Basis};
 ghost use Rattle.needed_facts.specs.Rests.{refutes_by};
 ghost use Rattle.premises.specs.SoFar.{bare_steps, unforced, steps_follow, is_lemma_by};
-ghost use Rattle.premises.specs.SoFar.{IsLemmaToldBy, IsToldSoFar};
+ghost use Rattle.premises.specs.SoFar.{FollowsFrom, IsLemmaToldBy, IsToldSoFar};
 
 use crate::teller::Teller;
 use joined_sentences::{Chains, by_of, forget, join};
 use lists::{Items, NoMemory};
-use meaning::{Lemma, StoryStep};
+use meaning::{Lemma, Literals, StoryStep};
 use needed_facts::is_literal;
 use outcomes::OutcomeKind;
 use std::alloc::Global;
@@ -32,6 +34,29 @@ pub(crate) fn suppose(known: &mut Board, literals: &[Literal])
     for literal in literals {
         known.add(literal);
     }
+}
+
+/// Says a step in the sentence that rests on these facts, from which the step's fact follows.
+pub(crate) fn say(
+    passage: &mut Passage,
+    chains: &mut Chains,
+    step: &StoryStep,
+    rests: Literals,
+) -> Result<(), NoMemory>
+    ensures told { (size : Extent) (basis : Basis) (forced suppose known : List Literal) →
+        IsToldSoFar size basis forced suppose known passage.old →
+        FollowsFrom size basis known step.now rests →
+        OnOk result (IsToldSoFar size basis forced suppose (known ++ step.now.literal ∷ []) passage.new) }
+    ensures steps { OnOk result
+        (bare_steps passage.new.steps ≡ bare_steps passage.old.steps ++ step.now ∷ []) }
+{
+    let by = by_of(&step.reason);
+    let sentence = join(&mut passage.sentences, chains, by, rests)?;
+    passage.steps.push(Placed {
+        sentence,
+        step: *step,
+    })?;
+    Ok(())
 }
 
 impl<K: OutcomeKind> Teller<'_, K> {
@@ -64,13 +89,7 @@ impl<K: OutcomeKind> Teller<'_, K> {
         let rests = self
             .grounds
             .rests_on(alloc, known, tried, &others, &step.reason)?;
-        let by = by_of(&step.reason);
-        let sentence = join(&mut passage.sentences, chains, by, rests)?;
-        passage.steps.push(Placed {
-            sentence,
-            step: *step,
-        })?;
-        Ok(())
+        say(passage, chains, step, rests)
     }
 
     /// Tells a step, unless its fact is forced.

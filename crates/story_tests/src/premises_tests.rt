@@ -90,6 +90,20 @@ fn both_are_forbidden(alloc: Global) -> Result<Lemma, NoMemory>
     lemma(alloc, [].as_slice(), steps.as_slice(), Reason::Outcome(0))
 }
 
+/// At ab|ab an axiom forbids b, so that a wins, which the other one forbids.
+fn a_has_to_win(alloc: Global) -> Result<Lemma, NoMemory>
+    ensures literals { IfOk result (λ l. IsTrue (has_literals (choice 2 2) l)) }
+    ensures short { IfOk result (λ l. IsTrue (is_short l)) }
+{
+    let pareto = Reason::Axiom(0, Env::none().with(0).with(0).with(1));
+    let never_a = Reason::Axiom(1, Env::none().with(0));
+    let steps = [
+        so(Literal::Loses(1, 0), pareto),
+        so(Literal::Wins(0, 0), Reason::Outcome(0)),
+    ];
+    lemma(alloc, [].as_slice(), steps.as_slice(), never_a)
+}
+
 /// How a story over two axioms is told, if it is accepted.
 fn told(alloc: Global, study: &Study, story: &Story) -> Result<StoryTelling, Fail>
     requires size { study.now.size ≡ choice 2 2 }
@@ -166,6 +180,19 @@ fn forced_facts_are_not_told_again(rt: HostRuntime) -> Result<(), Fail> {
     let alloc = rt.alloc();
     let study = of_two_axioms(alloc, forced(), two_and_two()?)?;
     let only = both_are_forbidden(alloc)?;
+    let mut story = Story::new(alloc);
+    story.push(only)?;
+    let (counts, homes) = summary(&told(alloc, &study, &story)?);
+    assert!(rt; counts == [(2, 2), (0, 0), (0, 0), (0, 0)]);
+    assert!(rt; homes == [None, None, None]);
+    Ok(())
+}
+
+#[test]
+fn what_forced_facts_force_is_not_told_again(rt: HostRuntime) -> Result<(), Fail> {
+    let alloc = rt.alloc();
+    let study = of_two_axioms(alloc, forced(), two_and_two()?)?;
+    let only = a_has_to_win(alloc)?;
     let mut story = Story::new(alloc);
     story.push(only)?;
     let (counts, homes) = summary(&told(alloc, &study, &story)?);

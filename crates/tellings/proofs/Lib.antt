@@ -1,3 +1,4 @@
 pub mod OutcomeLaws
 pub mod WorkedExamples
 pub mod NamerLemmas
+pub mod ForcedLaws

@@ -6,7 +6,7 @@ use Rattle.meaning.specs.declared.stories.Reason.TheVariants.{Outcome as ByOutco
 use Rattle.meaning.specs.declared.stories.StoryStep.{StoryStep}
 use Rattle.meaning.proofs.WorkedExamples.{choice}
 use Rattle.tellings.specs.declared.tellings.By.TheVariants.{Outcome}
-use Rattle.tellings.specs.Tellings.{says_step}
+use Rattle.tellings.specs.Tellings.{forced_by, says_step}
 
 -- b wins at the profile, since it is what is left there
 abbrev wins_at : ℕ → StoryStep
@@ -32,3 +32,7 @@ claims_differ = refl
 
 claims_are_the_same : says_step (choice 2 3) [] [] [] (Some (record { by = Outcome; rests = Loses 0 1 ∷ Loses 1 1 ∷ Loses 1 2 ∷ Loses 0 2 ∷ [] })) (record { literal = Wins 2 1; reason = ByOutcome 1 }) ≡ true
 claims_are_the_same = refl
+
+-- where a is forced not to win at profile 1, b is forced to win there, and nothing at profile 2
+what_is_left_is_forced : forced_by (choice 2 2) [] [] [] (Loses 0 1 ∷ []) (wins_at 1 ∷ wins_at 2 ∷ []) ≡ Loses 0 1 ∷ Wins 1 1 ∷ []
+what_is_left_is_forced = refl

@@ -1,6 +1,6 @@
 -- When a story is told right: by sentences that follow from facts which were forced, supposed or told before.
 use Rattle.std.specs.Prelude.{◌≡◌, ℕ, zero, suc, ◌<◌, nat_lt, ◌==◌, Bool, true, false, not, ◌&&◌, ◌||◌, IsTrue, List, [], ◌∷◌, ◌++◌, map, filter, length, take, slice_get, Option, Some, None, if◌then◌else◌}
-use Rattle.std.specs.List.{flat_map, list_all, list_any}
+use Rattle.std.specs.List.{flat_map, fold, list_all, list_any}
 use Rattle.vocab.specs.declared.literals.Literal.{Literal}
 use Rattle.vocab.specs.declared.literals.Literal.TheVariants.{Wins, Loses, Above}
 use Rattle.vocab.specs.Literal.{opposite_of, has, same_literal}
@@ -34,12 +34,6 @@ is_by (Axiom k) (Axiom l) = k == l
 is_by Outcome Outcome = true
 is_by Earlier Earlier = true
 is_by _ _ = false
-
--- a sentence names an axiom
-abbrev pub is_axiom : By → Bool
-is_axiom (Axiom k) = true
-is_axiom Outcome = false
-is_axiom Earlier = false
 
 -- what the sentence of a number rests on; where there is none, nothing
 abbrev pub rests_of : Option Sentence → List Literal
@@ -177,27 +171,38 @@ pub record AreHomes (story : List Lemma) (tellings : List Telling) (homes : List
 
 -- ---- stories
 
+module _ (size : Extent) (axioms : List Titled) (core : List ℕ) (earlier : List Lemma) where
+  -- facts force that of a step: its reason refutes its opposite, alone or together with these facts, where that opposite is none of them
+  abbrev pub is_forced : List Literal → StoryStep → Bool
+  is_forced facts step =
+      refutes size axioms core earlier (opposite_of step.literal ∷ []) step.reason
+      || (not (has facts (opposite_of step.literal)) && refutes size axioms core earlier (facts ++ opposite_of step.literal ∷ []) step.reason)
+
+  -- facts that are forced, and that of a step, if they force it
+  abbrev pub forced_with : List Literal → StoryStep → List Literal
+  forced_with facts step = if not (has facts step.literal) && is_forced facts step then facts ++ step.literal ∷ [] else facts
+
+  -- and those of steps, one after another
+  abbrev pub forced_by : List Literal → List StoryStep → List Literal
+  forced_by facts steps = fold forced_with facts steps
+
+  -- the facts of a story's steps that are forced, where nothing is supposed: lemma after lemma, each by those before it
+  abbrev pub forced_facts : List Lemma → List Literal
+  forced_facts story = fold (λ facts lemma. forced_by facts lemma.steps) [] story
+
 module _ (size : Extent) (axioms : List Titled) (core : List ℕ) where
-  -- a step's reason is an axiom, which alone refutes the opposite of the fact that the step states
-  abbrev pub is_forced : StoryStep → Bool
-  is_forced step = is_axiom (by_of step.reason) && refutes size axioms core [] (opposite_of step.literal ∷ []) step.reason
-
-  -- a step is not forced, or its fact is one of these
-  abbrev pub is_covered : List Literal → StoryStep → Bool
-  is_covered facts step = not (is_forced step) || has facts step.literal
-
-  -- facts are forced: each is one of the size, and an axiom alone refutes its opposite; each sentence says a step; no fact stands twice
+  -- facts are forced: each is one of the size; each sentence says a step, by no lemma, and rests on facts that earlier sentences state alone; no fact stands twice
   pub record IsForced (passage : Passage) : Type 0 where
     pub ours : IsTrue (list_all (is_literal size) (facts_of passage.steps))
     pub said : IsTrue (are_said size axioms core [] passage)
     pub all_say : AllSay passage
-    pub alone : IsTrue (list_all (λ sentence. length sentence.rests == 0) passage.sentences)
+    pub grounded : (k : ℕ) → IsTrue (list_all (stands_before [] [] passage.steps k) (rests_of (slice_get passage.sentences k)))
     pub once : IsTrue (are_distinct (facts_of passage.steps))
 
-  -- a story is told right: the facts that are forced come first, those of all its steps, and then each lemma is told by the lemmas before it, which stand before it
+  -- a story is told right: the facts of its steps that are forced come first, and then each lemma is told by the lemmas before it, which stand before it
   pub record IsStoryTold (story : List Lemma) (told : StoryTelling) : Type 0 where
     pub forced : IsForced told.forced
-    pub whole : IsTrue (list_all (λ lemma. list_all (is_covered (facts_of told.forced.steps)) lemma.steps) story)
+    pub whole : facts_of told.forced.steps ≡ forced_facts size axioms core [] story
     pub all : length told.lemmas ≡ length story
     pub each : (j : ℕ) (lemma : Lemma) (telling : Telling) → slice_get story j ≡ Some lemma → slice_get told.lemmas j ≡ Some telling →
         IsTellingRight size axioms core (take j story) (facts_of told.forced.steps) lemma telling

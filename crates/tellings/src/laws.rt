@@ -1,6 +1,6 @@
 //! What holds of the definitions. Each law is the contract of a function that does nothing.
 
-ghost use Rattle.tellings.specs.Laws.{OutcomesAreOfTheirProfiles, UsedOnceStandWhereUsed};
+ghost use Rattle.tellings.specs.Laws.{ForcedFactsComeFirst, OutcomesAreOfTheirProfiles, UsedOnceStandWhereUsed};
 
 /// What a sentence says by what is left at a profile, it says of that profile, and its facts there are enough.
 pub fn outcomes_are_of_their_profiles()
@@ -11,4 +11,9 @@ pub fn outcomes_are_of_their_profiles()
 /// lemmas may.
 pub fn used_once_stand_where_used()
     ensures { UsedOnceStandWhereUsed }
+{}
+
+/// Each fact of a step that the facts forced before it force, or that its reason forces alone, comes first.
+pub fn forced_facts_come_first()
+    ensures { ForcedFactsComeFirst }
 {}
