@@ -35,7 +35,7 @@ pub(crate) struct Forced {
 
 /// Facts that are forced, so far: the steps that state them, in order, and the sentences that say these.
 #[derive(Drop)]
-struct Gathered {
+pub(crate) struct Gathered {
     board: Board,
     steps: Items<StoryStep>,
     passage: Passage,
@@ -164,11 +164,7 @@ fn is_forced_alone<K: OutcomeKind>(
 
 /// Whether the reason of a step refutes the opposite of its fact together with facts that are forced, where that
 /// opposite is none of them. It stands among them meanwhile.
-fn is_forced_with<K: OutcomeKind>(
-    grounds: &Grounds<K>,
-    facts: &mut Board,
-    step: &StoryStep,
-) -> bool
+fn is_forced_with<K: OutcomeKind>(grounds: &Grounds<K>, facts: &mut Board, step: &StoryStep) -> bool
     requires facts { facts.old.size ≡ K.size grounds.now.kind.now }
     requires literal { IsTrue (is_literal (K.size grounds.now.kind.now) step.now.literal) }
     ensures size { facts.new.size ≡ facts.old.size }
