@@ -52,6 +52,17 @@ module _ (size : Extent) (basis : Basis) where
   pub follows_alone : (known : List Literal) (step : StoryStep) → refutes_by size basis (opposite_of step.literal ∷ []) step.reason ≡ true → FollowsFrom size basis known step []
   follows_alone known step h = record { rest = record { kept = refl; refuted = h }; there = none_there step.reason }
 
+  pub gathered_same : (old new : Gathered) → AreGathered size basis old → new.board.size ≡ old.board.size → new.board.literals ≡ old.board.literals → new.steps ≡ old.steps → new.passage ≡ old.passage →
+      AreGathered size basis new
+  gathered_same old new so_far sized literals steps passage = record {
+    sized = sized ∙ so_far.sized;
+    told =
+        subst (λ (ls : List Literal). IsToldSoFar size basis [] [] ls new.passage) (sym literals)
+        (subst (λ (p : Passage). IsToldSoFar size basis [] [] old.board.literals p) (sym passage) so_far.told);
+    bare = ap (λ (p : Passage). bare_steps p.steps) passage ∙ so_far.bare ∙ sym steps;
+    facts = ap (map (λ (s : StoryStep). s.literal)) steps ∙ so_far.facts ∙ sym literals;
+  }
+
   pub gathered_more : (old new : Gathered) (step : StoryStep) → AreGathered size basis old → IsToldSoFar size basis [] [] (old.board.literals ++ step.literal ∷ []) new.passage →
       bare_steps new.passage.steps ≡ bare_steps old.passage.steps ++ step ∷ [] → new.steps ≡ old.steps ++ step ∷ [] → new.board.size ≡ old.board.size → new.board.literals ≡ old.board.literals ++ step.literal ∷ [] →
       AreGathered size basis new

@@ -96,7 +96,8 @@ impl Gathered {
         if self.board.has(&step.literal) {
             return Ok(());
         }
-        match grounds_of(alloc, grounds, &mut self.board, tried, step)? {
+        let found = grounds_of(alloc, grounds, &mut self.board, tried, step)?;
+        match found {
             Some(rests) => self.state(step, rests),
             None => Ok(()),
         }
@@ -133,12 +134,14 @@ fn is_refuted<K: OutcomeKind>(grounds: &Grounds<K>, board: &Board, reason: &Reas
     ensures { result ≡ refutes_by (K.size grounds.now.kind.now) grounds.now.basis
         board.now.literals reason.now }
 {
-    let Basis {
-        study,
-        core,
-        earlier,
-    } = &grounds.basis;
-    match refutes(grounds.kind, study, core, earlier, board, reason) {
+    match refutes(
+        grounds.kind,
+        grounds.basis.study,
+        grounds.basis.core,
+        grounds.basis.earlier,
+        board,
+        reason,
+    ) {
         Ok(()) => true,
         Err(_) => false,
     }
@@ -308,6 +311,38 @@ impl<K: OutcomeKind> Teller<'_, K> {
     }
 }
 
+/// The facts of a story's steps that are forced where nothing is supposed, by no lemma. On a board is no fact.
+fn forced_over<'a, K: OutcomeKind>(
+    alloc: Global,
+    kind: &'a K,
+    study: &'a Study,
+    core: &'a Places,
+    none: &'a Board,
+    story: &[Lemma],
+) -> Result<Forced, NoMemory>
+    requires study { study.now.size ≡ K.size kind.now }
+    requires core { IsTrue (has_places study.now.axioms core.now) }
+    requires size { none.now.size ≡ K.size kind.now }
+    requires none { none.now.literals ≡ [] }
+    requires literals { IsTrue (list_all (has_literals (K.size kind.now)) story.now) }
+    ensures { IfOk result (AreForced (K.size kind.now) study.now.axioms core.now story.now) }
+{
+    let grounds = Grounds {
+        kind,
+        basis: Basis {
+            study,
+            core,
+            earlier: &[],
+        },
+    };
+    let teller = Teller {
+        grounds,
+        forced: none,
+    };
+    let forced = teller.forced_in(alloc, story)?;
+    Ok(forced)
+}
+
 /// The facts of a story's steps that are forced where nothing is supposed, by no lemma. The boards on which they
 /// are tried are let go with the return.
 pub(crate) fn forced_facts<K: OutcomeKind>(
@@ -323,18 +358,6 @@ pub(crate) fn forced_facts<K: OutcomeKind>(
     ensures { IfOk result (AreForced (K.size kind.now) study.now.axioms core.now story.now) }
 {
     let none = Board::new(alloc, kind)?;
-    let grounds = Grounds {
-        kind,
-        basis: Basis {
-            study,
-            core,
-            earlier: &[],
-        },
-    };
-    let teller = Teller {
-        grounds,
-        forced: &none,
-    };
-    let forced = teller.forced_in(alloc, story)?;
+    let forced = forced_over(alloc, kind, study, core, &none, story)?;
     Ok(forced)
 }

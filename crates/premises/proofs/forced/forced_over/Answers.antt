@@ -1,6 +1,6 @@
 use Rattle.std.proofs.Common.{refl}
 use Rattle.premises.proofs.ForcedLemmas.{forced_so}
-use Rattle.premises.proofs.forced.forced_facts.Goals as goal
+use Rattle.premises.proofs.forced.forced_over.Goals as goal
 
 pub returns : goal.returns
 returns g c = forced_so (g.K.OutcomeKind.size c.args.kind.now) c.grounds.basis c.args.story.now c.in_ok-forced.forced refl c.in_ok-forced.ensures
