@@ -165,8 +165,8 @@ fn is_forced_alone<K: OutcomeKind>(
     is_refuted(grounds, tried, &step.reason)
 }
 
-/// Whether the reason of a step refutes the opposite of its fact together with facts that are forced, where that
-/// opposite is none of them. It stands among them meanwhile.
+/// Whether the reason of a step refutes the opposite of its fact together with facts that are forced, where
+/// that opposite is none of them. It stands among them meanwhile.
 fn is_forced_with<K: OutcomeKind>(grounds: &Grounds<K>, facts: &mut Board, step: &StoryStep) -> bool
     requires facts { facts.old.size ≡ K.size grounds.now.kind.now }
     requires literal { IsTrue (is_literal (K.size grounds.now.kind.now) step.now.literal) }
@@ -186,8 +186,8 @@ fn is_forced_with<K: OutcomeKind>(grounds: &Grounds<K>, facts: &mut Board, step:
     refuted
 }
 
-/// What the fact of a step rests on of facts that are forced, if they force it: nothing, where its reason does so
-/// alone.
+/// What the fact of a step rests on of facts that are forced, if they force it: nothing, where its reason
+/// does so alone.
 fn grounds_of<K: OutcomeKind>(
     alloc: Global,
     grounds: &Grounds<K>,
@@ -217,8 +217,8 @@ fn grounds_of<K: OutcomeKind>(
     Ok(Some(rests))
 }
 
-/// The facts of the steps of lemmas that are forced, one after another. What is on the board where they are tried
-/// does not count.
+/// The facts of the steps of lemmas that are forced, one after another. What is on the board where they are
+/// tried does not count.
 fn gather<K: OutcomeKind>(
     alloc: Global,
     grounds: &Grounds<K>,
@@ -256,8 +256,8 @@ fn as_gathered(gathered: Gathered) -> Forced
 }
 
 impl<K: OutcomeKind> Teller<'_, K> {
-    /// The facts that were gathered, with sentences of one shape as one, where that tells them right. Nothing is
-    /// forced before, nor supposed.
+    /// The facts that were gathered, with sentences of one shape as one, where that tells them right.
+    /// Nothing is forced before, nor supposed.
     fn shorten_forced(
         &self,
         alloc: Global,
@@ -292,8 +292,8 @@ impl<K: OutcomeKind> Teller<'_, K> {
         Ok(None)
     }
 
-    /// The facts of a story's steps that are forced, with sentences of one shape as one where that tells them
-    /// right; else they are gathered again. Nothing is forced before, nor supposed.
+    /// The facts of a story's steps that are forced, with sentences of one shape as one where that tells
+    /// them right; else they are gathered again. Nothing is forced before, nor supposed.
     fn forced_in(&self, alloc: Global, story: &[Lemma]) -> Result<Forced, NoMemory>
         requires none { self.now.forced.now.literals ≡ [] }
         requires literals { IsTrue
@@ -311,7 +311,8 @@ impl<K: OutcomeKind> Teller<'_, K> {
     }
 }
 
-/// The facts of a story's steps that are forced where nothing is supposed, by no lemma. On a board is no fact.
+/// The facts of a story's steps that are forced where nothing is supposed, by no lemma. On a board is no
+/// fact.
 fn forced_over<'a, K: OutcomeKind>(
     alloc: Global,
     kind: &'a K,
@@ -343,8 +344,8 @@ fn forced_over<'a, K: OutcomeKind>(
     Ok(forced)
 }
 
-/// The facts of a story's steps that are forced where nothing is supposed, by no lemma. The boards on which they
-/// are tried are let go with the return.
+/// The facts of a story's steps that are forced where nothing is supposed, by no lemma. The boards on which
+/// they are tried are let go with the return.
 pub(crate) fn forced_facts<K: OutcomeKind>(
     alloc: Global,
     kind: &K,
