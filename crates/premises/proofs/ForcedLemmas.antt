@@ -3,7 +3,7 @@ use Rattle.std.proofs.Common.{◌≡◌, refl, sym, ap, ◌∙◌, subst, ℕ, �
 use Rattle.std.specs.List.{fold, list_all}
 use Rattle.std.specs.Prelude.{slice_get}
 use Rattle.std.proofs.lemmas.Bool.{and_parts, and_from}
-use Rattle.std.proofs.lemmas.List.{map-append}
+use Rattle.std.proofs.lemmas.List.{map-append, take_more}
 use Rattle.std.proofs.lemmas.List.Sums.{fold_more}
 use Rattle.vocab.specs.declared.literals.Literal.{Literal}
 use Rattle.vocab.specs.Literal.{has, opposite_of}
@@ -36,11 +36,15 @@ none_forced [] = refl
 none_forced (step ∷ steps) = ap (λ (ss : List StoryStep). step ∷ ss) (none_forced steps)
 
 -- what the facts of steps pass, each step does
-pub steps_pass : (t : Literal → Bool) (steps : List StoryStep) → list_all t (map (λ (step : StoryStep). step.literal) steps) ≡ true → list_all (λ (step : StoryStep). t step.literal) steps ≡ true
+pub steps_pass : (t : Literal → Bool) (ps : List Placed) → list_all t (facts_of ps) ≡ true → list_all (λ (step : StoryStep). t step.literal) (bare_steps ps) ≡ true
 steps_pass t [] h = refl
-steps_pass t (step ∷ steps) h =
-    let p = and_parts (t step.literal) (list_all t (map (λ (s : StoryStep). s.literal) steps)) h in
-    and_from (t step.literal) (list_all (λ (s : StoryStep). t s.literal) steps) p.0 (steps_pass t steps p.1)
+steps_pass t (placed ∷ ps) h =
+    let p = and_parts (t placed.step.literal) (list_all t (facts_of ps)) h in
+    and_from (t placed.step.literal) (list_all (λ (step : StoryStep). t step.literal) (bare_steps ps)) p.0 (steps_pass t ps p.1)
+
+-- one step more without its place
+pub bare_next : (ps : List Placed) (i : ℕ) (d : Placed) → i < length ps → bare_steps (take (i + 1) ps) ≡ bare_steps (take i ps) ++ (get_or ps i d).step ∷ []
+bare_next ps i d lt = ap bare_steps (take_more ps i d lt) ∙ map-append (λ (p : Placed). p.step) (take i ps) (get_or ps i d ∷ [])
 
 none_there : (reason : Reason) → are_there reason [] ≡ true
 none_there (ByAxiom k values) = refl
@@ -52,28 +56,25 @@ module _ (size : Extent) (basis : Basis) where
   pub follows_alone : (known : List Literal) (step : StoryStep) → refutes_by size basis (opposite_of step.literal ∷ []) step.reason ≡ true → FollowsFrom size basis known step []
   follows_alone known step h = record { rest = record { kept = refl; refuted = h }; there = none_there step.reason }
 
-  pub gathered_same : (old new : Gathered) → AreGathered size basis old → new.board.size ≡ old.board.size → new.board.literals ≡ old.board.literals → new.steps ≡ old.steps → new.passage ≡ old.passage →
-      AreGathered size basis new
-  gathered_same old new so_far sized literals steps passage = record {
+  pub gathered_same : (old new : Gathered) → AreGathered size basis old → new.board.size ≡ old.board.size → new.board.literals ≡ old.board.literals → new.passage ≡ old.passage → AreGathered size basis new
+  gathered_same old new so_far sized literals passage = record {
     sized = sized ∙ so_far.sized;
     told =
         subst (λ (ls : List Literal). IsToldSoFar size basis [] [] ls new.passage) (sym literals)
         (subst (λ (p : Passage). IsToldSoFar size basis [] [] old.board.literals p) (sym passage) so_far.told);
-    bare = ap (λ (p : Passage). bare_steps p.steps) passage ∙ so_far.bare ∙ sym steps;
-    facts = ap (map (λ (s : StoryStep). s.literal)) steps ∙ so_far.facts ∙ sym literals;
+    facts = ap (λ (p : Passage). facts_of p.steps) passage ∙ so_far.facts ∙ sym literals;
   }
 
   pub gathered_more : (old new : Gathered) (step : StoryStep) → AreGathered size basis old → IsToldSoFar size basis [] [] (old.board.literals ++ step.literal ∷ []) new.passage →
-      bare_steps new.passage.steps ≡ bare_steps old.passage.steps ++ step ∷ [] → new.steps ≡ old.steps ++ step ∷ [] → new.board.size ≡ old.board.size → new.board.literals ≡ old.board.literals ++ step.literal ∷ [] →
-      AreGathered size basis new
-  gathered_more old new step so_far told bare steps same grown = record {
+      bare_steps new.passage.steps ≡ bare_steps old.passage.steps ++ step ∷ [] → new.board.size ≡ old.board.size → new.board.literals ≡ old.board.literals ++ step.literal ∷ [] → AreGathered size basis new
+  gathered_more old new step so_far told bare same grown = record {
     sized = same ∙ so_far.sized;
     told = subst (λ (ls : List Literal). IsToldSoFar size basis [] [] ls new.passage) (sym grown) told;
-    bare = bare ∙ ap (λ (ss : List StoryStep). ss ++ step ∷ []) so_far.bare ∙ sym steps;
     facts =
-        ap (map (λ (s : StoryStep). s.literal)) steps
-        ∙ map-append (λ (s : StoryStep). s.literal) old.steps (step ∷ [])
-        ∙ ap (λ (ls : List Literal). ls ++ step.literal ∷ []) so_far.facts
+        facts_are new.passage.steps
+        ∙ ap (map (λ (s : StoryStep). s.literal)) bare
+        ∙ map-append (λ (s : StoryStep). s.literal) (bare_steps old.passage.steps) (step ∷ [])
+        ∙ ap (λ (ls : List Literal). ls ++ step.literal ∷ []) (sym (facts_are old.passage.steps) ∙ so_far.facts)
         ∙ sym grown;
   }
 
@@ -107,8 +108,6 @@ module _ (size : Extent) (basis : Basis) where
     on_board = ap (λ (b : Known). b.literals) board;
     stated =
         ap (λ (p : Passage). facts_of p.steps) passage
-        ∙ facts_are gathered.passage.steps
-        ∙ ap (map (λ (s : StoryStep). s.literal)) so_far.bare
         ∙ so_far.facts;
     ours = subst (λ (s : Extent). list_all (is_literal s) gathered.board.literals ≡ true) so_far.sized ours;
     said = subst (λ (p : Passage). are_said_by size basis p ≡ true) (sym passage) so_far.told.said;
@@ -119,13 +118,14 @@ module _ (size : Extent) (basis : Basis) where
 
   -- and so it is in other sentences that uphold it
   pub stated_shortly : (gathered : Gathered) (forced : Forced) → AreGathered size basis gathered → list_all (is_literal gathered.board.size) gathered.board.literals ≡ true → are_distinct gathered.board.literals ≡ true →
-      forced.board ≡ gathered.board → bare_steps forced.passage.steps ≡ unforced [] gathered.steps → AllSay forced.passage → Upholds size basis [] [] [] forced.passage → AreStated size basis gathered.board.literals forced
+      forced.board ≡ gathered.board → bare_steps forced.passage.steps ≡ unforced [] (bare_steps gathered.passage.steps) → AllSay forced.passage → Upholds size basis [] [] [] forced.passage → AreStated size basis gathered.board.literals forced
   stated_shortly gathered forced so_far ours distinct board bare say upholds = record {
     sized = ap (λ (b : Known). b.size) board ∙ so_far.sized;
     on_board = ap (λ (b : Known). b.literals) board;
     stated =
         facts_are forced.passage.steps
-        ∙ ap (map (λ (s : StoryStep). s.literal)) (bare ∙ none_forced gathered.steps)
+        ∙ ap (map (λ (s : StoryStep). s.literal)) (bare ∙ none_forced (bare_steps gathered.passage.steps))
+        ∙ sym (facts_are gathered.passage.steps)
         ∙ so_far.facts;
     ours = subst (λ (s : Extent). list_all (is_literal s) gathered.board.literals ≡ true) so_far.sized ours;
     said = upholds.said;

@@ -1,5 +1,5 @@
 -- Facts that are forced, so far.
-use Rattle.std.specs.Prelude.{◌≡◌, ℕ, Bool, IsTrue, List, [], map, slice_get}
+use Rattle.std.specs.Prelude.{◌≡◌, ℕ, Bool, IsTrue, List, [], slice_get}
 use Rattle.std.specs.List.{fold, list_all}
 use Rattle.vocab.specs.declared.literals.Literal.{Literal}
 use Rattle.vocab.specs.Size.{Extent}
@@ -12,7 +12,7 @@ use Rattle.worlds.specs.Boards.{are_distinct}
 use Rattle.tellings.specs.Tellings.{facts_of, forced_by, forced_facts, forced_with, is_forced, rests_of, stands_before, AllSay, IsForced}
 use Rattle.premises.specs.declared.forced.Forced.{Forced}
 use Rattle.premises.specs.declared.forced.Gathered.{Gathered}
-use Rattle.premises.specs.SoFar.{are_said_by, bare_steps, IsToldSoFar}
+use Rattle.premises.specs.SoFar.{are_said_by, IsToldSoFar}
 
 module _ (size : Extent) (basis : Basis) where
   -- facts force that of a step
@@ -29,12 +29,11 @@ module _ (size : Extent) (basis : Basis) where
   abbrev pub with_lemmas : List Literal → List Lemma → List Literal
   with_lemmas facts story = fold (λ ls lemma. with_steps ls lemma.steps) facts story
 
-  -- the steps state the facts on the board, and are said by sentences, each of which rests on what earlier ones state
+  -- the facts on the board are stated by sentences, each of which rests on what earlier ones state
   pub record AreGathered (gathered : Gathered) : Type 0 where
     pub sized : gathered.board.size ≡ size
     pub told : IsToldSoFar size basis [] [] gathered.board.literals gathered.passage
-    pub bare : bare_steps gathered.passage.steps ≡ gathered.steps
-    pub facts : map (λ step. step.literal) gathered.steps ≡ gathered.board.literals
+    pub facts : facts_of gathered.passage.steps ≡ gathered.board.literals
 
   -- these facts are on the board, and are stated by sentences, each of which rests on what earlier ones state
   pub record AreStated (facts : List Literal) (forced : Forced) : Type 0 where

@@ -10,7 +10,7 @@ ghost use Rattle.story.specs.Conditions.{has_places};
 ghost use Rattle.needed_facts.specs.declared.basis.Basis.{Basis};
 ghost use Rattle.needed_facts.specs.Rests.{refutes_by};
 ghost use Rattle.premises.specs.Forcing.{is_forced_by, with_lemmas, with_step, with_steps, AreForced, AreGathered, AreStated};
-ghost use Rattle.premises.specs.SoFar.{FollowsFrom};
+ghost use Rattle.premises.specs.SoFar.{bare_steps, FollowsFrom};
 
 use crate::checking::all_say;
 use crate::teller::Teller;
@@ -22,7 +22,7 @@ use needed_facts::{Basis, Grounds};
 use outcomes::OutcomeKind;
 use std::alloc::Global;
 use story::refutes;
-use tellings::Passage;
+use tellings::{Passage, Placed};
 use vocab::{Places, Sort, Study};
 use worlds::Board;
 
@@ -33,11 +33,10 @@ pub(crate) struct Forced {
     pub(crate) passage: Passage,
 }
 
-/// Facts that are forced, so far: the steps that state them, in order, and the sentences that say these.
+/// Facts that are forced, so far, with the sentences that state them.
 #[derive(Drop)]
 pub(crate) struct Gathered {
     board: Board,
-    steps: Items<StoryStep>,
     passage: Passage,
     chains: Chains,
 }
@@ -51,7 +50,6 @@ impl Gathered {
         let keys = kind.space().size().sort_len(Sort::Profile) as usize;
         Ok(Gathered {
             board: Board::new(alloc, kind)?,
-            steps: Items::new(alloc),
             passage: Passage {
                 sentences: Items::new(alloc),
                 steps: Items::new(alloc),
@@ -64,14 +62,13 @@ impl Gathered {
     fn state(&mut self, step: &StoryStep, rests: Literals) -> Result<(), NoMemory>
         requires literal { IsTrue (is_literal self.old.board.size step.now.literal) }
         requires fresh { IsFalse (has self.old.board.literals step.now.literal) }
-        ensures so_far { (basis : Basis) → AreGathered self.old.board.size basis self.old →
-            FollowsFrom self.old.board.size basis self.old.board.literals step.now rests →
-            OnOk result (AreGathered self.old.board.size basis self.new) }
+        ensures so_far { (size : Extent) (basis : Basis) → AreGathered size basis self.old →
+            FollowsFrom size basis self.old.board.literals step.now rests →
+            OnOk result (AreGathered size basis self.new) }
         ensures stated { OnOk result
             (self.new.board.literals ≡ self.old.board.literals ++ step.now.literal ∷ []) }
     {
         say(&mut self.passage, &mut self.chains, step, rests)?;
-        self.steps.push(*step)?;
         self.board.add(&step.literal);
         Ok(())
     }
@@ -248,11 +245,21 @@ fn as_gathered(gathered: Gathered) -> Forced
     let _facts = gathered.board.as_slice();
     let Gathered {
         board,
-        steps: _,
         passage,
         chains: _,
     } = gathered;
     Forced { board, passage }
+}
+
+/// Steps without their places.
+fn bare_steps(alloc: Global, steps: &[Placed]) -> Result<Items<StoryStep>, NoMemory>
+    ensures { IfOk result (λ bare. bare ≡ bare_steps steps.now) }
+{
+    let mut bare = Items::with_room(alloc, steps.len())?;
+    for placed in steps {
+        bare.push(placed.step)?;
+    }
+    Ok(bare)
 }
 
 impl<K: OutcomeKind> Teller<'_, K> {
@@ -275,10 +282,10 @@ impl<K: OutcomeKind> Teller<'_, K> {
         let _facts = gathered.board.as_slice();
         let Gathered {
             board,
-            steps,
             passage,
             chains: _,
         } = gathered;
+        let steps = bare_steps(alloc, passage.steps.as_slice())?;
         let mut index = StepIndex::new(alloc, size)?;
         index.enter_all(passage.steps.as_slice());
         let reshaped = reshape(alloc, size, tried, &index, passage)?;

@@ -1,4 +1,4 @@
-use Rattle.std.proofs.Common.{◌≡◌, sym, ap, ◌∙◌, [], List, take, get_or, arith}
+use Rattle.std.proofs.Common.{refl, sym, ap, ◌∙◌, [], List, get_or, arith}
 use Rattle.lists.proofs.TestLaws.{all_read}
 use Rattle.vocab.specs.declared.literals.Literal.{Literal}
 use Rattle.meaning.specs.Stories.{has_literals}
@@ -27,3 +27,6 @@ loop-place-preserved g c =
           ∙ ap (λ (ls : List Literal). with_steps size basis ls lemma.steps) c.loop-place.invariant.facts
           ∙ sym (lemmas_next size basis [] c.args.story.now c.loop-place.place c.index-story-place.result (omega arith));
     }
+
+pub loop-place-init : goal.loop-place-init
+loop-place-init g c = record { tried = refl; so_far = c.in_ok-gathered.ensures.so_far c.args.grounds.now.basis; facts = c.in_ok-gathered.ensures.none }
