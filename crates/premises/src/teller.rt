@@ -80,7 +80,7 @@ impl<K: OutcomeKind> Teller<'_, K> {
         reshaped: Reshaped,
         steps: &[StoryStep],
     ) -> Result<Passage, NoMemory>
-        requires { IsTrue
+        requires literals { IsTrue
             (list_all (λ step. is_literal (K.size self.now.grounds.kind.now) step.literal) steps.now) }
         ensures { IfOk result (λ passage.
             bare_steps passage.steps ≡ unforced self.now.forced.now.literals steps.now) }

@@ -6,8 +6,8 @@ use Rattle.meaning.specs.Literals.{is_literal}
 use Rattle.premises.proofs.ForcedLemmas.{steps_pass}
 use Rattle.premises.proofs.teller.Teller.shorten_forced.Goals as goal
 
-pub told_in-requires-clause : goal.told_in-requires-clause
-told_in-requires-clause g c = λ κs out.
+pub told_in-requires-clause-literals : goal.told_in-requires-clause-literals
+told_in-requires-clause-literals g c = λ κs out.
     let size = g.K.OutcomeKind.size c.args.self.now.grounds.kind.now in
     let gathered = c.args.gathered in
     rw (c.as_slice-3.ensures, c.in_ok-steps.ensures, c.as_slice.ensures)
