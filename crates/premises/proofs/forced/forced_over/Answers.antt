@@ -3,4 +3,4 @@ use Rattle.premises.proofs.ForcedLemmas.{forced_so}
 use Rattle.premises.proofs.forced.forced_over.Goals as goal
 
 pub returns : goal.returns
-returns g c = forced_so (g.K.OutcomeKind.size c.args.kind.now) c.grounds.basis c.args.story.now c.in_ok-forced.forced refl c.in_ok-forced.ensures
+returns g c = forced_so _ _ c.args.story.now c.in_ok-forced.forced refl c.in_ok-forced.ensures
