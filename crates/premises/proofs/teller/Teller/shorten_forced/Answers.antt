@@ -1,6 +1,5 @@
 use Rattle.std.proofs.Common.{◌≡◌, refl, sym, ap, ◌∙◌, subst, true, List, []}
 use Rattle.std.specs.List.{list_all}
-use Rattle.std.proofs.lemmas.Bool.{not-false}
 use Rattle.vocab.specs.declared.literals.Literal.{Literal}
 use Rattle.vocab.specs.Size.{Extent}
 use Rattle.meaning.specs.Literals.{is_literal}
@@ -27,5 +26,5 @@ returns-then-upholds-clause-stated g c =
     (c.in_ok-passage.ensures
     ∙ ap (λ (ls : List Literal). unforced ls slice) c.requires.none
     ∙ ap (unforced []) (c.as_slice-3.ensures ∙ c.in_ok-steps.ensures ∙ ap bare_steps c.as_slice.ensures))
-    (c.in_ok-all_say.ensures (not-false c.in_ok-all_say.field-0 c.if-not-branch.false))
+    (c.in_ok-all_say.ensures c.if-not-branch.false)
     (subst (λ (ls : List Literal). Upholds size basis ls ls [] passage) c.requires.none (c.upholds.ensures.upholds c.if-upholds.true))
