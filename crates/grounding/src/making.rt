@@ -119,11 +119,10 @@ fn push_chosen<R: Threads + Sync, K: OutcomeKind, G: Gate>(
 }
 
 /// The clauses of the study for the chosen axioms, each with its origin: the frames by profile, and then
-/// those of each axiom by instance, of equal ones of an axiom the first. Instances are taken in pieces of 64,
-/// with up to 1,024 pieces in a round, which are shared among the workers: first they are measured, unless the
-/// shape of the axiom tells that none is too wide, so that the first that is too wide is found before any
-/// clause is made; the clauses are then made in parts of four pieces. The answer is the same for every number of
-/// workers.
+/// those of each axiom by instance, of equal ones of an axiom the first. Instances are taken in pieces of 64, and
+/// pieces in rounds, which are shared among the workers: first they are measured, unless the shape of the axiom
+/// tells that none is too wide, so that the first that is too wide is found before any clause is made; the clauses
+/// are then made in parts of four pieces. The answer is the same for every number of workers.
 pub fn ground<R: Threads + Sync, K: OutcomeKind, G: Gate>(
     alloc: Global,
     crew: &Crew<R, G>,

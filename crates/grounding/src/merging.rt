@@ -16,7 +16,7 @@ ghost use Rattle.grounding.specs.Pieces.{AreNarrow, AreNarrowInstances, IsKeptPa
 use crate::distinct::{Seen, keep};
 use crate::part::Part;
 use crate::parts::clauses_of_all;
-use crate::pieces::{MOST_CLAUSES, MOST_LITERALS, PART, PIECE, Planned, ROUND};
+use crate::pieces::{LARGE, MOST_CLAUSES, MOST_LITERALS, PART, PIECE, Planned, ROUND};
 use clause_form::{most_counts, sum};
 use cnf::{Clauses, PushFault};
 use crew::{Crew, Job, Parts, map_pieces};
@@ -109,7 +109,7 @@ fn make_parts<R: Threads + Sync, K: OutcomeKind, G: Gate>(
 ) -> Result<Parts<Part>, NoMemory>
     requires instances { AreNarrowInstances (K.size planned.now.kind.now) planned.now.named.now from to }
     requires base { planned.now.base ≤ 2 ^ 60 }
-    requires short { to ≤ from + 65536 }
+    requires short { to ≤ from + 524288 }
     requires plan { IsPlan (K.size planned.now.kind.now) planned.now.named.now.sentence planned.now.plan.now }
     ensures right { IfOk result (λ parts. AreRight (IsPartOf
         (K.size planned.now.kind.now) planned.now.named.now.sentence planned.now.base from to) 0 parts) }
@@ -162,7 +162,7 @@ fn keep_beside<R: Threads + Sync, K: OutcomeKind, G: Gate>(
     requires whole { to ≤ part_start from (length parts.now) }
     requires instances { AreNarrowInstances (K.size planned.now.kind.now) planned.now.named.now to end }
     requires base { planned.now.base ≤ 2 ^ 60 }
-    requires short { end ≤ to + 65536 }
+    requires short { end ≤ to + 524288 }
     requires plan { IsPlan (K.size planned.now.kind.now) planned.now.named.now.sentence planned.now.plan.now }
     ensures right { IfOk result.0 (λ made. AreRight (IsPartOf
         (K.size planned.now.kind.now) planned.now.named.now.sentence planned.now.base to end) 0 made) }
@@ -179,7 +179,7 @@ fn keep_beside<R: Threads + Sync, K: OutcomeKind, G: Gate>(
     let mut make = || -> Result<Parts<Part>, NoMemory>
         requires { IsSync R.row × AreNarrowInstances
             (K.size planned.now.kind.now) planned.now.named.now to end ×
-            (planned.now.base ≤ 2 ^ 60) × (end ≤ to + 65536) ×
+            (planned.now.base ≤ 2 ^ 60) × (end ≤ to + 524288) ×
             IsPlan (K.size planned.now.kind.now) planned.now.named.now.sentence planned.now.plan.now }
         ensures right { IfOk result (λ made. AreRight (IsPartOf (K.size planned.entry.now.kind.now)
             planned.entry.now.named.now.sentence planned.entry.now.base to end) 0 made) }
@@ -204,24 +204,29 @@ fn is_much(total: Counts) -> bool {
     total.clauses > MOST_CLAUSES || total.literals > MOST_LITERALS
 }
 
-/// How many pieces a round has at most where nothing is measured, by what each instance has at most.
-fn most_pieces(most: Counts) -> u64
+/// How many pieces a round has at most that so many workers share; where nothing is measured, no more than
+/// what each instance has at most allows.
+fn most_pieces(workers: u8, sums: &[Counts], most: Counts) -> u64
     ensures some { 1 ≤ result }
-    ensures few { result ≤ 1024 }
+    ensures few { result ≤ 8192 }
 {
+    let largest = if workers == 1 { ROUND } else { LARGE };
+    if !sums.is_empty() {
+        return largest;
+    }
     let clauses = MOST_CLAUSES / PIECE / most.clauses.max(1);
     let literals = MOST_LITERALS / PIECE / most.literals.max(1);
-    clauses.min(literals).clamp(1, ROUND)
+    clauses.min(literals).clamp(1, largest)
 }
 
-/// How many pieces a round has that begins after so many: as many as their measures allow, and at least one;
-/// where nothing is measured, as many as the shape of the sentence allows.
+/// How many pieces a round has that begins after so many: as many as their measures allow, at least one and
+/// at most `most`; where nothing is measured, that many.
 fn round_len(sums: &[Counts], done: u64, most: u64) -> u64
     requires done { done ≤ 40000000 }
     requires some { 1 ≤ most }
-    requires few { most ≤ 1024 }
+    requires few { most ≤ 8192 }
     ensures some { 1 ≤ result }
-    ensures few { result ≤ 1024 }
+    ensures few { result ≤ 8192 }
 {
     if sums.is_empty() {
         return most;
@@ -230,7 +235,7 @@ fn round_len(sums: &[Counts], done: u64, most: u64) -> u64
         clauses: 0,
         literals: 0,
     };
-    for piece in 0..ROUND {
+    for piece in 0..most {
         if let Some(more) = sums.get((done + piece) as usize) {
             total = sum(total, *more);
         }
@@ -238,7 +243,7 @@ fn round_len(sums: &[Counts], done: u64, most: u64) -> u64
             return piece;
         }
     }
-    ROUND
+    most
 }
 
 /// Where the round of instances that begins at a number ends, of so many instances in all.
@@ -246,11 +251,11 @@ fn round_end(sums: &[Counts], from: u64, most: u64, count: u64) -> u64
     requires within { from ≤ count }
     requires count { count ≤ 40000000 }
     requires some { 1 ≤ most }
-    requires few { most ≤ 1024 }
+    requires few { most ≤ 8192 }
     ensures within { result ≤ count }
     ensures rising { from ≤ result }
     ensures more { from < count → from < result }
-    ensures short { result ≤ from + 65536 }
+    ensures short { result ≤ from + 524288 }
 {
     count.min(from + PIECE * round_len(sums, from / PIECE, most))
 }
@@ -277,7 +282,8 @@ fn add_rounds<R: Threads + Sync, K: OutcomeKind, G: Gate>(
         (K.size planned.now.kind.now) planned.now.named.now.sentence planned.now.base 0 count)))) }
 {
     let _kept = out.len();
-    let most = most_pieces(most_counts(planned.kind.space(), planned.named.sentence().body()));
+    let counts = most_counts(planned.kind.space(), planned.named.sentence().body());
+    let most = most_pieces(crew.workers, sums, counts);
     let mut seen = Seen::new(alloc);
     let mut from = 0;
     let mut to = round_end(sums, from, most, count);

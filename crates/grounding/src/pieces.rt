@@ -9,8 +9,11 @@ pub(crate) const PIECE: u64 = 64;
 /// How many instances a part has: four pieces, so that less memory is taken and given back.
 pub(crate) const PART: u64 = 256;
 
-/// How many pieces a round has at most.
+/// How many pieces a round has at most that is measured, or whose clauses one worker makes.
 pub(crate) const ROUND: u64 = 1024;
+
+/// How many pieces a round has at most whose clauses several workers make: each round starts their threads anew.
+pub(crate) const LARGE: u64 = 8192;
 
 /// How many pieces a round has at least where nothing is measured.
 pub(crate) const SMALL: u64 = 256;
