@@ -5,6 +5,7 @@ mod cited;
 pub mod laws;
 mod marks;
 mod stories;
+mod teller;
 mod telling;
 
 pub use stories::retell;

@@ -1,22 +1,21 @@
 //! Lemmas from lines.
 
-ghost use Rattle.std.specs.Prelude.{◌≡◌, ◌<◌, ◌≤◌, ◌-◌, ◌^◌, [], length, map, IfOk, IsTrue, IsFalse};
-ghost use Rattle.std.specs.List.{list_all};
+ghost use Rattle.std.specs.Prelude.{◌≡◌, ◌<◌, ◌-◌, ◌^◌, map, length, slice_get, Some, take, IfOk, IsTrue, IsFalse};
 ghost use Rattle.cnf.specs.Fresh.{AreOver, is_over, added_by};
 ghost use Rattle.cnf.specs.Sat.{opposite_lit, is_tautology};
-ghost use Rattle.cnf.specs.Trimmed.{are_hints_trimmed, is_trimmed};
+ghost use Rattle.cnf.specs.Trimmed.{is_trimmed};
 ghost use Rattle.meaning.specs.Stories.{is_story};
 ghost use Rattle.meaning.specs.StudyClauses.{study_clauses, clauses_for};
 ghost use Rattle.meaning.specs.Tidy.{is_tidy};
 ghost use Rattle.meaning.specs.Variables.{variable_count};
-ghost use Rattle.retell.specs.Cited.{HaveInstances};
-ghost use Rattle.retell.specs.Marked.{IsMarking, AreStampsUpTo};
-ghost use Rattle.retell.specs.Retold.{cited_clauses, standing_of, hints_by, suppose_of, lemma_of, story_of};
+ghost use Rattle.retell.specs.Marked.{IsMarking, IsBlank};
+ghost use Rattle.retell.specs.Retold.{standing_of, hints_by, suppose_of, lemma_of};
 
-use crate::cited::{clause_of, reason};
+use crate::cited::{clause_in, clause_of, hints_in};
 use crate::marks::Marks;
+use crate::teller::Teller;
 use clause_form::Ground;
-use cnf::{Derivation, Line, Lit, Step};
+use cnf::{Derivation, Line, Lit};
 use lists::{Items, NoMemory};
 use meaning::{Lemma, StoryStep};
 use outcomes::OutcomeKind;
@@ -34,8 +33,7 @@ fn suppose<K: OutcomeKind>(
 ) -> Result<Items<Literal>, NoMemory>
     requires over { IsTrue (is_over (variable_count (K.size kind.now)) clause.now) }
     requires plain { IsFalse (is_tautology clause.now) }
-    requires room { variable_count (K.size kind.now) < length marks.old.stamps.items }
-    requires none { IsMarking marks.old.stamp marks.old.stamps.items [] }
+    requires blank { IsBlank (variable_count (K.size kind.now)) marks.old.stamp marks.old.stamps.items }
     ensures suppose { IfOk result (λ suppose. suppose ≡ suppose_of (K.size kind.now) clause.now) }
     ensures stamp { marks.new.stamp ≡ marks.old.stamp }
     ensures room { length marks.new.stamps.items ≡ length marks.old.stamps.items }
@@ -52,97 +50,49 @@ fn suppose<K: OutcomeKind>(
     Ok(suppose)
 }
 
-/// The lemma of an added clause: a step for each hint but the last, which gives the last reason.
-fn lemma<K: OutcomeKind>(
-    alloc: Global,
-    kind: &K,
-    study: &Study,
-    clauses: &Ground,
-    earlier: &[Line],
-    clause: &[Lit],
-    hints: &[u64],
-    marks: &mut Marks,
-) -> Result<Lemma, NoMemory>
-    requires size { study.now.size ≡ K.size kind.now }
-    requires instances { HaveInstances (K.size kind.now) study.now.axioms clauses.now }
-    requires few { length earlier.now < 4294967296 }
-    requires over { IsTrue
-        (list_all (is_over (variable_count (K.size kind.now))) (cited_clauses clauses.now earlier.now)) }
-    requires clause_over { IsTrue (is_over (variable_count (K.size kind.now)) clause.now) }
-    requires plain { IsFalse (is_tautology clause.now) }
-    requires trimmed { IsTrue
-        (are_hints_trimmed (standing_of clauses.now earlier.now) hints.now (map opposite_lit clause.now)) }
-    requires room { variable_count (K.size kind.now) < length marks.old.stamps.items }
-    requires none { IsMarking marks.old.stamp marks.old.stamps.items [] }
-    ensures lemma { IfOk result
-        (λ lemma. lemma ≡ lemma_of (K.size kind.now) study.now.axioms clauses.now
-        (standing_of clauses.now earlier.now) clause.now hints.now) }
-    ensures stamp { marks.new.stamp ≡ marks.old.stamp }
-    ensures room { length marks.new.stamps.items ≡ length marks.old.stamps.items }
-    ensures low { IfOk result (λ _. AreStampsUpTo marks.new.stamp marks.new.stamps.items) }
-{
-    let suppose = suppose(alloc, kind, clause, marks)?;
-    let end = hints.len() - 1;
-    let mut steps = Items::with_room(alloc, end)?;
-    for i in 0..end {
-        let cited = clause_of(clauses, earlier, hints[i]);
-        let Some(lit) = marks.first_unknown(cited) else {
-            unreachable!();
-        };
-        marks.mark(lit);
-        steps.push(StoryStep {
-            literal: kind.literal(lit),
-            reason: reason(kind.space(), study, clauses, hints[i]),
-        })?;
-    }
-    Ok(Lemma {
-        suppose,
-        steps,
-        last: reason(kind.space(), study, clauses, hints[end]),
-    })
-}
-
-/// The lemma of a line that adds a clause.
-fn lemma_of_line<K: OutcomeKind>(
-    alloc: Global,
-    kind: &K,
-    study: &Study,
-    clauses: &Ground,
-    earlier: &[Line],
-    line: &Line,
-    marks: &mut Marks,
-) -> Result<Lemma, NoMemory>
-    requires size { study.now.size ≡ K.size kind.now }
-    requires instances { HaveInstances (K.size kind.now) study.now.axioms clauses.now }
-    requires few { length earlier.now < 4294967296 }
-    requires over { IsTrue
-        (list_all (is_over (variable_count (K.size kind.now))) (cited_clauses clauses.now earlier.now)) }
-    requires clause_over { IsTrue (is_over (variable_count (K.size kind.now)) (added_by line.now.step)) }
-    requires plain { IsFalse (is_tautology (added_by line.now.step)) }
-    requires trimmed { IsTrue
-        (are_hints_trimmed (standing_of clauses.now earlier.now) (hints_by line.now.step)
-        (map opposite_lit (added_by line.now.step))) }
-    requires room { variable_count (K.size kind.now) < length marks.old.stamps.items }
-    requires none { IsMarking marks.old.stamp marks.old.stamps.items [] }
-    ensures lemma { IfOk result
-        (λ lemma. lemma ≡ lemma_of (K.size kind.now) study.now.axioms clauses.now
-        (standing_of clauses.now earlier.now) (added_by line.now.step) (hints_by line.now.step)) }
-    ensures stamp { marks.new.stamp ≡ marks.old.stamp }
-    ensures room { length marks.new.stamps.items ≡ length marks.old.stamps.items }
-    ensures low { IfOk result (λ _. AreStampsUpTo marks.new.stamp marks.new.stamps.items) }
-{
-    match &line.step {
-        Step::Add { clause, hints, .. } => lemma(
-            alloc,
-            kind,
-            study,
-            clauses,
-            earlier,
-            clause.as_slice(),
-            hints.as_slice(),
-            marks,
-        ),
-        Step::Drop { .. } => unreachable!(),
+impl<K: OutcomeKind> Teller<'_, K> {
+    /// The lemma of a line, by its place: a step for each hint but the last, which gives the last reason.
+    fn lemma(
+        &self,
+        alloc: Global,
+        at: usize,
+        line: &Line,
+        marks: &mut Marks,
+    ) -> Result<Lemma, NoMemory>
+        requires within { at < length self.now.proof.now }
+        requires line { slice_get self.now.proof.now at ≡ Some line.now }
+        requires blank { IsBlank (variable_count (K.size self.now.kind.now))
+            marks.old.stamp marks.old.stamps.items }
+        ensures lemma { IfOk result (λ lemma. lemma ≡
+            lemma_of (K.size self.now.kind.now) self.now.study.now.axioms self.now.clauses.now
+            (standing_of self.now.clauses.now (take at self.now.proof.now))
+            (added_by line.now.step) (hints_by line.now.step)) }
+        ensures stamp { marks.new.stamp ≡ marks.old.stamp }
+        ensures room { length marks.new.stamps.items ≡ length marks.old.stamps.items }
+    {
+        let lines = self.proof.as_slice();
+        let earlier = &lines[..at];
+        let clause = clause_in(&line.step);
+        let hints = hints_in(&line.step);
+        let suppose = suppose(alloc, self.kind, clause, marks)?;
+        let end = hints.len() - 1;
+        let mut steps = Items::with_room(alloc, end)?;
+        for i in 0..end {
+            let cited = clause_of(self.clauses, earlier, hints[i]);
+            let Some(lit) = marks.first_unknown(cited) else {
+                unreachable!();
+            };
+            marks.mark(lit);
+            steps.push(StoryStep {
+                literal: self.kind.literal(lit),
+                reason: self.reason(hints[i]),
+            })?;
+        }
+        Ok(Lemma {
+            suppose,
+            steps,
+            last: self.reason(hints[end]),
+        })
     }
 }
 
@@ -165,26 +115,23 @@ pub fn retell<K: OutcomeKind>(
         (λ story. IsTrue (is_story study.now.size study.now.axioms core.now story)) }
     ensures tidy { IfOk result (λ story. IsTrue (is_tidy study.now.size study.now.axioms core.now story)) }
 {
-    let _core = core;
     let _axioms = study.axioms();
     kinds_have_sizes(kind);
     let lines = proof.as_slice();
-    let count = lines.len() as u32;
     let variables = kind.space().size().sort_len(Sort::Profile) * kind.bits();
     let mut marks = Marks::new(alloc, variables)?;
     let mut story = Items::with_room(alloc, lines.len())?;
+    let teller = Teller {
+        kind,
+        study,
+        core,
+        clauses,
+        proof,
+    };
+    let count = lines.len() as u32;
     for i in 0..count {
-        let earlier = &lines[..i as usize];
         marks.begin(i + 1);
-        story.push(lemma_of_line(
-            alloc,
-            kind,
-            study,
-            clauses,
-            earlier,
-            &lines[i as usize],
-            &mut marks,
-        )?)?;
+        story.push(teller.lemma(alloc, i as usize, &lines[i as usize], &mut marks)?)?;
     }
     Ok(story)
 }
