@@ -19,7 +19,7 @@ loop-i-init g c =
     record {
       room = subst (λ (n : ℕ). n < length c.in_ok-marks.marks.stamps.items) (ap₂ (λ (a b : ℕ). a * b) (c.sort_len.ensures ∙ ap (λ z. sort_count z Profile) (c.size.ensures ∙ c.space.ensures)) c.bits.ensures.value) c.in_ok-marks.ensures.room;
       stamp = omega (arith, stamp);
-      lemmas = subst (AreLemmasUpTo size c.args.study.now.axioms c.args.clauses.now c.args.proof.now 0) (sym c.in_ok-story.ensures) (no_lemmas c.requires.size (record { clauses = c.requires.clauses; trimmed = c.requires.trimmed; over = c.requires.over; few = c.requires.few }));
+      lemmas = subst (AreLemmasUpTo size c.args.study.now.axioms c.args.clauses.now c.args.proof.now 0) (sym c.in_ok-story.ensures) (no_lemmas {study = c.args.study.now} c.requires.size (record { clauses = c.requires.clauses; trimmed = c.requires.trimmed; over = c.requires.over; few = c.requires.few }));
     }
 
 pub invariant_of-teller : goal.invariant_of-teller
@@ -59,9 +59,9 @@ loop-i-preserved g c =
 pub returns-clause-accepted : goal.returns-clause-accepted
 returns-clause-accepted g c =
     let count = ap (λ (ls : List Line). length ls) c.as_slice-lines.ensures in
-    (told_right c.requires.size (record { clauses = c.requires.clauses; trimmed = c.requires.trimmed; over = c.requires.over; few = c.requires.few }) c.axioms-axioms.ensures.study.sentences c.loop-i.i c.loop-i.story c.loop-i.invariant.lemmas (omega (arith, c.loop-i-test.false, count))).0
+    (told_right {study = c.args.study.now} c.requires.size (record { clauses = c.requires.clauses; trimmed = c.requires.trimmed; over = c.requires.over; few = c.requires.few }) c.axioms-axioms.ensures.study.sentences c.loop-i.i c.loop-i.story c.loop-i.invariant.lemmas (omega (arith, c.loop-i-test.false, count))).0
 
 pub returns-clause-tidy : goal.returns-clause-tidy
 returns-clause-tidy g c =
     let count = ap (λ (ls : List Line). length ls) c.as_slice-lines.ensures in
-    (told_right c.requires.size (record { clauses = c.requires.clauses; trimmed = c.requires.trimmed; over = c.requires.over; few = c.requires.few }) c.axioms-axioms.ensures.study.sentences c.loop-i.i c.loop-i.story c.loop-i.invariant.lemmas (omega (arith, c.loop-i-test.false, count))).1
+    (told_right {study = c.args.study.now} c.requires.size (record { clauses = c.requires.clauses; trimmed = c.requires.trimmed; over = c.requires.over; few = c.requires.few }) c.axioms-axioms.ensures.study.sentences c.loop-i.i c.loop-i.story c.loop-i.invariant.lemmas (omega (arith, c.loop-i-test.false, count))).1
