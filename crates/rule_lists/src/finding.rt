@@ -1,6 +1,6 @@
 //! The rules that were found, and the clauses that leave them out.
 
-ghost use Rattle.std.specs.Prelude.{◌≡◌, ◌≤◌, ◌+◌, length, IfOk, IfSome, IfNone, IsTrue, IsFalse};
+ghost use Rattle.std.specs.Prelude.{◌≡◌, length, IfOk, IsTrue};
 ghost use Rattle.cnf.specs.Assignment.{value_of};
 ghost use Rattle.cnf.specs.Sat.{is_satisfied};
 ghost use Rattle.cdcl.specs.Answer.{IsSearchAnswer};
@@ -8,7 +8,7 @@ ghost use Rattle.meaning.specs.StudyClauses.{study_clauses};
 ghost use Rattle.meaning.specs.Variables.{variable_count};
 ghost use Rattle.clause_form.specs.Sources.{clauses_in};
 ghost use Rattle.search_logs.specs.Spent.{all_places};
-ghost use Rattle.rule_lists.specs.RuleLists.{EndsWith, IsRuleList};
+ghost use Rattle.rule_lists.specs.RuleLists.{EndsWith};
 ghost use Rattle.rule_lists.specs.Finding.{AreFoundRules, IsAfter};
 
 use crate::answers::{Ending, RuleList};
@@ -19,7 +19,7 @@ use clause_form::Ground;
 use cnf::{Bits, Clauses, PushFault};
 use core_reduce::{table_of, variables};
 use lists::{Items, NoMemory};
-use outcomes::{OutcomeKind, laws};
+use outcomes::{OutcomeKind, Setting, laws};
 use std::alloc::Global;
 use vocab::{Study, Table};
 
@@ -74,17 +74,21 @@ impl Found {
     fn search<K: OutcomeKind>(
         &self,
         alloc: Global,
-        kind: &K,
-        study: &Study,
+        setting: &Setting<K>,
     ) -> Result<Search, NoMemory>
-        requires size { study.now.size ≡ K.size kind.now }
-        requires found { AreFoundRules study.now self.now.tables.items self.now.clauses.clauses }
+        requires found { AreFoundRules setting.now.study.now self.now.tables.items self.now.clauses.clauses }
         ensures { IfOk result
-            (IsSearchAnswer self.now.clauses.clauses (variable_count study.now.size) study.now.conflicts) }
+            (IsSearchAnswer self.now.clauses.clauses (variable_count setting.now.study.now.size)
+            setting.now.study.now.conflicts) }
     {
-        let _axioms = study.axioms();
-        laws::kinds_have_sizes(kind);
-        solve(alloc, &self.clauses, variables(kind), study.conflicts())
+        let _axioms = setting.study.axioms();
+        laws::kinds_have_sizes(setting.kind);
+        solve(
+            alloc,
+            &self.clauses,
+            variables(setting.kind),
+            setting.study.conflicts(),
+        )
     }
 
     /// Takes the rule of an assignment that satisfies the clauses: None; or leaves the rules as they are, where
@@ -92,21 +96,20 @@ impl Found {
     fn take<K: OutcomeKind>(
         &mut self,
         alloc: Global,
-        kind: &K,
-        study: &Study,
+        setting: &Setting<K>,
         bits: &Bits,
     ) -> Result<Option<Ending>, NoMemory>
-        requires size { study.now.size ≡ K.size kind.now }
-        requires found { AreFoundRules study.now self.old.tables.items self.old.clauses.clauses }
-        requires length { length bits.now ≡ variable_count study.now.size }
+        requires found { AreFoundRules setting.now.study.now self.old.tables.items self.old.clauses.clauses }
+        requires length { length bits.now ≡ variable_count setting.now.study.now.size }
         requires satisfied { IsTrue (is_satisfied (value_of bits.now) self.old.clauses.clauses) }
         ensures { IfOk result
-            (IsAfter study.now self.old.tables.items self.new.tables.items self.new.clauses.clauses) }
+            (IsAfter setting.now.study.now self.old.tables.items self.new.tables.items
+            self.new.clauses.clauses) }
     {
-        let _axioms = study.axioms();
-        laws::kinds_have_sizes(kind);
-        let table = table_of(alloc, kind, bits)?;
-        let clause = denial_of(alloc, bits, variables(kind))?;
+        let _axioms = setting.study.axioms();
+        laws::kinds_have_sizes(setting.kind);
+        let table = table_of(alloc, setting.kind, bits)?;
+        let clause = denial_of(alloc, bits, variables(setting.kind))?;
         match self.clauses.push(clause.as_slice(), 0) {
             Ok(()) => {}
             Err(PushFault::NoMemory) => return Err(NoMemory),
@@ -120,17 +123,16 @@ impl Found {
     pub(crate) fn step<K: OutcomeKind>(
         &mut self,
         alloc: Global,
-        kind: &K,
-        study: &Study,
+        setting: &Setting<K>,
     ) -> Result<Option<Ending>, NoMemory>
-        requires size { study.now.size ≡ K.size kind.now }
-        requires found { AreFoundRules study.now self.old.tables.items self.old.clauses.clauses }
+        requires found { AreFoundRules setting.now.study.now self.old.tables.items self.old.clauses.clauses }
         ensures { IfOk result
-            (IsAfter study.now self.old.tables.items self.new.tables.items self.new.clauses.clauses) }
+            (IsAfter setting.now.study.now self.old.tables.items self.new.tables.items
+            self.new.clauses.clauses) }
     {
-        let _axioms = study.axioms();
-        match self.search(alloc, kind, study)? {
-            Search::Found(bits) => self.take(alloc, kind, study, &bits),
+        let _axioms = setting.study.axioms();
+        match self.search(alloc, setting)? {
+            Search::Found(bits) => self.take(alloc, setting, &bits),
             Search::Refuted(_) => Ok(Some(Ending::Whole)),
             Search::Spent(_) => Ok(Some(Ending::Open)),
         }
@@ -140,15 +142,14 @@ impl Found {
     pub(crate) fn end<K: OutcomeKind>(
         &self,
         alloc: Global,
-        kind: &K,
-        study: &Study,
+        setting: &Setting<K>,
     ) -> Result<Ending, NoMemory>
-        requires size { study.now.size ≡ K.size kind.now }
-        requires found { AreFoundRules study.now self.now.tables.items self.now.clauses.clauses }
-        ensures { IfOk result (EndsWith study.now (length self.now.tables.items) self.now.tables.items) }
+        requires found { AreFoundRules setting.now.study.now self.now.tables.items self.now.clauses.clauses }
+        ensures { IfOk result
+            (EndsWith setting.now.study.now (length self.now.tables.items) self.now.tables.items) }
     {
-        let _axioms = study.axioms();
-        match self.search(alloc, kind, study)? {
+        let _axioms = setting.study.axioms();
+        match self.search(alloc, setting)? {
             Search::Found(_) => Ok(Ending::More),
             Search::Refuted(_) => Ok(Ending::Whole),
             Search::Spent(_) => Ok(Ending::Open),

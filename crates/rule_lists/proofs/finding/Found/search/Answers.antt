@@ -7,5 +7,5 @@ use Rattle.rule_lists.proofs.finding.Found.search.Goals as goal
 
 pub solve-requires-clause-range : goal.solve-requires-clause-range
 solve-requires-clause-range g c =
-    let count : variable_count c.args.study.now.size ≡ c.variables.result = ap variable_count c.requires.size ∙ sym c.variables.ensures.value in
+    let count : variable_count c.args.setting.now.study.now.size ≡ c.variables.result = ap variable_count c.args.setting.now.same ∙ sym c.variables.ensures.value in
     stay_within c.variables.result c.args.self.now.clauses.clauses (subst (λ (n : ℕ). list_all (is_over n) c.args.self.now.clauses.clauses ≡ true) count c.requires.found.over)

@@ -2,11 +2,11 @@ use Rattle.std.proofs.Common.{◌≡◌, ◌∙◌, subst, ℕ, ◌≤◌, List,
 use Rattle.rule_lists.specs.RuleLists.{EndsWith}
 use Rattle.rule_lists.specs.Finding.{IsAfter}
 use Rattle.rule_lists.proofs.FoundLaws.{makes_list}
-use Rattle.rule_lists.proofs.listing.all_rules.Goals as goal
+use Rattle.rule_lists.proofs.listing.rules_over.Goals as goal
 
 pub returns-in-Some : goal.returns-in-Some
 returns-in-Some g c =
-    let s = c.args.study.now in
+    let s = c.args.setting.now.study.now in
     let old = c.loop-count.found.tables.items in
     let after = subst (IsAfter s old c.step.new.self.tables.items c.step.new.self.clauses.clauses) c.in-Some.is c.in_ok-step.ensures in
     let few : length old ≤ c.args.most = omega (arith, c.loop-count.invariant.1, c.loop-count-test.true) in
@@ -15,7 +15,7 @@ returns-in-Some g c =
 
 pub returns : goal.returns
 returns g c =
-    let s = c.args.study.now in
+    let s = c.args.setting.now.study.now in
     let tables = c.loop-count.found.tables.items in
     let count : length tables ≡ c.args.most = omega (arith, c.loop-count.invariant.1, c.loop-count-test.false, c.loop-count.auto._count-end) in
     let few : length tables ≤ c.args.most = omega (arith, count) in
