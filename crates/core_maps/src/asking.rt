@@ -1,22 +1,20 @@
 //! What is found when a set of axioms is asked about.
 
-ghost use Rattle.std.specs.Prelude.{◌≡◌, length, IfOk, IsTrue, IsFalse};
-ghost use Rattle.meaning.specs.StudyClauses.{study_clauses};
-ghost use Rattle.search_logs.specs.Spent.{all_places};
+ghost use Rattle.std.specs.Prelude.{length, IfOk, IsTrue, IsFalse};
 ghost use Rattle.axiom_sets.specs.Sets.{is_set, has_whole};
 ghost use Rattle.axiom_sets.specs.Maps.{covers};
 ghost use Rattle.core_maps.specs.CoreMaps.{IsOpen};
 ghost use Rattle.core_maps.specs.Asking.{IsAsked, IsTried};
 
 use crate::answers::Asked;
+use crate::encoding::Encoding;
 use crate::parts::set_without;
 use crate::seeking::{Sought, seek};
 use axiom_sets::AxiomMap;
-use clause_form::Ground;
 use lists::NoMemory;
 use outcomes::OutcomeKind;
 use std::alloc::Global;
-use vocab::{Places, Study};
+use vocab::Places;
 
 /// What comes of an open set without one of its axioms: some rule satisfies the rest, so that the axiom is
 /// needed; a search over the rest spent its limit too; or no rule satisfies a core of the rest.
@@ -30,21 +28,17 @@ enum Tried {
 /// Tries what is left of an open set.
 fn try_rest<K: OutcomeKind>(
     alloc: Global,
-    kind: &K,
-    study: &Study,
-    ground: &Ground,
+    whole: &Encoding<K>,
     sets: &AxiomMap,
     rest: &Places,
 ) -> Result<Tried, NoMemory>
-    requires size { study.now.size ≡ K.size kind.now }
-    requires clauses { ground.now ≡ study_clauses study.now.size study.now.axioms (all_places study.now) }
-    requires rest { IsTrue (is_set (length study.now.axioms) rest.now) }
-    ensures { IfOk result (IsTried study.now sets.now rest.now) }
+    requires rest { IsTrue (is_set (length whole.now.study.now.axioms) rest.now) }
+    ensures { IfOk result (IsTried whole.now.study.now sets.now rest.now) }
 {
     if sets.is_possible(rest) {
         return Ok(Tried::Needed);
     }
-    match seek(alloc, kind, study, ground, rest)? {
+    match seek(alloc, whole, rest)? {
         Sought::Rule(_) => Ok(Tried::Needed),
         Sought::Core(core) => Ok(Tried::Core(core)),
         Sought::Spent => Ok(Tried::Spent),
@@ -54,24 +48,20 @@ fn try_rest<K: OutcomeKind>(
 /// Leaves out of an open set one axiom after the other, where a search over the rest spends its limit too.
 fn shrink<K: OutcomeKind>(
     alloc: Global,
-    kind: &K,
-    study: &Study,
-    ground: &Ground,
+    whole: &Encoding<K>,
     sets: &AxiomMap,
     set: Places,
 ) -> Result<Asked, NoMemory>
-    requires size { study.now.size ≡ K.size kind.now }
-    requires clauses { ground.now ≡ study_clauses study.now.size study.now.axioms (all_places study.now) }
-    requires set { IsTrue (is_set (length study.now.axioms) set) }
+    requires set { IsTrue (is_set (length whole.now.study.now.axioms) set) }
     requires unknown { IsFalse (has_whole sets.now.possible set) }
-    requires open { IsOpen study.now set }
-    ensures { IfOk result (IsAsked study.now sets.now set) }
+    requires open { IsOpen whole.now.study.now set }
+    ensures { IfOk result (IsAsked whole.now.study.now sets.now set) }
 {
     let mut part = set;
     let mut at: usize = 0;
     'parts: while at < part.as_slice().len() {
         let rest = set_without(alloc, part.as_slice(), part.as_slice()[at])?;
-        match try_rest(alloc, kind, study, ground, sets, &rest)? {
+        match try_rest(alloc, whole, sets, &rest)? {
             Tried::Needed => at += 1,
             Tried::Spent => part = rest,
             Tried::Core(core) => return Ok(Asked::Impossible(core)),
@@ -85,23 +75,19 @@ fn shrink<K: OutcomeKind>(
 /// it goes on with one axiom less, as long as the rest is not known to be possible and is not found so.
 pub(crate) fn ask<K: OutcomeKind>(
     alloc: Global,
-    kind: &K,
-    study: &Study,
-    ground: &Ground,
+    whole: &Encoding<K>,
     sets: &AxiomMap,
     set: Places,
 ) -> Result<Asked, NoMemory>
-    requires size { study.now.size ≡ K.size kind.now }
-    requires clauses { ground.now ≡ study_clauses study.now.size study.now.axioms (all_places study.now) }
-    requires set { IsTrue (is_set (length study.now.axioms) set) }
+    requires set { IsTrue (is_set (length whole.now.study.now.axioms) set) }
     requires uncovered { IsFalse (covers sets.now set) }
-    ensures { IfOk result (IsAsked study.now sets.now set) }
+    ensures { IfOk result (IsAsked whole.now.study.now sets.now set) }
 {
-    match seek(alloc, kind, study, ground, &set)? {
+    match seek(alloc, whole, &set)? {
         Sought::Rule(all) => Ok(Asked::Possible(all)),
         Sought::Core(core) => Ok(Asked::Impossible(core)),
         Sought::Spent => {
-            let asked = shrink(alloc, kind, study, ground, sets, set)?;
+            let asked = shrink(alloc, whole, sets, set)?;
             Ok(asked)
         }
     }

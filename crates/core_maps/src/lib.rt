@@ -5,6 +5,7 @@
 
 mod answers;
 mod asking;
+mod encoding;
 pub mod laws;
 mod mapping;
 mod parts;

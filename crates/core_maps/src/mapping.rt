@@ -10,6 +10,7 @@ ghost use Rattle.core_maps.specs.CoreMaps.{IsRight, IsMapping};
 
 use crate::answers::{Asked, CoreMap, Ending};
 use crate::asking::ask;
+use crate::encoding::Encoding;
 use axiom_sets::{AxiomMap, Next};
 use clause_form::Ground;
 use lists::NoMemory;
@@ -20,26 +21,22 @@ use vocab::{Places, Study};
 /// Asks about a set that the map does not cover, and adds what is found.
 fn step<K: OutcomeKind>(
     alloc: Global,
-    kind: &K,
-    study: &Study,
-    ground: &Ground,
+    whole: &Encoding<K>,
     sets: &mut AxiomMap,
     set: Places,
 ) -> Result<(), NoMemory>
-    requires size { study.now.size ≡ K.size kind.now }
-    requires clauses { ground.now ≡ study_clauses study.now.size study.now.axioms (all_places study.now) }
-    requires tidy { IsTidy (length study.now.axioms) sets.old }
-    requires right { IsRight study.now sets.old }
-    requires set { IsTrue (is_set (length study.now.axioms) set) }
+    requires tidy { IsTidy (length whole.now.study.now.axioms) sets.old }
+    requires right { IsRight whole.now.study.now sets.old }
+    requires set { IsTrue (is_set (length whole.now.study.now.axioms) set) }
     requires uncovered { IsFalse (covers sets.old set) }
-    ensures tidy { OnOk result (IsTidy (length study.now.axioms) sets.new) }
-    ensures right { OnOk result (IsRight study.now sets.new) }
+    ensures tidy { OnOk result (IsTidy (length whole.now.study.now.axioms) sets.new) }
+    ensures right { OnOk result (IsRight whole.now.study.now sets.new) }
     ensures fewer { OnOk result
-        (left_to_ask (length study.now.axioms) sets.new <
-        left_to_ask (length study.now.axioms) sets.old) }
+        (left_to_ask (length whole.now.study.now.axioms) sets.new <
+        left_to_ask (length whole.now.study.now.axioms) sets.old) }
 {
-    let count = study.axioms().len() as u32;
-    match ask(alloc, kind, study, ground, sets, set)? {
+    let count = whole.study.axioms().len() as u32;
+    match ask(alloc, whole, sets, set)? {
         Asked::Impossible(core) => {
             sets.add_impossible(alloc, count, core)?;
             Ok(())
@@ -51,6 +48,31 @@ fn step<K: OutcomeKind>(
         Asked::Open(part) => {
             sets.add_open(alloc, count, part)?;
             Ok(())
+        }
+    }
+}
+
+/// Asks about sets until the map covers all of them, or the search for one that it does not cover is cut short.
+fn map_over<K: OutcomeKind>(alloc: Global, whole: &Encoding<K>) -> Result<CoreMap, NoMemory>
+    ensures { IfOk result (IsMapping whole.now.study.now) }
+{
+    let count = whole.study.axioms().len() as u32;
+    let mut sets = AxiomMap::new(alloc);
+    'sets: loop {
+        match sets.next(alloc, count)? {
+            Next::Uncovered(set) => step(alloc, whole, &mut sets, set)?,
+            Next::Whole => {
+                return Ok(CoreMap {
+                    sets,
+                    ending: Ending::Whole,
+                });
+            }
+            Next::Cut => {
+                return Ok(CoreMap {
+                    sets,
+                    ending: Ending::Cut,
+                });
+            }
         }
     }
 }
@@ -69,23 +91,10 @@ pub fn map_axioms<K: OutcomeKind>(
     requires clauses { ground.now ≡ study_clauses study.now.size study.now.axioms (all_places study.now) }
     ensures { IfOk result (IsMapping study.now) }
 {
-    let count = study.axioms().len() as u32;
-    let mut sets = AxiomMap::new(alloc);
-    'sets: loop {
-        match sets.next(alloc, count)? {
-            Next::Uncovered(set) => step(alloc, kind, study, ground, &mut sets, set)?,
-            Next::Whole => {
-                return Ok(CoreMap {
-                    sets,
-                    ending: Ending::Whole,
-                });
-            }
-            Next::Cut => {
-                return Ok(CoreMap {
-                    sets,
-                    ending: Ending::Cut,
-                });
-            }
-        }
-    }
+    let whole = Encoding {
+        kind,
+        study,
+        ground,
+    };
+    map_over(alloc, &whole)
 }

@@ -12,7 +12,7 @@ parts-init g c = record { set = c.requires.set; within = within_self c.args.set;
 
 pub try_rest-requires-clause-rest : goal.try_rest-requires-clause-rest
 try_rest-requires-clause-rest g c κs within =
-    let n : ℕ = length c.args.study.now.axioms in
+    let n : ℕ = length c.args.whole.now.study.now.axioms in
     let k : ℕ = get_or c.as_slice-in-parts-2.result.now c.parts.at 0 in
     let rest : c.in_ok-rest.rest ≡ others k c.parts.part = c.in_ok-rest.ensures ∙ ap (others k) c.as_slice-in-parts.ensures in
     subst (λ (ps : List ℕ). is_set n ps ≡ true) (sym rest) (core-filter _ 0 n c.parts.part c.parts.invariant.set)
@@ -30,10 +30,10 @@ parts-smaller g c =
 
 pub parts-preserved : goal.parts-preserved
 parts-preserved g c =
-    let n : ℕ = length c.args.study.now.axioms in
+    let n : ℕ = length c.args.whole.now.study.now.axioms in
     let k : ℕ = get_or c.as_slice-in-parts-2.result.now c.parts.at 0 in
     let rest : c.in_ok-rest.rest ≡ others k c.parts.part = c.in_ok-rest.ensures ∙ ap (others k) c.as_slice-in-parts.ensures in
-    let tried = subst (IsTried c.args.study.now c.args.sets.now c.in_ok-rest.rest) c.in-Spent.is c.in_ok-try_rest.ensures in
+    let tried = subst (IsTried c.args.whole.now.study.now c.args.sets.now c.in_ok-rest.rest) c.in-Spent.is c.in_ok-try_rest.ensures in
     record {
       set = subst (λ (ps : List ℕ). is_set n ps ≡ true) (sym rest) (core-filter _ 0 n c.parts.part c.parts.invariant.set);
       within = subst (λ (ps : List ℕ). is_within ps c.args.set ≡ true) (sym rest) (within_on (others k c.parts.part) c.parts.part c.args.set (others_within k c.parts.part) c.parts.invariant.within);
@@ -47,5 +47,5 @@ returns-in-Core g c =
     let rest : c.in_ok-rest.rest ≡ others k c.parts.part = c.in_ok-rest.ensures ∙ ap (others k) c.as_slice-in-parts.ensures in
     let within : is_within c.in_ok-rest.rest c.args.set ≡ true =
     subst (λ (ps : List ℕ). is_within ps c.args.set ≡ true) (sym rest) (within_on (others k c.parts.part) c.parts.part c.args.set (others_within k c.parts.part) c.parts.invariant.within) in
-    let tried = subst (IsTried c.args.study.now c.args.sets.now c.in_ok-rest.rest) c.in-Core.is c.in_ok-try_rest.ensures in
+    let tried = subst (IsTried c.args.whole.now.study.now c.args.sets.now c.in_ok-rest.rest) c.in-Core.is c.in_ok-try_rest.ensures in
     (tried.0, within_on c.in-Core.core c.in_ok-rest.rest c.args.set tried.1 within, tried.2)
