@@ -13,7 +13,7 @@ ghost use Rattle.report.specs.Stands.{StandsFor, StandsForSome};
 use crate::faults::ReportFault;
 use crate::judging::Judging;
 use crate::progress::Progress;
-use crate::subject::Subject;
+use crate::subject::{Subject, Topic};
 use crew::Crew;
 use edge::Gate;
 use lists::NoMemory;
@@ -73,7 +73,8 @@ impl<'a, K: OutcomeKind> Checker<'a, K> {
         ensures workers { IfOk result (λ checker. checker.subject.workers ≡ workers) }
         ensures stands { IfOk result (λ checker. StandsFor study.now checker.progress []) }
     {
-        let subject = Subject::new(alloc, kind, study, workers)?;
+        let topic = Topic { kind, study };
+        let subject = Subject::new(alloc, &topic, workers)?;
         let judging = Judging::new(&subject)?;
         let progress = Progress {
             judging,

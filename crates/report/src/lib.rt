@@ -12,5 +12,5 @@ pub use faults::ReportFault;
 pub use judging::Judging;
 pub use progress::Progress;
 pub use report_text::print;
-pub use subject::Subject;
+pub use subject::{Subject, Topic};
 pub use verdicts::{Confirmed, Refusal, Verdict};

@@ -9,6 +9,15 @@ use report_lines::IndexedStudy;
 use std::alloc::Global;
 use vocab::Study;
 
+/// What a report is about: a study of at most 40 axioms, and the kind of its rules.
+#[derive(Drop)]
+pub struct Topic<'a, K: OutcomeKind> {
+    pub kind: &'a K,
+    pub study: &'a Study,
+    pub ghost same: { study.now.size ≡ K.size kind.now },
+    pub ghost listed: { HasFewAxioms study.now },
+}
+
 /// A study with the kind of its rules, an index of its axioms, and the number of workers among whom the
 /// axioms of a rule are checked.
 #[derive(Drop)]
@@ -24,25 +33,21 @@ pub struct Subject<'a, K: OutcomeKind> {
 }
 
 impl<'a, K: OutcomeKind> Subject<'a, K> {
-    /// A study, with an index of its axioms. It has at most 40 axioms, and there are from 1 to 16 workers.
-    pub fn new(
-        alloc: Global,
-        kind: &'a K,
-        study: &'a Study,
-        workers: u8,
-    ) -> Result<Subject<'a, K>, NoMemory>
+    /// A study, with an index of its axioms. There are from 1 to 16 workers.
+    pub fn new(alloc: Global, topic: &Topic<'a, K>, workers: u8) -> Result<Subject<'a, K>, NoMemory>
         requires some { 1 ≤ workers }
         requires few { workers ≤ 16 }
-        requires size { study.now.size ≡ K.size kind.now }
-        requires listed { HasFewAxioms study.now }
-        ensures study { IfOk result (λ subject. subject.setting.study.now ≡ study.now) }
-        ensures kind { IfOk result (λ subject. subject.setting.kind.now ≡ kind.now) }
+        ensures study { IfOk result (λ subject. subject.setting.study.now ≡ topic.now.study.now) }
+        ensures kind { IfOk result (λ subject. subject.setting.kind.now ≡ topic.now.kind.now) }
         ensures workers { IfOk result (λ subject. subject.workers ≡ workers) }
     {
         Ok(Subject {
             alloc,
-            setting: Setting { kind, study },
-            indexed: IndexedStudy::new(alloc, study)?,
+            setting: Setting {
+                kind: topic.kind,
+                study: topic.study,
+            },
+            indexed: IndexedStudy::new(alloc, topic.study)?,
             workers,
         })
     }

@@ -16,7 +16,7 @@ use crew::Crew;
 use edge::Gate;
 use lists::NoMemory;
 use outcomes::OutcomeKind;
-use report::Subject;
+use report::{Subject, Topic};
 use sharp_verdicts::SharpRefusal;
 use std::alloc::Global;
 use std::thread::Threads;
@@ -63,7 +63,8 @@ impl<'a, K: OutcomeKind> SharpChecker<'a, K> {
         ensures workers { IfOk result (λ checker. checker.subject.workers ≡ workers) }
         ensures stands { IfOk result (λ checker. SharpStandsFor study.now checker.progress []) }
     {
-        let subject = Subject::new(alloc, kind, study, workers)?;
+        let topic = Topic { kind, study };
+        let subject = Subject::new(alloc, &topic, workers)?;
         let judging = SharpJudging::new(&subject)?;
         let progress = SharpProgress {
             judging,
