@@ -4,7 +4,6 @@ ghost use Rattle.std.specs.Prelude.{◌≡◌, ◌≤◌, List, ℕ, [], length,
 ghost use Rattle.edge.specs.Faults.{Rose};
 ghost use Rattle.edge.specs.Shelf.{OthersStay, NoneFell};
 ghost use Rattle.vocab.specs.Size.{IsSize};
-ghost use Rattle.vocab.specs.Study.{HasFewAxioms};
 ghost use Rattle.verdicts.specs.Judge.{answer_within};
 ghost use Rattle.sharp_verdicts.specs.SharpJudge.{sharp_answer_within};
 ghost use Rattle.sharp_verdicts.specs.Judged.{judged_within};
@@ -19,10 +18,10 @@ use edge::{Failed, Gate, RewindFault, Shelf};
 use lists::NoMemory;
 use outcomes::OutcomeKind;
 use outcomes::laws::kinds_have_sizes;
+use report::Topic;
 use std::alloc::Global;
 use std::thread::Threads;
 use verdicts::Confirmed;
-use vocab::Study;
 
 /// Why a file was not judged: the shelf failed, and has counted the fault under the name, or no
 /// memory was found.
@@ -247,31 +246,24 @@ fn judged_worth_of<R: Threads + Sync, S: Shelf, K: OutcomeKind, G: Gate>(
     Ok(worth)
 }
 
-/// What the text under the name is worth over the study, which has at most 40 axioms: it is judged as a sharp
-/// text where its first line is `bench sharp 1`, and else as a report. It is read in pieces of 65,536 bytes,
-/// and no further than to its first faulty line or to 268,435,456 bytes; of the text no more is held than a
-/// checker holds, and the front of a line that has not ended. The answer is the same for every number of
-/// workers, from 1 to 16.
+/// What the text under the name is worth over the study: it is judged as a sharp text where its first line is
+/// `bench sharp 1`, and else as a report. It is read in pieces of 65,536 bytes, and no further than to its
+/// first faulty line or to 268,435,456 bytes; of the text no more is held than a checker holds, and the front
+/// of a line that has not ended. The answer is the same for every number of workers, from 1 to 16.
 pub fn judge_file<R: Threads + Sync, S: Shelf, K: OutcomeKind, G: Gate>(
-    rt: &R,
     alloc: Global,
-    gate: &G,
-    workers: u8,
-    kind: &K,
-    study: &Study,
+    crew: &Crew<R, G>,
+    topic: &Topic<K>,
     shelf: &mut S,
     name: &str,
 ) -> Result<JudgedWorth, FileFault>
-    requires some { 1 ≤ workers }
-    requires few { workers ≤ 16 }
-    requires size { study.now.size ≡ K.size kind.now }
-    requires listed { HasFewAxioms study.now }
     ensures worth { IfSome (S.files shelf.old) (λ files.
-        IfOk result (IsJudgedWorthOf study.now files name.now)) }
+        IfOk result (IsJudgedWorthOf topic.now.study.now files name.now)) }
     ensures right { IfSome (S.files shelf.old) (λ files.
-        IfOk result (FileIsRight study.now files name.now)) }
-    ensures all { IfSome (S.files shelf.old) (λ files. FileIsConfirmed study.now files name.now result) }
-    ensures holds { IfOk result (JudgedWorthHolds study.now) }
+        IfOk result (FileIsRight topic.now.study.now files name.now)) }
+    ensures all { IfSome (S.files shelf.old) (λ files.
+        FileIsConfirmed topic.now.study.now files name.now result) }
+    ensures holds { IfOk result (JudgedWorthHolds topic.now.study.now) }
     ensures failed { IsErrOf result FileFault.Failed →
         Rose (S.faults shelf.old name.now) (S.faults shelf.new name.now) }
     ensures same { S.files shelf.new ≡ S.files shelf.old }
@@ -279,8 +271,7 @@ pub fn judge_file<R: Threads + Sync, S: Shelf, K: OutcomeKind, G: Gate>(
     ensures none_fell { NoneFell (S.faults shelf.old) (S.faults shelf.new) }
 {
     // Its contract says that the size of the study is one that the bench takes.
-    kinds_have_sizes(kind);
-    let crew = Crew { rt, gate, workers };
-    let mut reader = Reader::of_texts(alloc, kind, study, workers)?;
-    judged_worth_of(&crew, &mut reader, shelf, name)
+    kinds_have_sizes(topic.kind);
+    let mut reader = Reader::of_texts(alloc, crew, topic)?;
+    judged_worth_of(crew, &mut reader, shelf, name)
 }

@@ -1,7 +1,6 @@
 //! Takes the lines of a text that may be a report or a sharp text.
 
 ghost use Rattle.std.specs.Prelude.{◌≡◌, ◌+◌, ◌≤◌, ◌<◌, List, ℕ, [], ◌∷◌, ◌++◌, length, option_map, is_some, IfOk, OnOk, IfSome, IsTrue};
-ghost use Rattle.vocab.specs.Study.{HasFewAxioms};
 ghost use Rattle.verdicts.specs.declared.verdicts.Verdict.TheVariants.{Possible};
 ghost use Rattle.verdicts.specs.Judge.{judge, conclude, rule_of};
 ghost use Rattle.verdicts.specs.Report.{is_right};
@@ -14,14 +13,14 @@ use crew::Crew;
 use edge::Gate;
 use lists::NoMemory;
 use outcomes::OutcomeKind;
-use report::{Checker, ReportFault};
+use report::{Checker, ReportFault, Topic};
 use sharp_lines::is_title;
 use sharp_report::{SharpChecker, SharpFault, SharpRefusal};
 use std::alloc::Global;
 use std::marker::Model;
 use std::thread::Threads;
 use verdicts::{Confirmed, Refusal};
-use vocab::{Study, Table};
+use vocab::Table;
 
 /// Checks the lines of a text. They are those of a sharp text where it admits these and the first line is
 /// their title, and else those of a report. The checker of sharp texts is made when that line comes; from then
@@ -67,23 +66,18 @@ impl<'a, K: OutcomeKind> Model for LineChecker<'a, K> {
 }
 
 impl<'a, K: OutcomeKind> LineChecker<'a, K> {
-    /// A checker that was given no line. The study has at most 40 axioms.
-    pub(crate) fn new(
+    /// A checker that was given no line.
+    pub(crate) fn new<R, G>(
         alloc: Global,
-        kind: &'a K,
-        study: &'a Study,
-        workers: u8,
+        crew: &Crew<R, G>,
+        topic: &Topic<'a, K>,
         admits: bool,
     ) -> Result<LineChecker<'a, K>, NoMemory>
-        requires some { 1 ≤ workers }
-        requires few { workers ≤ 16 }
-        requires size { study.now.size ≡ K.size kind.now }
-        requires listed { HasFewAxioms study.now }
-        ensures study { IfOk result (λ checker. checker.study ≡ study.now) }
+        ensures study { IfOk result (λ checker. checker.study ≡ topic.now.study.now) }
         ensures admits { IfOk result (λ checker. checker.admits ≡ admits) }
         ensures stands { IfOk result (λ checker. StandsForLines checker []) }
     {
-        let report = Checker::new(alloc, kind, study, workers)?;
+        let report = Checker::new(alloc, topic.kind, topic.study, crew.workers)?;
         Ok(LineChecker {
             report,
             sharp: None,

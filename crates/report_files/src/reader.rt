@@ -18,7 +18,7 @@ use edge::Gate;
 use lists::NoMemory;
 use outcomes::OutcomeKind;
 use outcomes::laws::kinds_have_sizes;
-use report::ReportFault;
+use report::{ReportFault, Topic};
 use sharp_report::SharpFault;
 use std::alloc::Global;
 use std::marker::Model;
@@ -59,44 +59,34 @@ impl<'a, K: OutcomeKind> Model for Reader<'a, K> {
 
 impl<'a, K: OutcomeKind> Reader<'a, K> {
     /// A reader of reports alone that has read nothing: it refuses the title of a sharp text as a line of a
-    /// report. The study has at most 40 axioms.
-    pub fn new(
+    /// report.
+    pub fn new<R, G>(
         alloc: Global,
-        kind: &'a K,
-        study: &'a Study,
-        workers: u8,
+        crew: &Crew<R, G>,
+        topic: &Topic<'a, K>,
     ) -> Result<Reader<'a, K>, NoMemory>
-        requires some { 1 ≤ workers }
-        requires few { workers ≤ 16 }
-        requires size { study.now.size ≡ K.size kind.now }
-        requires listed { HasFewAxioms study.now }
-        ensures study { IfOk result (λ reader. reader.checker.study ≡ study.now) }
+        ensures study { IfOk result (λ reader. reader.checker.study ≡ topic.now.study.now) }
         ensures reports { IfOk result (λ reader. IsFalse reader.checker.admits) }
         ensures stands { IfOk result (λ reader. StandsForText reader []) }
     {
-        let checker = LineChecker::new(alloc, kind, study, workers, false)?;
+        let checker = LineChecker::new(alloc, crew, topic, false)?;
         Ok(Reader {
             checker,
             held: Vec::new(alloc),
         })
     }
 
-    /// A reader of reports and sharp texts that has read nothing. The study has at most 40 axioms.
-    pub fn of_texts(
+    /// A reader of reports and sharp texts that has read nothing.
+    pub fn of_texts<R, G>(
         alloc: Global,
-        kind: &'a K,
-        study: &'a Study,
-        workers: u8,
+        crew: &Crew<R, G>,
+        topic: &Topic<'a, K>,
     ) -> Result<Reader<'a, K>, NoMemory>
-        requires some { 1 ≤ workers }
-        requires few { workers ≤ 16 }
-        requires size { study.now.size ≡ K.size kind.now }
-        requires listed { HasFewAxioms study.now }
-        ensures study { IfOk result (λ reader. reader.checker.study ≡ study.now) }
+        ensures study { IfOk result (λ reader. reader.checker.study ≡ topic.now.study.now) }
         ensures texts { IfOk result (λ reader. IsTrue reader.checker.admits) }
         ensures stands { IfOk result (λ reader. StandsForText reader []) }
     {
-        let checker = LineChecker::new(alloc, kind, study, workers, true)?;
+        let checker = LineChecker::new(alloc, crew, topic, true)?;
         Ok(Reader {
             checker,
             held: Vec::new(alloc),
@@ -248,7 +238,8 @@ pub fn check_report<R: Threads + Sync, K: OutcomeKind, G: Gate>(
     // Its contract says that the size of the study is one that the bench takes.
     kinds_have_sizes(kind);
     let crew = Crew { rt, gate, workers };
-    let mut reader = Reader::new(alloc, kind, study, workers)?;
+    let topic = Topic { kind, study };
+    let mut reader = Reader::new(alloc, &crew, &topic)?;
     reader.piece(&crew, text)?;
     reader.end()
 }

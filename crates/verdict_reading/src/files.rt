@@ -1,9 +1,8 @@
 //! The verdict of a report or of a sharp text in a file.
 
-ghost use Rattle.std.specs.Prelude.{◌≡◌, ◌≤◌, IfOk, IfSome, IsErrOf};
+ghost use Rattle.std.specs.Prelude.{◌≡◌, IfOk, IfSome, IsErrOf};
 ghost use Rattle.edge.specs.Faults.{Rose};
 ghost use Rattle.edge.specs.Shelf.{NoneFell, OthersStay};
-ghost use Rattle.vocab.specs.Study.{HasFewAxioms};
 ghost use Rattle.verdict_reading.specs.Readings.{IsFileFront, IsReadOf, ReadingHolds};
 
 use crate::fitting::fitted;
@@ -11,10 +10,10 @@ use crate::reading::{Reading, read_text};
 use crew::Crew;
 use edge::{Bytes, Gate, Shelf};
 use outcomes::OutcomeKind;
+use report::Topic;
 use report_files::FileFault;
 use std::alloc::Global;
 use std::thread::Threads;
-use vocab::Study;
 
 /// As many bytes are asked for in one read.
 const CHUNK: usize = 65_536;
@@ -80,22 +79,15 @@ fn read_fitted<S: Shelf>(alloc: Global, shelf: &mut S, name: &str) -> Result<Fro
 /// judged, at most 268,435,456 of them. The answer is the same for every number of workers, from 1 to 16.
 /// Errors: `FileFault::Failed` where the shelf fails, and `FileFault::NoMemory`.
 pub fn read_verdict_file<R: Threads + Sync, S: Shelf, K: OutcomeKind, G: Gate>(
-    rt: &R,
     alloc: Global,
-    gate: &G,
-    workers: u8,
-    kind: &K,
-    study: &Study,
+    crew: &Crew<R, G>,
+    topic: &Topic<K>,
     shelf: &mut S,
     name: &str,
 ) -> Result<Reading, FileFault>
-    requires some { 1 ≤ workers }
-    requires few { workers ≤ 16 }
-    requires size { study.now.size ≡ K.size kind.now }
-    requires listed { HasFewAxioms study.now }
     ensures read { IfSome (S.files shelf.old) (λ files.
-        IfOk result (IsReadOf study.now files name.now)) }
-    ensures holds { IfOk result (ReadingHolds study.now) }
+        IfOk result (IsReadOf topic.now.study.now files name.now)) }
+    ensures holds { IfOk result (ReadingHolds topic.now.study.now) }
     ensures failed { IsErrOf result FileFault.Failed →
         Rose (S.faults shelf.old name.now) (S.faults shelf.new name.now) }
     ensures same { S.files shelf.new ≡ S.files shelf.old }
@@ -104,14 +96,6 @@ pub fn read_verdict_file<R: Threads + Sync, S: Shelf, K: OutcomeKind, G: Gate>(
 {
     shelf.rewind(name)?;
     let front = read_fitted(alloc, shelf, name)?;
-    let crew = Crew { rt, gate, workers };
-    let reading = read_text(
-        &crew,
-        alloc,
-        kind,
-        study,
-        front.bytes.as_slice(),
-        front.whole,
-    )?;
+    let reading = read_text(crew, alloc, topic, front.bytes.as_slice(), front.whole)?;
     Ok(reading)
 }

@@ -1,7 +1,7 @@
 //! The verdict of a report or of a sharp text in memory.
 
-ghost use Rattle.std.specs.Prelude.{◌≡◌, ◌+◌, ◌<◌, ◌≤◌, ◌==◌, ℕ, Bool, List, length, IfOk};
-ghost use Rattle.vocab.specs.Study.{Question, HasFewAxioms};
+ghost use Rattle.std.specs.Prelude.{◌≡◌, ◌+◌, ◌<◌, ◌==◌, ℕ, Bool, List, length, IfOk};
+ghost use Rattle.vocab.specs.Study.{Question};
 ghost use Rattle.verdicts.specs.Judge.{Good};
 ghost use Rattle.verdicts.specs.Places.{Standing};
 ghost use Rattle.sharp_verdicts.specs.Judged.{AsReport, AsSharp};
@@ -21,12 +21,11 @@ use crew::Crew;
 use edge::Gate;
 use lists::NoMemory;
 use outcomes::OutcomeKind;
-use report::Subject;
+use report::{Subject, Topic};
 use sharp_report::SharpRefusal;
 use std::alloc::Global;
 use std::thread::Threads;
 use verdicts::{Refusal, Verdict};
-use vocab::Study;
 
 /// What is read of a report: the verdict that it confirms; its first faulty line, from 1, with the refusal; or
 /// that it has more than 268,435,456 bytes, and no line that ends within them is faulty. The same of a sharp
@@ -156,17 +155,14 @@ fn reading_at(
 pub(crate) fn read_text<R: Threads + Sync, G: Gate, K: OutcomeKind>(
     crew: &Crew<R, G>,
     alloc: Global,
-    kind: &K,
-    study: &Study,
+    topic: &Topic<K>,
     text: &[u8],
     whole: bool,
 ) -> Result<Reading, NoMemory>
-    requires size { study.now.size ≡ K.size kind.now }
-    requires listed { HasFewAxioms study.now }
     requires room { length text.now < 4294967294 }
-    ensures { IfOk result (IsTextRead study.now whole text.now) }
+    ensures { IfOk result (IsTextRead topic.now.study.now whole text.now) }
 {
-    let subject = Subject::new(alloc, kind, study, crew.workers)?;
+    let subject = Subject::new(alloc, topic, crew.workers)?;
     let mut collector = TextCollector::new(&subject, has_sharp_title(text))?;
     let told = read_lines(crew, &subject, &mut collector, text)?;
     reading_at(alloc, collector, told, whole)
@@ -177,22 +173,15 @@ pub(crate) fn read_text<R: Threads + Sync, G: Gate, K: OutcomeKind>(
 /// the text, and else its refusal at the same line. The axioms of a rule are checked among 1 to 16 workers,
 /// which changes no answer. Error: want of memory.
 pub fn read_verdict<R: Threads + Sync, K: OutcomeKind, G: Gate>(
-    rt: &R,
     alloc: Global,
-    gate: &G,
-    workers: u8,
-    kind: &K,
-    study: &Study,
+    crew: &Crew<R, G>,
+    topic: &Topic<K>,
     text: &[u8],
 ) -> Result<Reading, NoMemory>
-    requires some { 1 ≤ workers }
-    requires few { workers ≤ 16 }
-    requires size { study.now.size ≡ K.size kind.now }
-    requires listed { HasFewAxioms study.now }
     requires room { length text.now < 4294967294 }
-    ensures value { IfOk result (λ reading. reading ≡ reading_of (judged_whole study.now text.now)) }
-    ensures right { IfOk result (IsRightOf study.now text.now) }
+    ensures value { IfOk result (λ reading.
+        reading ≡ reading_of (judged_whole topic.now.study.now text.now)) }
+    ensures right { IfOk result (IsRightOf topic.now.study.now text.now) }
 {
-    let crew = Crew { rt, gate, workers };
-    read_text(&crew, alloc, kind, study, text, true)
+    read_text(crew, alloc, topic, text, true)
 }

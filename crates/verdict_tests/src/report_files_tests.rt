@@ -3,10 +3,11 @@
 ghost use Rattle.std.specs.Prelude.{◌≡◌, ◌≤◌};
 
 use crate::symmetry::{symmetric, symmetric_sharp};
+use crew::Crew;
 use edge::{MemoryShelf, Open};
 use outcomes::ChoiceKind;
 use profiles::Space;
-use report::ReportFault;
+use report::{ReportFault, Topic};
 use report_files::{FileFault, JudgedWorth, SharpWorth, Worth, check_report, judge_file};
 use std::alloc::Global;
 use std::test::Fail;
@@ -57,7 +58,16 @@ fn judged<R: Threads + Sync>(
     let kind = ChoiceKind::new(Space::new(study.size()));
     let mut shelf = MemoryShelf::short(alloc, most, [failing].as_slice())?;
     shelf.hold("text", text)?;
-    Ok(judge_file(rt, alloc, &Open, 1, &kind, &study, &mut shelf, "text"))
+    let crew = Crew {
+        rt,
+        gate: &Open,
+        workers: 1,
+    };
+    let topic = Topic {
+        kind: &kind,
+        study: &study,
+    };
+    Ok(judge_file(alloc, &crew, &topic, &mut shelf, "text"))
 }
 
 /// Whether a text that is refused was judged as a sharp text, and its first faulty line.

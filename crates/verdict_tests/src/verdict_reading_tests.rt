@@ -3,10 +3,12 @@
 ghost use Rattle.std.specs.Prelude.{◌≤◌};
 
 use crate::symmetry::{symmetric, symmetric_sharp, symmetric_story};
+use crew::Crew;
 use edge::{MemoryShelf, Open};
 use meaning::{Lemma, Witness};
 use outcomes::ChoiceKind;
 use profiles::Space;
+use report::Topic;
 use report_files::FileFault;
 use sharp_report::SharpRefusal;
 use sharp_verdicts::Cited;
@@ -42,7 +44,16 @@ fn read<R: Threads + Sync>(rt: &R, alloc: Global, text: &[u8]) -> Result<Reading
     if text.len() > 1000 {
         return Err(Fail::from("a long text"));
     }
-    Ok(read_verdict(rt, alloc, &Open, 1, &kind, &study, text)?)
+    let crew = Crew {
+        rt,
+        gate: &Open,
+        workers: 1,
+    };
+    let topic = Topic {
+        kind: &kind,
+        study: &study,
+    };
+    Ok(read_verdict(alloc, &crew, &topic, text)?)
 }
 
 /// What is read of a file that holds the text, of which each read gives so many bytes, where the call of this
@@ -60,7 +71,16 @@ fn read_file<R: Threads + Sync>(
     let kind = ChoiceKind::new(Space::new(study.size()));
     let mut shelf = MemoryShelf::short(alloc, most, [failing].as_slice())?;
     shelf.hold("text", text)?;
-    Ok(read_verdict_file(rt, alloc, &Open, 2, &kind, &study, &mut shelf, "text"))
+    let crew = Crew {
+        rt,
+        gate: &Open,
+        workers: 2,
+    };
+    let topic = Topic {
+        kind: &kind,
+        study: &study,
+    };
+    Ok(read_verdict_file(alloc, &crew, &topic, &mut shelf, "text"))
 }
 
 /// Whether a lemma supposes this alone, or nothing, and has so many steps.

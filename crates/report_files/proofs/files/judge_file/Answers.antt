@@ -14,16 +14,16 @@ returns-clause-worth g c =
 pub returns-clause-right : goal.returns-clause-right
 returns-clause-right g c =
     if_some (g.S.Shelf.files c.args.shelf.now) (returns-clause-worth g c) (λ files h.
-    if_ok c.judged_worth_of.result h (λ w is. file_right c.args.study.now files c.args.name.now w is))
+    if_ok c.judged_worth_of.result h (λ w is. file_right c.args.topic.now.study.now files c.args.name.now w is))
 
 pub returns-clause-all : goal.returns-clause-all
 returns-clause-all g c =
     if_some (g.S.Shelf.files c.args.shelf.now) (returns-clause-worth g c) (λ files h.
-    right_file c.args.study.now files c.args.name.now c.requires.listed c.judged_worth_of.result h)
+    right_file c.args.topic.now.study.now files c.args.name.now c.args.topic.now.listed c.judged_worth_of.result h)
 
 pub returns-clause-holds : goal.returns-clause-holds
 returns-clause-holds g c =
-    let size : IsSize c.args.study.now.size = subst (λ (n : Extent). IsSize n) (sym c.requires.size) c.kinds_have_sizes.ensures in
+    let size : IsSize c.args.topic.now.study.now.size = subst (λ (n : Extent). IsSize n) (sym c.args.topic.now.same) c.kinds_have_sizes.ensures in
     let same = c.in_ok-reader.ensures.study in
     subst (λ (q : Question). IfOk c.judged_worth_of.result (JudgedWorthHolds q)) same
     (c.judged_worth_of.ensures.holds (subst (λ (q : Question). IsSize q.size) (sym same) size))

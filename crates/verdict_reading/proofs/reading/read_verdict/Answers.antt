@@ -5,7 +5,7 @@ use Rattle.verdict_reading.proofs.ReadingLemmas.{right_of, whole_is_front}
 use Rattle.verdict_reading.proofs.reading.read_verdict.Goals as goal
 
 pub returns-clause-value : goal.returns-clause-value
-returns-clause-value g c = if_ok c.read_text.result c.read_text.ensures (λ r e. e ∙ ap reading_of (whole_is_front c.args.study.now c.args.text.now))
+returns-clause-value g c = if_ok c.read_text.result c.read_text.ensures (λ r e. e ∙ ap reading_of (whole_is_front c.args.topic.now.study.now c.args.text.now))
 
 pub returns-clause-right : goal.returns-clause-right
-returns-clause-right g c = if_ok c.read_text.result c.read_text.ensures (λ r e. right_of c.args.study.now c.args.text.now r (e ∙ ap reading_of (whole_is_front c.args.study.now c.args.text.now)))
+returns-clause-right g c = if_ok c.read_text.result c.read_text.ensures (λ r e. right_of c.args.topic.now.study.now c.args.text.now r (e ∙ ap reading_of (whole_is_front c.args.topic.now.study.now c.args.text.now)))
