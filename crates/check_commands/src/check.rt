@@ -14,40 +14,11 @@ use command_parts::{Answer, Opened, Stop, open_study};
 use crew::Crew;
 use edge::{Gate, Shelf};
 use kinds::over_kind;
-use outcomes::OutcomeKind;
+use report::Topic;
 use report_files::{FileFault, JudgedWorth, judge_file};
 use std::alloc::Global;
 use std::thread::Threads;
 use vocab::Study;
-
-/// What a text is worth over a study, beside its kind.
-fn worth_over<R: Threads + Sync, S: Shelf, G: Gate, K: OutcomeKind>(
-    alloc: Global,
-    crew: &Crew<R, G>,
-    shelf: &mut S,
-    kind: &K,
-    study: &Study,
-    report: &str,
-) -> Result<JudgedWorth, FileFault>
-    requires size { study.now.size ≡ K.size kind.now }
-    requires listed { HasFewAxioms study.now }
-    ensures worth { IfSome (S.files shelf.old)
-        (λ files. IfOk result (IsJudgedWorthOf study.now files report.now)) }
-    ensures failed { IsErrOf result FileFault.Failed →
-        Rose (S.faults shelf.old report.now) (S.faults shelf.new report.now) }
-    ensures others { OthersStay (S.left shelf.old) (S.left shelf.new) report.now }
-{
-    judge_file(
-        crew.rt,
-        alloc,
-        crew.gate,
-        crew.workers,
-        kind,
-        study,
-        shelf,
-        report,
-    )
-}
 
 /// What a text is worth over a study, by the study's kind.
 fn check_by_kind<R: Threads + Sync, S: Shelf, G: Gate>(
@@ -67,7 +38,10 @@ fn check_by_kind<R: Threads + Sync, S: Shelf, G: Gate>(
     over_kind!(
         study.size(),
         kind,
-        worth_over(alloc, crew, shelf, &kind, study, report)
+        {
+            let topic = Topic { kind: &kind, study };
+            judge_file(alloc, crew, &topic, shelf, report)
+        }
     )
 }
 
@@ -97,24 +71,17 @@ fn judge_report<R: Threads + Sync, S: Shelf, G: Gate>(
 /// which changes no answer; the gate is told of each piece of that work. Errors: `Stop::ReadFault` where the
 /// shelf fails, and `Stop::NoMemory`.
 pub fn check<R: Threads + Sync, S: Shelf, G: Gate>(
-    rt: &R,
     alloc: Global,
-    gate: &G,
-    workers: u8,
+    crew: &Crew<R, G>,
     shelf: &mut S,
     study: &str,
     report: &str,
 ) -> Result<Answer, Stop>
-    requires some { 1 ≤ workers }
-    requires few { workers ≤ 16 }
-    ensures { Answers (Some (Check study.now report.now workers)) (S.files shelf.old)
+    ensures { Answers (Some (Check study.now report.now crew.now.workers)) (S.files shelf.old)
         (S.left shelf.old) (S.left shelf.new) (S.faults shelf.old) (S.faults shelf.new) result }
 {
     match open_study(alloc, shelf, study) {
-        Ok(Opened::Study(question)) => {
-            let crew = Crew { rt, gate, workers };
-            judge_report(alloc, &crew, shelf, &question, report)
-        }
+        Ok(Opened::Study(question)) => { judge_report(alloc, crew, shelf, &question, report) }
         Ok(Opened::Refused(answer)) => Ok(answer),
         Err(stop) => Err(stop),
     }

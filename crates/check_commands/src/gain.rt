@@ -23,6 +23,7 @@ use edge::{Gate, Shelf};
 use outcomes::OutcomeKind;
 use outcomes::laws::kinds_have_sizes;
 use profiles::Space;
+use report::Topic;
 use report_files::{JudgedWorth, Reader, Worth, worth_of};
 use std::alloc::Global;
 use std::thread::Threads;
@@ -96,7 +97,8 @@ fn judge_gain<R: Threads + Sync, S: Shelf, G: Gate>(
         Rose (S.faults shelf.old report.now) (S.faults shelf.new report.now) }
     ensures others { OthersStay (S.left shelf.old) (S.left shelf.new) report.now }
 {
-    let mut reader = Reader::new(alloc, kind, study, crew.workers)?;
+    let topic = Topic { kind, study };
+    let mut reader = Reader::new(alloc, crew, &topic)?;
     let worth = worth_of(crew, &mut reader, shelf, report)?;
     match worth {
         Worth::Confirmed(_) => Ok(said_of_rule(kind, reader.table())),

@@ -7,6 +7,7 @@ ghost use Rattle.explain_answers.specs.Completeness.{AreExplained, calm_devices}
 ghost use Rattle.explain_parts.specs.Replies.{Replies};
 
 use command_parts::Stop;
+use crew::Crew;
 use edge::{CalmShelf, CalmSink, Failed, Gate, Shelf, Sink};
 use explain_answers::laws;
 use explain_commands::{cores, instance, look, rules};
@@ -37,7 +38,10 @@ fn reply<R: Threads + Sync, S: Shelf, G: Gate>(
                     workers,
                 },
             ),
-        ) => story(rt, alloc, gate, workers, shelf, study, report),
+        ) => {
+            let crew = Crew { rt, gate, workers };
+            story(alloc, &crew, shelf, study, report)
+        }
         Ok(
             Some(
                 Command::Instance {
@@ -55,12 +59,17 @@ fn reply<R: Threads + Sync, S: Shelf, G: Gate>(
                     workers,
                 },
             ),
-        ) => rules(rt, alloc, gate, workers, shelf, study, most),
+        ) => {
+            let crew = Crew { rt, gate, workers };
+            rules(alloc, &crew, shelf, study, most)
+        }
         Ok(Some(Command::Cores { study, workers })) => {
-            cores(rt, alloc, gate, workers, shelf, study)
+            let crew = Crew { rt, gate, workers };
+            cores(alloc, &crew, shelf, study)
         }
         Ok(Some(Command::Look { study, workers })) => {
-            look(rt, alloc, gate, workers, shelf, study)
+            let crew = Crew { rt, gate, workers };
+            look(alloc, &crew, shelf, study)
         }
         Ok(None) => Ok(Reply::Usage),
         Err(_) => Err(Stop::NoMemory),

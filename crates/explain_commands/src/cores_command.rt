@@ -1,6 +1,6 @@
 //! The command `cores`: reads a study, and maps which sets of its axioms some rule satisfies.
 
-ghost use Rattle.std.specs.Prelude.{◌≡◌, ◌≢◌, ◌≤◌, Some, Err, IfOk};
+ghost use Rattle.std.specs.Prelude.{◌≡◌, ◌≢◌, Some, Err, IfOk};
 ghost use Rattle.answers.specs.Grounding.{OverClauses};
 ghost use Rattle.explain_words.specs.Words.{Cores};
 ghost use Rattle.explain_answers.specs.Cores.{IsMapped};
@@ -60,23 +60,16 @@ fn map_study<R: Threads + Sync, G: Gate>(
 /// clauses are made among 1 to 16 workers, which changes no reply; the gate is told of each piece of that work.
 /// Errors: `Stop::ReadFault` where the shelf fails, and `Stop::NoMemory`.
 pub fn cores<R: Threads + Sync, S: Shelf, G: Gate>(
-    rt: &R,
     alloc: Global,
-    gate: &G,
-    workers: u8,
+    crew: &Crew<R, G>,
     shelf: &mut S,
     study: &str,
 ) -> Result<Reply, Stop>
-    requires some { 1 ≤ workers }
-    requires few { workers ≤ 16 }
-    ensures { Replies (Some (Cores study.now workers)) (S.files shelf.old)
+    ensures { Replies (Some (Cores study.now crew.now.workers)) (S.files shelf.old)
         (S.left shelf.old) (S.left shelf.new) (S.faults shelf.old) (S.faults shelf.new) result }
 {
     match open_study(alloc, shelf, study) {
-        Ok(Opened::Study(question)) => {
-            let crew = Crew { rt, gate, workers };
-            map_study(alloc, &crew, question)
-        }
+        Ok(Opened::Study(question)) => { map_study(alloc, crew, question) }
         Ok(Opened::Refused(answer)) => Ok(Reply::Refused(answer)),
         Err(stop) => Err(stop),
     }

@@ -1,6 +1,6 @@
 //! The command `rules`: reads a study, and lists the rules that satisfy its axioms.
 
-ghost use Rattle.std.specs.Prelude.{◌≡◌, ◌≢◌, ◌≤◌, Some, Err, IfOk};
+ghost use Rattle.std.specs.Prelude.{◌≡◌, ◌≢◌, Some, Err, IfOk};
 ghost use Rattle.answers.specs.Grounding.{OverClauses};
 ghost use Rattle.explain_words.specs.Words.{Rules};
 ghost use Rattle.explain_answers.specs.Rules.{IsRuleListWritten};
@@ -66,24 +66,17 @@ fn list_study<R: Threads + Sync, G: Gate>(
 /// workers, which changes no reply; the gate is told of each piece of that work. Errors: `Stop::ReadFault`
 /// where the shelf fails, and `Stop::NoMemory`.
 pub fn rules<R: Threads + Sync, S: Shelf, G: Gate>(
-    rt: &R,
     alloc: Global,
-    gate: &G,
-    workers: u8,
+    crew: &Crew<R, G>,
     shelf: &mut S,
     study: &str,
     most: u32,
 ) -> Result<Reply, Stop>
-    requires some { 1 ≤ workers }
-    requires few { workers ≤ 16 }
-    ensures { Replies (Some (Rules study.now most workers)) (S.files shelf.old)
+    ensures { Replies (Some (Rules study.now most crew.now.workers)) (S.files shelf.old)
         (S.left shelf.old) (S.left shelf.new) (S.faults shelf.old) (S.faults shelf.new) result }
 {
     match open_study(alloc, shelf, study) {
-        Ok(Opened::Study(question)) => {
-            let crew = Crew { rt, gate, workers };
-            list_study(alloc, &crew, question, most)
-        }
+        Ok(Opened::Study(question)) => { list_study(alloc, crew, question, most) }
         Ok(Opened::Refused(answer)) => Ok(Reply::Refused(answer)),
         Err(stop) => Err(stop),
     }

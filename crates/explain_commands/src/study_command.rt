@@ -1,6 +1,6 @@
 //! The command `study`: reads a study, and tells what it asks, or where it is refused what helps.
 
-ghost use Rattle.std.specs.Prelude.{◌≡◌, ◌≢◌, ◌≤◌, Some, Ok, Err, IfOk};
+ghost use Rattle.std.specs.Prelude.{◌≡◌, ◌≢◌, Some, Ok, Err, IfOk};
 ghost use Rattle.answers.specs.Grounding.{OverClauses};
 ghost use Rattle.study.specs.Reading.{IsStudyOf};
 ghost use Rattle.explain_words.specs.Words.{Look};
@@ -95,23 +95,16 @@ fn look_bytes<R: Threads + Sync, G: Gate>(
 /// among 1 to 16 workers, which changes no reply; the gate is told of each piece of that work. Errors:
 /// `Stop::ReadFault` where the shelf fails, and `Stop::NoMemory`.
 pub fn look<R: Threads + Sync, S: Shelf, G: Gate>(
-    rt: &R,
     alloc: Global,
-    gate: &G,
-    workers: u8,
+    crew: &Crew<R, G>,
     shelf: &mut S,
     study: &str,
 ) -> Result<Reply, Stop>
-    requires some { 1 ≤ workers }
-    requires few { workers ≤ 16 }
-    ensures { Replies (Some (Look study.now workers)) (S.files shelf.old)
+    ensures { Replies (Some (Look study.now crew.now.workers)) (S.files shelf.old)
         (S.left shelf.old) (S.left shelf.new) (S.faults shelf.old) (S.faults shelf.new) result }
 {
     match read_all(alloc, shelf, study, MOST_STUDY_BYTES) {
-        Ok(bytes) => {
-            let crew = Crew { rt, gate, workers };
-            look_bytes(alloc, &crew, bytes.as_slice())
-        }
+        Ok(bytes) => { look_bytes(alloc, crew, bytes.as_slice()) }
         Err(ReadFault::TooLong) => Ok(Reply::Refused(Answer::LongStudy)),
         Err(ReadFault::Failed) => Err(Stop::ReadFault),
         Err(ReadFault::NoMemory) => Err(Stop::NoMemory),

@@ -17,7 +17,7 @@ use edge::{Bytes, Failed, Sink};
 use instance_text::Said;
 use kinds::over_kind;
 use map_text::pour_map;
-use outcomes::{OutcomeKind, Setting};
+use outcomes::Setting;
 use rule_lists::{Ending, RuleList};
 use rules_text::pour_rules;
 use std::alloc::Global;
@@ -92,23 +92,6 @@ fn cores_status(map: &CoreMap) -> u8
     }
 }
 
-/// Adds the text of a list of rules of a study beside its kind.
-fn pour_rules_over<K: OutcomeKind, O: Sink>(
-    kind: &K,
-    study: &Study,
-    list: &RuleList,
-    page: &mut Page,
-    out: &mut O,
-) -> Result<(), Failed>
-    requires size { study.now.size ≡ K.size kind.now }
-    requires rules { are_rules study.now.size list.now.tables }
-    ensures { Pours (O.taken out.old) (O.taken out.new) page.old page.new
-        (O.faults out.old) (O.faults out.new) result (rules_text study.now list.now) }
-{
-    let setting = Setting { kind, study };
-    pour_rules(&setting, list, page, out)
-}
-
 /// Adds the text of a list of rules of a study.
 fn pour_list<O: Sink>(
     study: &Study,
@@ -123,25 +106,11 @@ fn pour_list<O: Sink>(
     over_kind!(
         study.size(),
         kind,
-        pour_rules_over(&kind, study, list, page, out)
+        {
+            let setting = Setting { kind: &kind, study };
+            pour_rules(&setting, list, page, out)
+        }
     )
-}
-
-/// Adds the text of a map of the axioms of a study beside its kind.
-fn pour_map_over<K: OutcomeKind, O: Sink>(
-    kind: &K,
-    study: &Study,
-    map: &CoreMap,
-    page: &mut Page,
-    out: &mut O,
-) -> Result<(), Failed>
-    requires size { study.now.size ≡ K.size kind.now }
-    requires names { HasNames study.now map.now.sets }
-    ensures { Pours (O.taken out.old) (O.taken out.new) page.old page.new
-        (O.faults out.old) (O.faults out.new) result (map_text study.now map.now) }
-{
-    let setting = Setting { kind, study };
-    pour_map(&setting, map, page, out)
 }
 
 /// Adds the text of a map of the axioms of a study.
@@ -158,24 +127,11 @@ fn pour_sets<O: Sink>(
     over_kind!(
         study.size(),
         kind,
-        pour_map_over(&kind, study, map, page, out)
+        {
+            let setting = Setting { kind: &kind, study };
+            pour_map(&setting, map, page, out)
+        }
     )
-}
-
-/// Adds what a study asks beside its kind.
-fn pour_look_over<K: OutcomeKind, O: Sink>(
-    kind: &K,
-    study: &Study,
-    look: &Look,
-    page: &mut Page,
-    out: &mut O,
-) -> Result<(), Failed>
-    requires { study.now.size ≡ K.size kind.now }
-    ensures { Pours (O.taken out.old) (O.taken out.new) page.old page.new
-        (O.faults out.old) (O.faults out.new) result (made_text study.now look.now) }
-{
-    let setting = Setting { kind, study };
-    pour_look(&setting, look, page, out)
 }
 
 /// Adds what a study asks.
@@ -191,7 +147,10 @@ fn pour_asked<O: Sink>(
     over_kind!(
         study.size(),
         kind,
-        pour_look_over(&kind, study, look, page, out)
+        {
+            let setting = Setting { kind: &kind, study };
+            pour_look(&setting, look, page, out)
+        }
     )
 }
 

@@ -17,42 +17,12 @@ use edge::{Gate, Shelf};
 use explain_parts::Reply;
 use kinds::over_kind;
 use lists::NoMemory;
-use outcomes::OutcomeKind;
+use report::Topic;
 use report_files::{FileFault, JudgedWorth, SharpWorth, Worth};
 use std::alloc::Global;
 use std::thread::Threads;
 use verdict_reading::{Reading, read_verdict_file};
 use vocab::Study;
-
-/// What is read of a report over a study, beside its kind.
-fn read_over<R: Threads + Sync, S: Shelf, G: Gate, K: OutcomeKind>(
-    alloc: Global,
-    crew: &Crew<R, G>,
-    shelf: &mut S,
-    kind: &K,
-    study: &Study,
-    report: &str,
-) -> Result<Reading, FileFault>
-    requires size { study.now.size ≡ K.size kind.now }
-    requires listed { HasFewAxioms study.now }
-    ensures read { IfSome (S.files shelf.old)
-        (λ files. IfOk result (IsReadOf study.now files report.now)) }
-    ensures holds { IfOk result (ReadingHolds study.now) }
-    ensures failed { IsErrOf result FileFault.Failed →
-        Rose (S.faults shelf.old report.now) (S.faults shelf.new report.now) }
-    ensures others { OthersStay (S.left shelf.old) (S.left shelf.new) report.now }
-{
-    read_verdict_file(
-        crew.rt,
-        alloc,
-        crew.gate,
-        crew.workers,
-        kind,
-        study,
-        shelf,
-        report,
-    )
-}
 
 /// What is read of a report over a study, by the study's kind.
 fn read_by_kind<R: Threads + Sync, S: Shelf, G: Gate>(
@@ -73,7 +43,10 @@ fn read_by_kind<R: Threads + Sync, S: Shelf, G: Gate>(
     over_kind!(
         study.size(),
         kind,
-        read_over(alloc, crew, shelf, &kind, study, report)
+        {
+            let topic = Topic { kind: &kind, study };
+            read_verdict_file(alloc, crew, &topic, shelf, report)
+        }
     )
 }
 
@@ -145,24 +118,17 @@ fn read_story<R: Threads + Sync, S: Shelf, G: Gate>(
 /// rule are checked among 1 to 16 workers, which changes no reply; the gate is told of each piece of that
 /// work. Errors: `Stop::ReadFault` where the shelf fails, and `Stop::NoMemory`.
 pub fn story<R: Threads + Sync, S: Shelf, G: Gate>(
-    rt: &R,
     alloc: Global,
-    gate: &G,
-    workers: u8,
+    crew: &Crew<R, G>,
     shelf: &mut S,
     study: &str,
     report: &str,
 ) -> Result<Reply, Stop>
-    requires some { 1 ≤ workers }
-    requires few { workers ≤ 16 }
-    ensures { Replies (Some (Story study.now report.now workers)) (S.files shelf.old)
+    ensures { Replies (Some (Story study.now report.now crew.now.workers)) (S.files shelf.old)
         (S.left shelf.old) (S.left shelf.new) (S.faults shelf.old) (S.faults shelf.new) result }
 {
     match open_study(alloc, shelf, study) {
-        Ok(Opened::Study(question)) => {
-            let crew = Crew { rt, gate, workers };
-            read_story(alloc, &crew, shelf, &question, study, report)
-        }
+        Ok(Opened::Study(question)) => { read_story(alloc, crew, shelf, &question, study, report) }
         Ok(Opened::Refused(answer)) => Ok(Reply::Refused(answer)),
         Err(stop) => Err(stop),
     }

@@ -137,17 +137,13 @@ fn judge_proof<S: Shelf>(
 /// 16 workers, which changes none; the gate is told of each piece of that work. Errors: `Stop::ReadFault`
 /// where the shelf fails, and `Stop::NoMemory`.
 pub fn adopt<R: Threads + Sync, S: Shelf, G: Gate>(
-    rt: &R,
     alloc: Global,
-    gate: &G,
-    workers: u8,
+    crew: &Crew<R, G>,
     shelf: &mut S,
     study: &str,
     proof: &str,
 ) -> Result<Answer, Stop>
-    requires some { 1 ≤ workers }
-    requires few { workers ≤ 16 }
-    ensures { Answers (Some (Adopt study.now proof.now workers)) (S.files shelf.old)
+    ensures { Answers (Some (Adopt study.now proof.now crew.now.workers)) (S.files shelf.old)
         (S.left shelf.old) (S.left shelf.new) (S.faults shelf.old) (S.faults shelf.new) result }
 {
     let question = match open_study(alloc, shelf, study) {
@@ -155,8 +151,7 @@ pub fn adopt<R: Threads + Sync, S: Shelf, G: Gate>(
         Ok(Opened::Refused(answer)) => return Ok(answer),
         Err(stop) => return Err(stop),
     };
-    let crew = Crew { rt, gate, workers };
-    match ground_study(alloc, &crew, &question) {
+    match ground_study(alloc, crew, &question) {
         Ok(clauses) => judge_proof(alloc, shelf, question, clauses, proof),
         Err(GroundFault::NoMemory) => Err(Stop::NoMemory),
         Err(fault) => Ok(Answer::NoClauses(question, fault)),

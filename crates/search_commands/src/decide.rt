@@ -1,6 +1,6 @@
 //! The command `decide`: reads a study, and searches for a rule, or for a story that there is none.
 
-ghost use Rattle.std.specs.Prelude.{◌≡◌, ◌≢◌, ◌≤◌, Some, Err, IfOk};
+ghost use Rattle.std.specs.Prelude.{◌≡◌, ◌≢◌, Some, Err, IfOk};
 ghost use Rattle.verdicts.specs.Laws.{IsReportable};
 ghost use Rattle.core_reduce.specs.Answers.{IsDecision, IsFinding, IsRefutation};
 ghost use Rattle.words.specs.Words.{Decide};
@@ -132,23 +132,16 @@ fn decide_study<R: Threads + Sync, G: Gate>(
 /// are made among 1 to 16 workers, which changes none; the gate is told of each piece of that work. Errors:
 /// `Stop::ReadFault` where the shelf fails, and `Stop::NoMemory`.
 pub fn decide<R: Threads + Sync, S: Shelf, G: Gate>(
-    rt: &R,
     alloc: Global,
-    gate: &G,
-    workers: u8,
+    crew: &Crew<R, G>,
     shelf: &mut S,
     study: &str,
 ) -> Result<Answer, Stop>
-    requires some { 1 ≤ workers }
-    requires few { workers ≤ 16 }
-    ensures { Answers (Some (Decide study.now workers)) (S.files shelf.old)
+    ensures { Answers (Some (Decide study.now crew.now.workers)) (S.files shelf.old)
         (S.left shelf.old) (S.left shelf.new) (S.faults shelf.old) (S.faults shelf.new) result }
 {
     match open_study(alloc, shelf, study) {
-        Ok(Opened::Study(question)) => {
-            let crew = Crew { rt, gate, workers };
-            decide_study(alloc, &crew, question)
-        }
+        Ok(Opened::Study(question)) => { decide_study(alloc, crew, question) }
         Ok(Opened::Refused(answer)) => Ok(answer),
         Err(stop) => Err(stop),
     }

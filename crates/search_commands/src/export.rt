@@ -1,6 +1,6 @@
 //! The command `export`: reads a study, and writes its clauses.
 
-ghost use Rattle.std.specs.Prelude.{◌≡◌, ◌≢◌, ◌≤◌, Some, Err, IfOk};
+ghost use Rattle.std.specs.Prelude.{◌≡◌, ◌≢◌, Some, Err, IfOk};
 ghost use Rattle.words.specs.Words.{Export};
 ghost use Rattle.answers.specs.Export.{IsWritten};
 ghost use Rattle.answers.specs.Grounding.{OverClauses};
@@ -60,23 +60,16 @@ fn export_study<R: Threads + Sync, G: Gate>(
 /// changes none; the gate is told of each piece of that work. Errors: `Stop::ReadFault` where the shelf
 /// fails, and `Stop::NoMemory`.
 pub fn export<R: Threads + Sync, S: Shelf, G: Gate>(
-    rt: &R,
     alloc: Global,
-    gate: &G,
-    workers: u8,
+    crew: &Crew<R, G>,
     shelf: &mut S,
     study: &str,
 ) -> Result<Answer, Stop>
-    requires some { 1 ≤ workers }
-    requires few { workers ≤ 16 }
-    ensures { Answers (Some (Export study.now workers)) (S.files shelf.old)
+    ensures { Answers (Some (Export study.now crew.now.workers)) (S.files shelf.old)
         (S.left shelf.old) (S.left shelf.new) (S.faults shelf.old) (S.faults shelf.new) result }
 {
     match open_study(alloc, shelf, study) {
-        Ok(Opened::Study(question)) => {
-            let crew = Crew { rt, gate, workers };
-            export_study(alloc, &crew, question)
-        }
+        Ok(Opened::Study(question)) => { export_study(alloc, crew, question) }
         Ok(Opened::Refused(answer)) => Ok(answer),
         Err(stop) => Err(stop),
     }

@@ -1,6 +1,6 @@
 //! The command `proof`: reads a study, and searches for a refutation of its clauses.
 
-ghost use Rattle.std.specs.Prelude.{◌≡◌, ◌≢◌, ◌≤◌, Some, Err, IfOk};
+ghost use Rattle.std.specs.Prelude.{◌≡◌, ◌≢◌, Some, Err, IfOk};
 ghost use Rattle.core_reduce.specs.Proofs.{IsProvedRight};
 ghost use Rattle.words.specs.Words.{Proof};
 ghost use Rattle.answers.specs.Proof.{Proves};
@@ -76,23 +76,16 @@ fn prove_study<R: Threads + Sync, G: Gate>(
 /// made among 1 to 16 workers, which changes none; the gate is told of each piece of that work. Errors:
 /// `Stop::ReadFault` where the shelf fails, and `Stop::NoMemory`.
 pub fn proof<R: Threads + Sync, S: Shelf, G: Gate>(
-    rt: &R,
     alloc: Global,
-    gate: &G,
-    workers: u8,
+    crew: &Crew<R, G>,
     shelf: &mut S,
     study: &str,
 ) -> Result<Answer, Stop>
-    requires some { 1 ≤ workers }
-    requires few { workers ≤ 16 }
-    ensures { Answers (Some (Proof study.now workers)) (S.files shelf.old)
+    ensures { Answers (Some (Proof study.now crew.now.workers)) (S.files shelf.old)
         (S.left shelf.old) (S.left shelf.new) (S.faults shelf.old) (S.faults shelf.new) result }
 {
     match open_study(alloc, shelf, study) {
-        Ok(Opened::Study(question)) => {
-            let crew = Crew { rt, gate, workers };
-            prove_study(alloc, &crew, question)
-        }
+        Ok(Opened::Study(question)) => { prove_study(alloc, crew, question) }
         Ok(Opened::Refused(answer)) => Ok(answer),
         Err(stop) => Err(stop),
     }

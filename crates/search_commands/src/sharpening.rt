@@ -1,7 +1,7 @@
 //! The command `sharpen`: reads a study, and searches for a rule, or for a story that there is none, in
 //! which no instance can be left out.
 
-ghost use Rattle.std.specs.Prelude.{◌≡◌, ◌≢◌, ◌≤◌, Some, Err, IfOk};
+ghost use Rattle.std.specs.Prelude.{◌≡◌, ◌≢◌, Some, Err, IfOk};
 ghost use Rattle.vocab.specs.Study.{HasFewAxioms};
 ghost use Rattle.verdicts.specs.Laws.{IsReportable};
 ghost use Rattle.search_logs.specs.Spent.{AreSpentLogs};
@@ -131,23 +131,16 @@ fn sharpen_study<R: Threads + Sync, G: Gate>(
 /// 16 workers, which changes none; the gate is told of each piece of that work. Errors: `Stop::ReadFault`
 /// where the shelf fails, and `Stop::NoMemory`.
 pub fn sharpen<R: Threads + Sync, S: Shelf, G: Gate>(
-    rt: &R,
     alloc: Global,
-    gate: &G,
-    workers: u8,
+    crew: &Crew<R, G>,
     shelf: &mut S,
     study: &str,
 ) -> Result<Answer, Stop>
-    requires some { 1 ≤ workers }
-    requires few { workers ≤ 16 }
-    ensures { Answers (Some (Sharpen study.now workers)) (S.files shelf.old)
+    ensures { Answers (Some (Sharpen study.now crew.now.workers)) (S.files shelf.old)
         (S.left shelf.old) (S.left shelf.new) (S.faults shelf.old) (S.faults shelf.new) result }
 {
     match open_study(alloc, shelf, study) {
-        Ok(Opened::Study(question)) => {
-            let crew = Crew { rt, gate, workers };
-            sharpen_study(alloc, &crew, question)
-        }
+        Ok(Opened::Study(question)) => { sharpen_study(alloc, crew, question) }
         Ok(Opened::Refused(answer)) => Ok(answer),
         Err(stop) => Err(stop),
     }

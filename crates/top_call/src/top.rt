@@ -10,6 +10,7 @@ use check_commands::check::check;
 use check_commands::gain::gain;
 use check_commands::lrat::lrat;
 use command_parts::{Answer, Stop};
+use crew::Crew;
 use edge::{CalmShelf, CalmSink, Failed, Gate, Shelf, Sink};
 use search_commands::adoption::adopt;
 use search_commands::decide::decide;
@@ -42,15 +43,21 @@ fn answer<R: Threads + Sync, S: Shelf, G: Gate>(
                     workers,
                 },
             ),
-        ) => check(rt, alloc, gate, workers, shelf, study, report),
+        ) => {
+            let crew = Crew { rt, gate, workers };
+            check(alloc, &crew, shelf, study, report)
+        }
         Ok(Some(Command::Decide { study, workers })) => {
-            decide(rt, alloc, gate, workers, shelf, study)
+            let crew = Crew { rt, gate, workers };
+            decide(alloc, &crew, shelf, study)
         }
         Ok(Some(Command::Export { study, workers })) => {
-            export(rt, alloc, gate, workers, shelf, study)
+            let crew = Crew { rt, gate, workers };
+            export(alloc, &crew, shelf, study)
         }
         Ok(Some(Command::Proof { study, workers })) => {
-            proof(rt, alloc, gate, workers, shelf, study)
+            let crew = Crew { rt, gate, workers };
+            proof(alloc, &crew, shelf, study)
         }
         Ok(Some(Command::Lrat { cnf, proof })) => lrat(alloc, shelf, cnf, proof),
         Ok(Some(Command::Axioms { kind })) => Ok(Answer::Library(kind)),
@@ -63,10 +70,14 @@ fn answer<R: Threads + Sync, S: Shelf, G: Gate>(
                     workers,
                 },
             ),
-        ) => adopt(rt, alloc, gate, workers, shelf, study, proof),
+        ) => {
+            let crew = Crew { rt, gate, workers };
+            adopt(alloc, &crew, shelf, study, proof)
+        }
         Ok(Some(Command::Gain { study, report })) => { gain(rt, alloc, gate, shelf, study, report) }
         Ok(Some(Command::Sharpen { study, workers })) => {
-            sharpen(rt, alloc, gate, workers, shelf, study)
+            let crew = Crew { rt, gate, workers };
+            sharpen(alloc, &crew, shelf, study)
         }
         Ok(None) => Ok(Answer::Usage),
         Err(_) => Err(Stop::NoMemory),

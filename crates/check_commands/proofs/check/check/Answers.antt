@@ -11,7 +11,7 @@ pub returns-in-Ok-Study : goal.returns-in-Ok-Study
 returns-in-Ok-Study g c =
     let told = g.S.Shelf.files c.args.shelf.now in
     let read = rw c.in-Ok-Study.field-0-is at c.in-Ok-Study.ensures.opened in
-    second_judged _ c.args.study.now c.args.report.now (check_command c.args.study.now c.args.report.now c.args.workers)
+    second_judged _ c.args.study.now c.args.report.now (check_command c.args.study.now c.args.report.now c.args.crew.now.workers)
     told _ (g.S.Shelf.left c.open_study.new.shelf) _ (g.S.Shelf.faults c.open_study.new.shelf) c.open_study.ensures.others _ _
     c.judge_report.result (study_taken told c.args.study.now c.args.report.now c.in-Ok-Study.question read) c.open_study.ensures.none_fell
     (judged_rows told c.args.study.now c.args.report.now c.in-Ok-Study.question c.judge_report.result read (rw c.open_study.ensures.same at c.judge_report.ensures.judged))
@@ -21,10 +21,10 @@ pub returns-in-Ok-Refused : goal.returns-in-Ok-Refused
 returns-in-Ok-Refused g c =
     let told = g.S.Shelf.files c.args.shelf.now in
     let refuses = rw c.in-Ok-Refused.field-0-is at c.in-Ok-Refused.ensures.opened in
-    first_refused _ c.args.study.now c.args.report.now (check_command c.args.study.now c.args.report.now c.args.workers) told _ _ _ _ c.open_study.ensures.others
+    first_refused _ c.args.study.now c.args.report.now (check_command c.args.study.now c.args.report.now c.args.crew.now.workers) told _ _ _ _ c.open_study.ensures.others
     c.in-Ok-Refused.answer refuses.bare refuses.has_text (refused_row told c.args.study.now c.args.report.now c.in-Ok-Refused.answer refuses)
 
 pub returns-in-Err : goal.returns-in-Err
 returns-in-Err g c =
-    first_stopped _ c.args.study.now c.args.report.now (check_command c.args.study.now c.args.report.now c.args.workers) (g.S.Shelf.files c.args.shelf.now) _ _ _ _ c.open_study.ensures.others
+    first_stopped _ c.args.study.now c.args.report.now (check_command c.args.study.now c.args.report.now c.args.crew.now.workers) (g.S.Shelf.files c.args.shelf.now) _ _ _ _ c.open_study.ensures.others
     {T = Opened} c.in-Err.stop c.in-Err.ensures.fault

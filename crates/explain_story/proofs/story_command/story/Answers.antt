@@ -11,7 +11,7 @@ returns-in-Ok-Study g c =
     let told = g.S.Shelf.files c.args.shelf.now in
     let name = c.args.study.now in
     let report = c.args.report.now in
-    let workers = c.args.workers in
+    let workers = c.args.crew.now.workers in
     let read = rw c.in-Ok-Study.field-0-is at c.in-Ok-Study.ensures.opened in
     report_read name report workers told _ (g.S.Shelf.left c.open_study.new.shelf) _ (g.S.Shelf.faults c.open_study.new.shelf) c.open_study.ensures.others _ _
     c.read_story.result (study_taken name report workers told c.in-Ok-Study.question read) c.open_study.ensures.none_fell
@@ -21,10 +21,10 @@ returns-in-Ok-Study g c =
 pub returns-in-Ok-Refused : goal.returns-in-Ok-Refused
 returns-in-Ok-Refused g c =
     let told = g.S.Shelf.files c.args.shelf.now in
-    study_refuses c.args.study.now c.args.report.now c.args.workers told _ _ _ _ c.open_study.ensures.others
+    study_refuses c.args.study.now c.args.report.now c.args.crew.now.workers told _ _ _ _ c.open_study.ensures.others
     c.in-Ok-Refused.answer (rw c.in-Ok-Refused.field-0-is at c.in-Ok-Refused.ensures.opened)
 
 pub returns-in-Err : goal.returns-in-Err
 returns-in-Err g c =
-    study_stops c.args.study.now c.args.report.now c.args.workers (g.S.Shelf.files c.args.shelf.now) _ _ _ _ c.open_study.ensures.others
+    study_stops c.args.study.now c.args.report.now c.args.crew.now.workers (g.S.Shelf.files c.args.shelf.now) _ _ _ _ c.open_study.ensures.others
     {T = Opened} c.in-Err.stop c.in-Err.ensures.fault

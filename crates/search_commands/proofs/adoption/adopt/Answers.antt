@@ -10,12 +10,12 @@ pub returns-in-Ok-Refused : goal.returns-in-Ok-Refused
 returns-in-Ok-Refused g c =
     let told = g.S.Shelf.files c.args.shelf.now in
     let refuses = rw c.in-Ok-Refused.field-0-is at c.in-Ok-Refused.ensures.opened in
-    first_refused _ c.args.study.now c.args.proof.now (adopt_command c.args.study.now c.args.proof.now c.args.workers) told _ _ _ _ c.open_study.ensures.others
+    first_refused _ c.args.study.now c.args.proof.now (adopt_command c.args.study.now c.args.proof.now c.args.crew.now.workers) told _ _ _ _ c.open_study.ensures.others
     c.in-Ok-Refused.answer refuses.bare refuses.has_text (refused_row told c.args.study.now c.args.proof.now c.in-Ok-Refused.answer refuses)
 
 pub returns-in-Err : goal.returns-in-Err
 returns-in-Err g c =
-    first_stopped _ c.args.study.now c.args.proof.now (adopt_command c.args.study.now c.args.proof.now c.args.workers) (g.S.Shelf.files c.args.shelf.now) _ _ _ _ c.open_study.ensures.others
+    first_stopped _ c.args.study.now c.args.proof.now (adopt_command c.args.study.now c.args.proof.now c.args.crew.now.workers) (g.S.Shelf.files c.args.shelf.now) _ _ _ _ c.open_study.ensures.others
     {T = Opened} c.in-Err.stop c.in-Err.ensures.fault
 
 pub judge_proof-requires-clause-reportable : goal.judge_proof-requires-clause-reportable
@@ -26,7 +26,7 @@ returns-in-Ok g c =
     let told = g.S.Shelf.files c.args.shelf.now in
     let read = rw c.in-Ok-Study.field-0-is at c.in-Ok-Study.ensures.opened in
     let question = c.in-Ok-Study.question in
-    second_judged _ c.args.study.now c.args.proof.now (adopt_command c.args.study.now c.args.proof.now c.args.workers)
+    second_judged _ c.args.study.now c.args.proof.now (adopt_command c.args.study.now c.args.proof.now c.args.crew.now.workers)
     told _ (g.S.Shelf.left c.open_study.new.shelf) _ (g.S.Shelf.faults c.open_study.new.shelf) c.open_study.ensures.others _ _
     c.judge_proof.result (clauses_taken told c.args.study.now c.args.proof.now question read c.in-Ok.ensures.none) c.open_study.ensures.none_fell
     (adopted_rows told c.args.study.now c.args.proof.now question c.judge_proof.result read c.in-Ok.ensures.none (rw c.open_study.ensures.same at c.judge_proof.ensures.row))
@@ -36,6 +36,6 @@ pub returns-in-Err-ground_study : goal.returns-in-Err-ground_study
 returns-in-Err-ground_study g c =
     let told = g.S.Shelf.files c.args.shelf.now in
     let read = rw c.in-Ok-Study.field-0-is at c.in-Ok-Study.ensures.opened in
-    first_refused _ c.args.study.now c.args.proof.now (adopt_command c.args.study.now c.args.proof.now c.args.workers) told _ _ _ _ c.open_study.ensures.others
+    first_refused _ c.args.study.now c.args.proof.now (adopt_command c.args.study.now c.args.proof.now c.args.crew.now.workers) told _ _ _ _ c.open_study.ensures.others
     (answer.NoClauses c.in-Ok-Study.question c.in-Err-ground_study.fault) (record { ends = refl; no_verdict = refl; no_logs = refl; no_sharp = refl }) tt
     (clauses_row told c.args.study.now c.args.proof.now c.in-Ok-Study.question c.in-Err-ground_study.fault read (λ e. search rules) c.in-Err-ground_study.ensures.fault)
