@@ -1,3 +1,4 @@
 -- In reading order.
+pub mod Given
 pub mod Told
 pub mod Refused

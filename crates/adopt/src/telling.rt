@@ -7,12 +7,12 @@ ghost use Rattle.adopt.specs.Told.{IsToldRight};
 
 use core_reduce::{Reduced, Refutation, Witnesses};
 use lists::NoMemory;
-use outcomes::OutcomeKind;
+use outcomes::{OutcomeKind, Setting};
 use retell::retell_simply;
 use search_logs::Logs;
 use std::alloc::Global;
 use story::Story;
-use vocab::{Places, Study};
+use vocab::Places;
 
 /// A core that no rule satisfies, with the story of it, a witness for each of its axioms, and the searches
 /// that spent their limit.
@@ -27,14 +27,12 @@ pub struct Adopted {
 /// Tells the story of a refutation of a core, or `NoMemory`. The core, its witnesses and the logs stay.
 pub fn tell<K: OutcomeKind>(
     alloc: Global,
-    kind: &K,
-    study: &Study,
+    setting: &Setting<K>,
     reduced: Reduced,
 ) -> Result<Adopted, NoMemory>
-    requires size { study.now.size ≡ K.size kind.now }
-    requires refutation { IsRefutation study.now reduced.logs reduced.refutation }
-    requires logs { AreSpentLogs study.now reduced.logs }
-    ensures told { IfOk result (IsToldRight study.now) }
+    requires refutation { IsRefutation setting.now.study.now reduced.logs reduced.refutation }
+    requires logs { AreSpentLogs setting.now.study.now reduced.logs }
+    ensures told { IfOk result (IsToldRight setting.now.study.now) }
     ensures core { IfOk result (λ told. told.core ≡ reduced.refutation.core) }
 {
     let Reduced { refutation, logs } = reduced;
@@ -44,7 +42,7 @@ pub fn tell<K: OutcomeKind>(
         proof,
         witnesses,
     } = refutation;
-    let story = retell_simply(alloc, kind, study, &core, &clauses, &proof)?;
+    let story = retell_simply(alloc, setting, &core, &clauses, &proof)?;
     Ok(Adopted {
         core,
         story,

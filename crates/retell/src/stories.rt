@@ -1,15 +1,14 @@
 //! Lemmas from lines.
 
-ghost use Rattle.std.specs.Prelude.{◌≡◌, ◌<◌, ◌-◌, ◌^◌, map, length, slice_get, Some, take, IfOk, IsTrue, IsFalse};
-ghost use Rattle.cnf.specs.Fresh.{AreOver, is_over, added_by};
+ghost use Rattle.std.specs.Prelude.{◌≡◌, ◌<◌, map, length, slice_get, Some, take, IfOk, IsTrue, IsFalse};
+ghost use Rattle.cnf.specs.Fresh.{is_over, added_by};
 ghost use Rattle.cnf.specs.Sat.{opposite_lit, is_tautology};
-ghost use Rattle.cnf.specs.Trimmed.{is_trimmed};
 ghost use Rattle.meaning.specs.Stories.{is_story};
-ghost use Rattle.meaning.specs.StudyClauses.{study_clauses, clauses_for};
 ghost use Rattle.meaning.specs.Tidy.{is_tidy};
 ghost use Rattle.meaning.specs.Variables.{variable_count};
 ghost use Rattle.retell.specs.Marked.{IsMarking, IsBlank};
 ghost use Rattle.retell.specs.Retold.{standing_of, hints_by, suppose_of, lemma_of};
+ghost use Rattle.retell.specs.TrimmedProof.{IsTrimmedProof};
 
 use crate::cited::{clause_in, clause_of, hints_in};
 use crate::marks::Marks;
@@ -18,11 +17,11 @@ use clause_form::Ground;
 use cnf::{Derivation, Line, Lit};
 use lists::{Items, NoMemory};
 use meaning::{Lemma, StoryStep};
-use outcomes::OutcomeKind;
 use outcomes::laws::kinds_have_sizes;
+use outcomes::{OutcomeKind, Setting};
 use std::alloc::Global;
 use story::Story;
-use vocab::{Literal, Places, Sort, Study};
+use vocab::{Literal, Places, Sort};
 
 /// What a line supposes: the opposites of the literals of its clause, each once. They are known from now on.
 fn suppose<K: OutcomeKind>(
@@ -100,21 +99,19 @@ impl<K: OutcomeKind> Teller<'_, K> {
 /// each of its lemmas and steps is needed.
 pub fn retell<K: OutcomeKind>(
     alloc: Global,
-    kind: &K,
-    study: &Study,
+    setting: &Setting<K>,
     core: &Places,
     clauses: &Ground,
     proof: &Derivation,
 ) -> Result<Story, NoMemory>
-    requires size { study.now.size ≡ K.size kind.now }
-    requires clauses { clauses.now ≡ study_clauses study.now.size study.now.axioms core.now }
-    requires trimmed { IsTrue (is_trimmed (clauses_for study.now.size study.now.axioms core.now) proof.now) }
-    requires over { AreOver (variable_count study.now.size) proof.now }
-    requires few { length proof.now < 2 ^ 32 - 1 }
-    ensures accepted { IfOk result
-        (λ story. IsTrue (is_story study.now.size study.now.axioms core.now story)) }
-    ensures tidy { IfOk result (λ story. IsTrue (is_tidy study.now.size study.now.axioms core.now story)) }
+    requires { IsTrimmedProof setting.now.study.now core.now clauses.now proof.now }
+    ensures accepted { IfOk result (λ story.
+        IsTrue (is_story setting.now.study.now.size setting.now.study.now.axioms core.now story)) }
+    ensures tidy { IfOk result (λ story.
+        IsTrue (is_tidy setting.now.study.now.size setting.now.study.now.axioms core.now story)) }
 {
+    let kind = setting.kind;
+    let study = setting.study;
     let _axioms = study.axioms();
     kinds_have_sizes(kind);
     let lines = proof.as_slice();

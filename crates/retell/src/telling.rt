@@ -1,23 +1,21 @@
 //! The story of a simpler proof.
 
-ghost use Rattle.std.specs.Prelude.{◌≡◌, ◌<◌, ◌-◌, ◌^◌, length, IfOk, IsTrue};
-ghost use Rattle.cnf.specs.Fresh.{AreOver};
-ghost use Rattle.cnf.specs.Trimmed.{is_trimmed};
+ghost use Rattle.std.specs.Prelude.{◌≡◌, ◌<◌, ◌^◌, IfOk, IsTrue};
 ghost use Rattle.meaning.specs.Stories.{is_story};
-ghost use Rattle.meaning.specs.StudyClauses.{study_clauses, clauses_for};
 ghost use Rattle.meaning.specs.Tidy.{is_tidy};
 ghost use Rattle.meaning.specs.Variables.{variable_count};
+ghost use Rattle.retell.specs.TrimmedProof.{IsTrimmedProof};
 
 use crate::stories::retell;
 use clause_form::Ground;
 use cnf::Derivation;
 use lists::NoMemory;
-use outcomes::OutcomeKind;
 use outcomes::laws::kinds_have_sizes;
+use outcomes::{OutcomeKind, Setting};
 use simpler_proofs::simplify;
 use std::alloc::Global;
 use story::Story;
-use vocab::{Places, Study};
+use vocab::Places;
 
 /// The number of variables of a study of a kind.
 fn variables<K: OutcomeKind>(kind: &K) -> u32
@@ -34,30 +32,26 @@ fn variables<K: OutcomeKind>(kind: &K) -> u32
 /// line's. That the lemmas suppose no more is in no clause here, and is tested.
 pub fn retell_simply<K: OutcomeKind>(
     alloc: Global,
-    kind: &K,
-    study: &Study,
+    setting: &Setting<K>,
     core: &Places,
     clauses: &Ground,
     proof: &Derivation,
 ) -> Result<Story, NoMemory>
-    requires size { study.now.size ≡ K.size kind.now }
-    requires clauses { clauses.now ≡ study_clauses study.now.size study.now.axioms core.now }
-    requires trimmed { IsTrue (is_trimmed (clauses_for study.now.size study.now.axioms core.now) proof.now) }
-    requires over { AreOver (variable_count study.now.size) proof.now }
-    requires few { length proof.now < 2 ^ 32 - 1 }
-    ensures accepted { IfOk result
-        (λ story. IsTrue (is_story study.now.size study.now.axioms core.now story)) }
-    ensures tidy { IfOk result (λ story. IsTrue (is_tidy study.now.size study.now.axioms core.now story)) }
+    requires { IsTrimmedProof setting.now.study.now core.now clauses.now proof.now }
+    ensures accepted { IfOk result (λ story.
+        IsTrue (is_story setting.now.study.now.size setting.now.study.now.axioms core.now story)) }
+    ensures tidy { IfOk result (λ story.
+        IsTrue (is_tidy setting.now.study.now.size setting.now.study.now.axioms core.now story)) }
 {
-    let _axioms = study.axioms();
-    kinds_have_sizes(kind);
-    match simplify(alloc, clauses.clauses(), variables(kind), proof)? {
+    let _axioms = setting.study.axioms();
+    kinds_have_sizes(setting.kind);
+    match simplify(alloc, clauses.clauses(), variables(setting.kind), proof)? {
         Some(made) => {
-            let story = retell(alloc, kind, study, core, clauses, &made)?;
+            let story = retell(alloc, setting, core, clauses, &made)?;
             Ok(story)
         }
         None => {
-            let story = retell(alloc, kind, study, core, clauses, proof)?;
+            let story = retell(alloc, setting, core, clauses, proof)?;
             Ok(story)
         }
     }

@@ -1,15 +1,12 @@
 //! The command `adopt`: reads a study, and then a refutation of its clauses, which becomes a story.
 
-ghost use Rattle.std.specs.Prelude.{◌≡◌, ◌≢◌, ◌<◌, ◌≤◌, ◌-◌, ◌^◌, length, Some, Err, IfOk, IsErrOf, IsTrue};
-ghost use Rattle.std.specs.List.{list_all};
+ghost use Rattle.std.specs.Prelude.{◌≡◌, ◌≢◌, ◌≤◌, Some, Err, IfOk, IsErrOf};
 ghost use Rattle.edge.specs.Faults.{Rose};
 ghost use Rattle.edge.specs.Shelf.{Files, OthersStay};
-ghost use Rattle.cnf.specs.Fresh.{AreOver};
 ghost use Rattle.meaning.specs.StudyClauses.{study_clauses};
-ghost use Rattle.meaning.specs.Variables.{variable_count};
 ghost use Rattle.search_logs.specs.Spent.{all_places};
 ghost use Rattle.verdicts.specs.Laws.{IsReportable};
-ghost use Rattle.lrat_check.specs.Ranges.{has_next};
+ghost use Rattle.adopt.specs.Given.{IsGivenProof};
 ghost use Rattle.adopt.specs.Told.{IsAdopted};
 ghost use Rattle.words.specs.Words.{Adopt};
 ghost use Rattle.answers.specs.Adopt.{Adopts, IsRetold};
@@ -25,7 +22,7 @@ use core_reduce::variables;
 use crew::Crew;
 use edge::{Gate, Shelf};
 use kinds::over_kind;
-use outcomes::OutcomeKind;
+use outcomes::{OutcomeKind, Setting};
 use std::alloc::Global;
 use std::thread::Threads;
 use verdicts::Verdict;
@@ -64,15 +61,16 @@ fn judge_lines<K: OutcomeKind>(
 ) -> Result<Answer, Stop>
     requires size { study.size ≡ K.size kind.now }
     requires reportable { IsReportable study }
-    requires clauses { clauses ≡ study_clauses study.size study.axioms (all_places study) }
-    requires over { AreOver (variable_count study.size) lines.now }
-    requires numbers { IsTrue (list_all has_next lines.now) }
-    requires few { length lines.now < 2 ^ 32 - 1 }
+    requires given { IsGivenProof study clauses lines.now }
     ensures judged { IfOk result (IsDerivationJudged study lines.now) }
     ensures has_text { IfOk result HasText }
     ensures read { result ≢ Err Stop.ReadFault }
 {
-    match adopt::adopt(alloc, kind, &study, clauses, lines) {
+    let setting = Setting {
+        kind,
+        study: &study,
+    };
+    match adopt::adopt(alloc, &setting, clauses, lines) {
         Ok(adopted) => Ok(report_of(study, adopted, lines)),
         Err(AdoptFault::Proof { at, fault }) => Ok(Answer::BadProof { line: at, fault }),
         Err(AdoptFault::NoMemory) => Err(Stop::NoMemory),

@@ -42,7 +42,7 @@ fn impossible<K: OutcomeKind>(
         proof,
         witnesses,
     } = refutation;
-    let story = retell_simply(alloc, setting.kind, setting.study, &core, &clauses, &proof)?;
+    let story = retell_simply(alloc, setting, &core, &clauses, &proof)?;
     Ok(Verdict::Impossible {
         core,
         story,

@@ -9,7 +9,7 @@ use adopt::{AdoptFault, Adopted, adopt};
 use cnf::LineFault;
 use core_reduce::variables;
 use meaning::{Reason, StoryStep, Witness};
-use outcomes::{ChoiceKind, OutcomeKind, RankingKind};
+use outcomes::{ChoiceKind, OutcomeKind, RankingKind, Setting};
 use profiles::Space;
 use std::alloc::Global;
 use std::test::Fail;
@@ -66,7 +66,8 @@ fn adopted<R: Threads + Sync, K: OutcomeKind>(
     }
     let made = clauses_of(rt, alloc, kind, study)?;
     let lines = lines_of(alloc, text, count)?;
-    let answer = adopt(alloc, kind, study, made, &lines);
+    let setting = Setting { kind, study };
+    let answer = adopt(alloc, &setting, made, &lines);
     Ok(Box::new(alloc, answer)?)
 }
 

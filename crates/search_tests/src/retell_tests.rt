@@ -8,7 +8,7 @@ use crate::studies_by_text::{clauses_of, lines_of, none_wins, study_of};
 use core_reduce::variables;
 use lrat_check::{check, trim};
 use meaning::{Reason, StoryStep};
-use outcomes::{ChoiceKind, OutcomeKind, RankingKind};
+use outcomes::{ChoiceKind, OutcomeKind, RankingKind, Setting};
 use profiles::Space;
 use retell::{retell, retell_simply};
 use search_logs::all_places;
@@ -57,10 +57,11 @@ fn told<R: Threads + Sync, K: OutcomeKind>(
         return Err(Fail::from("no refutation"));
     }
     let proof = trim(alloc, made.clauses(), &lines)?;
+    let setting = Setting { kind, study };
     if simply {
-        return Ok(retell_simply(alloc, kind, study, &core, &made, &proof)?);
+        return Ok(retell_simply(alloc, &setting, &core, &made, &proof)?);
     }
-    Ok(retell(alloc, kind, study, &core, &made, &proof)?)
+    Ok(retell(alloc, &setting, &core, &made, &proof)?)
 }
 
 /// There is one lemma: the frame says that `a` wins, and the axiom that it does not.

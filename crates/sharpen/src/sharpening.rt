@@ -21,7 +21,7 @@ use instance_cores::{instances_cited, reduce_instances};
 use instance_stories::story_named;
 use instance_studies::derive;
 use lists::NoMemory;
-use outcomes::OutcomeKind;
+use outcomes::{OutcomeKind, Setting};
 use retell::retell_simply;
 use sharp_verdicts::{Instances, Sharp};
 use std::alloc::Global;
@@ -51,10 +51,10 @@ fn tell<K: OutcomeKind>(
     let _axioms = study.axioms();
     let Reduced { refutation, logs } = reduced;
     let space = kind.space();
+    let setting = Setting { kind, study: made };
     let told = retell_simply(
         alloc,
-        kind,
-        made,
+        &setting,
         &refutation.core,
         &refutation.clauses,
         &refutation.proof,

@@ -1,4 +1,4 @@
-use Rattle.std.proofs.Common.{◌≡◌, ◌<◌, ◌+◌, ◌*◌, ◌∷◌, [], ◌++◌, length, take, get_or, arith, refl, ℕ, List, sym, ◌∙◌, ap, ap₂, subst, Some}
+use Rattle.std.proofs.Common.{◌≡◌, ◌<◌, ◌≤◌, ◌+◌, ◌*◌, ◌∷◌, [], ◌++◌, length, take, get_or, arith, refl, ℕ, List, sym, ◌∙◌, ap, ap₂, subst, true, Some}
 use Rattle.std.specs.Prelude.{slice_get}
 use Rattle.std.proofs.lemmas.Option.{slice_get_read}
 use Rattle.vocab.specs.declared.kinds.Sort.TheVariants.{Profile}
@@ -14,16 +14,16 @@ use Rattle.retell.proofs.stories.retell.Goals as goal
 
 pub loop-i-init : goal.loop-i-init
 loop-i-init g c =
-    let size : Extent = g.K.OutcomeKind.size c.args.kind.now in
+    let size : Extent = g.K.OutcomeKind.size c.args.setting.now.kind.now in
     let stamp : c.in_ok-marks.marks.stamp ≡ 0 = c.in_ok-marks.ensures.stamp in
     record {
       room = subst (λ (n : ℕ). n < length c.in_ok-marks.marks.stamps.items) (ap₂ (λ (a b : ℕ). a * b) (c.sort_len.ensures ∙ ap (λ z. sort_count z Profile) (c.size.ensures ∙ c.space.ensures)) c.bits.ensures.value) c.in_ok-marks.ensures.room;
       stamp = omega (arith, stamp);
-      lemmas = subst (AreLemmasUpTo size c.args.study.now.axioms c.args.clauses.now c.args.proof.now 0) (sym c.in_ok-story.ensures) (no_lemmas {study = c.args.study.now} c.requires.size (record { clauses = c.requires.clauses; trimmed = c.requires.trimmed; over = c.requires.over; few = c.requires.few }));
+      lemmas = subst (AreLemmasUpTo size c.args.setting.now.study.now.axioms c.args.clauses.now c.args.proof.now 0) (sym c.in_ok-story.ensures) (no_lemmas c.args.setting.now.same c.requires);
     }
 
 pub invariant_of-teller : goal.invariant_of-teller
-invariant_of-teller g c = record { size = c.requires.size; sentences = c.axioms-axioms.ensures.study.sentences; trimmed = record { clauses = c.requires.clauses; trimmed = c.requires.trimmed; over = c.requires.over; few = c.requires.few } }
+invariant_of-teller g c = record { size = c.args.setting.now.same; sentences = c.axioms-axioms.ensures.study.sentences; trimmed = c.requires }
 
 pub lemma-requires-clause-line : goal.lemma-requires-clause-line
 lemma-requires-clause-line g c = λ κs out.
@@ -40,8 +40,8 @@ lemma-requires-clause-blank g c = λ κs out.
 
 pub loop-i-preserved : goal.loop-i-preserved
 loop-i-preserved g c =
-    let size : Extent = g.K.OutcomeKind.size c.args.kind.now in
-    let axioms = c.args.study.now.axioms in
+    let size : Extent = g.K.OutcomeKind.size c.args.setting.now.kind.now in
+    let axioms = c.args.setting.now.study.now.axioms in
     let sources = c.args.clauses.now in
     let lines : List Line = c.args.proof.now in
     let i : ℕ = c.loop-i.i in
@@ -59,9 +59,9 @@ loop-i-preserved g c =
 pub returns-clause-accepted : goal.returns-clause-accepted
 returns-clause-accepted g c =
     let count = ap (λ (ls : List Line). length ls) c.as_slice-lines.ensures in
-    (told_right {study = c.args.study.now} c.requires.size (record { clauses = c.requires.clauses; trimmed = c.requires.trimmed; over = c.requires.over; few = c.requires.few }) c.axioms-axioms.ensures.study.sentences c.loop-i.i c.loop-i.story c.loop-i.invariant.lemmas (omega (arith, c.loop-i-test.false, count))).0
+    (told_right c.args.setting.now.same c.requires c.axioms-axioms.ensures.study.sentences c.loop-i.i c.loop-i.story c.loop-i.invariant.lemmas (omega (arith, c.loop-i-test.false, count))).0
 
 pub returns-clause-tidy : goal.returns-clause-tidy
 returns-clause-tidy g c =
     let count = ap (λ (ls : List Line). length ls) c.as_slice-lines.ensures in
-    (told_right {study = c.args.study.now} c.requires.size (record { clauses = c.requires.clauses; trimmed = c.requires.trimmed; over = c.requires.over; few = c.requires.few }) c.axioms-axioms.ensures.study.sentences c.loop-i.i c.loop-i.story c.loop-i.invariant.lemmas (omega (arith, c.loop-i-test.false, count))).1
+    (told_right c.args.setting.now.same c.requires c.axioms-axioms.ensures.study.sentences c.loop-i.i c.loop-i.story c.loop-i.invariant.lemmas (omega (arith, c.loop-i-test.false, count))).1

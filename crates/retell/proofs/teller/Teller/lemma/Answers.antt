@@ -1,4 +1,4 @@
-use Rattle.std.proofs.Common.{◌≡◌, ◌<◌, ◌≤◌, ◌+◌, ◌∷◌, [], ◌++◌, length, map, take, get_or, arith, refl, ℕ, List, sym, ◌∙◌, ap, ap₂, subst}
+use Rattle.std.proofs.Common.{◌≡◌, ◌<◌, ◌≤◌, ◌+◌, ◌-◌, ◌∷◌, [], ◌++◌, length, map, take, get_or, arith, refl, ℕ, List, sym, ◌∙◌, ap, ap₂, subst}
 use Rattle.std.proofs.lemmas.Option.{same_Some}
 use Rattle.vocab.specs.Size.{Extent}
 use Rattle.vocab.specs.declared.literals.Literal.{Literal}
