@@ -10,8 +10,8 @@ use Rattle.meaning.specs.StudyClauses.{Sourced, study_clauses, clauses_for}
 use Rattle.meaning.specs.Variables.{variable_count}
 use Rattle.search_logs.specs.Spent.{all_places}
 
--- a proof is given over the clauses of all axioms of a study: the clauses are theirs, and the proof has no variable above those of the study, a number after that of each line, and fewer than 2^32 - 1 lines
-pub record IsGivenProof (study : Question) (sources : List Sourced) (proof : List Line) : Type 0 where
+-- a proof is one over the clauses of all axioms of a study: the clauses are theirs, and the proof has no variable above those of the study, a number after that of each line, and fewer than 2^32 - 1 lines
+pub record IsProofOverAll (study : Question) (sources : List Sourced) (proof : List Line) : Type 0 where
   pub clauses : sources ≡ study_clauses study.size study.axioms (all_places study)
   pub over : AreOver (variable_count study.size) proof
   pub numbers : IsTrue (list_all has_next proof)
@@ -19,5 +19,5 @@ pub record IsGivenProof (study : Question) (sources : List Sourced) (proof : Lis
 
 -- a given proof is accepted
 pub record IsAcceptedProof (study : Question) (sources : List Sourced) (proof : List Line) : Type 0 where
-  pub given : IsGivenProof study sources proof
+  pub given : IsProofOverAll study sources proof
   pub accepted : IsAccepted (clauses_for study.size study.axioms (all_places study)) proof

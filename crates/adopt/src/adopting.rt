@@ -5,7 +5,7 @@ ghost use Rattle.cnf.specs.Derived.{IsAccepted, first_fault};
 ghost use Rattle.meaning.specs.StudyClauses.{clauses_for};
 ghost use Rattle.search_logs.specs.Spent.{all_places};
 ghost use Rattle.core_reduce.specs.Answers.{IsReduced};
-ghost use Rattle.adopt.specs.Given.{IsGivenProof, IsAcceptedProof};
+ghost use Rattle.adopt.specs.Given.{IsProofOverAll, IsAcceptedProof};
 ghost use Rattle.adopt.specs.Told.{IsAdopted};
 ghost use Rattle.adopt.specs.Refused.{IsAdoptFault};
 
@@ -71,7 +71,7 @@ pub fn adopt<K: OutcomeKind>(
     clauses: Ground,
     proof: &Derivation,
 ) -> Result<Adopted, AdoptFault>
-    requires { IsGivenProof setting.now.study.now clauses proof.now }
+    requires { IsProofOverAll setting.now.study.now clauses proof.now }
     ensures adopted { IfOk result (IsAdopted setting.now.study.now proof.now) }
     ensures accepted { OnOk result (IsAccepted
         (clauses_for setting.now.study.now.size setting.now.study.now.axioms

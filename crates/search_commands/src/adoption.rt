@@ -6,7 +6,7 @@ ghost use Rattle.edge.specs.Shelf.{Files, OthersStay};
 ghost use Rattle.meaning.specs.StudyClauses.{study_clauses};
 ghost use Rattle.search_logs.specs.Spent.{all_places};
 ghost use Rattle.verdicts.specs.Laws.{IsReportable};
-ghost use Rattle.adopt.specs.Given.{IsGivenProof};
+ghost use Rattle.adopt.specs.Given.{IsProofOverAll};
 ghost use Rattle.adopt.specs.Told.{IsAdopted};
 ghost use Rattle.words.specs.Words.{Adopt};
 ghost use Rattle.answers.specs.Adopt.{Adopts, IsRetold};
@@ -61,7 +61,7 @@ fn judge_lines<K: OutcomeKind>(
 ) -> Result<Answer, Stop>
     requires size { study.size ≡ K.size kind.now }
     requires reportable { IsReportable study }
-    requires given { IsGivenProof study clauses lines.now }
+    requires given { IsProofOverAll study clauses lines.now }
     ensures judged { IfOk result (IsDerivationJudged study lines.now) }
     ensures has_text { IfOk result HasText }
     ensures read { result ≢ Err Stop.ReadFault }
