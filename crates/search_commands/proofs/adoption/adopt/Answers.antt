@@ -1,6 +1,7 @@
 use Rattle.std.proofs.Common.{rules, refl}
 use Rattle.command_parts.specs.declared.studies.Opened.{Opened}
 use Rattle.command_parts.specs.declared.answer.Answer.TheVariants as answer
+use Rattle.command_parts.specs.declared.answer.Stop.TheVariants as stop
 use Rattle.command_parts.proofs.OpenLemmas.{reportable}
 use Rattle.command_parts.proofs.PairLemmas.{second_judged, first_refused, first_stopped}
 use Rattle.search_commands.proofs.AdoptionLemmas.{adopt_command, clauses_taken, adopted_rows, clauses_row, refused_row}
@@ -17,6 +18,11 @@ pub returns-in-Err : goal.returns-in-Err
 returns-in-Err g c =
     first_stopped _ c.args.study.now c.args.proof.now (adopt_command c.args.study.now c.args.proof.now c.args.crew.now.workers) (g.S.Shelf.files c.args.shelf.now) _ _ _ _ c.open_study.ensures.others
     {T = Opened} c.in-Err.stop c.in-Err.ensures.fault
+
+pub returns-in-Err-NoMemory : goal.returns-in-Err-NoMemory
+returns-in-Err-NoMemory g c =
+    first_stopped _ c.args.study.now c.args.proof.now (adopt_command c.args.study.now c.args.proof.now c.args.crew.now.workers) (g.S.Shelf.files c.args.shelf.now) _ _ _ _ c.open_study.ensures.others
+    {T = Opened} stop.NoMemory (λ e. absurd (cc))
 
 pub judge_proof-requires-clause-reportable : goal.judge_proof-requires-clause-reportable
 judge_proof-requires-clause-reportable g c = reportable _ _ _ (rw c.in-Ok-Study.field-0-is at c.in-Ok-Study.ensures.opened)
