@@ -1,6 +1,6 @@
 -- One forced fact more.
 use Rattle.std.proofs.Common.{◌≡◌, refl, sym, ap, ◌∙◌, subst, ℕ, ◌<◌, Bool, true, false, cond, not, ◌&&◌, List, [], ◌∷◌, ◌++◌, length, map, take, get_or, ◌+◌}
-use Rattle.std.specs.List.{fold, list_all}
+use Rattle.std.specs.List.{list_all}
 use Rattle.std.specs.Prelude.{slice_get}
 use Rattle.std.proofs.lemmas.Bool.{and_parts, and_from}
 use Rattle.std.proofs.lemmas.List.{map-append, take_more}
@@ -8,14 +8,13 @@ use Rattle.std.proofs.lemmas.List.Sums.{fold_more}
 use Rattle.vocab.specs.declared.literals.Literal.{Literal}
 use Rattle.vocab.specs.Literal.{has, opposite_of}
 use Rattle.vocab.specs.Size.{Extent}
-use Rattle.vocab.specs.Titled.{Titled}
 use Rattle.meaning.specs.Literals.{is_literal}
 use Rattle.meaning.specs.declared.stories.Lemma.{Lemma}
 use Rattle.meaning.specs.declared.stories.Reason.{Reason}
 use Rattle.meaning.specs.declared.stories.Reason.TheVariants.{Axiom as ByAxiom, Outcome as ByOutcome, Lemma as ByLemma}
 use Rattle.meaning.specs.declared.stories.StoryStep.{StoryStep}
 use Rattle.worlds.specs.Boards.{are_distinct, Known}
-use Rattle.tellings.specs.Tellings.{are_said, facts_of, forced_facts, rests_of, stands_before, AllSay, IsForced}
+use Rattle.tellings.specs.Tellings.{are_said, facts_of, forced_facts, rests_of, stands_before, AllSay}
 use Rattle.tellings.specs.declared.tellings.Passage.{Passage}
 use Rattle.tellings.specs.declared.tellings.Placed.{Placed}
 use Rattle.needed_facts.specs.declared.basis.Basis.{Basis}

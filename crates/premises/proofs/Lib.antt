@@ -1,3 +1,4 @@
+pub mod SeveralLemmas
 pub mod ToldLemmas
 pub mod StepLemmas
 pub mod ForcedLemmas

@@ -4,7 +4,7 @@ ghost use Rattle.std.specs.Prelude.{◌≡◌, ℕ, [], take, length, slice_get,
 ghost use Rattle.meaning.specs.declared.stories.Lemma.{Lemma};
 ghost use Rattle.meaning.specs.Stories.{is_story};
 ghost use Rattle.story.specs.Conditions.{has_places};
-ghost use Rattle.tellings.specs.Tellings.{IsStoryTold};
+ghost use Rattle.tellings.specs.Tellings.{several, IsStoryTold};
 ghost use Rattle.premises.specs.SoFar.{is_lemma_by, IsLemmaToldBy};
 ghost use Rattle.premises.specs.Told.{AreTold};
 
@@ -175,8 +175,16 @@ fn tell_lemmas<'a, K: OutcomeKind>(
     Ok(tellings)
 }
 
-/// Tells an accepted story over the axioms of a core: first the facts that are forced where nothing is supposed,
-/// then each lemma by the lemmas before it. The only error is want of memory.
+/// The lemmas of a story of several; of one alone none.
+#[tactic(auto, using(crate::proofs::SeveralLemmas::one_alone, crate::proofs::SeveralLemmas::all_of_several))]
+fn several(story: &[Lemma]) -> &[Lemma]
+    ensures { result.now ≡ several story.now }
+{
+    if story.len() == 1 { &[] } else { story }
+}
+
+/// Tells an accepted story over the axioms of a core: first, where it has several lemmas, the facts that are
+/// forced where nothing is supposed, then each lemma by the lemmas before it. The only error is want of memory.
 pub fn tell_story<K: OutcomeKind>(
     alloc: Global,
     kind: &K,
@@ -189,7 +197,7 @@ pub fn tell_story<K: OutcomeKind>(
     requires accepted { IsTrue (is_story (K.size kind.now) study.now.axioms core.now story.now) }
     ensures { IfOk result (IsStoryTold (K.size kind.now) study.now.axioms core.now story.now) }
 {
-    let forced = forced_facts(alloc, kind, study, core, story.as_slice())?;
+    let forced = forced_facts(alloc, kind, study, core, several(story.as_slice()))?;
     let lemmas = tell_lemmas(alloc, kind, study, core, &forced.board, story)?;
     let homes = homes_of(alloc, story.as_slice(), lemmas.as_slice())?;
     let Forced {

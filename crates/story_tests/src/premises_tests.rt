@@ -179,9 +179,10 @@ fn lemmas_that_are_used_once_stand_one_within_another(rt: HostRuntime) -> Result
 fn forced_facts_are_not_told_again(rt: HostRuntime) -> Result<(), Fail> {
     let alloc = rt.alloc();
     let study = of_two_axioms(alloc, forced(), two_and_two()?)?;
-    let only = both_are_forbidden(alloc)?;
+    let (first, second) = (both_are_forbidden(alloc)?, both_are_forbidden(alloc)?);
     let mut story = Story::new(alloc);
-    story.push(only)?;
+    story.push(first)?;
+    story.push(second)?;
     let (counts, homes) = summary(&told(alloc, &study, &story)?);
     assert!(rt; counts == [(2, 2), (0, 0), (0, 0), (0, 0)]);
     assert!(rt; homes == [None, None, None]);
@@ -192,11 +193,25 @@ fn forced_facts_are_not_told_again(rt: HostRuntime) -> Result<(), Fail> {
 fn what_forced_facts_force_is_not_told_again(rt: HostRuntime) -> Result<(), Fail> {
     let alloc = rt.alloc();
     let study = of_two_axioms(alloc, forced(), two_and_two()?)?;
+    let (first, second) = (a_has_to_win(alloc)?, a_has_to_win(alloc)?);
+    let mut story = Story::new(alloc);
+    story.push(first)?;
+    story.push(second)?;
+    let (counts, homes) = summary(&told(alloc, &study, &story)?);
+    assert!(rt; counts == [(2, 2), (0, 0), (0, 0), (0, 0)]);
+    assert!(rt; homes == [None, None, None]);
+    Ok(())
+}
+
+#[test]
+fn facts_of_one_lemma_stand_in_it(rt: HostRuntime) -> Result<(), Fail> {
+    let alloc = rt.alloc();
+    let study = of_two_axioms(alloc, forced(), two_and_two()?)?;
     let only = a_has_to_win(alloc)?;
     let mut story = Story::new(alloc);
     story.push(only)?;
     let (counts, homes) = summary(&told(alloc, &study, &story)?);
-    assert!(rt; counts == [(2, 2), (0, 0), (0, 0), (0, 0)]);
+    assert!(rt; counts == [(0, 0), (2, 2), (0, 0), (0, 0)]);
     assert!(rt; homes == [None, None, None]);
     Ok(())
 }

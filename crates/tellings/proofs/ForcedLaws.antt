@@ -12,7 +12,7 @@ use Rattle.meaning.specs.declared.stories.StoryStep.{StoryStep}
 use Rattle.meaning.specs.declared.stories.Lemma.{Lemma}
 use Rattle.meaning.proofs.LiteralLaws.{same_literal-refl}
 use Rattle.tellings.specs.declared.tellings.StoryTelling.{StoryTelling}
-use Rattle.tellings.specs.Tellings.{facts_of, forced_by, forced_facts, forced_with, is_forced, IsStoryTold}
+use Rattle.tellings.specs.Tellings.{facts_of, forced_by, forced_facts, forced_with, is_forced, several, IsStoryTold}
 
 -- what is there stays there where one more comes
 has_still : (facts : List Literal) (l k : Literal) → has facts k ≡ true → has (facts ++ l ∷ []) k ≡ true
@@ -67,7 +67,7 @@ module _ (size : Extent) (axioms : List Titled) (core : List ℕ) (lemmas : List
       ∙ lemmas_kept (forced_by size axioms core lemmas known lemma.steps) after step.literal its
 
 pub come_first : (size : Extent) (axioms : List Titled) (core : List ℕ) (story : List Lemma) (told : StoryTelling) → IsStoryTold size axioms core story told →
-    (before after : List Lemma) (lemma : Lemma) (earlier later : List StoryStep) (step : StoryStep) → story ≡ before ++ lemma ∷ after → lemma.steps ≡ earlier ++ step ∷ later →
+    (before after : List Lemma) (lemma : Lemma) (earlier later : List StoryStep) (step : StoryStep) → several story ≡ before ++ lemma ∷ after → lemma.steps ≡ earlier ++ step ∷ later →
     is_forced size axioms core [] (forced_by size axioms core [] (forced_facts size axioms core [] before) earlier) step ≡ true → has (facts_of told.forced.steps) step.literal ≡ true
 come_first size axioms core story told right before after lemma earlier later step is has_step h =
     ap (λ (ls : List Literal). has ls step.literal) right.whole

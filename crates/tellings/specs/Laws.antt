@@ -10,7 +10,7 @@ use Rattle.meaning.specs.declared.stories.Lemma.{Lemma}
 use Rattle.meaning.specs.Stories.{is_outcome_excluded, refutes}
 use Rattle.tellings.specs.declared.tellings.Sentence.{Sentence}
 use Rattle.tellings.specs.declared.tellings.StoryTelling.{StoryTelling}
-use Rattle.tellings.specs.Tellings.{facts_of, forced_by, forced_facts, is_forced, says_step, namers, home_of, greatest_depth, is_shallow, IsStoryTold}
+use Rattle.tellings.specs.Tellings.{facts_of, forced_by, forced_facts, is_forced, says_step, namers, home_of, greatest_depth, is_shallow, several, IsStoryTold}
 
 -- the facts of a profile
 abbrev pub facts_at : ℕ → List Literal → List Literal
@@ -31,9 +31,9 @@ UsedOnceStandWhereUsed =
     (size : Extent) (axioms : List Titled) (core : List ℕ) (story : List Lemma) (told : StoryTelling) → IsStoryTold size axioms core story told →
     (j m : ℕ) → namers story told.lemmas j ≡ m ∷ [] → IsTrue (is_shallow told.homes greatest_depth m) → home_of told.homes j ≡ Some m
 
--- in a story that is told right each fact that a step states comes first, if the facts that were forced before the step force it
+-- in a story of several lemmas that is told right each fact that a step states comes first, if the facts that were forced before the step force it
 abbrev pub ForcedFactsComeFirst : Type 0
 ForcedFactsComeFirst =
     (size : Extent) (axioms : List Titled) (core : List ℕ) (story : List Lemma) (told : StoryTelling) → IsStoryTold size axioms core story told →
-    (before after : List Lemma) (lemma : Lemma) (earlier later : List StoryStep) (step : StoryStep) → story ≡ before ++ lemma ∷ after → lemma.steps ≡ earlier ++ step ∷ later →
+    (before after : List Lemma) (lemma : Lemma) (earlier later : List StoryStep) (step : StoryStep) → several story ≡ before ++ lemma ∷ after → lemma.steps ≡ earlier ++ step ∷ later →
     IsTrue (is_forced size axioms core [] (forced_by size axioms core [] (forced_facts size axioms core [] before) earlier) step) → IsTrue (has (facts_of told.forced.steps) step.literal)

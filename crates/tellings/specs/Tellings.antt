@@ -171,6 +171,12 @@ pub record AreHomes (story : List Lemma) (tellings : List Telling) (homes : List
 
 -- ---- stories
 
+-- the lemmas of a story of several; of one alone none, since there no fact is told twice
+abbrev pub several : List Lemma → List Lemma
+several [] = []
+several (lemma ∷ []) = []
+several (lemma ∷ next ∷ rest) = lemma ∷ next ∷ rest
+
 module _ (size : Extent) (axioms : List Titled) (core : List ℕ) (earlier : List Lemma) where
   -- facts force that of a step: its reason refutes its opposite, alone or together with these facts, where that opposite is none of them
   abbrev pub is_forced : List Literal → StoryStep → Bool
@@ -199,10 +205,10 @@ module _ (size : Extent) (axioms : List Titled) (core : List ℕ) where
     pub grounded : (k : ℕ) → IsTrue (list_all (stands_before [] [] passage.steps k) (rests_of (slice_get passage.sentences k)))
     pub once : IsTrue (are_distinct (facts_of passage.steps))
 
-  -- a story is told right: the facts of its steps that are forced come first, and then each lemma is told by the lemmas before it, which stand before it
+  -- a story is told right: the facts of its steps that are forced come first, where it has several lemmas, and then each lemma is told by the lemmas before it, which stand before it
   pub record IsStoryTold (story : List Lemma) (told : StoryTelling) : Type 0 where
     pub forced : IsForced told.forced
-    pub whole : facts_of told.forced.steps ≡ forced_facts size axioms core [] story
+    pub whole : facts_of told.forced.steps ≡ forced_facts size axioms core [] (several story)
     pub all : length told.lemmas ≡ length story
     pub each : (j : ℕ) (lemma : Lemma) (telling : Telling) → slice_get story j ≡ Some lemma → slice_get told.lemmas j ≡ Some telling →
         IsTellingRight size axioms core (take j story) (facts_of told.forced.steps) lemma telling
