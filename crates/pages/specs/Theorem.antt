@@ -110,7 +110,7 @@ module _ (size : Extent) where
   abbrev pub told_words : List ℕ
   told_words =
       codes " In the tables of the proof " ++ mark_words size.kind
-      ++ codes "; grey is supposed, or forced without a supposition; a small number is that of the sentence which states the fact."
+      ++ codes "; grey is supposed, or forced without a supposition; a small number is that of the sentence which states the fact, a grey one among those without any supposition."
 
   abbrev pub grey_words : Bool → List ℕ
   grey_words told = if told then told_words else []

@@ -10,7 +10,7 @@ opening = codes "<!doctype html>\n<html lang=en><head><meta charset=utf-8><title
 
 -- what stands between the title and the heading: the styles
 unfoldable pub styles : List ℕ
-styles = codes "</title><style>@page{size:A4;margin:7mm 8mm}body{font:9pt/1.2 'Times New Roman','Liberation Serif',Times,serif;max-width:194mm;margin:5mm auto;color:#111}h1{font-size:13pt;line-height:1.15;margin:0 0 3px}h2{font-size:10.5pt;margin:5px 0 1px}h3{font-size:1.05em;margin:2px 0 0;column-span:all}p{margin:1px 0}ul,ol{margin:0;padding-left:15px}section{columns:2;column-gap:12px}li,tr,h3{break-inside:avoid}h3{break-after:avoid}li:has(.c){break-inside:auto}code{font-size:.88em;letter-spacing:-.3px;white-space:nowrap}.a code{white-space:normal;color:#666;font-size:7pt}.c{border-left:2px solid #ccc;padding-left:4px;margin:2px 0}.c li>.c{margin-left:-14px}.c li>.c>b{margin-left:8px}details{display:inline-block;vertical-align:bottom}details[open]{display:block}summary{display:inline;list-style:none;cursor:pointer;border-bottom:1px dotted #888}summary::-webkit-details-marker{display:none}section div{display:inline}section .c,section .e{display:block}span+span::before,div+div::before{content:'; '}.s div+div::before{content:' and '}.s+div::before,.c+div::before,.e::before,.w div::before{content:''!important}.z,u{color:#888}u{text-decoration:none}table{border-collapse:collapse;break-inside:avoid}td,th{border:1px solid #bbb;font-size:6.8pt;line-height:1;padding:0 1px;text-align:center;white-space:nowrap;font-weight:normal;min-width:17px;height:11px}th{background:#f1f1f1}sup{font-size:4.8pt;font-weight:normal;color:#a00;line-height:0}.p{float:right;margin-left:5px}.p td,.p th{border:0;background:none;min-width:0;height:auto;padding:0 2px}.p th{border-bottom:1px solid #888;color:#777}.w{display:flex;flex-wrap:wrap;gap:10px}.w>div{break-inside:avoid}.l{columns:100px;list-style:none;padding:0}summary+code{white-space:normal}section .g td{font-weight:bold}section .g u{font-weight:normal}.k[open]{column-span:all;break-inside:avoid}.k table{table-layout:fixed;width:100%}.k td,.k th{font-size:5pt;min-width:0;padding:0;white-space:normal}.k sup{font-size:4pt}@media print{body{font-size:8pt;line-height:1.12;margin:0 auto;columns:2;column-gap:10px}body>:not(section){column-span:all}section{columns:auto}h3{column-span:none}summary{border:0}details:not([open]):has(>details>.l>li:nth-child(50))>summary::after{content:' (on the screen)'}.k:not([open])>summary::after{content:' (on the screen)'}@supports selector(::details-content){details:has(>.g)::details-content,details:has(>.l)::details-content,details:has(>details):not(:has(>details>.l>li:nth-child(50)))::details-content{content-visibility:visible}details:has(>.g)>summary,details:has(>details):not(:has(>details>.l>li:nth-child(50)))>summary{display:none}}td,th{font-size:6.2pt;height:9px}}</style></head><body>\n<h1>"
+styles = codes "</title><style>@page{size:A4;margin:7mm 8mm}body{font:9pt/1.2 'Times New Roman','Liberation Serif',Times,serif;max-width:194mm;margin:5mm auto;color:#111}h1{font-size:13pt;line-height:1.15;margin:0 0 3px}h2{font-size:10.5pt;margin:5px 0 1px}h3{font-size:1.05em;margin:2px 0 0;column-span:all}p{margin:1px 0}ul,ol{margin:0;padding-left:15px}section{columns:2;column-gap:12px}li,tr,h3{break-inside:avoid}h3{break-after:avoid}li:has(.c){break-inside:auto}code{font-size:.88em;letter-spacing:-.3px;white-space:nowrap}.a code{white-space:normal;color:#666;font-size:7pt}.c{border-left:2px solid #ccc;padding-left:4px;margin:2px 0}.c li>.c{margin-left:-14px}.c li>.c>b{margin-left:8px}details{display:inline-block;vertical-align:bottom}details[open]{display:block}summary{display:inline;list-style:none;cursor:pointer;border-bottom:1px dotted #888}summary::-webkit-details-marker{display:none}section div{display:inline}section .c,section .e{display:block}span+span::before,div+div::before{content:'; '}.s div+div::before{content:' and '}.s+div::before,.c+div::before,.e::before,.w div::before{content:''!important}.z,u{color:#888}u{text-decoration:none}table{border-collapse:collapse;break-inside:avoid}td,th{border:1px solid #bbb;font-size:6.8pt;line-height:1;padding:0 1px;text-align:center;white-space:nowrap;font-weight:normal;min-width:17px;height:11px}th{background:#f1f1f1}sup{font-size:4.8pt;font-weight:normal;color:#a00;line-height:0}u sup{color:#888}.p{float:right;margin-left:5px}.p td,.p th{border:0;background:none;min-width:0;height:auto;padding:0 2px}.p th{border-bottom:1px solid #888;color:#777}.w{display:flex;flex-wrap:wrap;gap:10px}.w>div{break-inside:avoid}.l{columns:100px;list-style:none;padding:0}summary+code{white-space:normal}section .g td{font-weight:bold}section .g u{font-weight:normal}.k[open]{column-span:all;break-inside:avoid}.k table{table-layout:fixed;width:100%}.k td,.k th{font-size:5pt;min-width:0;padding:0;white-space:normal}.k sup{font-size:4pt}@media print{body{font-size:8pt;line-height:1.12;margin:0 auto;columns:2;column-gap:10px}body>:not(section){column-span:all}section{columns:auto}h3{column-span:none}summary{border:0}details:not([open]):has(>details>.l>li:nth-child(50))>summary::after{content:' (on the screen)'}.k:not([open])>summary::after{content:' (on the screen)'}@supports selector(::details-content){details:has(>.g)::details-content,details:has(>.l)::details-content,details:has(>details):not(:has(>details>.l>li:nth-child(50)))::details-content{content-visibility:visible}details:has(>.g)>summary,details:has(>details):not(:has(>details>.l>li:nth-child(50)))>summary{display:none}}td,th{font-size:6.2pt;height:9px}}</style></head><body>\n<h1>"
 
 -- the words of an axiom of the library of rules that choose
 unfoldable pub choice_words : List ℕ → List ℕ

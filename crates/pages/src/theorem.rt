@@ -212,7 +212,7 @@ fn put_told(out: &mut Html, space: &Space) -> Result<(), NoMemory>
     out.append(b" In the tables of the proof ")?;
     put_marks(out, space)?;
     out.append(
-        b"; grey is supposed, or forced without a supposition; a small number is that of the sentence which states the fact.",
+        b"; grey is supposed, or forced without a supposition; a small number is that of the sentence which states the fact, a grey one among those without any supposition.",
     )?;
     Ok(())
 }

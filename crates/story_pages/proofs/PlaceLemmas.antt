@@ -1,5 +1,5 @@
 -- Where lemmas stand in a story.
-use Rattle.std.proofs.Common.{◌≡◌, refl, sym, ap, ◌∙◌, subst, ℕ, zero, suc, ◌+◌, ◌<◌, ◌≤◌, nat_lt, inl, inr, true, false, List, [], ◌++◌, ◌&&◌, codes, length, take, arith, Option, Some, None, slice_get, eq-eqb, true≢false, append_assoc, append-nil}
+use Rattle.std.proofs.Common.{◌≡◌, refl, sym, ap, ◌∙◌, subst, ℕ, zero, suc, ◌+◌, ◌<◌, ◌≤◌, nat_lt, inl, inr, true, List, [], ◌++◌, ◌&&◌, codes, length, take, arith, Option, Some, None, slice_get, eq-eqb, true≢false, append_assoc, append-nil}
 use Rattle.std.specs.List.{flat_map}
 use Rattle.std.proofs.lemmas.Bool.{and_parts}
 use Rattle.std.proofs.lemmas.Option.{slice_get_within}
@@ -48,13 +48,13 @@ pub forced_stand : ForcedFactsStand
 forced_stand size axioms story told k lt =
     in_front sentence (forced_html size axioms told.forced) (flat_map (lemma_at size axioms story told) (below (length story)))
     (subst (λ t. StandsIn sentence t) (sym here)
-    (between sentence opening (items_html size axioms told.forced) (codes "</ul></section>\n") (in_items size axioms told.forced k lt)))
+    (between sentence opening (items_html size axioms told.forced) (codes "</ol></section>\n") (in_items size axioms told.forced k lt)))
   where
     sentence : List ℕ
     sentence = sentence_at size axioms told.forced k
 
     opening : List ℕ
-    opening = codes "<section>\n<h3>Without any supposition</h3>\n<ul class=z>\n"
+    opening = codes "<section>\n<h3>Without any supposition</h3>\n<ol class=z>\n"
 
     here : forced_html size axioms told.forced ≡ list_html size axioms told.forced
     here = rw (is_some (length told.forced.sentences) (omega (arith, lt))) refl

@@ -21,7 +21,7 @@ use Rattle.tellings.specs.declared.tellings.Placed.{Placed}
 use Rattle.tellings.specs.declared.tellings.Sentence.{Sentence}
 use Rattle.story_pages.specs.Claims.{said_html, facts_html, alone_claims_html, stated_facts_html}
 use Rattle.story_pages.specs.Ends.{is_by_outcome}
-use Rattle.story_pages.specs.Known.{grey_mark, supposed_mark, forced_mark, numbered_mark, stated_mark, known_html}
+use Rattle.story_pages.specs.Known.{grey_mark, grey_numbered_mark, supposed_mark, forced_mark, numbered_mark, stated_mark, known_html}
 use Rattle.story_pages.specs.Sentences.{axiom_html, facts_fold, is_left_at, is_there, says_there, there_html, many_html, facts_or_many_html, rests_html, grounds_html, since_html, given_html, given_by, by_axiom_html, by_outcome_html, by_html}
 use Rattle.story_pages.specs.Laws.{StandsIn, IsFactSaid, IsNamed, IsStated, NamesFacts, SentencesNameFacts, ClaimsStandThere, EndsNameFacts, SentencesStateFacts, CellsHaveFacts}
 use Rattle.story_pages.proofs.StandLemmas.{whole, in_front, behind, between, within, in_map, is_some}
@@ -160,6 +160,9 @@ module _ (suppose : List Literal) (forced steps : List Placed) (p : ℕ) where
 grey_here : (l : Literal) → supposed_mark (profile_of l) l ≡ grey_mark l
 grey_here l = rw (eq-eqb (profile_of l) (profile_of l) refl) refl
 
+forced_here : (placed : Placed) → forced_mark (profile_of placed.step.literal) placed ≡ grey_numbered_mark placed
+forced_here placed = rw (eq-eqb (profile_of placed.step.literal) (profile_of placed.step.literal) refl) refl
+
 numbered_here : (placed : Placed) → stated_mark (profile_of placed.step.literal) placed ≡ numbered_mark placed
 numbered_here placed = rw (eq-eqb (profile_of placed.step.literal) (profile_of placed.step.literal) refl) refl
 
@@ -167,8 +170,8 @@ pub cells : CellsHaveFacts
 cells suppose forced steps = record {
   supposed = λ k l at. in_first suppose forced steps (profile_of l) (grey_mark l)
       (subst (λ t. StandsIn t (flat_map (supposed_mark (profile_of l)) suppose)) (grey_here l) (in_map (supposed_mark (profile_of l)) suppose k l at));
-  given = λ k placed at. in_second suppose forced steps (profile_of placed.step.literal) (grey_mark placed.step.literal)
-      (subst (λ t. StandsIn t (flat_map (forced_mark (profile_of placed.step.literal)) forced)) (grey_here placed.step.literal)
+  given = λ k placed at. in_second suppose forced steps (profile_of placed.step.literal) (grey_numbered_mark placed)
+      (subst (λ t. StandsIn t (flat_map (forced_mark (profile_of placed.step.literal)) forced)) (forced_here placed)
       (in_map (forced_mark (profile_of placed.step.literal)) forced k placed at));
   stated = λ k placed at. in_third suppose forced steps (profile_of placed.step.literal) (numbered_mark placed)
       (subst (λ t. StandsIn t (flat_map (stated_mark (profile_of placed.step.literal)) steps)) (numbered_here placed)

@@ -7,7 +7,7 @@ use Rattle.story_pages.specs.Sentences.{items_html}
 
 -- forced facts, of which there are some
 abbrev pub list_html : Extent → List Titled → Passage → List ℕ
-list_html size axioms forced = codes "<section>\n<h3>Without any supposition</h3>\n<ul class=z>\n" ++ items_html size axioms forced ++ codes "</ul></section>\n"
+list_html size axioms forced = codes "<section>\n<h3>Without any supposition</h3>\n<ol class=z>\n" ++ items_html size axioms forced ++ codes "</ol></section>\n"
 
 -- forced facts, if there are any
 abbrev pub forced_html : Extent → List Titled → Passage → List ℕ

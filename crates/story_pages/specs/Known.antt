@@ -14,7 +14,7 @@ fact_mark (Wins x p) = letter_of x ∷ []
 fact_mark (Loses x p) = codes "<s>" ++ letter_of x ∷ [] ++ codes "</s>"
 fact_mark (Above x y p) = letter_of x ∷ letter_of y ∷ []
 
--- a fact that is known without a sentence of the lemma
+-- a supposition
 abbrev pub grey_mark : Literal → List ℕ
 grey_mark l = codes "<u>" ++ fact_mark l ++ codes "</u> "
 
@@ -22,13 +22,21 @@ grey_mark l = codes "<u>" ++ fact_mark l ++ codes "</u> "
 abbrev pub supposed_mark : ℕ → Literal → List ℕ
 supposed_mark p l = if profile_of l == p then grey_mark l else []
 
--- a fact that is forced in the cell of a profile
-abbrev pub forced_mark : ℕ → Placed → List ℕ
-forced_mark p placed = supposed_mark p placed.step.literal
+-- the number of a sentence
+abbrev pub small_number : Placed → List ℕ
+small_number placed = codes "<sup>" ++ decimal (placed.sentence + 1) ++ codes "</sup>"
 
--- a fact that is stated, with the number of its sentence
+-- a fact that is forced, with the number of its sentence among those that come first
+abbrev pub grey_numbered_mark : Placed → List ℕ
+grey_numbered_mark placed = codes "<u>" ++ fact_mark placed.step.literal ++ small_number placed ++ codes "</u> "
+
+-- such a fact in the cell of a profile
+abbrev pub forced_mark : ℕ → Placed → List ℕ
+forced_mark p placed = if profile_of placed.step.literal == p then grey_numbered_mark placed else []
+
+-- a fact that the lemma states, with the number of its sentence
 abbrev pub numbered_mark : Placed → List ℕ
-numbered_mark placed = fact_mark placed.step.literal ++ codes "<sup>" ++ decimal (placed.sentence + 1) ++ codes "</sup> "
+numbered_mark placed = fact_mark placed.step.literal ++ small_number placed ++ codes " "
 
 -- such a fact in the cell of a profile
 abbrev pub stated_mark : ℕ → Placed → List ℕ

@@ -19,7 +19,7 @@ use Rattle.tellings.specs.declared.tellings.StoryTelling.{StoryTelling}
 use Rattle.story_pages.specs.Claims.{some_html, at_html, said_html}
 use Rattle.story_pages.specs.Ends.{is_by_outcome, end_html}
 use Rattle.story_pages.specs.Homes.{story_html}
-use Rattle.story_pages.specs.Known.{grey_mark, numbered_mark, known_html}
+use Rattle.story_pages.specs.Known.{grey_mark, grey_numbered_mark, numbered_mark, known_html}
 use Rattle.story_pages.specs.Lemmas.{claimed_html, suppose_html, table_html}
 use Rattle.story_pages.specs.Sentences.{says_there, since_html, given_html, by_html, sentence_at}
 
@@ -85,7 +85,7 @@ pub record HasKnown (suppose : List Literal) (forced steps : List Placed) : Type
   pub supposed : (k : ℕ) (l : Literal) → slice_get suppose k ≡ Some l →
       StandsIn (grey_mark l) (known_html suppose forced steps (profile_of l))
   pub given : (k : ℕ) (placed : Placed) → slice_get forced k ≡ Some placed →
-      StandsIn (grey_mark placed.step.literal) (known_html suppose forced steps (profile_of placed.step.literal))
+      StandsIn (grey_numbered_mark placed) (known_html suppose forced steps (profile_of placed.step.literal))
   pub stated : (k : ℕ) (placed : Placed) → slice_get steps k ≡ Some placed →
       StandsIn (numbered_mark placed) (known_html suppose forced steps (profile_of placed.step.literal))
 

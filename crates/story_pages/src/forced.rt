@@ -19,9 +19,9 @@ fn put_list(
 ) -> Result<(), NoMemory>
     ensures { OnOk result (out.new ≡ out.old ++ list_html space.now axioms.now forced.now) }
 {
-    out.append(b"<section>\n<h3>Without any supposition</h3>\n<ul class=z>\n")?;
+    out.append(b"<section>\n<h3>Without any supposition</h3>\n<ol class=z>\n")?;
     put_items(out, space, axioms, forced)?;
-    out.append(b"</ul></section>\n")?;
+    out.append(b"</ol></section>\n")?;
     Ok(())
 }
 

@@ -2,7 +2,7 @@
 
 ghost use Rattle.std.specs.Prelude.{◌≡◌, ◌++◌, OnOk};
 ghost use Rattle.std.specs.List.{flat_map};
-ghost use Rattle.story_pages.specs.Known.{fact_mark, grey_mark, supposed_mark, forced_mark, numbered_mark, stated_mark, known_html};
+ghost use Rattle.story_pages.specs.Known.{fact_mark, small_number, grey_mark, grey_numbered_mark, supposed_mark, forced_mark, numbered_mark, stated_mark, known_html};
 
 use html::{Cells, Html, letter_of, profile_of, put_number};
 use lists::NoMemory;
@@ -32,7 +32,7 @@ fn put_fact_mark(out: &mut Html, literal: &Literal) -> Result<(), NoMemory>
     }
 }
 
-/// Adds a fact that is known without a sentence of the lemma.
+/// Adds a supposition.
 fn put_grey(out: &mut Html, literal: &Literal) -> Result<(), NoMemory>
     ensures { OnOk result (out.new ≡ out.old ++ grey_mark literal.now) }
 {
@@ -62,11 +62,35 @@ fn put_all_supposed(out: &mut Html, p: u32, suppose: &[Literal]) -> Result<(), N
     Ok(())
 }
 
+/// Adds the number of a sentence.
+fn put_small_number(out: &mut Html, placed: &Placed) -> Result<(), NoMemory>
+    ensures { OnOk result (out.new ≡ out.old ++ small_number placed.now) }
+{
+    out.append(b"<sup>")?;
+    put_number(out, placed.sentence as u64 + 1)?;
+    out.append(b"</sup>")?;
+    Ok(())
+}
+
+/// Adds a fact that is forced, with the number of its sentence among those that come first.
+fn put_grey_numbered(out: &mut Html, placed: &Placed) -> Result<(), NoMemory>
+    ensures { OnOk result (out.new ≡ out.old ++ grey_numbered_mark placed.now) }
+{
+    out.append(b"<u>")?;
+    put_fact_mark(out, &placed.step.literal)?;
+    put_small_number(out, placed)?;
+    out.append(b"</u> ")?;
+    Ok(())
+}
+
 /// Adds a fact that is forced in the cell of a profile.
 fn put_forced(out: &mut Html, p: u32, placed: &Placed) -> Result<(), NoMemory>
     ensures { OnOk result (out.new ≡ out.old ++ forced_mark p placed.now) }
 {
-    put_supposed(out, p, &placed.step.literal)
+    if profile_of(&placed.step.literal) == p {
+        put_grey_numbered(out, placed)?;
+    }
+    Ok(())
 }
 
 /// Adds all facts that are forced in the cell of a profile.
@@ -79,14 +103,13 @@ fn put_all_forced(out: &mut Html, p: u32, forced: &[Placed]) -> Result<(), NoMem
     Ok(())
 }
 
-/// Adds a fact that is stated, with the number of its sentence.
+/// Adds a fact that the lemma states, with the number of its sentence.
 fn put_numbered(out: &mut Html, placed: &Placed) -> Result<(), NoMemory>
     ensures { OnOk result (out.new ≡ out.old ++ numbered_mark placed.now) }
 {
     put_fact_mark(out, &placed.step.literal)?;
-    out.append(b"<sup>")?;
-    put_number(out, placed.sentence as u64 + 1)?;
-    out.append(b"</sup> ")?;
+    put_small_number(out, placed)?;
+    out.append(b" ")?;
     Ok(())
 }
 
