@@ -1,7 +1,8 @@
 #!/usr/bin/env bash
 # How the house stands: `measure/house.sh [REVISION]` prints, over the crates that are no tests, how many conditions (`requires`) a
 # function has, the lines of sources, specs and proofs, names that several files of specs define, lemmas that two crates state in the
-# same words, places that go from a kind of rules to its outcomes, and how often `unreachable!()` stands. With a revision, as
+# same words, places that go from a kind of rules to its outcomes, and how often `unreachable!()` stands. Of names it counts those that are
+# defined at the margin, so none within a `module _ ..`, and of lemmas the public ones. With a revision, as
 # `measure/house.sh HEAD~20`, each row has the count there, the count here, and the ratio of here by there. `measure/house.sh list` prints
 # the names and the lemmas that are counted, with the crates that have them.
 set -eu
