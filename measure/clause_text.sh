@@ -23,7 +23,7 @@ use std::time::Instant;
 
 fn main(rt: HostRuntime) -> io::Result<()> {
     let alloc = rt.alloc();
-    let mut shelf = FileShelf::new(&rt);
+    let mut shelf = FileShelf::new(&rt, alloc);
     let Ok(text) = read_all(alloc, &mut shelf, "halves.cnf", 100_000_000) else {
         return Ok(());
     };

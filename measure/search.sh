@@ -106,7 +106,7 @@ fn most(clauses: &Clauses) -> u32 {
 
 fn main(rt: HostRuntime) -> io::Result<()> {
     let alloc = rt.alloc();
-    let mut shelf = FileShelf::new(&rt);
+    let mut shelf = FileShelf::new(&rt, alloc);
     let Ok(text) = read_all(alloc, &mut shelf, "input.cnf", 100_000_000) else {
         return Ok(());
     };
