@@ -555,9 +555,9 @@ def changed(rng, what, text, others, library):
 # ---- How much a study asks.
 
 
-def integer(text, key, otherwise):
+def integer(text, key, otherwise): # of a long number the first digits, which are too large as well
     found = re.search(rb"\b%s[\"']? *= *\+?(\d[\d_]*)" % key, text)
-    return otherwise if found is None else int(found[1].replace(b"_", b""))
+    return otherwise if found is None else int(found[1].replace(b"_", b"")[:40])
 
 
 def weight(text):

@@ -43,9 +43,6 @@ import tempfile
 import time
 
 sys.dont_write_bytecode = True
-# (a number of a changed text may be long, and later Pythons read none of more than 4,300 digits)
-if hasattr(sys, "set_int_max_str_digits"):
-    sys.set_int_max_str_digits(0)
 import changes
 import judge
 import looks
