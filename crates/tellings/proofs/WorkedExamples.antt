@@ -2,11 +2,12 @@
 use Rattle.std.proofs.Common.{◌≡◌, refl, ℕ, List, [], ◌∷◌, true, false, Bool, map, Some}
 use Rattle.vocab.specs.declared.literals.Literal.{Literal}
 use Rattle.vocab.specs.declared.literals.Literal.TheVariants.{Wins, Loses}
-use Rattle.meaning.specs.declared.stories.Reason.TheVariants.{Outcome as ByOutcome}
+use Rattle.meaning.specs.declared.stories.Lemma.{Lemma}
+use Rattle.meaning.specs.declared.stories.Reason.TheVariants.{Outcome as ByOutcome, Lemma as ByLemma}
 use Rattle.meaning.specs.declared.stories.StoryStep.{StoryStep}
 use Rattle.meaning.proofs.WorkedExamples.{choice}
 use Rattle.tellings.specs.declared.tellings.By.TheVariants.{Outcome}
-use Rattle.tellings.specs.Tellings.{forced_by, says_step}
+use Rattle.tellings.specs.Tellings.{forced_by, forced_facts, says_step}
 
 -- b wins at the profile, since it is what is left there
 abbrev wins_at : ℕ → StoryStep
@@ -36,3 +37,15 @@ claims_are_the_same = refl
 -- where a is forced not to win at profile 1, b is forced to win there, and nothing at profile 2
 what_is_left_is_forced : forced_by (choice 2 2) [] [] [] (Loses 0 1 ∷ []) (wins_at 1 ∷ wins_at 2 ∷ []) ≡ Loses 0 1 ∷ Wins 1 1 ∷ []
 what_is_left_is_forced = refl
+
+-- supposes that a wins at profile 1, and claims so that it doesn't
+abbrev claimed : Lemma
+claimed = record { suppose = Wins 0 1 ∷ []; steps = []; last = ByOutcome 1 }
+
+-- takes over what that lemma claims
+abbrev by_claim : Lemma
+by_claim = record { suppose = []; steps = record { literal = Loses 0 1; reason = ByLemma 0 } ∷ []; last = ByOutcome 1 }
+
+-- what an earlier lemma claims is no fact that comes first
+claim_forces_nothing : forced_facts (choice 2 2) [] [] [] (claimed ∷ by_claim ∷ []) ≡ []
+claim_forces_nothing = refl

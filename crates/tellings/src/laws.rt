@@ -13,8 +13,8 @@ pub fn used_once_stand_where_used()
     ensures { UsedOnceStandWhereUsed }
 {}
 
-/// Each fact of a step that the facts forced before it force, or that its reason forces alone, comes first, in a
-/// story of several lemmas.
+/// In a story of several lemmas each fact of a step comes first that the facts forced before it force, or that
+/// its reason forces alone.
 pub fn forced_facts_come_first()
     ensures { ForcedFactsComeFirst }
 {}
