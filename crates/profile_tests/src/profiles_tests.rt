@@ -92,6 +92,12 @@ static VOTES_OF_TWO: [(u32, u32, [bool; 4]); 6] = [
     (0, 0, [false, false, false, false]),
 ];
 
+/// Two of three alternatives, or one twice.
+static EXCHANGES: [(u32, u32); 4] = [(0, 1), (0, 2), (1, 2), (1, 1)];
+
+/// Which of two alternatives a majority has above the other, in the paradox of Condorcet.
+static CYCLE: [(u32, u32); 3] = [(0, 1), (1, 2), (2, 0)];
+
 /// Alternatives, and how many rankings they have.
 static RANKINGS: [(u8, u32); 6] = [(0, 1), (1, 1), (2, 2), (3, 6), (4, 24), (5, 120)];
 
@@ -148,6 +154,14 @@ fn votes_of() -> &'static [(u32, u32, [bool; 3])] {
 
 fn votes_of_two() -> &'static [(u32, u32, [bool; 4])] {
     &VOTES_OF_TWO
+}
+
+fn exchanges() -> &'static [(u32, u32)] {
+    &EXCHANGES
+}
+
+fn cycle() -> &'static [(u32, u32)] {
+    &CYCLE
 }
 
 fn rankings() -> &'static [(u8, u32)] {
@@ -274,10 +288,10 @@ fn two_exchanges_of_two_alternatives_are_none(rt: HostRuntime) {
     assert!(rt; space.size().alternatives() == 3);
     assert!(rt; space.size().has_all_ballots());
     for p in 0..space.count() {
-        for (x, y) in [(0, 1), (0, 2), (1, 2), (1, 1)] {
-            assert!(rt; x < 3 && y < 3);
-            let once = space.swap_alts(p, x, y);
-            assert!(rt; space.swap_alts(once, x, y) == p);
+        for (x, y) in exchanges() {
+            assert!(rt; *x < 3 && *y < 3);
+            let once = space.swap_alts(p, *x, *y);
+            assert!(rt; space.swap_alts(once, *x, *y) == p);
         }
     }
 }
@@ -288,9 +302,10 @@ fn paradox_of_condorcet(rt: HostRuntime) {
     let space = space(&rt, 3, 3);
     assert!(rt; space.size().alternatives() == 3);
     let p = space.read_profile(b"abc|bca|cab").expect(&rt, "a profile");
-    for (x, y) in [(0, 1), (1, 2), (2, 0)] {
-        assert!(rt; x < 3 && y < 3);
-        assert!(rt; [space.majority(x, y, p), space.majority(y, x, p)] == [true, false]);
+    for (x, y) in cycle() {
+        assert!(rt; *x < 3 && *y < 3);
+        let found = [space.majority(*x, *y, p), space.majority(*y, *x, p)];
+        assert!(rt; found == [true, false]);
     }
 }
 

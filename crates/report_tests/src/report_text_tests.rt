@@ -52,6 +52,9 @@ static IMPOSSIBLE: &str =
 static UNDECIDED: &str =
     "bench report 1\nkind choice\nvoters 1\nalternatives 2\naxioms same\nverdict undecided\nconflicts 100\nend\n";
 
+/// For how many bytes of the claim a sink has room: none, a part, all but one, and more than all.
+static ROOMS: [usize; 6] = [0, 20, 100, 150, 219, 1000];
+
 /// A study without axioms, of two voters and five alternatives.
 static LARGE: &str = "kind = \"choice\"\nvoters = 2\nalternatives = 5\naxioms = []\n";
 
@@ -66,6 +69,10 @@ fn impossible_text() -> &'static [u8] {
 
 fn undecided_text() -> &'static [u8] {
     UNDECIDED.as_bytes()
+}
+
+fn rooms() -> &'static [usize] {
+    &ROOMS
 }
 
 fn large() -> &'static str {
@@ -216,8 +223,8 @@ fn takes_front_of_impossible(alloc: Global, room: usize) -> Result<bool, Fail> {
 // Where there is no room, the front is written.
 #[test]
 fn claims_are_written_as_far_as_there_is_room(rt: HostRuntime) -> Result<(), Fail> {
-    for room in [0, 20, 100, 150, 219, 1000] {
-        assert!(rt; takes_front_of_impossible(rt.alloc(), room)?);
+    for room in rooms() {
+        assert!(rt; takes_front_of_impossible(rt.alloc(), *room)?);
     }
     assert!(rt; takes_front(rt.alloc(), 1000, &Verdict::Undecided, undecided_text())?);
     Ok(())

@@ -122,6 +122,20 @@ fn told(alloc: Global, study: &Study, story: &Story) -> Result<StoryTelling, Fai
     Ok(tell_story(alloc, &kind, study, &core, story)?)
 }
 
+/// How a story of these two lemmas over what forces all facts is told.
+fn told_of_two(alloc: Global, first: Lemma, second: Lemma) -> Result<StoryTelling, Fail>
+    requires first_literals { IsTrue (has_literals (choice 2 2) first) }
+    requires first_short { IsTrue (is_short first) }
+    requires second_literals { IsTrue (has_literals (choice 2 2) second) }
+    requires second_short { IsTrue (is_short second) }
+{
+    let study = of_two_axioms(alloc, forced(), two_and_two()?)?;
+    let mut story = Story::new(alloc);
+    story.push(first)?;
+    story.push(second)?;
+    told(alloc, &study, &story)
+}
+
 /// Of the facts that are forced and of each lemma how many sentences there are and how many steps, and for each
 /// lemma the one within which it stands.
 fn summary(told: &StoryTelling) -> ([(usize, usize); 4], [Option<usize>; 3]) {
@@ -178,12 +192,8 @@ fn lemmas_that_are_used_once_stand_one_within_another(rt: HostRuntime) -> Result
 #[test]
 fn forced_facts_are_not_told_again(rt: HostRuntime) -> Result<(), Fail> {
     let alloc = rt.alloc();
-    let study = of_two_axioms(alloc, forced(), two_and_two()?)?;
-    let (first, second) = (both_are_forbidden(alloc)?, both_are_forbidden(alloc)?);
-    let mut story = Story::new(alloc);
-    story.push(first)?;
-    story.push(second)?;
-    let (counts, homes) = summary(&told(alloc, &study, &story)?);
+    let told = told_of_two(alloc, both_are_forbidden(alloc)?, both_are_forbidden(alloc)?)?;
+    let (counts, homes) = summary(&told);
     assert!(rt; counts == [(2, 2), (0, 0), (0, 0), (0, 0)]);
     assert!(rt; homes == [None, None, None]);
     Ok(())
@@ -192,12 +202,8 @@ fn forced_facts_are_not_told_again(rt: HostRuntime) -> Result<(), Fail> {
 #[test]
 fn what_forced_facts_force_is_not_told_again(rt: HostRuntime) -> Result<(), Fail> {
     let alloc = rt.alloc();
-    let study = of_two_axioms(alloc, forced(), two_and_two()?)?;
-    let (first, second) = (a_has_to_win(alloc)?, a_has_to_win(alloc)?);
-    let mut story = Story::new(alloc);
-    story.push(first)?;
-    story.push(second)?;
-    let (counts, homes) = summary(&told(alloc, &study, &story)?);
+    let told = told_of_two(alloc, a_has_to_win(alloc)?, a_has_to_win(alloc)?)?;
+    let (counts, homes) = summary(&told);
     assert!(rt; counts == [(2, 2), (0, 0), (0, 0), (0, 0)]);
     assert!(rt; homes == [None, None, None]);
     Ok(())

@@ -2,7 +2,7 @@
 
 ghost use Rattle.std.specs.Prelude.{◌≡◌, ◌≤◌};
 
-use crate::symmetry::{symmetric, symmetric_sharp};
+use crate::symmetry::{pieces, symmetric, symmetric_sharp};
 use crew::Crew;
 use edge::{MemoryShelf, Open};
 use outcomes::ChoiceKind;
@@ -79,11 +79,11 @@ fn refused_at(worth: Result<JudgedWorth, FileFault>) -> Option<(bool, u32)> {
     }
 }
 
-// The pieces of one and of five bytes part the title of the text.
 #[test]
 fn sharp_text_is_confirmed_in_any_pieces(rt: HostRuntime) -> Result<(), Fail> {
-    for most in [1, 5, 14, 4096] {
-        let worth = judged(&rt, rt.alloc(), symmetric_sharp(), most, u32::MAX)?;
+    for most in pieces() {
+        assert!(rt; *most >= 1);
+        let worth = judged(&rt, rt.alloc(), symmetric_sharp(), *most, u32::MAX)?;
         assert!(rt; worth == Ok(JudgedWorth::Sharp(SharpWorth::Confirmed)));
     }
     Ok(())

@@ -19,7 +19,10 @@ static STORY: &str =
 static SHARP: &str =
     "bench sharp 1\nkind choice\nvoters 2\nalternatives 2\naxioms anonymity neutrality\nverdict impossible\ncore anonymity neutrality\nlemmas 2\nlemma 1\nsuppose a@ab|ba\nso a@ba|ab by axiom anonymity ab|ba 1 2 a\nso b@ba|ab by axiom neutrality ab|ba a b a\nclash by outcome ba|ab\nlemma 2\nso !a@ab|ba by lemma 1\nso !a@ba|ab by axiom anonymity ab|ba 1 2 a\nso !b@ba|ab by axiom neutrality ab|ba a b a\nclash by outcome ba|ab\ninstances 2\nneeds anonymity ab|ba 1 2 a rule 4\nab|ab a\nab|ba a\nba|ab b\nba|ba b\nneeds neutrality ab|ba a b a rule 4\nab|ab a\nab|ba a\nba|ab a\nba|ba a\nend\n";
 
-// Each text is handed out by a function, so that the proof of a test need not read it.
+/// How many bytes each read gives. Those of one and of five part the title of a text.
+static PIECES: [u32; 4] = [1, 5, 14, 4096];
+
+// Each text is handed out by a function, so that the proof of a test need not read it, and so is the table.
 fn study_text() -> &'static str {
     STUDY
 }
@@ -30,6 +33,10 @@ pub fn symmetric_story() -> &'static str {
 
 pub fn symmetric_sharp() -> &'static [u8] {
     SHARP.as_bytes()
+}
+
+pub fn pieces() -> &'static [u32] {
+    &PIECES
 }
 
 fn two_and_two() -> Result<Size, Fail>

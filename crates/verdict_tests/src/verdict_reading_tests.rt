@@ -2,7 +2,7 @@
 
 ghost use Rattle.std.specs.Prelude.{◌≤◌};
 
-use crate::symmetry::{symmetric, symmetric_sharp, symmetric_story};
+use crate::symmetry::{pieces, symmetric, symmetric_sharp, symmetric_story};
 use crew::Crew;
 use edge::{MemoryShelf, Open};
 use meaning::{Lemma, Witness};
@@ -180,13 +180,13 @@ fn verdicts_in_memory_are_read_whole(rt: HostRuntime) -> Result<(), Fail> {
     Ok(())
 }
 
-// The pieces of one and of five bytes part the title of the text.
 #[test]
 fn verdicts_in_files_are_read_whole_in_any_pieces(rt: HostRuntime) -> Result<(), Fail> {
     let alloc = rt.alloc();
-    for most in [1, 5, 14, 4096] {
-        let report = read_file(&rt, alloc, symmetric_story().as_bytes(), most, u32::MAX)?;
-        let sharp = read_file(&rt, alloc, symmetric_sharp(), most, u32::MAX)?;
+    for most in pieces() {
+        assert!(rt; *most >= 1);
+        let report = read_file(&rt, alloc, symmetric_story().as_bytes(), *most, u32::MAX)?;
+        let sharp = read_file(&rt, alloc, symmetric_sharp(), *most, u32::MAX)?;
         assert!(rt; [which_of(report), which_of(sharp)] == [1, 2]);
     }
     Ok(())
