@@ -20,14 +20,6 @@ use Rattle.simpler_proofs.specs.Made.{EachPasses, IsMade, IsPassing, is_pair, is
 pub stays_within : (n : ℕ) (clause : Clause) → is_over n clause ≡ true → StaysWithin n clause
 stays_within n clause h i d lt = leb-true _ _ (and_parts _ _ (all_read (λ (l : Signed). nat_le 1 l.variable && nat_le l.variable n) clause i d lt h)).1
 
--- a clause of one literal
-pub over_one : (n : ℕ) (l : Signed) → 1 ≤ l.variable → l.variable ≤ n → is_over n (l ∷ []) ≡ true
-over_one n l least most = and_from _ _ (and_from _ _ (le-leb 1 l.variable least) (le-leb l.variable n most)) refl
-
--- a clause of two
-pub over_two : (n : ℕ) (l m : Signed) → 1 ≤ l.variable → l.variable ≤ n → 1 ≤ m.variable → m.variable ≤ n → is_over n (l ∷ m ∷ []) ≡ true
-over_two n l m least most m_least m_most = and_from _ _ (and_from _ _ (le-leb 1 l.variable least) (le-leb l.variable n most)) (over_one n m m_least m_most)
-
 -- propagation at level 0 adds at most the empty clause
 pub passing_settled : (test : Clause → Bool) (input : List Clause) (old new : TrailState) (marks before : List Bool) (lines more : List Line) → test [] ≡ true → IsPassing test input old before lines →
     IsMade input new more → length marks ≡ new.variables → new.variables ≡ old.variables →
@@ -74,10 +66,6 @@ passing_shortened given input old new marks before lines more i d lt over p made
     passing_left (is_part_of given) input old new marks before lines more (added_by (get_or given i d).step) (each_at (is_over old.variables) given i d over lt)
     (λ part few h. part_of given i d part lt few h) p made seen variables passes
 
--- what is left of a clause of two literals has at most two
-pub left_of_pair : (clause part : Clause) → length clause ≡ 2 → length part ≤ length clause → is_pair part ≡ true
-left_of_pair clause part two few = le-leb (length part) 2 (omega (arith, two, few))
-
 -- a part of a clause of at most two literals has at most two
 pair_of_part : (whole part : Clause) → is_pair whole ≡ true → is_part whole part ≡ true → is_pair part ≡ true
 pair_of_part whole part pair h =
@@ -108,6 +96,6 @@ pairs_made None given h p = tt
 pairs_made (Some lines) given h p = pairs_of_parts given lines h p
 
 -- a test that the trimmed derivation has from the one it was made of
-pub over_made : (o : Option (List Line)) (n : ℕ) (lines : List Line) → AreOver n lines → IfSome o (λ new. (t : Clause → Bool) → EachPasses t lines → EachPasses t new) → IfSome o (AreOver n)
-over_made None n lines h p = tt
-over_made (Some new) n lines h p = p (is_over n) h
+pub passes_made : (o : Option (List Line)) (test : Clause → Bool) (lines : List Line) → EachPasses test lines → IfSome o (λ new. (t : Clause → Bool) → EachPasses t lines → EachPasses t new) → IfSome o (EachPasses test)
+passes_made None test lines h p = tt
+passes_made (Some new) test lines h p = p test h

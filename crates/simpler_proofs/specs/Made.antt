@@ -16,13 +16,17 @@ use Rattle.propagate.specs.TrailState.{TrailState, IsTrail}
 abbrev pub EachPasses : (Clause → Bool) → List Line → Type 0
 EachPasses test lines = IsTrue (list_all (λ l. test (added_by l.step)) lines)
 
+-- a clause has at most so many literals
+abbrev pub has_at_most : ℕ → Clause → Bool
+has_at_most most clause = nat_le (length clause) most
+
 -- a clause has at most one literal
 abbrev pub is_single : Clause → Bool
-is_single clause = nat_le (length clause) 1
+is_single = has_at_most 1
 
 -- a clause has at most two
 abbrev pub is_pair : Clause → Bool
-is_pair clause = nat_le (length clause) 2
+is_pair = has_at_most 2
 
 -- a clause has no literal but those of another, and no more of them
 abbrev pub is_part : Clause → Clause → Bool

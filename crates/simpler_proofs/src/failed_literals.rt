@@ -1,133 +1,18 @@
 //! Failed literals: a literal is assumed, and where propagation then falsifies a clause, its opposite is
 //! learned (Freeman, 1995).
 
-ghost use Rattle.std.specs.Prelude.{◌≡◌, ◌<◌, ◌≤◌, ◌+◌, ◌^◌, [], true, false, All, length, OnOk, IfOk, IfSome, IsTrue};
+ghost use Rattle.std.specs.Prelude.{◌≡◌, ◌<◌, ◌≤◌, ◌^◌, false, All, length, OnOk, IfOk, IfSome};
 ghost use Rattle.cnf.specs.Fresh.{AreOver};
-ghost use Rattle.propagate.specs.Values.{IsUnassigned};
-ghost use Rattle.propagate.specs.TrailState.{known};
-ghost use Rattle.simpler_proofs.specs.Made.{EachPasses, IsPassing, IsProof, is_single};
+ghost use Rattle.simpler_proofs.specs.Made.{EachPasses, IsProof, has_at_most, is_single};
+ghost use Rattle.simpler_proofs.specs.Search.{IsSearch, IsAtRoot, IsSameSearch};
 
-use crate::made::{MOST_LINES, assume, finish, learn, settle};
-use crate::reasons::{reasons, unmark};
+use crate::formula::Formula;
+use crate::made::finish;
+use crate::search::Search;
 use cnf::{Clauses, Derivation, Lit, Lits};
 use lists::{Items, NoMemory};
 use propagate::Trail;
 use std::alloc::Global;
-
-/// Learns the opposite of a decided literal, by a falsified clause, and goes back to level 0.
-fn fail(
-    alloc: Global,
-    clauses: &Clauses,
-    trail: &mut Trail,
-    seen: &mut Vec<bool>,
-    lines: &mut Derivation,
-    lit: Lit,
-    conflict: u32,
-) -> Result<(), NoMemory>
-    requires passing { IsPassing is_single clauses.now.clauses trail.old seen.old.items lines.old }
-    requires variable { lit.variable ≤ trail.old.variables }
-    requires conflict { conflict < length trail.old.clauses }
-    requires room { length lines.old < 1000000 }
-    ensures passing { OnOk result
-        (IsPassing is_single clauses.now.clauses trail.new seen.new.items lines.new) }
-    ensures level { OnOk result (trail.new.level ≡ 0) }
-    ensures variables { OnOk result (trail.new.variables ≡ trail.old.variables) }
-    ensures more { OnOk result (length lines.new ≡ length lines.old + 1) }
-{
-    let hints = reasons(alloc, trail, seen, conflict)?;
-    let _ = unmark(seen, lit.variable());
-    trail.back_to(0);
-    let mut clause = Items::new(alloc);
-    clause.push(lit.opposite())?;
-    learn(alloc, clauses, trail, clause, hints.as_slice(), lines)?;
-    Ok(())
-}
-
-/// Propagates at level 0. Where a clause is falsified, the empty clause is added, and the answer is true.
-fn close(
-    alloc: Global,
-    clauses: &Clauses,
-    trail: &mut Trail,
-    seen: &mut Vec<bool>,
-    lines: &mut Derivation,
-) -> Result<bool, NoMemory>
-    requires passing { IsPassing is_single clauses.now.clauses trail.old seen.old.items lines.old }
-    requires level { trail.old.level ≡ 0 }
-    requires room { length lines.old < 1000000 }
-    ensures passing { OnOk result
-        (IsPassing is_single clauses.now.clauses trail.new seen.new.items lines.new) }
-    ensures level { OnOk result (trail.new.level ≡ 0) }
-    ensures settled { IfOk result (λ ended. ended ≡ false → trail.new.settled ≡ true) }
-    ensures variables { OnOk result (trail.new.variables ≡ trail.old.variables) }
-{
-    let ended = settle(alloc, clauses, trail, seen, lines)?;
-    Ok(ended)
-}
-
-/// Assumes an unassigned literal and propagates. Where a clause is falsified, the opposite is learned. The
-/// answer is whether the clauses are refuted.
-fn probe(
-    alloc: Global,
-    clauses: &Clauses,
-    trail: &mut Trail,
-    seen: &mut Vec<bool>,
-    lines: &mut Derivation,
-    budget: &mut u32,
-    lit: Lit,
-) -> Result<bool, NoMemory>
-    requires passing { IsPassing is_single clauses.now.clauses trail.old seen.old.items lines.old }
-    requires settled { trail.old.settled ≡ true }
-    requires variable { lit.variable ≤ trail.old.variables }
-    requires unassigned { IsUnassigned (known trail.old) lit }
-    requires room { length lines.old < 999999 }
-    ensures passing { OnOk result
-        (IsPassing is_single clauses.now.clauses trail.new seen.new.items lines.new) }
-    ensures level { OnOk result (trail.new.level ≡ 0) }
-    ensures settled { IfOk result (λ ended. ended ≡ false → trail.new.settled ≡ true) }
-    ensures variables { OnOk result (trail.new.variables ≡ trail.old.variables) }
-{
-    match assume(trail, lit, budget) {
-        None => {
-            trail.back_to(0);
-            let ended = close(alloc, clauses, trail, seen, lines)?;
-            Ok(ended)
-        }
-        Some(k) => {
-            fail(alloc, clauses, trail, seen, lines, lit, k)?;
-            let ended = close(alloc, clauses, trail, seen, lines)?;
-            Ok(ended)
-        }
-    }
-}
-
-/// Tries a literal, where its variable has no value and the budget allows it.
-fn attempt(
-    alloc: Global,
-    clauses: &Clauses,
-    trail: &mut Trail,
-    seen: &mut Vec<bool>,
-    lines: &mut Derivation,
-    budget: &mut u32,
-    lit: Lit,
-) -> Result<bool, NoMemory>
-    requires passing { IsPassing is_single clauses.now.clauses trail.old seen.old.items lines.old }
-    requires level { trail.old.level ≡ 0 }
-    requires settled { trail.old.settled ≡ true }
-    ensures passing { OnOk result
-        (IsPassing is_single clauses.now.clauses trail.new seen.new.items lines.new) }
-    ensures level { OnOk result (trail.new.level ≡ 0) }
-    ensures settled { IfOk result (λ ended. ended ≡ false → trail.new.settled ≡ true) }
-    ensures variables { OnOk result (trail.new.variables ≡ trail.old.variables) }
-{
-    if *budget == 0 || lines.len() > MOST_LINES || lit.variable() as usize > seen.len() {
-        return Ok(false);
-    }
-    if trail.value(lit.variable()).is_some() {
-        return Ok(false);
-    }
-    let ended = probe(alloc, clauses, trail, seen, lines, budget, lit)?;
-    Ok(ended)
-}
 
 /// The variable at a place of the order that begins after the first ones, and goes on with these.
 fn turned(place: u32, first: u32, variables: u32) -> u32
@@ -157,89 +42,74 @@ pub fn literals_in_turn(alloc: Global, variables: u32, first: u32) -> Result<Lit
     Ok(tried)
 }
 
-/// Tries literals in turn.
-fn round(
-    alloc: Global,
-    clauses: &Clauses,
-    tried: &[Lit],
-    trail: &mut Trail,
-    seen: &mut Vec<bool>,
-    lines: &mut Derivation,
-    budget: &mut u32,
-) -> Result<bool, NoMemory>
-    requires passing { IsPassing is_single clauses.now.clauses trail.old seen.old.items lines.old }
-    requires level { trail.old.level ≡ 0 }
-    requires settled { trail.old.settled ≡ true }
-    ensures passing { OnOk result
-        (IsPassing is_single clauses.now.clauses trail.new seen.new.items lines.new) }
-    ensures level { OnOk result (trail.new.level ≡ 0) }
-    ensures settled { IfOk result (λ ended. ended ≡ false → trail.new.settled ≡ true) }
-    ensures variables { OnOk result (trail.new.variables ≡ trail.old.variables) }
+/// Tries each literal alone, or where clauses of two literals may be learned under each other one too. The answer
+/// is whether the clauses are refuted.
+fn round(alloc: Global, search: &mut Search, tried: &[Lit]) -> Result<bool, NoMemory>
+    requires root { IsAtRoot search.old }
+    ensures search { OnOk result (IsSearch search.new) }
+    ensures root { IfOk result (λ ended. ended ≡ false → IsAtRoot search.new) }
+    ensures same { OnOk result (IsSameSearch search.old search.new) }
 {
-    for lit in tried {
-        if attempt(alloc, clauses, trail, seen, lines, budget, *lit)? {
-            return Ok(true);
-        }
-    }
-    Ok(false)
+    let ended = if search.most > 1 {
+        search.each_in_turn(alloc, tried)?
+    } else {
+        search.each_alone(alloc, tried)?
+    };
+    Ok(ended)
 }
 
 /// Goes round until the clauses are refuted, or a round learns nothing.
-fn rounds(
-    alloc: Global,
-    clauses: &Clauses,
-    tried: &[Lit],
-    trail: &mut Trail,
-    seen: &mut Vec<bool>,
-    lines: &mut Derivation,
-    budget: &mut u32,
-) -> Result<bool, NoMemory>
-    requires passing { IsPassing is_single clauses.now.clauses trail.old seen.old.items lines.old }
-    requires level { trail.old.level ≡ 0 }
-    requires room { length lines.old < 1000000 }
-    ensures passing { OnOk result
-        (IsPassing is_single clauses.now.clauses trail.new seen.new.items lines.new) }
-    ensures variables { OnOk result (trail.new.variables ≡ trail.old.variables) }
+fn rounds(alloc: Global, search: &mut Search, tried: &[Lit]) -> Result<bool, NoMemory>
+    requires search { IsSearch search.old }
+    requires level { search.old.trail.level ≡ 0 }
+    requires room { length search.old.lines < 1000000 }
+    ensures search { OnOk result (IsSearch search.new) }
+    ensures same { OnOk result (IsSameSearch search.old search.new) }
 {
-    if close(alloc, clauses, trail, seen, lines)? {
+    if search.close(alloc)? {
         return Ok(true);
     }
     for _ in 0..tried.len() {
-        let before = lines.len();
-        if round(alloc, clauses, tried, trail, seen, lines, budget)? {
+        let before = search.lines.len();
+        if round(alloc, search, tried)? {
             return Ok(true);
         }
-        if lines.len() == before {
+        if search.lines.len() == before {
             return Ok(false);
         }
     }
     Ok(false)
 }
 
-/// A refutation of the clauses in which each clause has at most one literal, by failed literals: these are
-/// tried in turn, round after round. No variable of a clause is above the number of variables, and a literal
-/// of a variable above it is not tried. `budget` is how many entries propagation may make, and becomes how
-/// many are left; where it is spent, or no literal is left that fails, there is no refutation.
+/// A refutation of the clauses in which each clause has at most so many literals, one or two, by failed literals:
+/// each is tried alone, and of two also under each other one, in turn, round after round. A literal of a variable
+/// above their number is not tried. `budget` is how many
+/// entries propagation may make, and becomes how many are left; where it is spent, or nothing is left that fails,
+/// there is no refutation.
 pub fn by_literals(
     alloc: Global,
-    clauses: &Clauses,
-    variables: u32,
+    formula: &Formula,
     tried: &[Lit],
+    most: usize,
     budget: &mut u32,
 ) -> Result<Option<Derivation>, NoMemory>
-    requires few { variables < 2 ^ 31 }
-    requires range { All (λ clause. All (λ l. l.variable ≤ variables) clause) clauses.now.clauses }
-    ensures proof { IfOk result (λ made. IfSome made (IsProof clauses.now.clauses)) }
-    ensures over { IfOk result (λ made. IfSome made (AreOver variables)) }
-    ensures single { IfOk result (λ made. IfSome made (EachPasses is_single)) }
+    requires least { 1 ≤ most }
+    ensures proof { IfOk result (λ made. IfSome made (IsProof formula.now.clauses.now.clauses)) }
+    ensures over { IfOk result (λ made. IfSome made (AreOver formula.now.variables)) }
+    ensures short { IfOk result (λ made. IfSome made (EachPasses (has_at_most most))) }
 {
-    let mut trail = Trail::new(alloc, clauses, variables)?;
-    let mut seen = vec![in alloc; false; variables as usize]?;
-    let mut lines = Items::new(alloc);
-    if rounds(
-        alloc, clauses, tried, &mut trail, &mut seen, &mut lines, budget,
-    )? {
-        let made = finish(alloc, clauses, &lines)?;
+    let mut search = Search {
+        clauses: formula.clauses,
+        most,
+        trail: Trail::new(alloc, formula.clauses, formula.variables)?,
+        seen: vec![in alloc; false; formula.variables as usize]?,
+        lines: Items::new(alloc),
+        budget: *budget,
+    };
+    let ended = rounds(alloc, &mut search, tried)?;
+    *budget = search.budget;
+    if ended {
+        let made = finish(alloc, formula.clauses, &search.lines)?;
         return Ok(made);
     }
     Ok(None)
@@ -263,7 +133,8 @@ pub fn by_failed_literals(
     ensures over { IfOk result (λ made. IfSome made (AreOver variables)) }
     ensures single { IfOk result (λ made. IfSome made (EachPasses is_single)) }
 {
+    let formula = Formula { clauses, variables };
     let tried = literals_in_turn(alloc, variables, first)?;
-    let made = by_literals(alloc, clauses, variables, tried.as_slice(), budget)?;
+    let made = by_literals(alloc, &formula, tried.as_slice(), 1, budget)?;
     Ok(made)
 }

@@ -3,6 +3,7 @@
 ghost use Rattle.std.specs.Prelude.{◌≤◌, ◌<◌, ◌^◌, ◌⊎◌, ◌≡◌, Some, All};
 
 use crate::failed_literals::by_literals;
+use crate::formula::Formula;
 use crate::literal_sets::{add_clause, clause_at};
 use crate::rebuilding::supposed_of;
 use cnf::{Clauses, Derivation, Lits, Step};
@@ -88,43 +89,35 @@ fn supposed_but(alloc: Global, lines: &Derivation, place: usize) -> Result<Lits,
 /// as there are clauses and variables, beside its entries.
 fn without(
     alloc: Global,
-    clauses: &Clauses,
-    variables: u32,
+    formula: &Formula,
     lines: Derivation,
     place: usize,
     budget: &mut u32,
-) -> Result<Option<Derivation>, NoMemory>
-    requires few { variables < 2 ^ 31 }
-    requires range { All (λ clause. All (λ l. l.variable ≤ variables) clause) clauses.now.clauses }
-{
+) -> Result<Option<Derivation>, NoMemory> {
     *budget = budget
-        .saturating_sub(clauses.len())
-        .saturating_sub(variables);
+        .saturating_sub(formula.clauses.len())
+        .saturating_sub(formula.variables);
     if *budget == 0 || place.saturating_add(1) >= lines.len() {
         return Ok(Some(lines));
     }
     let rest = supposed_but(alloc, &lines, place)?;
-    match by_literals(alloc, clauses, variables, rest.as_slice(), budget)? {
+    match by_literals(alloc, formula, rest.as_slice(), 1, budget)? {
         None => Ok(Some(lines)),
         Some(made) => Ok(shorter(Some(lines), made)),
     }
 }
 
 /// A refutation of the clauses by the literals that the given lines suppose, or by fewer of them: each is left
-/// out in turn, from the last to the first, and stays so where that has fewer hints. No variable of a clause is
-/// above the number of variables. `budget` is how many entries propagation may make.
+/// out in turn, from the last to the first, and stays so where that has fewer hints. `budget` is how many entries
+/// propagation may make.
 pub fn with_fewer_lines(
     alloc: Global,
-    clauses: &Clauses,
-    variables: u32,
+    formula: &Formula,
     given: &Derivation,
     mut budget: u32,
-) -> Result<Option<Derivation>, NoMemory>
-    requires few { variables < 2 ^ 31 }
-    requires range { All (λ clause. All (λ l. l.variable ≤ variables) clause) clauses.now.clauses }
-{
+) -> Result<Option<Derivation>, NoMemory> {
     let all = supposed_but(alloc, given, usize::MAX)?;
-    let mut best = by_literals(alloc, clauses, variables, all.as_slice(), &mut budget)?;
+    let mut best = by_literals(alloc, formula, all.as_slice(), 1, &mut budget)?;
     let count = given.as_slice().len();
     for turn in 0..count {
         let Some(lines) = best else {
@@ -132,8 +125,7 @@ pub fn with_fewer_lines(
         };
         best = without(
             alloc,
-            clauses,
-            variables,
+            formula,
             lines,
             count.saturating_sub(turn).saturating_sub(1),
             &mut budget,

@@ -3,6 +3,7 @@
 #![tactic(auto)]
 
 mod failed_literals;
+mod formula;
 mod leaving_out;
 mod literal_sets;
 mod made;
@@ -12,6 +13,7 @@ mod paired;
 mod pairs;
 mod reasons;
 mod rebuilding;
+mod search;
 mod simplifying;
 mod thinning;
 mod turns;

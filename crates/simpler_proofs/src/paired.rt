@@ -5,10 +5,10 @@ ghost use Rattle.cnf.specs.Sat.{Clause};
 ghost use Rattle.cnf.specs.Fresh.{AreOver, added_by};
 ghost use Rattle.simpler_proofs.specs.Made.{ArePaired, EachPasses, IsProof, is_pair};
 
-use crate::failed_literals::literals_in_turn;
+use crate::failed_literals::{by_literals, literals_in_turn};
+use crate::formula::Formula;
 use crate::leaving_out::shorter;
 use crate::needed::are_needed;
-use crate::pairs::by_pairs;
 use crate::rebuilding::clause_of_line;
 use crate::vivification::vivify;
 use cnf::{Clauses, Derivation, Ids, Line, Step};
@@ -65,20 +65,17 @@ fn all_but(alloc: Global, lines: &Derivation, place: usize) -> Result<Derivation
 /// A refutation by parts of clauses that have at most two literals.
 fn by_parts(
     alloc: Global,
-    clauses: &Clauses,
-    variables: u32,
+    formula: &Formula,
     given: &Derivation,
     budget: u32,
 ) -> Result<Option<Derivation>, NoMemory>
-    requires few { variables < 2 ^ 31 }
-    requires range { All (λ clause. All (λ l. l.variable ≤ variables) clause) clauses.now.clauses }
-    requires over { AreOver variables given.now }
+    requires over { AreOver formula.now.variables given.now }
     requires pairs { EachPasses is_pair given.now }
-    ensures proof { IfOk result (λ made. IfSome made (IsProof clauses.now.clauses)) }
-    ensures over { IfOk result (λ made. IfSome made (AreOver variables)) }
+    ensures proof { IfOk result (λ made. IfSome made (IsProof formula.now.clauses.now.clauses)) }
+    ensures over { IfOk result (λ made. IfSome made (AreOver formula.now.variables)) }
     ensures pairs { IfOk result (λ made. IfSome made (EachPasses is_pair)) }
 {
-    let made = vivify(alloc, clauses, variables, given, budget)?;
+    let made = vivify(alloc, formula.clauses, formula.variables, given, budget)?;
     Ok(made)
 }
 
@@ -86,26 +83,23 @@ fn by_parts(
 /// propagation may make.
 fn without(
     alloc: Global,
-    clauses: &Clauses,
-    variables: u32,
+    formula: &Formula,
     lines: Derivation,
     place: usize,
     budget: u32,
 ) -> Result<Option<Derivation>, NoMemory>
-    requires few { variables < 2 ^ 31 }
-    requires range { All (λ clause. All (λ l. l.variable ≤ variables) clause) clauses.now.clauses }
-    requires proof { IsProof clauses.now.clauses lines }
-    requires over { AreOver variables lines }
+    requires proof { IsProof formula.now.clauses.now.clauses lines }
+    requires over { AreOver formula.now.variables lines }
     requires pairs { EachPasses is_pair lines }
-    ensures proof { IfOk result (λ made. IfSome made (IsProof clauses.now.clauses)) }
-    ensures over { IfOk result (λ made. IfSome made (AreOver variables)) }
+    ensures proof { IfOk result (λ made. IfSome made (IsProof formula.now.clauses.now.clauses)) }
+    ensures over { IfOk result (λ made. IfSome made (AreOver formula.now.variables)) }
     ensures pairs { IfOk result (λ made. IfSome made (EachPasses is_pair)) }
 {
     if place.saturating_add(1) >= lines.len() {
         return Ok(Some(lines));
     }
     let rest = all_but(alloc, &lines, place)?;
-    match by_parts(alloc, clauses, variables, &rest, budget)? {
+    match by_parts(alloc, formula, &rest, budget)? {
         None => Ok(Some(lines)),
         Some(made) => Ok(shorter(Some(lines), made)),
     }
@@ -124,23 +118,20 @@ fn share_of(count: usize) -> u32 {
 /// variables as the others.
 fn with_fewer_lines(
     alloc: Global,
-    clauses: &Clauses,
-    variables: u32,
+    formula: &Formula,
     given: Derivation,
 ) -> Result<Option<Derivation>, NoMemory>
-    requires few { variables < 2 ^ 31 }
-    requires range { All (λ clause. All (λ l. l.variable ≤ variables) clause) clauses.now.clauses }
-    requires proof { IsProof clauses.now.clauses given }
-    requires over { AreOver variables given }
+    requires proof { IsProof formula.now.clauses.now.clauses given }
+    requires over { AreOver formula.now.variables given }
     requires pairs { EachPasses is_pair given }
-    ensures proof { IfOk result (λ made. IfSome made (IsProof clauses.now.clauses)) }
-    ensures over { IfOk result (λ made. IfSome made (AreOver variables)) }
+    ensures proof { IfOk result (λ made. IfSome made (IsProof formula.now.clauses.now.clauses)) }
+    ensures over { IfOk result (λ made. IfSome made (AreOver formula.now.variables)) }
     ensures pairs { IfOk result (λ made. IfSome made (EachPasses is_pair)) }
 {
     let count = given.len();
     let share = share_of(count)
-        .saturating_sub(clauses.len())
-        .saturating_sub(variables);
+        .saturating_sub(formula.clauses.len())
+        .saturating_sub(formula.variables);
     let mut best = Some(given);
     if share == 0 {
         return Ok(best);
@@ -150,60 +141,48 @@ fn with_fewer_lines(
             return Ok(None);
         };
         let place = count.saturating_sub(turn).saturating_sub(1);
-        best = without(alloc, clauses, variables, lines, place, share)?;
+        best = without(alloc, formula, lines, place, share)?;
     }
     Ok(best)
 }
 
 /// The refutation with the fewest hints of those in orders that begin at different variables, each with as few
 /// lines as it does with. Of the budget each order takes as many as there are clauses, beside its entries.
-fn shortest(
-    alloc: Global,
-    clauses: &Clauses,
-    variables: u32,
-) -> Result<Option<Derivation>, NoMemory>
-    requires few { variables < 2 ^ 31 }
-    requires range { All (λ clause. All (λ l. l.variable ≤ variables) clause) clauses.now.clauses }
-    ensures proof { IfOk result (λ made. IfSome made (IsProof clauses.now.clauses)) }
-    ensures over { IfOk result (λ made. IfSome made (AreOver variables)) }
+fn shortest(alloc: Global, formula: &Formula) -> Result<Option<Derivation>, NoMemory>
+    ensures proof { IfOk result (λ made. IfSome made (IsProof formula.now.clauses.now.clauses)) }
+    ensures over { IfOk result (λ made. IfSome made (AreOver formula.now.variables)) }
     ensures pairs { IfOk result (λ made. IfSome made (EachPasses is_pair)) }
 {
     let mut budget = BUDGET;
     let mut best = None;
     for turn in 0..ORDERS {
-        let first = turn * (variables / ORDERS);
-        let tried = literals_in_turn(alloc, variables, first)?;
-        match by_pairs(alloc, clauses, variables, tried.as_slice(), &mut budget)? {
+        let first = turn * (formula.variables / ORDERS);
+        let tried = literals_in_turn(alloc, formula.variables, first)?;
+        match by_literals(alloc, formula, tried.as_slice(), 2, &mut budget)? {
             None => return Ok(best),
             Some(made) => {
-                if let Some(fewer) = with_fewer_lines(alloc, clauses, variables, made)? {
+                if let Some(fewer) = with_fewer_lines(alloc, formula, made)? {
                     best = shorter(best, fewer);
                 }
             }
         }
-        budget = budget.saturating_sub(clauses.len());
+        budget = budget.saturating_sub(formula.clauses.len());
     }
     Ok(best)
 }
 
 /// A refutation of the clauses in which each clause has at most two literals, by failed literals under one
 /// assumption, with few hints, none of which does with one literal fewer; none where there is none, or a budget
-/// is spent. No variable of a clause is above the number of variables.
-pub fn by_two(
-    alloc: Global,
-    clauses: &Clauses,
-    variables: u32,
-) -> Result<Option<Derivation>, NoMemory>
-    requires few { variables < 2 ^ 31 }
-    requires range { All (λ clause. All (λ l. l.variable ≤ variables) clause) clauses.now.clauses }
-    ensures proof { IfOk result (λ made. IfSome made (IsProof clauses.now.clauses)) }
-    ensures over { IfOk result (λ made. IfSome made (AreOver variables)) }
-    ensures paired { IfOk result (λ made. IfSome made (ArePaired clauses.now.clauses)) }
+/// is spent.
+pub fn by_two(alloc: Global, formula: &Formula) -> Result<Option<Derivation>, NoMemory>
+    ensures proof { IfOk result (λ made. IfSome made (IsProof formula.now.clauses.now.clauses)) }
+    ensures over { IfOk result (λ made. IfSome made (AreOver formula.now.variables)) }
+    ensures paired { IfOk result (λ made. IfSome made (ArePaired formula.now.clauses.now.clauses)) }
 {
-    let Some(made) = shortest(alloc, clauses, variables)? else {
+    let Some(made) = shortest(alloc, formula)? else {
         return Ok(None);
     };
-    if are_needed(clauses, &made) {
+    if are_needed(formula.clauses, &made) {
         return Ok(Some(made));
     }
     Ok(None)

@@ -5,6 +5,7 @@ ghost use Rattle.cnf.specs.Fresh.{AreOver};
 ghost use Rattle.simpler_proofs.specs.Made.{EachPasses, IsProof, AreSimpler, is_single};
 
 use crate::failed_literals::by_failed_literals;
+use crate::formula::Formula;
 use crate::leaving_out::{mark_cited, marked_clauses, shorter, with_fewer_lines};
 use crate::ordering::ordered;
 use crate::paired::by_two;
@@ -32,28 +33,31 @@ const ORDERS: u32 = 8;
 /// are clauses, beside its entries. The clauses that one of them cites are marked.
 fn shortest(
     alloc: Global,
-    clauses: &Clauses,
-    variables: u32,
+    formula: &Formula,
     cited: &mut Vec<bool>,
 ) -> Result<Option<Derivation>, NoMemory>
-    requires few { variables < 2 ^ 31 }
-    requires range { All (λ clause. All (λ l. l.variable ≤ variables) clause) clauses.now.clauses }
-    ensures proof { IfOk result (λ made. IfSome made (IsProof clauses.now.clauses)) }
-    ensures over { IfOk result (λ made. IfSome made (AreOver variables)) }
+    ensures proof { IfOk result (λ made. IfSome made (IsProof formula.now.clauses.now.clauses)) }
+    ensures over { IfOk result (λ made. IfSome made (AreOver formula.now.variables)) }
     ensures single { IfOk result (λ made. IfSome made (EachPasses is_single)) }
 {
     let mut budget = BUDGET;
     let mut best = None;
     for turn in 0..ORDERS {
-        let first = turn * (variables / ORDERS);
-        match by_failed_literals(alloc, clauses, variables, first, &mut budget)? {
+        let first = turn * (formula.variables / ORDERS);
+        match by_failed_literals(
+            alloc,
+            formula.clauses,
+            formula.variables,
+            first,
+            &mut budget,
+        )? {
             None => return Ok(best),
             Some(made) => {
                 mark_cited(&made, cited);
                 best = shorter(best, made);
             }
         }
-        budget = budget.saturating_sub(clauses.len());
+        budget = budget.saturating_sub(formula.clauses.len());
     }
     Ok(best)
 }
@@ -62,24 +66,33 @@ fn shortest(
 /// with fewer hints in each. None where the marked clauses don't refute, or a budget is spent.
 fn rebuilt(
     alloc: Global,
-    clauses: &Clauses,
-    variables: u32,
+    formula: &Formula,
     marked: &[bool],
     given: &Derivation,
 ) -> Result<Option<Derivation>, NoMemory>
-    requires few { variables < 2 ^ 31 }
-    ensures proof { IfOk result (λ made. IfSome made (IsProof clauses.now.clauses)) }
-    ensures over { IfOk result (λ made. IfSome made (AreOver variables)) }
+    ensures proof { IfOk result (λ made. IfSome made (IsProof formula.now.clauses.now.clauses)) }
+    ensures over { IfOk result (λ made. IfSome made (AreOver formula.now.variables)) }
     ensures single { IfOk result (λ made. IfSome made (EachPasses is_single)) }
 {
-    let part = marked_clauses(alloc, clauses, marked)?;
-    if !stay_within(&part, variables) {
+    let part = marked_clauses(alloc, formula.clauses, marked)?;
+    if !stay_within(&part, formula.variables) {
         return Ok(None);
     }
-    let Some(lines) = with_fewer_lines(alloc, &part, variables, given, LINES)? else {
+    let rest = Formula {
+        clauses: &part,
+        variables: formula.variables,
+    };
+    let Some(lines) = with_fewer_lines(alloc, &rest, given, LINES)? else {
         return Ok(None);
     };
-    let made = thinned(alloc, clauses, &part, variables, &lines, LOOKS)?;
+    let made = thinned(
+        alloc,
+        formula.clauses,
+        &part,
+        formula.variables,
+        &lines,
+        LOOKS,
+    )?;
     Ok(made)
 }
 
@@ -93,43 +106,43 @@ fn can_look_at_all(clauses: &Clauses, variables: u32, lines: usize) -> bool {
 /// is not accepted, and where there are too many clauses and lines to look at all clauses for each line.
 fn thinned_by_all(
     alloc: Global,
-    clauses: &Clauses,
-    variables: u32,
+    formula: &Formula,
     given: &Derivation,
 ) -> Result<Option<Derivation>, NoMemory>
-    ensures proof { IfOk result (λ made. IfSome made (IsProof clauses.now.clauses)) }
-    ensures over { IfOk result (λ made. IfSome made (AreOver variables)) }
+    ensures proof { IfOk result (λ made. IfSome made (IsProof formula.now.clauses.now.clauses)) }
+    ensures over { IfOk result (λ made. IfSome made (AreOver formula.now.variables)) }
     ensures single { IfOk result (λ made. IfSome made (EachPasses is_single)) }
 {
-    if !can_look_at_all(clauses, variables, given.len()) {
+    if !can_look_at_all(formula.clauses, formula.variables, given.len()) {
         return Ok(None);
     }
-    let all = vec![in alloc; true; clauses.len() as usize]?;
-    let whole = marked_clauses(alloc, clauses, all.as_slice())?;
-    let made = thinned(alloc, clauses, &whole, variables, given, LOOKS)?;
+    let all = vec![in alloc; true; formula.clauses.len() as usize]?;
+    let whole = marked_clauses(alloc, formula.clauses, all.as_slice())?;
+    let made = thinned(
+        alloc,
+        formula.clauses,
+        &whole,
+        formula.variables,
+        given,
+        LOOKS,
+    )?;
     Ok(made)
 }
 
 /// A refutation by failed literals, the shortest that was found.
-fn by_single(
-    alloc: Global,
-    clauses: &Clauses,
-    variables: u32,
-) -> Result<Option<Derivation>, NoMemory>
-    requires few { variables < 2 ^ 31 }
-    requires range { All (λ clause. All (λ l. l.variable ≤ variables) clause) clauses.now.clauses }
-    ensures proof { IfOk result (λ made. IfSome made (IsProof clauses.now.clauses)) }
-    ensures over { IfOk result (λ made. IfSome made (AreOver variables)) }
+fn by_single(alloc: Global, formula: &Formula) -> Result<Option<Derivation>, NoMemory>
+    ensures proof { IfOk result (λ made. IfSome made (IsProof formula.now.clauses.now.clauses)) }
+    ensures over { IfOk result (λ made. IfSome made (AreOver formula.now.variables)) }
     ensures single { IfOk result (λ made. IfSome made (EachPasses is_single)) }
 {
-    let mut cited = vec![in alloc; false; clauses.len() as usize]?;
-    let Some(given) = shortest(alloc, clauses, variables, &mut cited)? else {
+    let mut cited = vec![in alloc; false; formula.clauses.len() as usize]?;
+    let Some(given) = shortest(alloc, formula, &mut cited)? else {
         return Ok(None);
     };
-    let Some(made) = rebuilt(alloc, clauses, variables, cited.as_slice(), &given)? else {
+    let Some(made) = rebuilt(alloc, formula, cited.as_slice(), &given)? else {
         return Ok(Some(given));
     };
-    match thinned_by_all(alloc, clauses, variables, &made)? {
+    match thinned_by_all(alloc, formula, &made)? {
         None => Ok(shorter(Some(given), made)),
         Some(last) => Ok(shorter(shorter(Some(given), made), last)),
     }
@@ -138,24 +151,21 @@ fn by_single(
 /// A refutation by failed literals, or else by failed literals under one assumption, or else by vivification.
 fn chosen(
     alloc: Global,
-    clauses: &Clauses,
-    variables: u32,
+    formula: &Formula,
     given: &Derivation,
 ) -> Result<Option<Derivation>, NoMemory>
-    requires few { variables < 2 ^ 31 }
-    requires range { All (λ clause. All (λ l. l.variable ≤ variables) clause) clauses.now.clauses }
-    requires over { AreOver variables given.now }
-    ensures proof { IfOk result (λ made. IfSome made (IsProof clauses.now.clauses)) }
-    ensures over { IfOk result (λ made. IfSome made (AreOver variables)) }
-    ensures simpler { IfOk result (λ made. IfSome made (AreSimpler clauses.now.clauses given.now)) }
+    requires over { AreOver formula.now.variables given.now }
+    ensures proof { IfOk result (λ made. IfSome made (IsProof formula.now.clauses.now.clauses)) }
+    ensures over { IfOk result (λ made. IfSome made (AreOver formula.now.variables)) }
+    ensures simpler { IfOk result (λ made. IfSome made (AreSimpler formula.now.clauses.now.clauses given.now)) }
 {
-    if let Some(made) = by_single(alloc, clauses, variables)? {
+    if let Some(made) = by_single(alloc, formula)? {
         return Ok(Some(made));
     }
-    if let Some(made) = by_two(alloc, clauses, variables)? {
+    if let Some(made) = by_two(alloc, formula)? {
         return Ok(Some(made));
     }
-    let made = vivify(alloc, clauses, variables, given, BUDGET)?;
+    let made = vivify(alloc, formula.clauses, formula.variables, given, BUDGET)?;
     Ok(made)
 }
 
@@ -179,7 +189,8 @@ pub fn simplify(
     ensures over { IfOk result (λ made. IfSome made (AreOver variables)) }
     ensures simpler { IfOk result (λ made. IfSome made (AreSimpler clauses.now.clauses given.now)) }
 {
-    match chosen(alloc, clauses, variables, given)? {
+    let formula = Formula { clauses, variables };
+    match chosen(alloc, &formula, given)? {
         None => Ok(None),
         Some(made) => {
             let last = ordered(alloc, clauses, variables, made)?;

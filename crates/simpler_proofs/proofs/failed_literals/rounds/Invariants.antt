@@ -1,11 +1,8 @@
-use Rattle.std.proofs.Common.{◌≡◌, true}
-use Rattle.simpler_proofs.specs.Made.{IsPassing, is_single}
+use Rattle.simpler_proofs.specs.Search.{IsAtRoot, IsSameSearch}
 use Rattle.simpler_proofs.proofs.failed_literals.rounds.Given as goal
 
 abbrev pub invariant-loop : goal.invariant-loop
 invariant-loop l = record {
-  passing : IsPassing is_single l.clauses.clauses l.trail l.seen.items l.lines;
-  level : l.trail.level ≡ 0;
-  settled : l.trail.settled ≡ true;
-  variables : l.trail.variables ≡ l.fn.trail.variables;
+  root : IsAtRoot l.search;
+  same : IsSameSearch l.fn.search l.search;
 }

@@ -5,7 +5,7 @@ use Rattle.simpler_proofs.proofs.simplifying.shortest.Given as goal
 
 abbrev pub invariant-loop-turn : goal.invariant-loop-turn
 invariant-loop-turn l = record {
-  proof : IfSome l.best (IsProof l.clauses.clauses);
-  over : IfSome l.best (AreOver l.variables);
+  proof : IfSome l.best (IsProof l.formula.clauses.now.clauses);
+  over : IfSome l.best (AreOver l.formula.variables);
   single : IfSome l.best (EachPasses is_single);
 }

@@ -1,10 +1,10 @@
 use Rattle.std.proofs.Common.{subst, ap, ◌∙◌, ◌≡◌, ℕ}
-use Rattle.cnf.specs.Fresh.{AreOver}
+use Rattle.cnf.specs.Fresh.{AreOver, is_over}
 use Rattle.propagate.specs.TrailState.{TrailState}
-use Rattle.simpler_proofs.proofs.Passing.{over_made}
+use Rattle.simpler_proofs.proofs.Passing.{passes_made}
 use Rattle.simpler_proofs.proofs.vivification.vivify.Goals as goal
 
 pub returns-then-branch-clause-over : goal.returns-then-branch-clause-over
 returns-then-branch-clause-over c =
     let same : c.shorten_all.new.trail.variables ≡ c.args.variables = c.in_ok-shorten_all.ensures.variables ∙ ap (λ (x : TrailState). x.variables) c.in_ok-trail.ensures.state in
-    over_made c.in_ok-made.made c.args.variables c.shorten_all.new.lines (subst (λ (n : ℕ). AreOver n c.shorten_all.new.lines) same c.in_ok-shorten_all.ensures.passing.over) c.in_ok-made.ensures.passes
+    passes_made c.in_ok-made.made (is_over c.args.variables) c.shorten_all.new.lines (subst (λ (n : ℕ). AreOver n c.shorten_all.new.lines) same c.in_ok-shorten_all.ensures.passing.over) c.in_ok-made.ensures.passes
