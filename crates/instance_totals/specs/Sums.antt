@@ -1,5 +1,6 @@
 -- Sums of the counts of instances.
-use Rattle.std.specs.Prelude.{◌≡◌, ℕ, ◌+◌, ◌-◌, ◌*◌, ◌<◌, ◌≤◌, min, [], length, sum_by, IsTrue, IsFalse}
+use Rattle.std.specs.Prelude.{◌≡◌, ℕ, ◌+◌, ◌-◌, ◌*◌, ◌<◌, ◌≤◌, min, List, [], length, sum_by, IsTrue, IsFalse}
+use Rattle.crew.specs.Right.{AreRight}
 use Rattle.vocab.specs.Range.{up_from}
 use Rattle.vocab.specs.Size.{Extent}
 use Rattle.vocab.specs.Study.{Question}
@@ -8,7 +9,7 @@ use Rattle.meaning.specs.StudyClauses.{clauses_for}
 use Rattle.clause_form.specs.Wide.{is_wide}
 use Rattle.sharp_verdicts.specs.declared.instances.Cited.{Cited}
 use Rattle.sharp_verdicts.specs.Instances.{count_at, is_present}
-use Rattle.sharp_verdicts.specs.Totals.{counts_of_instance}
+use Rattle.sharp_verdicts.specs.Totals.{counts_of_instance, passes_clause_limits}
 
 -- the instance of a number of the axiom at a place
 abbrev pub instance_at : ℕ → ℕ → Cited
@@ -34,6 +35,11 @@ module _ (study : Question) where
   abbrev pub frame_counts : Counts
   frame_counts = record { clauses = length (clauses_for study.size study.axioms []); literals = sum_by length (clauses_for study.size study.axioms []) }
 
+  -- counts are those of the frames, which pass no limit
+  pub record AreFrameCounts (counts : Counts) : Type 0 where
+    pub same : counts ≡ frame_counts
+    pub few : IsFalse (passes_clause_limits counts)
+
   -- no instance is too wide
   abbrev pub AreAllNarrow : Type 0
   AreAllNarrow = (c : Cited) → IsTrue (is_present study c) → IsFalse (is_wide (counts_of_instance study c))
@@ -49,3 +55,9 @@ module _ (study : Question) where
   -- a part has the counts of a piece together
   abbrev pub IsSumOfPiece : ℕ → ℕ → ℕ → Counts → Type 0
   IsSumOfPiece place count piece part = part ≡ counts_from place (piece_start piece) (piece_end count piece - piece_start piece)
+
+  -- parts are those of all pieces of the instances up to a number
+  pub record AreAllParts (place count : ℕ) (parts : List Counts) : Type 0 where
+    pub right : AreRight (IsSumOfPiece place count) 0 parts
+    pub whole : count ≤ piece_start (length parts)
+    pub exact : piece_start (length parts) < count + 4096

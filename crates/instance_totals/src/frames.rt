@@ -1,8 +1,7 @@
 //! The counts of the frames of a study.
 
-ghost use Rattle.std.specs.Prelude.{◌≡◌, IfOk, IsFalse, length, sum_by};
-ghost use Rattle.sharp_verdicts.specs.Totals.{passes_clause_limits};
-ghost use Rattle.instance_totals.specs.Sums.{frame_counts};
+ghost use Rattle.std.specs.Prelude.{◌≡◌, IfOk, length, sum_by};
+ghost use Rattle.instance_totals.specs.Sums.{AreFrameCounts};
 
 use clause_form::GroundFault;
 use cnf::Clauses;
@@ -11,10 +10,10 @@ use edge::Gate;
 use grounding::ground;
 use lists::NoMemory;
 use meaning::Counts;
-use outcomes::OutcomeKind;
+use outcomes::{OutcomeKind, Setting};
 use std::alloc::Global;
 use std::thread::Threads;
-use vocab::{Places, Study};
+use vocab::Places;
 
 /// How many literals stand in the clauses of a list.
 fn literals_of(clauses: &Clauses) -> u64
@@ -31,15 +30,12 @@ fn literals_of(clauses: &Clauses) -> u64
 pub(crate) fn counts_of_frames<R: Threads + Sync, K: OutcomeKind, G: Gate>(
     alloc: Global,
     crew: &Crew<R, G>,
-    kind: &K,
-    study: &Study,
+    setting: &Setting<K>,
 ) -> Result<Counts, NoMemory>
-    requires { study.now.size ≡ K.size kind.now }
-    ensures counts { IfOk result (λ counts. counts ≡ frame_counts study.now) }
-    ensures few { IfOk result (λ counts. IsFalse (passes_clause_limits counts)) }
+    ensures { IfOk result (AreFrameCounts setting.now.study.now) }
 {
     let none = Places::new(alloc);
-    match ground(alloc, crew, kind, study, &none) {
+    match ground(alloc, crew, setting.kind, setting.study, &none) {
         Ok(ground) => {
             let clauses = ground.clauses();
             Ok(Counts {

@@ -1,10 +1,9 @@
 //! The sum of the counts of the instances of an axiom, in pieces that are shared among workers.
 
-ghost use Rattle.std.specs.Prelude.{◌≡◌, ◌-◌, ◌<◌, ◌+◌, ◌≤◌, IfOk, IsTrue, length};
-ghost use Rattle.crew.specs.Right.{AreRight};
+ghost use Rattle.std.specs.Prelude.{◌≡◌, ◌-◌, ◌<◌, ◌≤◌, IfOk, IsTrue, length};
 ghost use Rattle.sharp_verdicts.specs.Instances.{count_at, is_present};
 ghost use Rattle.sharp_verdicts.specs.Totals.{counts_of_instance};
-ghost use Rattle.instance_totals.specs.Sums.{AreAllNarrow, AreCounted, IsSumOfPiece, counts_from, piece_end, piece_start};
+ghost use Rattle.instance_totals.specs.Sums.{AreAllNarrow, AreAllParts, AreCounted, counts_from, piece_end, piece_start};
 
 use clause_form::measure;
 use crew::{Crew, Job, Parts, map_pieces};
@@ -12,7 +11,7 @@ use edge::Gate;
 use instance_studies::values_of;
 use lists::NoMemory;
 use meaning::Counts;
-use outcomes::OutcomeKind;
+use outcomes::{OutcomeKind, Setting};
 use sharp_verdicts::Cited;
 use std::alloc::Global;
 use std::thread::Threads;
@@ -82,9 +81,7 @@ impl<F: Fn(u64, u64) -> Counts + Sync> Job for Summing<'_, F> {
 /// The sum of the parts of all pieces of an axiom.
 fn sum_of_parts(study: &Study, place: u32, count: u64, parts: &Parts<Counts>) -> Counts
     requires counted { AreCounted study.now study.now.size place 0 count }
-    requires right { AreRight (IsSumOfPiece study.now place count) 0 parts.now }
-    requires whole { count ≤ piece_start (length parts.now) }
-    requires exact { piece_start (length parts.now) < count + 4096 }
+    requires parts { AreAllParts study.now place count parts.now }
     ensures { result ≡ counts_from study.now place 0 count }
 {
     // Its contract says that the study is one.
@@ -103,15 +100,16 @@ fn sum_of_parts(study: &Study, place: u32, count: u64, parts: &Parts<Counts>) ->
 pub(crate) fn sum_of_axiom<R: Threads + Sync, K: OutcomeKind, G: Gate>(
     alloc: Global,
     crew: &Crew<R, G>,
-    kind: &K,
-    study: &Study,
+    setting: &Setting<K>,
     place: u32,
 ) -> Result<Counts, NoMemory>
-    requires size { study.now.size ≡ K.size kind.now }
-    requires there { place < length study.now.axioms }
-    requires narrow { AreAllNarrow study.now }
-    ensures { IfOk result (λ sum. sum ≡ counts_from study.now place 0 (count_at study.now place)) }
+    requires there { place < length setting.now.study.now.axioms }
+    requires narrow { AreAllNarrow setting.now.study.now }
+    ensures { IfOk result (λ sum. sum ≡
+        counts_from setting.now.study.now place 0 (count_at setting.now.study.now place)) }
 {
+    let kind = setting.kind;
+    let study = setting.study;
     let sentence = study.axioms().get(place as usize).sentence();
     let count = instance_count(kind.space(), sentence);
     let sum = |start: u64, end: u64| -> Counts

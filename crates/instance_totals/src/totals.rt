@@ -1,11 +1,11 @@
 //! The total of a study, and whether it is within the limits of a list of clauses.
 
-ghost use Rattle.std.specs.Prelude.{◌≡◌, None, IfErr, IfOk, IsFalse, OnOk};
+ghost use Rattle.std.specs.Prelude.{◌≡◌, None, IfErr, IfOk, OnOk};
 ghost use Rattle.vocab.specs.Study.{HasFewAxioms};
 ghost use Rattle.clause_form.specs.Refusals.{first_wide};
 ghost use Rattle.search_logs.specs.Spent.{all_places};
 ghost use Rattle.sharp_verdicts.specs.Totals.{IsWithinTotal, passes_clause_limits, total};
-ghost use Rattle.instance_totals.specs.Sums.{AreAllNarrow, frame_counts};
+ghost use Rattle.instance_totals.specs.Sums.{AreAllNarrow, AreFrameCounts};
 ghost use Rattle.instance_totals.specs.Totals.{IsTotalFault};
 
 use crate::bounds::are_bounded;
@@ -15,10 +15,9 @@ use crew::Crew;
 use edge::Gate;
 use lists::NoMemory;
 use meaning::Counts;
-use outcomes::OutcomeKind;
+use outcomes::{OutcomeKind, Setting};
 use std::alloc::Global;
 use std::thread::Threads;
-use vocab::Study;
 
 /// The most clauses of a list.
 const MOST_CLAUSES: u64 = 4_000_000;
@@ -47,22 +46,19 @@ pub(crate) fn passes_clause_limits(counts: Counts) -> bool
 pub(crate) fn with_instances<R: Threads + Sync, K: OutcomeKind, G: Gate>(
     alloc: Global,
     crew: &Crew<R, G>,
-    kind: &K,
-    study: &Study,
+    setting: &Setting<K>,
     frames: Counts,
 ) -> Result<Counts, NoMemory>
-    requires size { study.now.size ≡ K.size kind.now }
-    requires listed { HasFewAxioms study.now }
-    requires narrow { AreAllNarrow study.now }
-    requires frames { frames ≡ frame_counts study.now }
-    requires few { IsFalse (passes_clause_limits frames) }
-    ensures { IfOk result (λ counts. counts ≡ total study.now) }
+    requires listed { HasFewAxioms setting.now.study.now }
+    requires narrow { AreAllNarrow setting.now.study.now }
+    requires frames { AreFrameCounts setting.now.study.now frames }
+    ensures { IfOk result (λ counts. counts ≡ total setting.now.study.now) }
 {
-    let count = study.axioms().len() as u32;
+    let count = setting.study.axioms().len() as u32;
     let mut clauses = frames.clauses;
     let mut literals = frames.literals;
     for place in 0..count {
-        let sum = sum_of_axiom(alloc, crew, kind, study, place)?;
+        let sum = sum_of_axiom(alloc, crew, setting, place)?;
         clauses += sum.clauses;
         literals += sum.literals;
     }
@@ -77,22 +73,21 @@ pub(crate) fn with_instances<R: Threads + Sync, K: OutcomeKind, G: Gate>(
 pub fn check_total<R: Threads + Sync, K: OutcomeKind, G: Gate>(
     alloc: Global,
     crew: &Crew<R, G>,
-    kind: &K,
-    study: &Study,
+    setting: &Setting<K>,
 ) -> Result<(), TotalFault>
-    requires size { study.now.size ≡ K.size kind.now }
-    requires listed { HasFewAxioms study.now }
-    requires narrow { first_wide study.now.size study.now.axioms (all_places study.now) ≡ None }
-    ensures ok { OnOk result (IsWithinTotal study.now) }
-    ensures err { IfErr result (IsTotalFault study.now) }
+    requires listed { HasFewAxioms setting.now.study.now }
+    requires narrow { first_wide setting.now.study.now.size setting.now.study.now.axioms
+        (all_places setting.now.study.now) ≡ None }
+    ensures ok { OnOk result (IsWithinTotal setting.now.study.now) }
+    ensures err { IfErr result (IsTotalFault setting.now.study.now) }
 {
-    let Ok(frames) = counts_of_frames(alloc, crew, kind, study) else {
+    let Ok(frames) = counts_of_frames(alloc, crew, setting) else {
         return Err(TotalFault::NoMemory);
     };
-    if are_bounded(kind, study, frames) {
+    if are_bounded(setting, frames) {
         return Ok(());
     }
-    let Ok(counts) = with_instances(alloc, crew, kind, study, frames) else {
+    let Ok(counts) = with_instances(alloc, crew, setting, frames) else {
         return Err(TotalFault::NoMemory);
     };
     if passes_clause_limits(counts) {

@@ -21,7 +21,7 @@ use edge::{Gate, Shelf};
 use instance_totals::{TotalFault, check_total};
 use kinds::over_kind;
 use lists::NoMemory;
-use outcomes::OutcomeKind;
+use outcomes::{OutcomeKind, Setting};
 use search_logs::Logs;
 use sharp_text::laws::right_sharp_verdicts_have_texts;
 use std::alloc::Global;
@@ -99,7 +99,11 @@ fn sharpen_over<R: Threads + Sync, K: OutcomeKind, G: Gate>(
         Err(GroundFault::NoMemory) => return Err(Stop::NoMemory),
         Err(fault) => return Ok(Answer::NoClauses(study, fault)),
     };
-    match check_total(alloc, crew, kind, &study) {
+    let setting = Setting {
+        kind,
+        study: &study,
+    };
+    match check_total(alloc, crew, &setting) {
         Ok(()) => {}
         Err(TotalFault::Over(counts)) => return Ok(Answer::OverTotal(counts)),
         Err(TotalFault::NoMemory) => return Err(Stop::NoMemory),

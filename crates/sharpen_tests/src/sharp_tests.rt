@@ -12,7 +12,7 @@ use edge::{MemorySink, Open};
 use instance_totals::check_total;
 use lrat_check::check;
 use meaning::Witness;
-use outcomes::{ChoiceKind, OutcomeKind, RankingKind};
+use outcomes::{ChoiceKind, OutcomeKind, RankingKind, Setting};
 use profiles::Space;
 use search_logs::all_places;
 use sharp_text::laws::right_sharp_verdicts_have_texts;
@@ -88,7 +88,8 @@ fn sharpened<R: Threads + Sync, K: OutcomeKind>(
         gate: &Open,
         workers: 2,
     };
-    if check_total(alloc, &crew, kind, study).is_err() {
+    let setting = Setting { kind, study };
+    if check_total(alloc, &crew, &setting).is_err() {
         return Err(Fail::from("many instances"));
     }
     let all = all_places(alloc, study)?;

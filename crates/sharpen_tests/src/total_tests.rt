@@ -12,7 +12,7 @@ use crew::Crew;
 use edge::Open;
 use instance_totals::{TotalFault, check_total};
 use meaning::Counts;
-use outcomes::{ChoiceKind, OutcomeKind};
+use outcomes::{ChoiceKind, OutcomeKind, Setting};
 use profiles::Space;
 use std::alloc::Global;
 use std::test::Fail;
@@ -59,7 +59,8 @@ fn answer_of<R: Threads + Sync, K: OutcomeKind>(
         workers: 2,
     };
     let _made = clauses_of(rt, alloc, kind, study)?;
-    Ok(check_total(alloc, &crew, kind, study))
+    let setting = Setting { kind, study };
+    Ok(check_total(alloc, &crew, &setting))
 }
 
 /// What is answered of the total of the study of choices that a text says.

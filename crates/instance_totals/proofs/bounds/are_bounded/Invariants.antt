@@ -9,6 +9,6 @@ abbrev pub invariant-loop-place : goal.invariant-loop-place
 invariant-loop-place g l = record {
   within : l.place ≤ l.count;
   few : IsFalse (passes_clause_limits l.most);
-  clauses : (front l.study l.place).clauses ≤ l.most.clauses;
-  literals : (front l.study l.place).literals ≤ l.most.literals;
+  clauses : (front l.setting.study.now l.place).clauses ≤ l.most.clauses;
+  literals : (front l.setting.study.now l.place).literals ≤ l.most.literals;
 }

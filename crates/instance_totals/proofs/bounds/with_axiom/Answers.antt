@@ -20,12 +20,12 @@ use Rattle.instance_totals.proofs.bounds.with_axiom.Goals as goal
 
 pub overflow_mul-after : goal.overflow_mul-after
 overflow_mul-after g c =
-    let study = c.args.study.now in
-    let size : Extent = g.K.OutcomeKind.size c.args.kind.now in
+    let study = c.args.setting.now.study.now in
+    let size : Extent = g.K.OutcomeKind.size c.args.setting.now.kind.now in
     let a : Titled = c.get.result.now in
     let at : slice_get study.axioms c.args.place ≡ Some a = rw c.axioms.ensures.axioms at c.get.ensures in
     let cut : c.instance_count-count.result ≡ min (instance_count size a.sentence) (2 ^ 64 - 1) = rw (c.space.ensures, c.sentence-sentence.ensures) at c.instance_count-count.ensures in
-    let same = count_is study size c.requires.size c.axioms.ensures.study c.args.place a at c.instance_count-count.result cut in
+    let same = count_is study size c.args.setting.now.same c.axioms.ensures.study c.args.place a at c.instance_count-count.result cut in
     let few = counts_within study c.axioms.ensures.study c.args.place in
     let most = c.most_counts-most.result in
     let over : passes_clause_limits most ≡ false = sym c.passes_clause_limits.ensures ∙ c.if-passes_clause_limits.false in
@@ -35,12 +35,12 @@ overflow_mul-after g c =
 
 pub overflow_add-after : goal.overflow_add-after
 overflow_add-after g c =
-    let study = c.args.study.now in
-    let size : Extent = g.K.OutcomeKind.size c.args.kind.now in
+    let study = c.args.setting.now.study.now in
+    let size : Extent = g.K.OutcomeKind.size c.args.setting.now.kind.now in
     let a : Titled = c.get.result.now in
     let at : slice_get study.axioms c.args.place ≡ Some a = rw c.axioms.ensures.axioms at c.get.ensures in
     let cut : c.instance_count-count.result ≡ min (instance_count size a.sentence) (2 ^ 64 - 1) = rw (c.space.ensures, c.sentence-sentence.ensures) at c.instance_count-count.ensures in
-    let same = count_is study size c.requires.size c.axioms.ensures.study c.args.place a at c.instance_count-count.result cut in
+    let same = count_is study size c.args.setting.now.same c.axioms.ensures.study c.args.place a at c.instance_count-count.result cut in
     let few = counts_within study c.axioms.ensures.study c.args.place in
     let most = c.most_counts-most.result in
     let over : passes_clause_limits most ≡ false = sym c.passes_clause_limits.ensures ∙ c.if-passes_clause_limits.false in
@@ -51,12 +51,12 @@ overflow_add-after g c =
 
 pub overflow_mul-after-2 : goal.overflow_mul-after-2
 overflow_mul-after-2 g c =
-    let study = c.args.study.now in
-    let size : Extent = g.K.OutcomeKind.size c.args.kind.now in
+    let study = c.args.setting.now.study.now in
+    let size : Extent = g.K.OutcomeKind.size c.args.setting.now.kind.now in
     let a : Titled = c.get.result.now in
     let at : slice_get study.axioms c.args.place ≡ Some a = rw c.axioms.ensures.axioms at c.get.ensures in
     let cut : c.instance_count-count.result ≡ min (instance_count size a.sentence) (2 ^ 64 - 1) = rw (c.space.ensures, c.sentence-sentence.ensures) at c.instance_count-count.ensures in
-    let same = count_is study size c.requires.size c.axioms.ensures.study c.args.place a at c.instance_count-count.result cut in
+    let same = count_is study size c.args.setting.now.same c.axioms.ensures.study c.args.place a at c.instance_count-count.result cut in
     let few = counts_within study c.axioms.ensures.study c.args.place in
     let most = c.most_counts-most.result in
     let over : passes_clause_limits most ≡ false = sym c.passes_clause_limits.ensures ∙ c.if-passes_clause_limits.false in
@@ -66,12 +66,12 @@ overflow_mul-after-2 g c =
 
 pub overflow_add-after-2 : goal.overflow_add-after-2
 overflow_add-after-2 g c =
-    let study = c.args.study.now in
-    let size : Extent = g.K.OutcomeKind.size c.args.kind.now in
+    let study = c.args.setting.now.study.now in
+    let size : Extent = g.K.OutcomeKind.size c.args.setting.now.kind.now in
     let a : Titled = c.get.result.now in
     let at : slice_get study.axioms c.args.place ≡ Some a = rw c.axioms.ensures.axioms at c.get.ensures in
     let cut : c.instance_count-count.result ≡ min (instance_count size a.sentence) (2 ^ 64 - 1) = rw (c.space.ensures, c.sentence-sentence.ensures) at c.instance_count-count.ensures in
-    let same = count_is study size c.requires.size c.axioms.ensures.study c.args.place a at c.instance_count-count.result cut in
+    let same = count_is study size c.args.setting.now.same c.axioms.ensures.study c.args.place a at c.instance_count-count.result cut in
     let few = counts_within study c.axioms.ensures.study c.args.place in
     let most = c.most_counts-most.result in
     let over : passes_clause_limits most ≡ false = sym c.passes_clause_limits.ensures ∙ c.if-passes_clause_limits.false in
@@ -82,16 +82,16 @@ overflow_add-after-2 g c =
 
 pub returns : goal.returns
 returns g c =
-    let study = c.args.study.now in
-    let size : Extent = g.K.OutcomeKind.size c.args.kind.now in
+    let study = c.args.setting.now.study.now in
+    let size : Extent = g.K.OutcomeKind.size c.args.setting.now.kind.now in
     let place = c.args.place in
     let a : Titled = c.get.result.now in
     let at : slice_get study.axioms place ≡ Some a = rw c.axioms.ensures.axioms at c.get.ensures in
     let cut : c.instance_count-count.result ≡ min (instance_count size a.sentence) (2 ^ 64 - 1) = rw (c.space.ensures, c.sentence-sentence.ensures) at c.instance_count-count.ensures in
-    let same = count_is study size c.requires.size c.axioms.ensures.study place a at c.instance_count-count.result cut in
+    let same = count_is study size c.args.setting.now.same c.axioms.ensures.study place a at c.instance_count-count.result cut in
     let most = c.most_counts-most.result in
     let body : tree_of c.body.result.now ≡ body_of a.sentence = c.body.ensures ∙ ap body_of c.sentence-sentence.ensures in
-    let sizes : c.space-2.result.now ≡ study.size = c.space-2.ensures ∙ sym c.requires.size in
+    let sizes : c.space-2.result.now ≡ study.size = c.space-2.ensures ∙ sym c.args.setting.now.same in
     record {
       most = most;
       each = λ n. (

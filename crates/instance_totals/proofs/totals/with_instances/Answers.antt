@@ -6,7 +6,7 @@ use Rattle.instance_totals.proofs.totals.with_instances.Goals as goal
 
 pub overflow_add-clauses : goal.overflow_add-clauses
 overflow_add-clauses g c =
-    let study = c.args.study.now in
+    let study = c.args.setting.now.study.now in
     let place = c.loop-place.place in
     let count : c.len-count.result ≡ length study.axioms = c.len-count.ensures ∙ ap length c.axioms.ensures.axioms in
     let there : place < length study.axioms = omega (arith, count, c.loop-place-test.true) in
@@ -15,7 +15,7 @@ overflow_add-clauses g c =
 
 pub overflow_add-literals : goal.overflow_add-literals
 overflow_add-literals g c =
-    let study = c.args.study.now in
+    let study = c.args.setting.now.study.now in
     let place = c.loop-place.place in
     let count : c.len-count.result ≡ length study.axioms = c.len-count.ensures ∙ ap length c.axioms.ensures.axioms in
     let there : place < length study.axioms = omega (arith, count, c.loop-place-test.true) in
@@ -24,7 +24,7 @@ overflow_add-literals g c =
 
 pub loop-place-preserved : goal.loop-place-preserved
 loop-place-preserved g c =
-    let study = c.args.study.now in
+    let study = c.args.setting.now.study.now in
     let place = c.loop-place.place in
     let count : c.len-count.result ≡ length study.axioms = c.len-count.ensures ∙ ap length c.axioms.ensures.axioms in
     let there : place < length study.axioms = omega (arith, count, c.loop-place-test.true) in
