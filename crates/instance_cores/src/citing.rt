@@ -5,11 +5,12 @@ ghost use Rattle.meaning.specs.StudyClauses.{Sourced};
 ghost use Rattle.retell.specs.Cited.{HaveInstances};
 ghost use Rattle.instance_cores.specs.Cores.{AreCodes, AreInstancesCited};
 
+use crate::refuted::RefutedStudy;
 use clause_form::Ground;
-use cnf::Line;
 use instance_stories::{code_of, rising};
 use lists::NoMemory;
 use meaning::Origin;
+use outcomes::OutcomeKind;
 use renumbering::flags_of;
 use sharp_verdicts::{Cited, Instances};
 use std::alloc::Global;
@@ -41,20 +42,20 @@ fn codes_of(
     Ok(codes)
 }
 
-/// The instances of which a hint of a proof names a clause, by axiom and number, each once.
-pub fn instances_cited(
+/// The instances of which a hint of a refutation's proof names a clause, by axiom and number, each once.
+pub fn instances_cited<K: OutcomeKind>(
     alloc: Global,
-    study: &Study,
-    clauses: &Ground,
-    lines: &[Line],
+    refuted: &RefutedStudy<K>,
 ) -> Result<Instances, NoMemory>
-    requires instances { HaveInstances study.now.size study.now.axioms clauses.now }
-    ensures { IfOk result (AreInstancesCited study.now clauses.now lines.now) }
+    ensures { IfOk result (AreInstancesCited refuted.now.study.now refuted.now.refutation.now.clauses
+        refuted.now.refutation.now.proof) }
 {
     // Its contract says that the study is one.
-    let _axioms = study.axioms();
-    let flags = flags_of(alloc, clauses.clauses().len(), lines)?;
-    let mut codes = codes_of(alloc, study, clauses, flags.as_slice())?;
+    let _axioms = refuted.study.axioms();
+    let refutation = refuted.refutation;
+    let count = refutation.clauses.clauses().len();
+    let flags = flags_of(alloc, count, refutation.proof.as_slice())?;
+    let mut codes = codes_of(alloc, refuted.study, &refutation.clauses, flags.as_slice())?;
     let instances = rising(alloc, &mut codes)?;
     Ok(instances)
 }

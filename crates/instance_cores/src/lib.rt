@@ -3,6 +3,8 @@
 
 mod citing;
 mod reducing;
+mod refuted;
 
 pub use citing::instances_cited;
 pub use reducing::reduce_instances;
+pub use refuted::RefutedStudy;

@@ -1,4 +1,5 @@
 -- In reading order.
 pub mod Codes
+pub mod Derived
 pub mod Named
 pub mod Laws

@@ -5,5 +5,5 @@ mod making;
 mod names;
 mod values;
 
-pub use making::derive;
+pub use making::{StudyInstances, derive};
 pub use values::values_of;

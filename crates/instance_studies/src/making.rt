@@ -14,44 +14,48 @@ use sharp_verdicts::{Cited, Instances};
 use std::alloc::Global;
 use vocab::{Axiom, Axioms, Study};
 
-/// Appends an instance as an axiom of its own.
+/// Some instances of a study, beside the profiles of the study's size: no more than a study may have axioms.
+#[derive(Drop)]
+pub struct StudyInstances<'a> {
+    pub space: &'a Space,
+    pub study: &'a Study,
+    pub list: &'a Instances,
+    pub ghost size: { study.now.size ≡ space.now },
+    pub ghost present: { IsTrue (list_all (is_present study.now) list.now) },
+    pub ghost few: { length list.now ≤ 4000000 },
+}
+
+/// Appends an instance of a study as an axiom of its own.
 fn push_instance(
     alloc: Global,
-    space: &Space,
-    study: &Study,
+    instances: &StudyInstances,
     cited: Cited,
     axioms: &mut Axioms,
 ) -> Result<(), NoMemory>
-    requires size { study.now.size ≡ space.now }
-    requires present { IsTrue (is_present study.now cited) }
+    requires present { IsTrue (is_present instances.now.study.now cited) }
     requires few { length axioms.old ≤ 4000000 }
-    ensures { OnOk result (axioms.new ≡ axioms.old ++ axiom_of study.now (length axioms.old) cited ∷ []) }
+    ensures { OnOk result (axioms.new ≡
+        axioms.old ++ axiom_of instances.now.study.now (length axioms.old) cited ∷ []) }
 {
+    let study = instances.study;
     let name = name_of(alloc, axioms.len() as u32)?;
-    let values = values_of(space, study, cited);
+    let values = values_of(instances.space, study, cited);
     let body = close(alloc, study.axioms().get(cited.axiom as usize), &values)?;
     axioms.push(Axiom::new(name, body))?;
     Ok(())
 }
 
-/// The study whose axioms are these instances, each an axiom of its own, named `i0`, `i1` and so on. They are
-/// instances of the study, and at most 4,000,000.
-pub fn derive(
-    alloc: Global,
-    space: &Space,
-    study: &Study,
-    instances: &Instances,
-) -> Result<Study, NoMemory>
-    requires size { study.now.size ≡ space.now }
-    requires present { IsTrue (list_all (is_present study.now) instances.now) }
-    requires few { length instances.now ≤ 4000000 }
-    ensures { IfOk result (λ derived. derived ≡ derived_study study.now instances.now) }
+/// The study whose axioms are these instances, each an axiom of its own, named `i0`, `i1` and so on.
+pub fn derive(alloc: Global, instances: &StudyInstances) -> Result<Study, NoMemory>
+    ensures { IfOk result
+        (λ derived. derived ≡ derived_study instances.now.study.now instances.now.list.now) }
 {
+    let study = instances.study;
     // Its contract says that the study is one.
     let _axioms = study.axioms();
     let mut axioms = Axioms::new(alloc);
-    for cited in instances.as_slice() {
-        push_instance(alloc, space, study, *cited, &mut axioms)?;
+    for cited in instances.list.as_slice() {
+        push_instance(alloc, instances, *cited, &mut axioms)?;
     }
     Ok(Study::new(study.size(), study.conflicts(), axioms))
 }

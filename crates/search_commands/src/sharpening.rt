@@ -18,6 +18,7 @@ use command_parts::{Answer, Opened, Stop, ground_all, open_study};
 use core_reduce::{Decision, Finding, Refutation};
 use crew::Crew;
 use edge::{Gate, Shelf};
+use instance_cores::RefutedStudy;
 use instance_totals::{TotalFault, check_total};
 use kinds::over_kind;
 use lists::NoMemory;
@@ -48,7 +49,12 @@ fn sharpened<R: Threads + Sync, K: OutcomeKind, G: Gate>(
 {
     // Its contract says that a right sharp verdict has a text.
     right_sharp_verdicts_have_texts();
-    let sharp = sharpen::sharpen(alloc, crew, kind, &study, refutation)?;
+    let refuted = RefutedStudy {
+        kind,
+        study: &study,
+        refutation,
+    };
+    let sharp = sharpen::sharpen(alloc, crew, &refuted)?;
     Ok(Answer::Sharp(study, sharp, logs))
 }
 

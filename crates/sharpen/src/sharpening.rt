@@ -1,25 +1,17 @@
 //! Sharpening.
 
-ghost use Rattle.std.specs.Prelude.{◌≡◌, ◌<◌, ◌-◌, ◌^◌, length, IfOk, IsTrue};
-ghost use Rattle.cnf.specs.Fresh.{AreOver};
-ghost use Rattle.cnf.specs.Trimmed.{is_trimmed};
-ghost use Rattle.meaning.specs.StudyClauses.{study_clauses, clauses_for};
-ghost use Rattle.meaning.specs.Variables.{variable_count};
-ghost use Rattle.sharp_verdicts.specs.Derived.{derived_study};
-ghost use Rattle.sharp_verdicts.specs.Instances.{is_present};
+ghost use Rattle.std.specs.Prelude.{IfOk};
 ghost use Rattle.sharp_verdicts.specs.Sharpened.{IsSharpened};
-ghost use Rattle.sharp_verdicts.specs.Totals.{IsWithinTotal};
-ghost use Rattle.std.specs.List.{list_all};
-ghost use Rattle.instance_stories.specs.Codes.{AreRisingInstances};
+ghost use Rattle.instance_stories.specs.Derived.{IsDerivedFrom};
 ghost use Rattle.instance_cores.specs.Cores.{IsReducedTo};
 
 use crate::marking::marks_of;
-use core_reduce::{Reduced, Refutation};
+use core_reduce::Reduced;
 use crew::Crew;
 use edge::Gate;
-use instance_cores::{instances_cited, reduce_instances};
+use instance_cores::{RefutedStudy, instances_cited, reduce_instances};
 use instance_stories::story_named;
-use instance_studies::derive;
+use instance_studies::{StudyInstances, derive};
 use lists::NoMemory;
 use outcomes::{OutcomeKind, Setting};
 use retell::retell_simply;
@@ -31,35 +23,38 @@ use vocab::Study;
 
 /// The story of a refutation of instances, named back, with the instances that it cites and their marks.
 ///
-/// `made` is the study of `derived`, over which the refutation is.
+/// `made` is the study that is derived by `derived`, over which the refutation is.
 fn tell<K: OutcomeKind>(
     alloc: Global,
-    kind: &K,
-    study: &Study,
+    setting: &Setting<K>,
     made: &Study,
     derived: Instances,
     reduced: Reduced,
 ) -> Result<Sharp, NoMemory>
-    requires size { study.now.size ≡ K.size kind.now }
-    requires derived { made.now ≡ derived_study study.now derived }
-    requires present { IsTrue (list_all (is_present study.now) derived) }
-    requires rising { AreRisingInstances derived }
+    requires derived { IsDerivedFrom setting.now.study.now derived made.now }
     requires reduced { IsReducedTo made.now reduced }
-    ensures { IfOk result (IsSharpened study.now) }
+    ensures { IfOk result (IsSharpened setting.now.study.now) }
 {
+    let kind = setting.kind;
+    let study = setting.study;
     // Its contract says that the study is one.
     let _axioms = study.axioms();
     let Reduced { refutation, logs } = reduced;
     let space = kind.space();
-    let setting = Setting { kind, study: made };
+    let over = Setting { kind, study: made };
     let told = retell_simply(
         alloc,
-        &setting,
+        &over,
         &refutation.core,
         &refutation.clauses,
         &refutation.proof,
     )?;
-    let story = story_named(alloc, space, study, &derived, &told)?;
+    let axioms = StudyInstances {
+        space,
+        study,
+        list: &derived,
+    };
+    let story = story_named(alloc, &axioms, &told)?;
     let instances = instances_told(alloc, space, study, story.as_slice())?;
     let marks = marks_of(
         alloc,
@@ -85,27 +80,21 @@ fn tell<K: OutcomeKind>(
 pub fn sharpen<R: Threads + Sync, K: OutcomeKind, G: Gate>(
     alloc: Global,
     crew: &Crew<R, G>,
-    kind: &K,
-    study: &Study,
-    refutation: &Refutation,
+    refuted: &RefutedStudy<K>,
 ) -> Result<Sharp, NoMemory>
-    requires size { study.now.size ≡ K.size kind.now }
-    requires total { IsWithinTotal study.now }
-    requires clauses { refutation.now.clauses ≡
-        study_clauses study.now.size study.now.axioms refutation.now.core }
-    requires trimmed { IsTrue
-        (is_trimmed (clauses_for study.now.size study.now.axioms refutation.now.core) refutation.now.proof) }
-    requires over { AreOver (variable_count study.now.size) refutation.now.proof }
-    requires few { length refutation.now.proof < 2 ^ 32 - 1 }
-    ensures { IfOk result (IsSharpened study.now) }
+    ensures { IfOk result (IsSharpened refuted.now.study.now) }
 {
-    let instances = instances_cited(
-        alloc,
-        study,
-        &refutation.clauses,
-        refutation.proof.as_slice(),
-    )?;
-    let derived = derive(alloc, kind.space(), study, &instances)?;
-    let reduced = reduce_instances(alloc, crew, kind, study, &instances, &derived, refutation)?;
-    tell(alloc, kind, study, &derived, instances, reduced)
+    let setting = Setting {
+        kind: refuted.kind,
+        study: refuted.study,
+    };
+    let instances = instances_cited(alloc, refuted)?;
+    let axioms = StudyInstances {
+        space: refuted.kind.space(),
+        study: refuted.study,
+        list: &instances,
+    };
+    let derived = derive(alloc, &axioms)?;
+    let reduced = reduce_instances(alloc, crew, refuted, &instances, &derived)?;
+    tell(alloc, &setting, &derived, instances, reduced)
 }

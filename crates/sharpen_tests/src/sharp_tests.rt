@@ -9,6 +9,7 @@ use crate::studies_by_text::{clauses_of, lines_of, study_of};
 use core_reduce::{Reduced, reduce, variables};
 use crew::Crew;
 use edge::{MemorySink, Open};
+use instance_cores::RefutedStudy;
 use instance_totals::check_total;
 use lrat_check::check;
 use meaning::Witness;
@@ -97,7 +98,12 @@ fn sharpened<R: Threads + Sync, K: OutcomeKind>(
         refutation,
         logs: _,
     } = reduce(alloc, kind, study, &all, made, &lines)?;
-    Ok(sharpen(alloc, &crew, kind, study, &refutation)?)
+    let refuted = RefutedStudy {
+        kind,
+        study,
+        refutation: &refutation,
+    };
+    Ok(sharpen(alloc, &crew, &refuted)?)
 }
 
 /// Whether the text of what a study came to begins so, and has its end.

@@ -16,10 +16,10 @@ use Rattle.instance_cores.proofs.reducing.reduce_instances.Goals as goal
 
 pub renumber-requires-clause-stand : goal.renumber-requires-clause-stand
 renumber-requires-clause-stand g c =
-    stand_made c.args.study.now c.args.refutation.now.core c.args.instances.now c.args.refutation.now.proof c.clauses.result.now.clauses c.clauses-2.result.now.clauses
-    (subst (λ (ss : List Sourced). AreInstancesCited c.args.study.now ss c.args.refutation.now.proof c.args.instances.now) c.requires.clauses c.requires.cited)
-    (sym c.clauses.ensures.clauses ∙ ap clauses_in c.requires.clauses)
-    (sym c.clauses-2.ensures.clauses ∙ ap clauses_in c.in_ok-clauses.ensures ∙ clauses_made c.args.study.now c.args.derived.now c.args.instances.now (all_places c.args.derived.now) c.requires.derived refl)
+    stand_made c.args.refuted.now.study.now c.args.refuted.now.refutation.now.core c.args.instances.now c.args.refuted.now.refutation.now.proof c.clauses.result.now.clauses c.clauses-2.result.now.clauses
+    (subst (λ (ss : List Sourced). AreInstancesCited c.args.refuted.now.study.now ss c.args.refuted.now.refutation.now.proof c.args.instances.now) c.args.refuted.now.trimmed.clauses c.requires.cited)
+    (sym c.clauses.ensures.clauses ∙ ap clauses_in c.args.refuted.now.trimmed.clauses)
+    (sym c.clauses-2.ensures.clauses ∙ ap clauses_in c.in_ok-clauses.ensures ∙ clauses_made c.args.refuted.now.study.now c.args.derived.now c.args.instances.now (all_places c.args.derived.now) c.requires.derived refl)
 
 pub reduce-requires-clause-chosen : goal.reduce-requires-clause-chosen
 reduce-requires-clause-chosen g c κs within = subst (λ (ps : List ℕ). is_core_from 0 (length c.args.derived.now.axioms) ps ≡ true) (sym c.in_ok-all.ensures) (core_below (length c.args.derived.now.axioms))
@@ -31,5 +31,5 @@ reduce-requires-clause-accepted g c κs within =
 
 pub reduce-requires-clause-over : goal.reduce-requires-clause-over
 reduce-requires-clause-over g c κs within =
-    over_moved _ c.in_ok-proof.proof c.args.refutation.now.proof c.in_ok-proof.ensures.added
-    (subst (λ (d : Question). AreOver (variable_count d.size) c.args.refutation.now.proof) (sym c.requires.derived) c.requires.over)
+    over_moved _ c.in_ok-proof.proof c.args.refuted.now.refutation.now.proof c.in_ok-proof.ensures.added
+    (subst (λ (d : Question). AreOver (variable_count d.size) c.args.refuted.now.refutation.now.proof) (sym c.requires.derived) c.args.refuted.now.trimmed.over)

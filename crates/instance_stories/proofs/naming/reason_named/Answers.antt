@@ -3,4 +3,4 @@ use Rattle.sharp_verdicts.specs.Instances.{is_present}
 use Rattle.instance_stories.proofs.naming.reason_named.Goals as goal
 
 pub values_of-requires-clause-present : goal.values_of-requires-clause-present
-values_of-requires-clause-present c = all_get (is_present c.args.study.now) c.args.derived.now c.in-Axiom.k c.get-cited.result.now c.requires.present c.get-cited.ensures
+values_of-requires-clause-present c = all_get (is_present c.args.derived.now.study.now) c.args.derived.now.list.now c.in-Axiom.k c.get-cited.result.now c.args.derived.now.present c.get-cited.ensures
