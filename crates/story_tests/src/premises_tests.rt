@@ -192,7 +192,11 @@ fn lemmas_that_are_used_once_stand_one_within_another(rt: HostRuntime) -> Result
 #[test]
 fn forced_facts_are_not_told_again(rt: HostRuntime) -> Result<(), Fail> {
     let alloc = rt.alloc();
-    let told = told_of_two(alloc, both_are_forbidden(alloc)?, both_are_forbidden(alloc)?)?;
+    let told = told_of_two(
+        alloc,
+        both_are_forbidden(alloc)?,
+        both_are_forbidden(alloc)?,
+    )?;
     let (counts, homes) = summary(&told);
     assert!(rt; counts == [(2, 2), (0, 0), (0, 0), (0, 0)]);
     assert!(rt; homes == [None, None, None]);
