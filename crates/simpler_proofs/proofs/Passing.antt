@@ -14,7 +14,7 @@ use Rattle.cnf.specs.Fresh.{AreOver, added_by, is_over}
 use Rattle.cnf.specs.declared.derivations.Line.{Line}
 use Rattle.propagate.specs.Values.{StaysWithin}
 use Rattle.propagate.specs.TrailState.{TrailState}
-use Rattle.simpler_proofs.specs.Made.{EachPasses, IsMade, IsPassing, is_pair, is_part, is_part_of}
+use Rattle.simpler_proofs.specs.Made.{EachPasses, IsMade, IsPassing, is_pair, is_part, is_part_of, has_at_most}
 
 -- the variables of a clause that is over so many
 pub stays_within : (n : ℕ) (clause : Clause) → is_over n clause ≡ true → StaysWithin n clause
@@ -56,6 +56,14 @@ passing_left test input old new marks before lines more clause over fits p made 
       (passes (is_over old.variables) (λ part few h. h (λ (l : Signed). nat_le 1 l.variable && nat_le l.variable old.variables) over) p.over);
   passes = passes test fits p.passes;
 }
+
+-- what is left of a clause with few literals is added
+pub passing_short : (most : ℕ) (input : List Clause) (old new : TrailState) (marks before : List Bool) (lines more : List Line) (clause : Clause) → is_over old.variables clause ≡ true → length clause ≤ most →
+    IsPassing (has_at_most most) input old before lines → IsMade input new more → length marks ≡ new.variables → new.variables ≡ old.variables →
+    ((t : Clause → Bool) → ((part : Clause) → length part ≤ length clause → ((pass : Signed → Bool) → list_all pass clause ≡ true → list_all pass part ≡ true) → t part ≡ true) →
+    EachPasses t lines → EachPasses t more) → IsPassing (has_at_most most) input new marks more
+passing_short most input old new marks before lines more clause over short =
+    passing_left (has_at_most most) input old new marks before lines more clause over (λ part few h. le-leb _ _ (omega (arith, few, short)))
 
 -- what is left of the clause of a given line is added
 pub passing_shortened : (given : List Line) (input : List Clause) (old new : TrailState) (marks before : List Bool) (lines more : List Line) (i : ℕ) (d : Line) → i < length given → AreOver old.variables given →

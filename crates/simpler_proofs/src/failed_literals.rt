@@ -42,7 +42,7 @@ pub fn literals_in_turn(alloc: Global, variables: u32, first: u32) -> Result<Lit
     Ok(tried)
 }
 
-/// Tries each literal alone, or where clauses of two literals may be learned under each other one too. The answer
+/// Tries each literal alone; or, where clauses of two literals may be learned, under each other one. The answer
 /// is whether the clauses are refuted.
 fn round(alloc: Global, search: &mut Search, tried: &[Lit]) -> Result<bool, NoMemory>
     requires root { IsAtRoot search.old }
@@ -81,11 +81,11 @@ fn rounds(alloc: Global, search: &mut Search, tried: &[Lit]) -> Result<bool, NoM
     Ok(false)
 }
 
-/// A refutation of the clauses in which each clause has at most so many literals, one or two, by failed literals:
-/// each is tried alone, and of two also under each other one, in turn, round after round. A literal of a variable
-/// above their number is not tried. `budget` is how many
-/// entries propagation may make, and becomes how many are left; where it is spent, or nothing is left that fails,
-/// there is no refutation.
+/// A refutation of the clauses by failed literals, round after round, in which each clause has at most so many
+/// literals, one or two. For one, each literal is tried alone; for two, each under each other one, and where
+/// one failed alone then, each alone again. A literal of a variable above the number of variables is not tried.
+/// `budget` is how many entries propagation may make, and becomes how many are left; where it is spent, or
+/// nothing is left that fails, there is no refutation.
 pub fn by_literals(
     alloc: Global,
     formula: &Formula,

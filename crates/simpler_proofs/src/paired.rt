@@ -15,7 +15,7 @@ use cnf::{Clauses, Derivation, Ids, Line, Step};
 use lists::{Items, NoMemory};
 use std::alloc::Global;
 
-/// How many entries propagation may make, and look at for what a conflict rests on.
+/// How many entries propagation may make, with those of level 0 at each conflict.
 const BUDGET: u32 = 2_000_000;
 
 /// How many entries, clauses and variables the tries may take in which lines are left out.

@@ -1,5 +1,5 @@
-//! A search for clauses that propagation gives: the opposites of some literals are assumed, and where a clause is
-//! falsified then, those on which that rests are learned as a clause (Freeman, 1995).
+//! A search for clauses that propagation gives: the opposites of some literals are assumed, and where a
+//! clause is falsified then, those on which that rests are learned as a clause (Freeman, 1995).
 
 ghost use Rattle.std.specs.Prelude.{◌≡◌, ◌<◌, ◌≤◌, ◌+◌, false, length, OnOk, IfOk, IsTrue};
 ghost use Rattle.cnf.specs.Fresh.{is_over};
@@ -12,9 +12,9 @@ use lists::NoMemory;
 use propagate::Trail;
 use std::alloc::Global;
 
-/// The clauses that are given, and how many literals one that is learned has at most; a trail over the given ones
-/// and the learned, marks for its variables, the lines that add the learned ones, and how many entries propagation
-/// may still make.
+/// The clauses that are given, and how many literals one that is learned has at most; a trail over the given
+/// ones and the learned, marks for its variables, the lines that add the learned ones, and how many entries
+/// propagation may still make.
 #[derive(Drop)]
 pub(crate) struct Search<'a> {
     pub(crate) clauses: &'a Clauses,
@@ -46,9 +46,10 @@ impl Search<'_> {
     }
 
     /// Assumes the opposites of the literals of a clause, one after another, and propagates. Where a clause is
-    /// falsified, what is left of the given one is learned. Then the trail is at level 0 again. Where more than one
-    /// literal may be assumed, what the conflict may rest on is taken off the budget as well.
-    fn fail(&mut self, alloc: Global, clause: &[Lit]) -> Result<(), NoMemory>
+    /// falsified, or forces one of them, what is left of the given one is learned. Then the trail is at level 0
+    /// again. Where clauses of two literals may be learned, a conflict also takes as many off the budget as the
+    /// trail has entries at level 0.
+    fn probe(&mut self, alloc: Global, clause: &[Lit]) -> Result<(), NoMemory>
         requires root { IsAtRoot self.old }
         requires over { IsTrue (is_over self.old.trail.variables clause.now) }
         requires short { length clause.now ≤ self.old.most }
@@ -87,8 +88,8 @@ impl Search<'_> {
         true
     }
 
-    /// Tries to learn a clause, or a part of it, where none of its variables has a value and the budget allows it.
-    /// The answer is whether the clauses are refuted.
+    /// Tries to learn a clause, or a part of it, where none of its variables has a value and the budget allows
+    /// it. The answer is whether the clauses are refuted.
     pub(crate) fn attempt(&mut self, alloc: Global, clause: &[Lit]) -> Result<bool, NoMemory>
         requires root { IsAtRoot self.old }
         requires short { length clause.now ≤ self.old.most }
@@ -99,7 +100,7 @@ impl Search<'_> {
         if self.budget == 0 || self.lines.len() > MOST_LINES || !self.are_open(clause) {
             return Ok(false);
         }
-        self.fail(alloc, clause)?;
+        self.probe(alloc, clause)?;
         let ended = self.close(alloc)?;
         Ok(ended)
     }

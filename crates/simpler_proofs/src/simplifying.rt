@@ -4,7 +4,7 @@ ghost use Rattle.std.specs.Prelude.{◌<◌, ◌≤◌, ◌^◌, All, IfOk, IfSo
 ghost use Rattle.cnf.specs.Fresh.{AreOver};
 ghost use Rattle.simpler_proofs.specs.Made.{EachPasses, IsProof, AreSimpler, is_single};
 
-use crate::failed_literals::by_failed_literals;
+use crate::failed_literals::{by_literals, literals_in_turn};
 use crate::formula::Formula;
 use crate::leaving_out::{mark_cited, marked_clauses, shorter, with_fewer_lines};
 use crate::ordering::ordered;
@@ -44,13 +44,8 @@ fn shortest(
     let mut best = None;
     for turn in 0..ORDERS {
         let first = turn * (formula.variables / ORDERS);
-        match by_failed_literals(
-            alloc,
-            formula.clauses,
-            formula.variables,
-            first,
-            &mut budget,
-        )? {
+        let tried = literals_in_turn(alloc, formula.variables, first)?;
+        match by_literals(alloc, formula, tried.as_slice(), 1, &mut budget)? {
             None => return Ok(best),
             Some(made) => {
                 mark_cited(&made, cited);
