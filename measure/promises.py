@@ -9,7 +9,8 @@ printed with its function, which is `pub`, `pub(crate)` or `private`, its place,
 before says how many of each there are. It says nothing of what the definitions in a clause mean: these are compared as definitions.
 
 The words: `pub` leaves out all but public functions and types, `ensures` all but what is promised, `tests` counts the crates of tests, files of
-tests and specs/Examples.antt too, `counts` prints the first lines alone, and `moved` also what was paired. The status is 0.
+tests and specs/Examples.antt too, `counts` prints the first lines alone, and `moved` also what was paired. A function that is `pub` in a
+private module counts as public. The status is 0, or 1 where the words are others.
 """
 import collections, difflib, io, re, subprocess, sys, tarfile
 
