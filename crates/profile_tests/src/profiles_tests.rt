@@ -95,7 +95,7 @@ static VOTES_OF_TWO: [(u32, u32, [bool; 4]); 6] = [
 /// Two of three alternatives, or one twice.
 static EXCHANGES: [(u32, u32); 4] = [(0, 1), (0, 2), (1, 2), (1, 1)];
 
-/// Which of two alternatives a majority has above the other, in the paradox of Condorcet.
+/// Two alternatives each, of which a majority has the first above the second, in the paradox of Condorcet.
 static CYCLE: [(u32, u32); 3] = [(0, 1), (1, 2), (2, 0)];
 
 /// Alternatives, and how many rankings they have.

@@ -52,8 +52,8 @@ static IMPOSSIBLE: &str =
 static UNDECIDED: &str =
     "bench report 1\nkind choice\nvoters 1\nalternatives 2\naxioms same\nverdict undecided\nconflicts 100\nend\n";
 
-/// For how many bytes of the claim a sink has room: none, a part, all but one, and more than all.
-static ROOMS: [usize; 6] = [0, 20, 100, 150, 219, 1000];
+/// For how many bytes of the claim a sink has room: none, a part, all but one, exactly all, and more.
+static ROOMS: [usize; 7] = [0, 20, 100, 150, 219, 220, 1000];
 
 /// A study without axioms, of two voters and five alternatives.
 static LARGE: &str = "kind = \"choice\"\nvoters = 2\nalternatives = 5\naxioms = []\n";
