@@ -8,10 +8,32 @@ ghost use Rattle.edge.specs.Told.{AppendsPrefix, TellsAsBefore};
 ghost use Rattle.texts.specs.Page.{Pours};
 ghost use Rattle.clause_text.specs.Dimacs.{clause_text, dimacs_text};
 
-use crate::literals::{ClauseText, Numeral};
-use cnf::Clauses;
+use crate::literals::{Literals, Numeral};
+use cnf::{Clauses, Lit};
 use edge::{Failed, Sink};
 use texts::{Page, Raw, Text, Two, put_text};
+
+/// Adds the line of a clause.
+fn pour_line<O: Sink>(clause: &[Lit], page: &mut Page, out: &mut O) -> Result<(), Failed>
+    ensures { Pours (O.taken out.old) (O.taken out.new) page.old page.new
+        (O.faults out.old) (O.faults out.new) result (clause_text clause.now ++ 10 ∷ []) }
+{
+    Two(Literals(clause), Raw(b"0\n")).pour(page, out)
+}
+
+/// The line of a clause.
+#[derive(Drop)]
+struct ClauseLine<'a>(&'a [Lit]);
+
+impl Text for ClauseLine<'_> {
+    ghost can = { λ _. Unit {0} };
+
+    ghost text = { λ line. clause_text line.0.now ++ 10 ∷ [] };
+
+    fn pour<O: Sink>(&self, page: &mut Page, out: &mut O) -> Result<(), Failed> {
+        pour_line(self.0, page, out)
+    }
+}
 
 /// A line for each clause.
 #[derive(Drop)]
@@ -24,7 +46,7 @@ impl Text for ClauseLines<'_> {
 
     fn pour<O: Sink>(&self, page: &mut Page, out: &mut O) -> Result<(), Failed> {
         for place in 0..self.0.len() {
-            Two(ClauseText(self.0.get(place)), Raw(b"\n")).pour(page, out)?;
+            ClauseLine(self.0.get(place)).pour(page, out)?;
         }
         Ok(())
     }

@@ -8,7 +8,7 @@ ghost use Rattle.edge.specs.Told.{AppendsPrefix, TellsAsBefore};
 ghost use Rattle.verdicts.specs.Numbers.{number_text};
 ghost use Rattle.clause_text.specs.Lrat.{step_text, lrat_text};
 
-use crate::literals::{ClauseText, Numeral};
+use crate::literals::{ClauseText, Numeral, SpacedNumber};
 use cnf::{Derivation, Line, Step};
 use edge::{Failed, Sink};
 use texts::{Page, Raw, Text, Two, put_text};
@@ -24,7 +24,7 @@ impl Text for Hints<'_> {
 
     fn pour<O: Sink>(&self, page: &mut Page, out: &mut O) -> Result<(), Failed> {
         for id in self.0 {
-            Two(Numeral(*id), Raw(b" ")).pour(page, out)?;
+            SpacedNumber(*id).pour(page, out)?;
         }
         Ok(())
     }
