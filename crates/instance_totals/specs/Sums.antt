@@ -56,7 +56,7 @@ module _ (study : Question) where
   abbrev pub IsSumOfPiece : ℕ → ℕ → ℕ → Counts → Type 0
   IsSumOfPiece place count piece part = part ≡ counts_from place (piece_start piece) (piece_end count piece - piece_start piece)
 
-  -- parts are those of all pieces of the instances up to a number
+  -- parts have the counts of all pieces of the instances, up to a number, of the axiom at a place
   pub record AreAllParts (place count : ℕ) (parts : List Counts) : Type 0 where
     pub right : AreRight (IsSumOfPiece place count) 0 parts
     pub whole : count ≤ piece_start (length parts)
