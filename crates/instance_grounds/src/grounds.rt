@@ -20,8 +20,8 @@ use std::thread::Threads;
 use vocab::Study;
 
 /// The clauses of all axioms of a study that is derived by some instances of another, which are never
-/// refused: no instance of that study is too wide, and all of them together are within the limits of a list
-/// of clauses.
+/// refused: no instance of the other study is too wide, and all of them together are within the limits of a
+/// list of clauses.
 pub fn ground_derived<R: Threads + Sync, K: OutcomeKind, G: Gate>(
     alloc: Global,
     crew: &Crew<R, G>,
