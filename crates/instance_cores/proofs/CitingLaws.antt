@@ -143,10 +143,12 @@ module _ (study : Question) (taken : IsStudy study) where
       → AreFlags (length sources) lines flags → AreCodes study sources flags (length sources) codes → AreRisingInstances instances → HaveAxiomRoom instances
       → ((k : ℕ) → includes (map code_of instances) k ≡ includes codes k) → AreInstancesCited study sources lines instances
   cited_made sources lines flags codes instances few fewer have flagged named rising small same = record {
-    few = (let f = named.few in omega (arith, few, fewer, f));
+    own = record {
+      few = (let f = named.few in omega (arith, few, fewer, f));
+      present = all_present instances small (λ k h. named.present k (sym (same k) ∙ h));
+    };
     rising = rising;
     small = small;
-    present = all_present instances small (λ k h. named.present k (sym (same k) ∙ h));
     cover = λ j s e h. covered j s e h s.origin refl;
   }
     where

@@ -1,6 +1,5 @@
 -- The instances that a proof names, and a proof that is reduced over their study.
 use Rattle.std.specs.Prelude.{◌≡◌, length, ℕ, ◌<◌, ◌≤◌, suc, All, Bool, true, false, List, slice_get, slice_index_or, Some, IsTrue}
-use Rattle.std.specs.List.{list_all}
 use Rattle.vocab.specs.Study.{Question}
 use Rattle.cnf.specs.declared.derivations.Line.{Line}
 use Rattle.cnf.specs.Trimmed.{is_cited_in}
@@ -12,6 +11,7 @@ use Rattle.core_reduce.specs.declared.answers.Reduced.{Reduced}
 use Rattle.core_reduce.specs.Answers.{IsRefutation}
 use Rattle.sharp_verdicts.specs.declared.instances.Cited.{Cited}
 use Rattle.sharp_verdicts.specs.Instances.{is_present}
+use Rattle.instance_studies.specs.Instances.{AreInstancesOf}
 use Rattle.instance_stories.specs.Codes.{code_of, AreRisingInstances, HaveAxiomRoom}
 use Rattle.instance_grounds.specs.Laws.{IsFrameOrCited}
 
@@ -26,12 +26,12 @@ pub record AreCodes (study : Question) (sources : List Sourced) (flags : List Bo
   pub present : (n : ℕ) → IsTrue (includes codes n) → HasPresent study n
   pub named : (j : ℕ) (s : Sourced) (a k : ℕ) → j < upto → slice_get sources j ≡ Some s → s.origin ≡ Instance a k → slice_index_or flags j false ≡ true → IsTrue (includes codes (code_of (record { «axiom» = a; number = k })))
 
--- the instances of which a hint names a clause: they are no more than a study may have axioms, rise, are there, and cover each clause that a hint names
+-- the instances of which a hint names a clause: they are there, rise, are few enough, and cover each clause that a
+-- hint names
 pub record AreInstancesCited (study : Question) (sources : List Sourced) (lines : List Line) (instances : List Cited) : Type 0 where
-  pub few : length instances ≤ 4000000
+  pub own : AreInstancesOf study instances
   pub rising : AreRisingInstances instances
   pub small : HaveAxiomRoom instances
-  pub present : IsTrue (list_all (is_present study) instances)
   pub cover : (j : ℕ) (s : Sourced) → slice_get sources j ≡ Some s → IsTrue (is_cited_in lines (suc j)) → IsFrameOrCited instances s.origin
 
 -- a reduced proof is right: its refutation is, and its logs are of searches that spent their limit

@@ -234,31 +234,31 @@ module _ (study : Question) (taken : IsStudy study) (total : IsWithinTotal study
         small = omega (arith, small, sum, nl, literals);
       }
 
-  module _ (derived : List Cited) (present : list_all (is_present study) derived ≡ true) (rising : AreRisingInstances derived) where
+  module _ (instances : List Cited) (present : list_all (is_present study) instances ≡ true) (rising : AreRisingInstances instances) where
     abbrev daxioms : List Titled
-    daxioms = axioms_from study 0 derived
+    daxioms = axioms_from study 0 instances
 
     abbrev no_instance : Cited
     no_instance = record { «axiom» = 0; number = 0 }
 
-    at_place : (i : ℕ) → i < length derived → slice_get derived i ≡ Some (get_or derived i no_instance)
-    at_place i lt = slice_get-get_or derived i no_instance lt
+    at_place : (i : ℕ) → i < length instances → slice_get instances i ≡ Some (get_or instances i no_instance)
+    at_place i lt = slice_get-get_or instances i no_instance lt
 
-    axiom_at : (i : ℕ) → i < length derived → slice_get daxioms i ≡ Some (axiom_of study i (get_or derived i no_instance))
-    axiom_at i lt = derived_get study derived i (get_or derived i no_instance) (at_place i lt)
+    axiom_at : (i : ℕ) → i < length instances → slice_get daxioms i ≡ Some (axiom_of study i (get_or instances i no_instance))
+    axiom_at i lt = derived_get study instances i (get_or instances i no_instance) (at_place i lt)
 
-    fit_at : (i : ℕ) → i < length derived → IsFitting i (get_or derived i no_instance)
-    fit_at i lt = fitting i (get_or derived i no_instance) (all_get (is_present study) derived i (get_or derived i no_instance) present (at_place i lt))
+    fit_at : (i : ℕ) → i < length instances → IsFitting i (get_or instances i no_instance)
+    fit_at i lt = fitting i (get_or instances i no_instance) (all_get (is_present study) instances i (get_or instances i no_instance) present (at_place i lt))
 
     -- ---- none is too wide
 
-    narrow_place : (i : ℕ) → i < length derived → option_and_then (wide_instance study.size daxioms i) (slice_get daxioms i) ≡ None
+    narrow_place : (i : ℕ) → i < length instances → option_and_then (wide_instance study.size daxioms i) (slice_get daxioms i) ≡ None
     narrow_place i lt =
         let fit = fit_at i lt in
         ap (option_and_then (wide_instance study.size daxioms i)) (axiom_at i lt)
-        ∙ ap (option_map _) (none_found (λ k. is_wide (counts_at study.size daxioms (axiom_of study i (get_or derived i no_instance)).sentence k)) (instance_count study.size (axiom_of study i (get_or derived i no_instance)).sentence) fit.one fit.narrow)
+        ∙ ap (option_map _) (none_found (λ k. is_wide (counts_at study.size daxioms (axiom_of study i (get_or instances i no_instance)).sentence k)) (instance_count study.size (axiom_of study i (get_or instances i no_instance)).sentence) fit.one fit.narrow)
 
-    none_wide : (a n : ℕ) → a + n ≤ length derived → first_wide study.size daxioms (up_from a n) ≡ None
+    none_wide : (a n : ℕ) → a + n ≤ length instances → first_wide study.size daxioms (up_from a n) ≡ None
     none_wide a zero le = refl
     none_wide a (suc n) le = none_or _ _ (narrow_place a (omega (arith, le))) (none_wide (suc a) n (omega (arith, le)))
 
@@ -267,42 +267,42 @@ module _ (study : Question) (taken : IsStudy study) (total : IsWithinTotal study
     abbrev from_place : ℕ → List Sourced
     from_place p = from_axiom study.size p (slice_get daxioms p)
 
-    place_few : (i : ℕ) → i < length derived → length (from_place i) ≤ cl (get_or derived i no_instance)
-    place_few i lt = subst (λ (o : Option Titled). length (from_axiom study.size i o) ≤ cl (get_or derived i no_instance)) (sym (axiom_at i lt)) (fit_at i lt).few
+    place_few : (i : ℕ) → i < length instances → length (from_place i) ≤ cl (get_or instances i no_instance)
+    place_few i lt = subst (λ (o : Option Titled). length (from_axiom study.size i o) ≤ cl (get_or instances i no_instance)) (sym (axiom_at i lt)) (fit_at i lt).few
 
-    place_small : (i : ℕ) → i < length derived → lits (from_place i) ≤ li (get_or derived i no_instance)
-    place_small i lt = subst (λ (o : Option Titled). lits (from_axiom study.size i o) ≤ li (get_or derived i no_instance)) (sym (axiom_at i lt)) (fit_at i lt).small
+    place_small : (i : ℕ) → i < length instances → lits (from_place i) ≤ li (get_or instances i no_instance)
+    place_small i lt = subst (λ (o : Option Titled). lits (from_axiom study.size i o) ≤ li (get_or instances i no_instance)) (sym (axiom_at i lt)) (fit_at i lt).small
 
-    take_more : (m : ℕ) → m < length derived → take (m + 1) derived ≡ take m derived ++ get_or derived m no_instance ∷ []
-    take_more m lt = let up : m + 1 ≡ suc m = omega arith in ap (λ (k : ℕ). take k derived) up ∙ take-suc derived m no_instance lt
+    take_more : (m : ℕ) → m < length instances → take (m + 1) instances ≡ take m instances ++ get_or instances m no_instance ∷ []
+    take_more m lt = let up : m + 1 ≡ suc m = omega arith in ap (λ (k : ℕ). take k instances) up ∙ take-suc instances m no_instance lt
 
     flat_more : (m : ℕ) → flat_map from_place (below (m + 1)) ≡ flat_map from_place (below m) ++ from_place m
     flat_more m = ap (flat_map from_place) (below_more m) ∙ flat_map-append from_place (below m) (m ∷ []) ∙ ap (λ (ss : List Sourced). flat_map from_place (below m) ++ ss) (append-nil (from_place m))
 
-    front_few : (m : ℕ) → m ≤ length derived → length (flat_map from_place (below m)) ≤ sum_by cl (take m derived)
+    front_few : (m : ℕ) → m ≤ length instances → length (flat_map from_place (below m)) ≤ sum_by cl (take m instances)
     front_few zero le = omega arith
     front_few (suc m) le =
         let up : suc m ≡ m + 1 = omega arith in
         let ih = front_few m (omega (arith, le)) in
         let more : length (flat_map from_place (below (m + 1))) ≡ length (flat_map from_place (below m)) + length (from_place m) = ap length (flat_more m) ∙ length-append (flat_map from_place (below m)) (from_place m) in
-        let sum : sum_by cl (take (m + 1) derived) ≡ sum_by cl (take m derived) + cl (get_or derived m no_instance) = ap (sum_by cl) (take_more m (omega (arith, le))) ∙ sum_by_push cl (take m derived) (get_or derived m no_instance) in
+        let sum : sum_by cl (take (m + 1) instances) ≡ sum_by cl (take m instances) + cl (get_or instances m no_instance) = ap (sum_by cl) (take_more m (omega (arith, le))) ∙ sum_by_push cl (take m instances) (get_or instances m no_instance) in
         let here = place_few m (omega (arith, le)) in
-        subst (λ (k : ℕ). length (flat_map from_place (below k)) ≤ sum_by cl (take k derived)) (sym up) (omega (arith, ih, more, sum, here))
+        subst (λ (k : ℕ). length (flat_map from_place (below k)) ≤ sum_by cl (take k instances)) (sym up) (omega (arith, ih, more, sum, here))
 
-    front_small : (m : ℕ) → m ≤ length derived → lits (flat_map from_place (below m)) ≤ sum_by li (take m derived)
+    front_small : (m : ℕ) → m ≤ length instances → lits (flat_map from_place (below m)) ≤ sum_by li (take m instances)
     front_small zero le = omega arith
     front_small (suc m) le =
         let up : suc m ≡ m + 1 = omega arith in
         let ih = front_small m (omega (arith, le)) in
         let more : lits (flat_map from_place (below (m + 1))) ≡ lits (flat_map from_place (below m)) + lits (from_place m) = ap lits (flat_more m) ∙ sum_by-append (λ (s : Sourced). length s.clause) (flat_map from_place (below m)) (from_place m) in
-        let sum : sum_by li (take (m + 1) derived) ≡ sum_by li (take m derived) + li (get_or derived m no_instance) = ap (sum_by li) (take_more m (omega (arith, le))) ∙ sum_by_push li (take m derived) (get_or derived m no_instance) in
+        let sum : sum_by li (take (m + 1) instances) ≡ sum_by li (take m instances) + li (get_or instances m no_instance) = ap (sum_by li) (take_more m (omega (arith, le))) ∙ sum_by_push li (take m instances) (get_or instances m no_instance) in
         let here = place_small m (omega (arith, le)) in
-        subst (λ (k : ℕ). lits (flat_map from_place (below k)) ≤ sum_by li (take k derived)) (sym up) (omega (arith, ih, more, sum, here))
+        subst (λ (k : ℕ). lits (flat_map from_place (below k)) ≤ sum_by li (take k instances)) (sym up) (omega (arith, ih, more, sum, here))
 
-    front_within : (f : Cited → ℕ) (m : ℕ) → sum_by f (take m derived) ≤ sum_by f derived
+    front_within : (f : Cited → ℕ) (m : ℕ) → sum_by f (take m instances) ≤ sum_by f instances
     front_within f m =
-        let whole : sum_by f (take m derived ++ drop m derived) ≡ sum_by f derived = ap (sum_by f) (take-append-drop m derived) in
-        let parts = sum_by-append f (take m derived) (drop m derived) in
+        let whole : sum_by f (take m instances ++ drop m instances) ≡ sum_by f instances = ap (sum_by f) (take-append-drop m instances) in
+        let parts = sum_by-append f (take m instances) (drop m instances) in
         omega (arith, whole, parts)
 
     by_codes : (f : Cited → ℕ) (cs : List Cited) → HaveAxiomRoom cs → sum_by f cs ≡ sum_by (λ (n : ℕ). f (cited_of n)) (map code_of cs)
@@ -319,10 +319,10 @@ module _ (study : Question) (taken : IsStudy study) (total : IsWithinTotal study
           | inr t ↦ stands_among cs p.1 k t
         ]
 
-    all_within : (f : Cited → ℕ) → sum_by f derived ≤ sum_by f (all_instances study)
+    all_within : (f : Cited → ℕ) → sum_by f instances ≤ sum_by f (all_instances study)
     all_within f =
-        let sum = sum_within (λ (n : ℕ). f (cited_of n)) 0 (map code_of derived) (map code_of (all_instances study)) rising (all_rise study (counts_few study taken)) (stands_among derived present) in
-        let one = by_codes f derived (present_small study taken derived present) in
+        let sum = sum_within (λ (n : ℕ). f (cited_of n)) 0 (map code_of instances) (map code_of (all_instances study)) rising (all_rise study (counts_few study taken)) (stands_among instances present) in
+        let one = by_codes f instances (present_small study taken instances present) in
         let all = by_codes f (all_instances study) (all_small study (counts_few study taken)) in
         omega (arith, sum, one, all)
 
@@ -341,7 +341,7 @@ module _ (study : Question) (taken : IsStudy study) (total : IsWithinTotal study
     frame_lits : sum_by length (clauses_for study.size study.axioms []) ≡ lits frames
     frame_lits = clause_lits (frames ++ []) ∙ ap lits (append-nil frames)
 
-    within : (m : ℕ) → m ≤ length derived → is_over_limits (clauses_for study.size daxioms (below m)) ≡ false
+    within : (m : ℕ) → m ≤ length instances → is_over_limits (clauses_for study.size daxioms (below m)) ≡ false
     within m le =
         let count : length (clauses_for study.size daxioms (below m)) ≡ length frames + length (flat_map from_place (below m)) = length-map (frames ++ flat_map from_place (below m)) (λ (s : Sourced). s.clause) ∙ length-append frames (flat_map from_place (below m)) in
         let sum : sum_by length (clauses_for study.size daxioms (below m)) ≡ lits frames + lits (flat_map from_place (below m)) = clause_lits (frames ++ flat_map from_place (below m)) ∙ sum_by-append (λ (s : Sourced). length s.clause) frames (flat_map from_place (below m)) in
@@ -357,7 +357,7 @@ module _ (study : Question) (taken : IsStudy study) (total : IsWithinTotal study
         both : {a b : Bool} → a ≡ false → b ≡ false → (a || b) ≡ false
         both e f = λ i. e i || f i
 
-    none_full : (n m : ℕ) → m + n ≡ length derived → first_full study.size daxioms (below m) (up_from m n) ≡ None
+    none_full : (n m : ℕ) → m + n ≡ length instances → first_full study.size daxioms (below m) (up_from m n) ≡ None
     none_full zero m e = refl
     none_full (suc n) m e =
         let more : below m ++ m ∷ [] ≡ below (m + 1) = sym (below_more m) in
@@ -366,9 +366,9 @@ module _ (study : Question) (taken : IsStudy study) (total : IsWithinTotal study
         let rest : first_full study.size daxioms (below m ++ m ∷ []) (up_from (suc m) n) ≡ None = ap (λ (ps : List ℕ). first_full study.size daxioms ps (up_from (suc m) n)) (more ∙ ap below up) ∙ none_full n (suc m) (omega (arith, e)) in
         ap (λ b. if b then Some (Full m) else first_full study.size daxioms (below m ++ m ∷ []) (up_from (suc m) n)) over ∙ rest
 
-pub clauses_fit : (study : Question) (derived : List Cited) → IsStudy study → IsWithinTotal study → list_all (is_present study) derived ≡ true → AreRisingInstances derived → ground_fault study.size (axioms_from study 0 derived) (below (length derived)) ≡ None
-clauses_fit study derived taken total present rising =
-    none_or _ _ (none_wide study taken total derived present rising 0 (length derived) (omega arith)) (none_full study taken total derived present rising (length derived) 0 (omega arith))
+pub clauses_fit : (study : Question) (instances : List Cited) → IsStudy study → IsWithinTotal study → list_all (is_present study) instances ≡ true → AreRisingInstances instances → ground_fault study.size (axioms_from study 0 instances) (below (length instances)) ≡ None
+clauses_fit study instances taken total present rising =
+    none_or _ _ (none_wide study taken total instances present rising 0 (length instances) (omega arith)) (none_full study taken total instances present rising (length instances) 0 (omega arith))
 
 -- the same of the study that was made, and of all its places
 pub fits_made : (study : Question) (instances : List Cited) (derived : Question) (all : List ℕ) → IsStudy study → IsWithinTotal study → list_all (is_present study) instances ≡ true → AreRisingInstances instances

@@ -100,9 +100,9 @@ module _ (study : Question) where
       let r = in_flat_map (from_instance study.size place a.sentence) (below (instance_count study.size a.sentence)) s here in
       (a, r.0, e, of_instance s place a r.0 r.2)
 
-  module _ (derived : List Cited) where
+  module _ (instances : List Cited) where
     abbrev daxioms : List Titled
-    daxioms = axioms_from study 0 derived
+    daxioms = axioms_from study 0 instances
 
     -- the closed body of an instance, by the axiom at its place
     pub closed_is : (place k : ℕ) (a : Titled) → slice_get study.axioms place ≡ Some a → closed_at (slice_get study.axioms place) (values_at study (record { «axiom» = place; number = k })) ≡ closed_body a (instance_values study.size a.sentence k)
@@ -119,19 +119,19 @@ module _ (study : Question) where
         kept_first (flat_map (from_instance study.size i closed) (below (instance_count study.size closed))) (record { clause = c; origin = Instance i 0 })
         (flat_map_in (from_instance study.size i closed) (below (instance_count study.size closed)) 0 (record { clause = c; origin = Instance i 0 }) (in_below (instance_count study.size closed) 0 (omega (arith, count))) there)
 
-    instance_stands : (s : Sourced) (place : ℕ) (a : Titled) (k : ℕ) → slice_get study.axioms place ≡ Some a → IsOfInstance s place a k → IsFrameOrCited derived s.origin
-        → HasClause (study_clauses study.size daxioms (below (length derived))) s.clause
+    instance_stands : (s : Sourced) (place : ℕ) (a : Titled) (k : ℕ) → slice_get study.axioms place ≡ Some a → IsOfInstance s place a k → IsFrameOrCited instances s.origin
+        → HasClause (study_clauses study.size daxioms (below (length instances))) s.clause
     instance_stands s place a k e of covered =
         let c : Cited = record { «axiom» = place; number = k } in
-        let at = subst (IsFrameOrCited derived) of.0 covered in
+        let at = subst (IsFrameOrCited instances) of.0 covered in
         let kept = has_closed at.0 k a (axiom_of study at.0 c).sentence (instance_name at.0) s.clause (closed_is place k a e) of.1 in
-        let here : IsIn (from_axiom study.size at.0 (slice_get daxioms at.0)) kept.0 = subst (λ (o : Option Titled). IsIn (from_axiom study.size at.0 o) kept.0) (sym (derived_get study derived at.0 c at.1)) kept.1 in (
+        let here : IsIn (from_axiom study.size at.0 (slice_get daxioms at.0)) kept.0 = subst (λ (o : Option Titled). IsIn (from_axiom study.size at.0 o) kept.0) (sym (derived_get study instances at.0 c at.1)) kept.1 in (
           kept.0,
-          in_right frames _ kept.0 (flat_map_in (λ p. from_axiom study.size p (slice_get daxioms p)) (below (length derived)) at.0 kept.0 (in_below (length derived) at.0 (slice_get_within derived at.0 c at.1)) here),
+          in_right frames _ kept.0 (flat_map_in (λ p. from_axiom study.size p (slice_get daxioms p)) (below (length instances)) at.0 kept.0 (in_below (length instances) at.0 (slice_get_within instances at.0 c at.1)) here),
           kept.2,
         )
 
-    source_stands : (core : List ℕ) (s : Sourced) → IsIn (study_clauses study.size study.axioms core) s → IsFrameOrCited derived s.origin → HasClause (study_clauses study.size daxioms (below (length derived))) s.clause
+    source_stands : (core : List ℕ) (s : Sourced) → IsIn (study_clauses study.size study.axioms core) s → IsFrameOrCited instances s.origin → HasClause (study_clauses study.size daxioms (below (length instances))) s.clause
     source_stands core s i covered = elim (in_append frames (flat_map (λ p. from_axiom study.size p (slice_get study.axioms p)) core) s i) [
       | inl h ↦ (s, in_left frames _ s h, refl)
       | inr h ↦
@@ -140,9 +140,9 @@ module _ (study : Question) where
           instance_stands s r.0 o.0 o.1 o.2 o.3 covered
     ]
 
-pub clauses_stand : (study : Question) (core : List ℕ) (derived : List Cited) (j : ℕ) (s : Sourced) → slice_get (study_clauses study.size study.axioms core) j ≡ Some s → IsFrameOrCited derived s.origin
-    → (place : ℕ) × (slice_get (derived_clauses study derived) place ≡ Some s.clause)
-clauses_stand study core derived j s e covered =
-    let has = source_stands study derived core s (in_at (study_clauses study.size study.axioms core) j s e) covered in
-    at_in (derived_clauses study derived) s.clause
-    (subst (IsIn (derived_clauses study derived)) has.2 (map_in (λ (t : Sourced). t.clause) (study_clauses study.size (axioms_from study 0 derived) (below (length derived))) has.0 has.1))
+pub clauses_stand : (study : Question) (core : List ℕ) (instances : List Cited) (j : ℕ) (s : Sourced) → slice_get (study_clauses study.size study.axioms core) j ≡ Some s → IsFrameOrCited instances s.origin
+    → (place : ℕ) × (slice_get (derived_clauses study instances) place ≡ Some s.clause)
+clauses_stand study core instances j s e covered =
+    let has = source_stands study instances core s (in_at (study_clauses study.size study.axioms core) j s e) covered in
+    at_in (derived_clauses study instances) s.clause
+    (subst (IsIn (derived_clauses study instances)) has.2 (map_in (λ (t : Sourced). t.clause) (study_clauses study.size (axioms_from study 0 instances) (below (length instances))) has.0 has.1))

@@ -1,4 +1,4 @@
--- What holds of the clauses of derived studies: the statement of the law.
+-- What holds of the clauses of instances studies: the statement of the law.
 use Rattle.std.specs.Prelude.{◌≡◌, ℕ, List, length, slice_get, Some, None, IsTrue}
 use Rattle.std.specs.List.{list_all}
 use Rattle.vocab.specs.Study.{Question, IsStudy}
@@ -16,21 +16,21 @@ use Rattle.instance_stories.specs.Codes.{AreRisingInstances}
 
 -- an origin is a frame, or one of some instances
 abbrev pub IsFrameOrCited : List Cited → Origin → Type 0
-IsFrameOrCited derived (Frame p) = Unit {0}
-IsFrameOrCited derived (Instance a k) = (i : ℕ) × (slice_get derived i ≡ Some (record { «axiom» = a; number = k }))
+IsFrameOrCited instances (Frame p) = Unit {0}
+IsFrameOrCited instances (Instance a k) = (i : ℕ) × (slice_get instances i ≡ Some (record { «axiom» = a; number = k }))
 
--- the clauses of a derived study
+-- the clauses of a instances study
 abbrev pub derived_clauses : Question → List Cited → List Clause
-derived_clauses study derived = clauses_for study.size (axioms_from study 0 derived) (below (length derived))
+derived_clauses study instances = clauses_for study.size (axioms_from study 0 instances) (below (length instances))
 
 -- each clause of a study whose origin is a frame or one of some instances stands among the clauses of the study of these instances
 abbrev pub InstanceClausesStand : Type 0
 InstanceClausesStand =
-    (study : Question) (core : List ℕ) (derived : List Cited) (j : ℕ) (s : Sourced) → slice_get (study_clauses study.size study.axioms core) j ≡ Some s → IsFrameOrCited derived s.origin
-    → (place : ℕ) × (slice_get (derived_clauses study derived) place ≡ Some s.clause)
+    (study : Question) (core : List ℕ) (instances : List Cited) (j : ℕ) (s : Sourced) → slice_get (study_clauses study.size study.axioms core) j ≡ Some s → IsFrameOrCited instances s.origin
+    → (place : ℕ) × (slice_get (derived_clauses study instances) place ≡ Some s.clause)
 
 -- the clauses of the study of some instances of a study within the limits are never refused
 abbrev pub DerivedClausesFit : Type 0
 DerivedClausesFit =
-    (study : Question) (derived : List Cited) → IsStudy study → IsWithinTotal study → IsTrue (list_all (is_present study) derived) → AreRisingInstances derived
-    → ground_fault study.size (axioms_from study 0 derived) (below (length derived)) ≡ None
+    (study : Question) (instances : List Cited) → IsStudy study → IsWithinTotal study → IsTrue (list_all (is_present study) instances) → AreRisingInstances instances
+    → ground_fault study.size (axioms_from study 0 instances) (below (length instances)) ≡ None

@@ -90,51 +90,51 @@ module _ (study : Question) where
       let lt = number_within study c a h e in
       and_from _ _ ((are_one_to_one (bases_of study.size a.sentence)).digits c.number lt) (false_back known a (instance_values study.size a.sentence c.number) name values f)
 
-  module _ (derived : List Cited) (present : list_all (is_present study) derived ≡ true) (dcore : List ℕ) where
+  module _ (instances : List Cited) (present : list_all (is_present study) instances ≡ true) (dcore : List ℕ) where
     abbrev daxioms : List Titled
-    daxioms = axioms_from study 0 derived
+    daxioms = axioms_from study 0 instances
 
     abbrev everywhere : List ℕ
     everywhere = below (length study.axioms)
 
-    axiom_back : (known : List Literal) (i : ℕ) (values : List ℕ) (earlier : List Lemma) → (o : Option Cited) → slice_get derived i ≡ o → is_instance_false study.size known (slice_get daxioms i) values ≡ true
+    axiom_back : (known : List Literal) (i : ℕ) (values : List ℕ) (earlier : List Lemma) → (o : Option Cited) → slice_get instances i ≡ o → is_instance_false study.size known (slice_get daxioms i) values ≡ true
         → refutes study.size study.axioms everywhere earlier known (reason_citing study o) ≡ true
     axiom_back known i values earlier None e h =
-        absurd (true≢false (sym h ∙ ap (λ o. is_instance_false study.size known o values) (get_none study 0 derived i e)))
+        absurd (true≢false (sym h ∙ ap (λ o. is_instance_false study.size known o values) (get_none study 0 instances i e)))
     axiom_back known i values earlier (Some c) e h =
-        let here = all_get (is_present study) derived i c present e in
+        let here = all_get (is_present study) instances i c present e in
         let lt = ltb-true c.«axiom» (length study.axioms) (and_parts (nat_lt c.«axiom» (length study.axioms)) (nat_lt c.number (count_at study c.«axiom»)) here).0 in
-        let closed = subst (λ o. is_instance_false study.size known o values ≡ true) (derived_get study derived i c e) h in
+        let closed = subst (λ o. is_instance_false study.size known o values ≡ true) (derived_get study instances i c e) h in
         and_from _ _ (there (length study.axioms) c.«axiom» lt) (instance_back known c (instance_name i) values here (slice_get study.axioms c.«axiom») refl closed)
 
-    claim_same : (known : List Literal) (earlier : List Lemma) (j : ℕ) → is_claim_false known (slice_get earlier j) ≡ true → is_claim_false known (slice_get (map (lemma_named study derived) earlier) j) ≡ true
+    claim_same : (known : List Literal) (earlier : List Lemma) (j : ℕ) → is_claim_false known (slice_get earlier j) ≡ true → is_claim_false known (slice_get (map (lemma_named study instances) earlier) j) ≡ true
     claim_same known [] j h = h
     claim_same known (l ∷ earlier) zero h = h
     claim_same known (l ∷ earlier) (suc j) h = claim_same known earlier j h
 
     refuted_back : (earlier : List Lemma) (known : List Literal) (r : Reason) → refutes study.size daxioms dcore earlier known r ≡ true
-        → refutes study.size study.axioms everywhere (map (lemma_named study derived) earlier) known (named_back study derived r) ≡ true
+        → refutes study.size study.axioms everywhere (map (lemma_named study instances) earlier) known (named_back study instances r) ≡ true
     refuted_back earlier known (ByAxiom i values) h =
-        axiom_back known i values (map (lemma_named study derived) earlier) (slice_get derived i) refl (and_parts (list_any (λ c. c == i) dcore) (is_instance_false study.size known (slice_get daxioms i) values) h).1
+        axiom_back known i values (map (lemma_named study instances) earlier) (slice_get instances i) refl (and_parts (list_any (λ c. c == i) dcore) (is_instance_false study.size known (slice_get daxioms i) values) h).1
     refuted_back earlier known (ByOutcome p) h = h
     refuted_back earlier known (ByLemma j) h = claim_same known earlier j h
 
     -- ---- lemmas
 
     forced_back : (earlier : List Lemma) (last : Reason) (known : List Literal) (steps : List StoryStep) → are_forced study.size daxioms dcore earlier last known steps ≡ true
-        → are_forced study.size study.axioms everywhere (map (lemma_named study derived) earlier) (named_back study derived last) known (map (step_named study derived) steps) ≡ true
+        → are_forced study.size study.axioms everywhere (map (lemma_named study instances) earlier) (named_back study instances last) known (map (step_named study instances) steps) ≡ true
     forced_back earlier last known [] h = refuted_back earlier known last h
     forced_back earlier last known (step ∷ steps) h =
         let a = and_parts (not (is_decided known step.literal) && refutes study.size daxioms dcore earlier (known ++ opposite_of step.literal ∷ []) step.reason) (are_forced study.size daxioms dcore earlier last (known ++ step.literal ∷ []) steps) h in
         let b = and_parts (not (is_decided known step.literal)) (refutes study.size daxioms dcore earlier (known ++ opposite_of step.literal ∷ []) step.reason) a.0 in
         and_from _ _ (and_from _ _ b.0 (refuted_back earlier (known ++ opposite_of step.literal ∷ []) step.reason b.1)) (forced_back earlier last (known ++ step.literal ∷ []) steps a.1)
 
-    literals_back : (steps : List StoryStep) → list_all (λ (s : StoryStep). is_literal study.size s.literal) (map (step_named study derived) steps) ≡ list_all (λ (s : StoryStep). is_literal study.size s.literal) steps
+    literals_back : (steps : List StoryStep) → list_all (λ (s : StoryStep). is_literal study.size s.literal) (map (step_named study instances) steps) ≡ list_all (λ (s : StoryStep). is_literal study.size s.literal) steps
     literals_back [] = refl
     literals_back (s ∷ steps) = ap (λ b. is_literal study.size s.literal && b) (literals_back steps)
 
     lemma_back : (earlier : List Lemma) (lemma : Lemma) → is_lemma study.size daxioms dcore earlier lemma ≡ true
-        → is_lemma study.size study.axioms everywhere (map (lemma_named study derived) earlier) (lemma_named study derived lemma) ≡ true
+        → is_lemma study.size study.axioms everywhere (map (lemma_named study instances) earlier) (lemma_named study instances lemma) ≡ true
     lemma_back earlier lemma h =
         let a = and_parts (has_literals study.size lemma && are_new [] lemma.suppose) (are_forced study.size daxioms dcore earlier lemma.last lemma.suppose lemma.steps) h in
         let b = and_parts (has_literals study.size lemma) (are_new [] lemma.suppose) a.0 in
@@ -142,14 +142,14 @@ module _ (study : Question) where
         and_from _ _ (and_from _ _ (and_from _ _ c.0 (literals_back lemma.steps ∙ c.1)) b.1) (forced_back earlier lemma.last lemma.suppose lemma.steps a.1)
 
     story_back : (earlier story : List Lemma) → is_story_from study.size daxioms dcore earlier story ≡ true
-        → is_story_from study.size study.axioms everywhere (map (lemma_named study derived) earlier) (map (lemma_named study derived) story) ≡ true
+        → is_story_from study.size study.axioms everywhere (map (lemma_named study instances) earlier) (map (lemma_named study instances) story) ≡ true
     story_back earlier [] h = absurd cc
     story_back earlier (lemma ∷ []) h =
         let a = and_parts (is_lemma study.size daxioms dcore earlier lemma) (length lemma.suppose == 0) h in and_from _ _ (lemma_back earlier lemma a.0) a.1
     story_back earlier (lemma ∷ next ∷ rest) h =
         let a = and_parts (is_lemma study.size daxioms dcore earlier lemma) (is_story_from study.size daxioms dcore (earlier ++ lemma ∷ []) (next ∷ rest)) h in
         and_from _ _ (lemma_back earlier lemma a.0)
-        (subst (λ ls. is_story_from study.size study.axioms everywhere ls (map (lemma_named study derived) (next ∷ rest)) ≡ true) (map-append (lemma_named study derived) earlier (lemma ∷ [])) (story_back (earlier ++ lemma ∷ []) (next ∷ rest) a.1))
+        (subst (λ ls. is_story_from study.size study.axioms everywhere ls (map (lemma_named study instances) (next ∷ rest)) ≡ true) (map-append (lemma_named study instances) earlier (lemma ∷ [])) (story_back (earlier ++ lemma ∷ []) (next ∷ rest) a.1))
 
 -- ---- the core that a story needs
 
@@ -202,7 +202,7 @@ pub core_is_needed : (study : Question) (core : List ℕ) (story : List Lemma) �
 core_is_needed study core story h =
     story_needed study.size study.axioms core (core_of study story) [] story (λ k told lt. kept_there (is_axiom_told story) (below (length study.axioms)) k (there (length study.axioms) k lt) told) h
 
-pub named_accepted : (study : Question) (derived : List Cited) (core : List ℕ) (story : List Lemma) → list_all (is_present study) derived ≡ true → is_story study.size (axioms_from study 0 derived) core story ≡ true
-    → is_story study.size study.axioms (core_of study (story_named study derived story)) (story_named study derived story) ≡ true
-named_accepted study derived core story present h =
-    core_is_needed study (below (length study.axioms)) (story_named study derived story) (story_back study derived present core [] story h)
+pub named_accepted : (study : Question) (instances : List Cited) (core : List ℕ) (story : List Lemma) → list_all (is_present study) instances ≡ true → is_story study.size (axioms_from study 0 instances) core story ≡ true
+    → is_story study.size study.axioms (core_of study (story_named study instances story)) (story_named study instances story) ≡ true
+named_accepted study instances core story present h =
+    core_is_needed study (below (length study.axioms)) (story_named study instances story) (story_back study instances present core [] story h)

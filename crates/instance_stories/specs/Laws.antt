@@ -12,6 +12,6 @@ use Rattle.instance_stories.specs.Named.{story_named}
 -- a story that is accepted over the study of some instances is accepted over their study, once its reasons are named back; its core is that of the axioms which it cites
 abbrev pub NamedStoriesAreAccepted : Type 0
 NamedStoriesAreAccepted =
-    (study : Question) (derived : List Cited) (core : List ℕ) (story : List Lemma) → IsTrue (list_all (is_present study) derived)
-    → IsTrue (is_story study.size (axioms_from study 0 derived) core story)
-    → IsTrue (is_story study.size study.axioms (core_of study (story_named study derived story)) (story_named study derived story))
+    (study : Question) (instances : List Cited) (core : List ℕ) (story : List Lemma) → IsTrue (list_all (is_present study) instances)
+    → IsTrue (is_story study.size (axioms_from study 0 instances) core story)
+    → IsTrue (is_story study.size study.axioms (core_of study (story_named study instances story)) (story_named study instances story))

@@ -13,10 +13,10 @@ abbrev pub reason_citing : Question → Option Cited → Reason
 reason_citing study None = ByOutcome 0
 reason_citing study (Some c) = reason_at study c
 
-module _ (study : Question) (derived : List Cited) where
+module _ (study : Question) (instances : List Cited) where
   -- a reason by an axiom of the derived study is one by its instance
   abbrev pub named_back : Reason → Reason
-  named_back (ByAxiom k values) = reason_citing study (slice_get derived k)
+  named_back (ByAxiom k values) = reason_citing study (slice_get instances k)
   named_back (ByOutcome p) = ByOutcome p
   named_back (ByLemma j) = ByLemma j
 

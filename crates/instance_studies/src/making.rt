@@ -1,9 +1,9 @@
 //! The study of some instances.
 
 ghost use Rattle.std.specs.Prelude.{◌≡◌, ◌≤◌, ◌∷◌, ◌++◌, [], length, IfOk, OnOk, IsTrue};
-ghost use Rattle.std.specs.List.{list_all};
 ghost use Rattle.sharp_verdicts.specs.Derived.{axiom_of, derived_study};
 ghost use Rattle.sharp_verdicts.specs.Instances.{is_present};
+ghost use Rattle.instance_studies.specs.Instances.{AreInstancesOf};
 
 use crate::names::name_of;
 use crate::values::values_of;
@@ -14,15 +14,14 @@ use sharp_verdicts::{Cited, Instances};
 use std::alloc::Global;
 use vocab::{Axiom, Axioms, Study};
 
-/// Some instances of a study, beside the profiles of the study's size: no more than a study may have axioms.
+/// Instances of a study, no more than a study may have axioms, beside the profiles of the study's size.
 #[derive(Drop)]
 pub struct StudyInstances<'a> {
     pub space: &'a Space,
     pub study: &'a Study,
-    pub list: &'a Instances,
-    pub ghost size: { study.now.size ≡ space.now },
-    pub ghost present: { IsTrue (list_all (is_present study.now) list.now) },
-    pub ghost few: { length list.now ≤ 4000000 },
+    pub cited: &'a Instances,
+    pub ghost same: { study.now.size ≡ space.now },
+    pub ghost own: { AreInstancesOf study.now cited.now },
 }
 
 /// Appends an instance of a study as an axiom of its own.
@@ -48,13 +47,13 @@ fn push_instance(
 /// The study whose axioms are these instances, each an axiom of its own, named `i0`, `i1` and so on.
 pub fn derive(alloc: Global, instances: &StudyInstances) -> Result<Study, NoMemory>
     ensures { IfOk result
-        (λ derived. derived ≡ derived_study instances.now.study.now instances.now.list.now) }
+        (λ derived. derived ≡ derived_study instances.now.study.now instances.now.cited.now) }
 {
     let study = instances.study;
     // Its contract says that the study is one.
     let _axioms = study.axioms();
     let mut axioms = Axioms::new(alloc);
-    for cited in instances.list.as_slice() {
+    for cited in instances.cited.as_slice() {
         push_instance(alloc, instances, *cited, &mut axioms)?;
     }
     Ok(Study::new(study.size(), study.conflicts(), axioms))

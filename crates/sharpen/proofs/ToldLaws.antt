@@ -54,46 +54,46 @@ module _ (study : Question) where
       let n : d.number ≡ c.number = eqb-true d.number (number_at study c.«axiom» (values_at study c)) q.1 ∙ number_back c.«axiom» c.number (slice_get study.axioms c.«axiom») refl p.1 in
       sym (λ i. record { «axiom» = k i; number = n i })
 
-  module _ (derived : List Cited) (present : list_all (is_present study) derived ≡ true) where
-    back_names : (k : ℕ) (o : Option Cited) → slice_get derived k ≡ o → names_instance study (reason_citing study o) ≡ true
+  module _ (instances : List Cited) (present : list_all (is_present study) instances ≡ true) where
+    back_names : (k : ℕ) (o : Option Cited) → slice_get instances k ≡ o → names_instance study (reason_citing study o) ≡ true
     back_names k None e = refl
-    back_names k (Some c) e = reason_names c (all_get (is_present study) derived k c present e)
+    back_names k (Some c) e = reason_names c (all_get (is_present study) instances k c present e)
 
-    reasons_name : (r : Reason) → names_instance study (named_back study derived r) ≡ true
-    reasons_name (ByAxiom k values) = back_names k (slice_get derived k) refl
+    reasons_name : (r : Reason) → names_instance study (named_back study instances r) ≡ true
+    reasons_name (ByAxiom k values) = back_names k (slice_get instances k) refl
     reasons_name (ByOutcome p) = refl
     reasons_name (ByLemma j) = refl
 
-    steps_name : (steps : List StoryStep) (last : Reason) → list_all (names_instance study) (map (λ (s : StoryStep). s.reason) (map (step_named study derived) steps) ++ named_back study derived last ∷ []) ≡ true
+    steps_name : (steps : List StoryStep) (last : Reason) → list_all (names_instance study) (map (λ (s : StoryStep). s.reason) (map (step_named study instances) steps) ++ named_back study instances last ∷ []) ≡ true
     steps_name [] last = and_from _ _ (reasons_name last) refl
     steps_name (s ∷ steps) last = and_from _ _ (reasons_name s.reason) (steps_name steps last)
 
-    pub named_have_reasons : (story : List Lemma) → has_reasons study (story_named study derived story) ≡ true
+    pub named_have_reasons : (story : List Lemma) → has_reasons study (story_named study instances story) ≡ true
     named_have_reasons [] = refl
     named_have_reasons (lemma ∷ story) = and_from _ _ (steps_name lemma.steps lemma.last) (named_have_reasons story)
 
     -- ---- what is cited comes of a reason of the story over the derived study
 
     abbrev IsFrom : Cited → (ℕ → Bool) → Type 0
-    IsFrom d t = (k : ℕ) × (t k ≡ true) × (slice_get derived k ≡ Some d)
+    IsFrom d t = (k : ℕ) × (t k ≡ true) × (slice_get instances k ≡ Some d)
 
-    back_from : (d : Cited) (k : ℕ) (o : Option Cited) → slice_get derived k ≡ o → cites study d (reason_citing study o) ≡ true → slice_get derived k ≡ Some d
+    back_from : (d : Cited) (k : ℕ) (o : Option Cited) → slice_get instances k ≡ o → cites study d (reason_citing study o) ≡ true → slice_get instances k ≡ Some d
     back_from d k None e h = absurd (true≢false (sym h))
-    back_from d k (Some c) e h = e ∙ ap (λ (x : Cited). Some x) (same_cited c d (all_get (is_present study) derived k c present e) h)
+    back_from d k (Some c) e h = e ∙ ap (λ (x : Cited). Some x) (same_cited c d (all_get (is_present study) instances k c present e) h)
 
-    reason_from : (d : Cited) (r : Reason) → cites study d (named_back study derived r) ≡ true → IsFrom d (λ k. cites_axiom k r)
-    reason_from d (ByAxiom k values) h = (k, eq-eqb k k refl, back_from d k (slice_get derived k) refl h)
+    reason_from : (d : Cited) (r : Reason) → cites study d (named_back study instances r) ≡ true → IsFrom d (λ k. cites_axiom k r)
+    reason_from d (ByAxiom k values) h = (k, eq-eqb k k refl, back_from d k (slice_get instances k) refl h)
     reason_from d (ByOutcome p) h = absurd (true≢false (sym h))
     reason_from d (ByLemma j) h = absurd (true≢false (sym h))
 
-    reasons_from : (d : Cited) (steps : List StoryStep) (last : Reason) → list_any (cites study d) (map (λ (s : StoryStep). s.reason) (map (step_named study derived) steps) ++ named_back study derived last ∷ []) ≡ true
+    reasons_from : (d : Cited) (steps : List StoryStep) (last : Reason) → list_any (cites study d) (map (λ (s : StoryStep). s.reason) (map (step_named study instances) steps) ++ named_back study instances last ∷ []) ≡ true
         → IsFrom d (λ k. list_any (cites_axiom k) (map (λ (s : StoryStep). s.reason) steps ++ last ∷ []))
-    reasons_from d [] last h = elim (or_cases (cites study d (named_back study derived last)) false h) [
+    reasons_from d [] last h = elim (or_cases (cites study d (named_back study instances last)) false h) [
       | inl e ↦ let r = reason_from d last e in (r.0, or_left (cites_axiom r.0 last) false r.1, r.2)
       | inr e ↦ absurd (true≢false (sym e))
     ]
     reasons_from d (s ∷ steps) last h =
-        elim (or_cases (cites study d (named_back study derived s.reason)) (list_any (cites study d) (map (λ (x : StoryStep). x.reason) (map (step_named study derived) steps) ++ named_back study derived last ∷ [])) h) [
+        elim (or_cases (cites study d (named_back study instances s.reason)) (list_any (cites study d) (map (λ (x : StoryStep). x.reason) (map (step_named study instances) steps) ++ named_back study instances last ∷ [])) h) [
           | inl e ↦ let r = reason_from d s.reason e in (r.0, or_left (cites_axiom r.0 s.reason) (list_any (cites_axiom r.0) (map (λ (x : StoryStep). x.reason) steps ++ last ∷ [])) r.1, r.2)
           | inr e ↦ let r = reasons_from d steps last e in (r.0, or_right (cites_axiom r.0 s.reason) (list_any (cites_axiom r.0) (map (λ (x : StoryStep). x.reason) steps ++ last ∷ [])) r.1, r.2)
         ]
@@ -131,27 +131,27 @@ module _ (size : Extent) (axioms : List Titled) (core : List ℕ) where
 
 -- ---- so what a named story cites is of its core
 
-module _ (study : Question) (derived : List Cited) (present : list_all (is_present study) derived ≡ true) (size : Extent) (axioms : List Titled) (core : List ℕ) where
+module _ (study : Question) (instances : List Cited) (present : list_all (is_present study) instances ≡ true) (size : Extent) (axioms : List Titled) (core : List ℕ) where
   abbrev IsOfCore : Cited → Type 0
-  IsOfCore d = (k : ℕ) × (list_any (λ c. c == k) core ≡ true) × (slice_get derived k ≡ Some d)
+  IsOfCore d = (k : ℕ) × (list_any (λ c. c == k) core ≡ true) × (slice_get instances k ≡ Some d)
 
-  named_lemma : (d : Cited) (earlier : List Lemma) (lemma : Lemma) → is_lemma size axioms core earlier lemma ≡ true → list_any (cites study d) (reasons_of (lemma_named study derived lemma)) ≡ true → IsOfCore d
-  named_lemma d earlier lemma h e = let r = reasons_from study derived present d lemma.steps lemma.last e in (r.0, lemma_core size axioms core r.0 earlier lemma h r.1, r.2)
+  named_lemma : (d : Cited) (earlier : List Lemma) (lemma : Lemma) → is_lemma size axioms core earlier lemma ≡ true → list_any (cites study d) (reasons_of (lemma_named study instances lemma)) ≡ true → IsOfCore d
+  named_lemma d earlier lemma h e = let r = reasons_from study instances present d lemma.steps lemma.last e in (r.0, lemma_core size axioms core r.0 earlier lemma h r.1, r.2)
 
-  told_of_core : (d : Cited) (earlier story : List Lemma) → is_story_from size axioms core earlier story ≡ true → is_told study (story_named study derived story) d ≡ true → IsOfCore d
+  told_of_core : (d : Cited) (earlier story : List Lemma) → is_story_from size axioms core earlier story ≡ true → is_told study (story_named study instances story) d ≡ true → IsOfCore d
   told_of_core d earlier [] h e = absurd (true≢false (sym h))
   told_of_core d earlier (lemma ∷ []) h e =
       let a = and_parts (is_lemma size axioms core earlier lemma) (length lemma.suppose == 0) h in
-      elim (or_cases (list_any (cites study d) (reasons_of (lemma_named study derived lemma))) false e) [
+      elim (or_cases (list_any (cites study d) (reasons_of (lemma_named study instances lemma))) false e) [
         | inl c ↦ named_lemma d earlier lemma a.0 c
         | inr c ↦ absurd (true≢false (sym c))
       ]
   told_of_core d earlier (lemma ∷ next ∷ rest) h e =
       let a = and_parts (is_lemma size axioms core earlier lemma) (is_story_from size axioms core (earlier ++ lemma ∷ []) (next ∷ rest)) h in
-      elim (or_cases (list_any (cites study d) (reasons_of (lemma_named study derived lemma))) (is_told study (story_named study derived (next ∷ rest)) d) e) [
+      elim (or_cases (list_any (cites study d) (reasons_of (lemma_named study instances lemma))) (is_told study (story_named study instances (next ∷ rest)) d) e) [
         | inl c ↦ named_lemma d earlier lemma a.0 c
         | inr c ↦ told_of_core d (earlier ++ lemma ∷ []) (next ∷ rest) a.1 c
       ]
 
-  pub told_in_core : (d : Cited) (story : List Lemma) → is_story size axioms core story ≡ true → is_told study (story_named study derived story) d ≡ true → IsOfCore d
+  pub told_in_core : (d : Cited) (story : List Lemma) → is_story size axioms core story ≡ true → is_told study (story_named study instances story) d ≡ true → IsOfCore d
   told_in_core d story h e = told_of_core d [] story h e

@@ -36,24 +36,24 @@ fn is_among(instances: &Instances, cited: Cited) -> bool
     false
 }
 
-/// Of the marks of the instances of a core those of some instances.
+/// Of the marks of the instances of a core those of the instances that are listed.
 pub fn marks_of(
     alloc: Global,
-    derived: &Instances,
+    instances: &Instances,
     core: &Places,
     witnesses: &Witnesses,
-    instances: &Instances,
+    listed: &Instances,
 ) -> Result<Witnesses, NoMemory>
-    requires core { All (λ k. k < length derived.now) core.now }
+    requires core { All (λ k. k < length instances.now) core.now }
     requires count { length witnesses.now ≡ length core.now }
     ensures { IfOk result
         (λ marks. marks ≡
-        marks_kept instances.now (map (derived_instance derived.now) core.now) witnesses.now) }
+        marks_kept listed.now (map (derived_instance instances.now) core.now) witnesses.now) }
 {
     let mut marks = Items::new(alloc);
     for k in 0..core.len() {
-        let cited = *derived.get(*core.get(k) as usize);
-        if is_among(instances, cited) {
+        let cited = *instances.get(*core.get(k) as usize);
+        if is_among(listed, cited) {
             marks.push(copied(alloc, witnesses.get(k))?)?;
         }
     }

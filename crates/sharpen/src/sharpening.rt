@@ -23,16 +23,16 @@ use vocab::Study;
 
 /// The story of a refutation of instances, named back, with the instances that it cites and their marks.
 ///
-/// `made` is the study that is derived by `derived`, over which the refutation is.
+/// `derived` is the study of `instances`, over which the refutation is.
 fn tell<K: OutcomeKind>(
     alloc: Global,
     setting: &Setting<K>,
-    made: &Study,
-    derived: Instances,
+    derived: &Study,
+    instances: Instances,
     reduced: Reduced,
 ) -> Result<Sharp, NoMemory>
-    requires derived { IsDerivedFrom setting.now.study.now derived made.now }
-    requires reduced { IsReducedTo made.now reduced }
+    requires derived { IsDerivedFrom setting.now.study.now instances derived.now }
+    requires reduced { IsReducedTo derived.now reduced }
     ensures { IfOk result (IsSharpened setting.now.study.now) }
 {
     let kind = setting.kind;
@@ -40,36 +40,38 @@ fn tell<K: OutcomeKind>(
     // Its contract says that the study is one.
     let _axioms = study.axioms();
     let Reduced { refutation, logs } = reduced;
-    let space = kind.space();
-    let over = Setting { kind, study: made };
+    let derived_setting = Setting {
+        kind,
+        study: derived,
+    };
     let told = retell_simply(
         alloc,
-        &over,
+        &derived_setting,
         &refutation.core,
         &refutation.clauses,
         &refutation.proof,
     )?;
-    let axioms = StudyInstances {
-        space,
+    let cited = StudyInstances {
+        space: kind.space(),
         study,
-        list: &derived,
+        cited: &instances,
     };
-    let story = story_named(alloc, &axioms, &told)?;
-    let instances = instances_told(alloc, space, study, story.as_slice())?;
+    let story = story_named(alloc, &cited, &told)?;
+    let listed = instances_told(alloc, kind.space(), study, story.as_slice())?;
     let marks = marks_of(
         alloc,
-        &derived,
+        &instances,
         &refutation.core,
         &refutation.witnesses,
-        &instances,
+        &listed,
     )?;
     let core = axioms_told(alloc, study, story.as_slice())?;
     Ok(Sharp {
         core,
         story,
-        instances,
+        instances: listed,
         marks,
-        derived,
+        derived: instances,
         logs,
     })
 }
@@ -89,12 +91,12 @@ pub fn sharpen<R: Threads + Sync, K: OutcomeKind, G: Gate>(
         study: refuted.study,
     };
     let instances = instances_cited(alloc, refuted)?;
-    let axioms = StudyInstances {
+    let cited = StudyInstances {
         space: refuted.kind.space(),
         study: refuted.study,
-        list: &instances,
+        cited: &instances,
     };
-    let derived = derive(alloc, &axioms)?;
+    let derived = derive(alloc, &cited)?;
     let reduced = reduce_instances(alloc, crew, refuted, &instances, &derived)?;
     tell(alloc, &setting, &derived, instances, reduced)
 }

@@ -9,8 +9,8 @@ ground-requires-clause-chosen g c κs within = subst (λ (ps : List ℕ). is_cor
 
 pub unreachable-requires : goal.unreachable-requires
 unreachable-requires g c =
-    never _ (rw c.in-Err-Wide.field-0-is at c.in-Err-Wide.ensures.err) (fits_made c.args.setting.now.study.now c.args.instances.now c.args.derived.now c.in_ok-all.all c.axioms-axioms.ensures.study c.requires.total c.requires.derived.present c.requires.derived.rising c.requires.derived.made c.in_ok-all.ensures)
+    never _ (rw c.in-Err-Wide.field-0-is at c.in-Err-Wide.ensures.err) (fits_made c.args.setting.now.study.now c.args.instances.now c.args.derived.now c.in_ok-all.all c.axioms-axioms.ensures.study c.requires.total c.requires.derived.own.present c.requires.derived.rising c.requires.derived.made c.in_ok-all.ensures)
 
 pub unreachable-requires-in-Err-Full : goal.unreachable-requires-in-Err-Full
 unreachable-requires-in-Err-Full g c =
-    never _ (rw c.in-Err-Full.field-0-is at c.in-Err-Full.ensures.err) (fits_made c.args.setting.now.study.now c.args.instances.now c.args.derived.now c.in_ok-all.all c.axioms-axioms.ensures.study c.requires.total c.requires.derived.present c.requires.derived.rising c.requires.derived.made c.in_ok-all.ensures)
+    never _ (rw c.in-Err-Full.field-0-is at c.in-Err-Full.ensures.err) (fits_made c.args.setting.now.study.now c.args.instances.now c.args.derived.now c.in_ok-all.all c.axioms-axioms.ensures.study c.requires.total c.requires.derived.own.present c.requires.derived.rising c.requires.derived.made c.in_ok-all.ensures)

@@ -3,4 +3,4 @@ use Rattle.instance_stories.specs.Named.{step_named}
 use Rattle.instance_stories.proofs.naming.steps_named.Given as goal
 
 abbrev pub invariant-loop-step : goal.invariant-loop-step
-invariant-loop-step l = l.named ≡ map (step_named l.derived.study.now l.derived.list.now) (take l.step-index l.steps)
+invariant-loop-step l = l.named ≡ map (step_named l.instances.study.now l.instances.cited.now) (take l.step-index l.steps)

@@ -11,19 +11,19 @@ use Rattle.sharpen.proofs.sharpening.tell.Goals as goal
 
 pub instances_told-requires-clause-reasons : goal.instances_told-requires-clause-reasons
 instances_told-requires-clause-reasons g c =
-    subst (λ (story : List Lemma). has_reasons c.args.setting.now.study.now story ≡ true) (sym (c.as_slice.ensures ∙ c.in_ok-story.ensures)) (named_have_reasons c.args.setting.now.study.now c.args.derived c.requires.derived.present c.in_ok-told.told)
+    subst (λ (story : List Lemma). has_reasons c.args.setting.now.study.now story ≡ true) (sym (c.as_slice.ensures ∙ c.in_ok-story.ensures)) (named_have_reasons c.args.setting.now.study.now c.args.instances c.requires.derived.own.present c.in_ok-told.told)
 
 pub marks_of-requires-clause-core : goal.marks_of-requires-clause-core
 marks_of-requires-clause-core g c =
-    is_within c.args.setting.now.study.now c.args.derived c.args.reduced (subst (λ (made : Question). IsReducedTo made c.args.reduced) c.requires.derived.made c.requires.reduced)
+    is_within c.args.setting.now.study.now c.args.instances c.args.reduced (subst (λ (made : Question). IsReducedTo made c.args.reduced) c.requires.derived.made c.requires.reduced)
 
 pub marks_of-requires-clause-count : goal.marks_of-requires-clause-count
 marks_of-requires-clause-count g c =
-    as_many c.args.setting.now.study.now c.args.derived c.args.reduced (subst (λ (made : Question). IsReducedTo made c.args.reduced) c.requires.derived.made c.requires.reduced)
+    as_many c.args.setting.now.study.now c.args.instances c.args.reduced (subst (λ (made : Question). IsReducedTo made c.args.reduced) c.requires.derived.made c.requires.reduced)
 
 pub returns : goal.returns
 returns g c =
     let right = subst (λ (made : Question). IsReducedTo made c.args.reduced) c.requires.derived.made c.requires.reduced in
     let accepted = subst (λ (made : Question). is_story made.size made.axioms c.args.reduced.refutation.core c.in_ok-told.told ≡ true) c.requires.derived.made c.in_ok-told.ensures.accepted in
-    sharpened_as c.args.setting.now.study.now c.args.derived c.args.reduced right c.axioms-axioms.ensures.study c.requires.derived.present c.requires.derived.rising c.in_ok-told.told accepted _
-    c.in_ok-story.ensures (c.in_ok-core.ensures ∙ ap (core_of c.args.setting.now.study.now) c.as_slice-2.ensures) (c.in_ok-instances.ensures ∙ ap (instances_of c.args.setting.now.study.now) c.as_slice.ensures) c.in_ok-marks.ensures refl refl
+    sharpened_as c.args.setting.now.study.now c.args.instances c.args.reduced right c.axioms-axioms.ensures.study c.requires.derived.own.present c.requires.derived.rising c.in_ok-told.told accepted _
+    c.in_ok-story.ensures (c.in_ok-core.ensures ∙ ap (core_of c.args.setting.now.study.now) c.as_slice-2.ensures) (c.in_ok-listed.ensures ∙ ap (instances_of c.args.setting.now.study.now) c.as_slice.ensures) c.in_ok-marks.ensures refl refl
