@@ -47,15 +47,16 @@ pub fn instances_cited<K: OutcomeKind>(
     alloc: Global,
     refuted: &RefutedStudy<K>,
 ) -> Result<Instances, NoMemory>
-    ensures { IfOk result (AreInstancesCited refuted.now.study.now refuted.now.refutation.now.clauses
-        refuted.now.refutation.now.proof) }
+    ensures { IfOk result (AreInstancesCited refuted.now.setting.now.study.now
+        refuted.now.refutation.now.clauses refuted.now.refutation.now.proof) }
 {
+    let study = refuted.setting.study;
     // Its contract says that the study is one.
-    let _axioms = refuted.study.axioms();
+    let _axioms = study.axioms();
     let refutation = refuted.refutation;
     let count = refutation.clauses.clauses().len();
     let flags = flags_of(alloc, count, refutation.proof.as_slice())?;
-    let mut codes = codes_of(alloc, refuted.study, &refutation.clauses, flags.as_slice())?;
+    let mut codes = codes_of(alloc, study, &refutation.clauses, flags.as_slice())?;
     let instances = rising(alloc, &mut codes)?;
     Ok(instances)
 }

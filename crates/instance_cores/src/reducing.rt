@@ -10,7 +10,7 @@ use crew::Crew;
 use edge::Gate;
 use instance_grounds::ground_derived;
 use lists::NoMemory;
-use outcomes::{OutcomeKind, Setting};
+use outcomes::OutcomeKind;
 use renumbering::renumber;
 use search_logs::all_places;
 use sharp_verdicts::Instances;
@@ -27,17 +27,14 @@ pub fn reduce_instances<R: Threads + Sync, K: OutcomeKind, G: Gate>(
     instances: &Instances,
     derived: &Study,
 ) -> Result<Reduced, NoMemory>
-    requires cited { AreInstancesCited refuted.now.study.now refuted.now.refutation.now.clauses
-        refuted.now.refutation.now.proof instances.now }
-    requires derived { derived.now ≡ derived_study refuted.now.study.now instances.now }
+    requires cited { AreInstancesCited refuted.now.setting.now.study.now
+        refuted.now.refutation.now.clauses refuted.now.refutation.now.proof instances.now }
+    requires derived { derived.now ≡ derived_study refuted.now.setting.now.study.now instances.now }
     ensures { IfOk result (IsReducedTo derived.now) }
 {
-    let setting = Setting {
-        kind: refuted.kind,
-        study: refuted.study,
-    };
+    let setting = refuted.setting;
     let refutation = refuted.refutation;
-    let clauses = ground_derived(alloc, crew, &setting, instances, derived)?;
+    let clauses = ground_derived(alloc, crew, setting, instances, derived)?;
     let proof = renumber(
         alloc,
         refutation.clauses.clauses(),
@@ -45,6 +42,6 @@ pub fn reduce_instances<R: Threads + Sync, K: OutcomeKind, G: Gate>(
         &refutation.proof,
     )?;
     let all = all_places(alloc, derived)?;
-    let reduced = reduce(alloc, refuted.kind, derived, &all, clauses, &proof)?;
+    let reduced = reduce(alloc, setting.kind, derived, &all, clauses, &proof)?;
     Ok(reduced)
 }

@@ -84,19 +84,16 @@ pub fn sharpen<R: Threads + Sync, K: OutcomeKind, G: Gate>(
     crew: &Crew<R, G>,
     refuted: &RefutedStudy<K>,
 ) -> Result<Sharp, NoMemory>
-    ensures { IfOk result (IsSharpened refuted.now.study.now) }
+    ensures { IfOk result (IsSharpened refuted.now.setting.now.study.now) }
 {
-    let setting = Setting {
-        kind: refuted.kind,
-        study: refuted.study,
-    };
+    let setting = refuted.setting;
     let instances = instances_cited(alloc, refuted)?;
     let cited = StudyInstances {
-        space: refuted.kind.space(),
-        study: refuted.study,
+        space: setting.kind.space(),
+        study: setting.study,
         cited: &instances,
     };
     let derived = derive(alloc, &cited)?;
     let reduced = reduce_instances(alloc, crew, refuted, &instances, &derived)?;
-    tell(alloc, &setting, &derived, instances, reduced)
+    tell(alloc, setting, &derived, instances, reduced)
 }

@@ -99,8 +99,7 @@ fn sharpened<R: Threads + Sync, K: OutcomeKind>(
         logs: _,
     } = reduce(alloc, kind, study, &all, made, &lines)?;
     let refuted = RefutedStudy {
-        kind,
-        study,
+        setting: &setting,
         refutation: &refutation,
     };
     Ok(sharpen(alloc, &crew, &refuted)?)

@@ -12,12 +12,12 @@ use Rattle.instance_cores.proofs.citing.instances_cited.Goals as goal
 
 pub codes_of-requires-clause-instances : goal.codes_of-requires-clause-instances
 codes_of-requires-clause-instances g c =
-    let study : Question = c.args.refuted.now.study.now in
+    let study : Question = c.args.refuted.now.setting.now.study.now in
     subst (HaveInstances study.size study.axioms) (sym c.args.refuted.now.trimmed.clauses) (study_sourced study.size study.axioms c.args.refuted.now.refutation.now.core)
 
 pub returns : goal.returns
 returns g c =
-    let study : Question = c.args.refuted.now.study.now in
+    let study : Question = c.args.refuted.now.setting.now.study.now in
     let sources : List Sourced = c.args.refuted.now.refutation.now.clauses in
     let lines : List Line = c.args.refuted.now.refutation.now.proof in
     let have : HaveInstances study.size study.axioms sources = subst (HaveInstances study.size study.axioms) (sym c.args.refuted.now.trimmed.clauses) (study_sourced study.size study.axioms c.args.refuted.now.refutation.now.core) in

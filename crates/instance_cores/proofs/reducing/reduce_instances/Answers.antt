@@ -16,10 +16,10 @@ use Rattle.instance_cores.proofs.reducing.reduce_instances.Goals as goal
 
 pub renumber-requires-clause-stand : goal.renumber-requires-clause-stand
 renumber-requires-clause-stand g c =
-    stand_made c.args.refuted.now.study.now c.args.refuted.now.refutation.now.core c.args.instances.now c.args.refuted.now.refutation.now.proof c.clauses.result.now.clauses c.clauses-2.result.now.clauses
-    (subst (λ (ss : List Sourced). AreInstancesCited c.args.refuted.now.study.now ss c.args.refuted.now.refutation.now.proof c.args.instances.now) c.args.refuted.now.trimmed.clauses c.requires.cited)
+    stand_made c.args.refuted.now.setting.now.study.now c.args.refuted.now.refutation.now.core c.args.instances.now c.args.refuted.now.refutation.now.proof c.clauses.result.now.clauses c.clauses-2.result.now.clauses
+    (subst (λ (ss : List Sourced). AreInstancesCited c.args.refuted.now.setting.now.study.now ss c.args.refuted.now.refutation.now.proof c.args.instances.now) c.args.refuted.now.trimmed.clauses c.requires.cited)
     (sym c.clauses.ensures.clauses ∙ ap clauses_in c.args.refuted.now.trimmed.clauses)
-    (sym c.clauses-2.ensures.clauses ∙ ap clauses_in c.in_ok-clauses.ensures ∙ clauses_made c.args.refuted.now.study.now c.args.derived.now c.args.instances.now (all_places c.args.derived.now) c.requires.derived refl)
+    (sym c.clauses-2.ensures.clauses ∙ ap clauses_in c.in_ok-clauses.ensures ∙ clauses_made c.args.refuted.now.setting.now.study.now c.args.derived.now c.args.instances.now (all_places c.args.derived.now) c.requires.derived refl)
 
 pub reduce-requires-clause-chosen : goal.reduce-requires-clause-chosen
 reduce-requires-clause-chosen g c κs within = subst (λ (ps : List ℕ). is_core_from 0 (length c.args.derived.now.axioms) ps ≡ true) (sym c.in_ok-all.ensures) (core_below (length c.args.derived.now.axioms))
