@@ -49,9 +49,12 @@ fn sharpened<R: Threads + Sync, K: OutcomeKind, G: Gate>(
 {
     // Its contract says that a right sharp verdict has a text.
     right_sharp_verdicts_have_texts();
-    let refuted = RefutedStudy {
+    let setting = Setting {
         kind,
         study: &study,
+    };
+    let refuted = RefutedStudy {
+        setting: &setting,
         refutation,
     };
     let sharp = sharpen::sharpen(alloc, crew, &refuted)?;
