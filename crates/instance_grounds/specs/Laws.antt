@@ -1,4 +1,4 @@
--- What holds of the clauses of instances studies: the statement of the law.
+-- What holds of the clauses of derived studies: the statement of the law.
 use Rattle.std.specs.Prelude.{◌≡◌, ℕ, List, length, slice_get, Some, None, IsTrue}
 use Rattle.std.specs.List.{list_all}
 use Rattle.vocab.specs.Study.{Question, IsStudy}
@@ -19,7 +19,7 @@ abbrev pub IsFrameOrCited : List Cited → Origin → Type 0
 IsFrameOrCited instances (Frame p) = Unit {0}
 IsFrameOrCited instances (Instance a k) = (i : ℕ) × (slice_get instances i ≡ Some (record { «axiom» = a; number = k }))
 
--- the clauses of a instances study
+-- the clauses of a derived study
 abbrev pub derived_clauses : Question → List Cited → List Clause
 derived_clauses study instances = clauses_for study.size (axioms_from study 0 instances) (below (length instances))
 
