@@ -1,4 +1,4 @@
--- Worked examples, as the definitions compute them: what is left at profiles, of two alternatives.
+-- Worked examples, as the definitions compute them: what is left at profiles, of two alternatives, and what a lemma claims.
 use Rattle.std.proofs.Common.{◌≡◌, refl, ℕ, List, [], ◌∷◌, true, false, Bool, map, Some}
 use Rattle.vocab.specs.declared.literals.Literal.{Literal}
 use Rattle.vocab.specs.declared.literals.Literal.TheVariants.{Wins, Loses}
@@ -7,7 +7,7 @@ use Rattle.meaning.specs.declared.stories.Reason.TheVariants.{Outcome as ByOutco
 use Rattle.meaning.specs.declared.stories.StoryStep.{StoryStep}
 use Rattle.meaning.proofs.WorkedExamples.{choice}
 use Rattle.tellings.specs.declared.tellings.By.TheVariants.{Outcome}
-use Rattle.tellings.specs.Tellings.{forced_by, forced_facts, says_step}
+use Rattle.tellings.specs.Tellings.{first_facts, forced_by, says_step}
 
 -- b wins at the profile, since it is what is left there
 abbrev wins_at : ℕ → StoryStep
@@ -47,5 +47,9 @@ abbrev by_claim : Lemma
 by_claim = record { suppose = []; steps = record { literal = Loses 0 1; reason = ByLemma 0 } ∷ []; last = ByOutcome 1 }
 
 -- what an earlier lemma claims is no fact that comes first
-claim_forces_nothing : forced_facts (choice 2 2) [] [] [] (claimed ∷ by_claim ∷ []) ≡ []
+claim_forces_nothing : first_facts (choice 2 2) [] [] (claimed ∷ by_claim ∷ []) ≡ []
 claim_forces_nothing = refl
+
+-- where that lemma may be cited, it forces the step that cites it
+claim_forces_where_it_stands : forced_by (choice 2 2) [] [] (claimed ∷ []) [] by_claim.steps ≡ Loses 0 1 ∷ []
+claim_forces_where_it_stands = refl

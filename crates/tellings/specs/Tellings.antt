@@ -205,10 +205,14 @@ module _ (size : Extent) (axioms : List Titled) (core : List ℕ) where
     pub grounded : (k : ℕ) → IsTrue (list_all (stands_before [] [] passage.steps k) (rests_of (slice_get passage.sentences k)))
     pub once : IsTrue (are_distinct (facts_of passage.steps))
 
+  -- the facts that come first: those that are forced, by no lemma, where a story has several lemmas
+  abbrev pub first_facts : List Lemma → List Literal
+  first_facts story = forced_facts size axioms core [] (several story)
+
   -- a story is told right: the facts of its steps that are forced come first, where it has several lemmas, and then each lemma is told by the lemmas before it, which stand before it
   pub record IsStoryTold (story : List Lemma) (told : StoryTelling) : Type 0 where
     pub forced : IsForced told.forced
-    pub whole : facts_of told.forced.steps ≡ forced_facts size axioms core [] (several story)
+    pub whole : facts_of told.forced.steps ≡ first_facts story
     pub all : length told.lemmas ≡ length story
     pub each : (j : ℕ) (lemma : Lemma) (telling : Telling) → slice_get story j ≡ Some lemma → slice_get told.lemmas j ≡ Some telling →
         IsTellingRight size axioms core (take j story) (facts_of told.forced.steps) lemma telling
