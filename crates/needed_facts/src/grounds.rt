@@ -38,32 +38,12 @@ pub struct Grounds<'a, K: OutcomeKind> {
     pub ghost literals: { IsTrue (list_all (has_literals (K.size kind.now)) basis.earlier.now) },
 }
 
-/// Puts a literal on a board, if it is known and not yet there.
-fn load_one(size: Size, known: &Board, tried: &mut Board, literal: &Literal)
-    requires known { known.now.size ≡ size }
-    requires tried { tried.old.size ≡ size }
-    requires all { IsTrue (list_all (has known.now.literals) tried.old.literals) }
-    ensures size { tried.new.size ≡ tried.old.size }
-    ensures all { IsTrue (list_all (has known.now.literals) tried.new.literals) }
-{
-    if is_literal(size, literal) && known.has(literal) && !tried.has(literal) {
-        tried.add(literal);
-    }
-}
-
-/// Puts those of some literals on a board that are known, but for the one at a place.
-fn load(size: Size, known: &Board, tried: &mut Board, literals: &[Literal], left_out: usize)
-    requires known { known.now.size ≡ size }
-    requires tried { tried.old.size ≡ size }
-    ensures size { tried.new.size ≡ tried.old.size }
-    ensures all { IsTrue (list_all (has known.now.literals) tried.new.literals) }
-{
-    tried.clear();
-    for place in 0..literals.len() {
-        if place != left_out {
-            load_one(size, known, tried, &literals[place]);
-        }
-    }
+/// Facts on a board of the size, and what reasons may cite beside them.
+#[derive(Drop)]
+pub struct Facts<'a, K: OutcomeKind> {
+    pub grounds: &'a Grounds<'a, K>,
+    pub board: &'a Board,
+    pub ghost size: { board.now.size ≡ K.size grounds.now.kind.now },
 }
 
 /// Puts other literals on a board, whatever they are. False where one of them is no literal of the size or is
@@ -82,19 +62,19 @@ pub fn add_others(size: Size, tried: &mut Board, others: &[Literal]) -> bool
     true
 }
 
-impl<K: OutcomeKind> Grounds<'_, K> {
-    /// Whether a reason refutes what is on a board.
-    pub fn refutes(&self, board: &Board, reason: &Reason) -> bool
-        requires { board.now.size ≡ K.size self.now.kind.now }
-        ensures { IsTrue result →
-            IsTrue (refutes_by (K.size self.now.kind.now) self.now.basis board.now.literals reason.now) }
+impl<K: OutcomeKind> Facts<'_, K> {
+    /// Whether a reason refutes the facts.
+    pub fn refutes(&self, reason: &Reason) -> bool
+        ensures { result ≡ refutes_by (K.size self.now.grounds.now.kind.now) self.now.grounds.now.basis
+            self.now.board.now.literals reason.now }
     {
+        let grounds = self.grounds;
         match refutes(
-            self.kind,
-            self.basis.study,
-            self.basis.core,
-            self.basis.earlier,
-            board,
+            grounds.kind,
+            grounds.basis.study,
+            grounds.basis.core,
+            grounds.basis.earlier,
+            self.board,
             reason,
         ) {
             Ok(()) => true,
@@ -102,33 +82,61 @@ impl<K: OutcomeKind> Grounds<'_, K> {
         }
     }
 
-    /// Whether a reason rests on those of some literals that are known, but for the one at a place: these, if
+    /// Puts a literal on a board, if it is one of the facts and not yet there.
+    fn load_one(&self, tried: &mut Board, literal: &Literal)
+        requires tried { tried.old.size ≡ K.size self.now.grounds.now.kind.now }
+        requires all { IsTrue (list_all (has self.now.board.now.literals) tried.old.literals) }
+        ensures size { tried.new.size ≡ tried.old.size }
+        ensures all { IsTrue (list_all (has self.now.board.now.literals) tried.new.literals) }
+    {
+        let size = self.grounds.kind.space().size();
+        if is_literal(size, literal) && self.board.has(literal) && !tried.has(literal) {
+            tried.add(literal);
+        }
+    }
+
+    /// Puts those of some literals on a board that are facts, but for the one at a place.
+    fn load(&self, tried: &mut Board, literals: &[Literal], left_out: usize)
+        requires tried { tried.old.size ≡ K.size self.now.grounds.now.kind.now }
+        ensures size { tried.new.size ≡ tried.old.size }
+        ensures all { IsTrue (list_all (has self.now.board.now.literals) tried.new.literals) }
+    {
+        tried.clear();
+        for place in 0..literals.len() {
+            if place != left_out {
+                self.load_one(tried, &literals[place]);
+            }
+        }
+    }
+
+    /// Whether a reason rests on those of some literals that are facts, but for the one at a place: these, if
     /// it does. The reason has to refute them together with the others.
     fn attempt(
         &self,
         alloc: Global,
-        known: &Board,
         tried: &mut Board,
         literals: &[Literal],
         left_out: usize,
         others: &[Literal],
         reason: &Reason,
     ) -> Result<Option<Literals>, NoMemory>
-        requires known { known.now.size ≡ K.size self.now.kind.now }
-        requires tried { tried.old.size ≡ K.size self.now.kind.now }
+        requires tried { tried.old.size ≡ K.size self.now.grounds.now.kind.now }
         ensures tried { tried.new.size ≡ tried.old.size }
         ensures rests { IfOk result (λ found. IfSome found (λ rests.
-            RestsOn (K.size self.now.kind.now) self.now.basis
-            known.now.literals others.now reason.now rests)) }
+            RestsOn (K.size self.now.grounds.now.kind.now) self.now.grounds.now.basis
+            self.now.board.now.literals others.now reason.now rests)) }
     {
-        let size = self.kind.space().size();
-        load(size, known, tried, literals, left_out);
+        self.load(tried, literals, left_out);
         let mut rests = Literals::new(alloc);
         rests.append(tried.as_slice())?;
-        if !add_others(size, tried, others) {
+        if !add_others(self.grounds.kind.space().size(), tried, others) {
             return Ok(None);
         }
-        if self.refutes(tried, reason) {
+        let tried = Facts {
+            grounds: self.grounds,
+            board: tried,
+        };
+        if tried.refutes(reason) {
             Ok(Some(rests))
         } else {
             Ok(None)
@@ -140,20 +148,18 @@ impl<K: OutcomeKind> Grounds<'_, K> {
     fn least(
         &self,
         alloc: Global,
-        known: &Board,
         tried: &mut Board,
         rests: Literals,
         others: &[Literal],
         reason: &Reason,
     ) -> Result<Literals, NoMemory>
-        requires known { known.now.size ≡ K.size self.now.kind.now }
-        requires tried { tried.old.size ≡ K.size self.now.kind.now }
-        requires rests { RestsOn (K.size self.now.kind.now) self.now.basis known.now.literals others.now
-            reason.now rests }
+        requires tried { tried.old.size ≡ K.size self.now.grounds.now.kind.now }
+        requires rests { RestsOn (K.size self.now.grounds.now.kind.now) self.now.grounds.now.basis
+            self.now.board.now.literals others.now reason.now rests }
         ensures tried { tried.new.size ≡ tried.old.size }
         ensures rests { IfOk result (λ rests.
-            RestsOn (K.size self.now.kind.now) self.now.basis
-            known.now.literals others.now reason.now rests) }
+            RestsOn (K.size self.now.grounds.now.kind.now) self.now.grounds.now.basis
+            self.now.board.now.literals others.now reason.now rests) }
     {
         let count = rests.len();
         if count > MOST_TRIED {
@@ -163,7 +169,7 @@ impl<K: OutcomeKind> Grounds<'_, K> {
         let mut place = 0;
         for turn in 0..count {
             let _ = turn;
-            match self.attempt(alloc, known, tried, kept.as_slice(), place, others, reason)? {
+            match self.attempt(alloc, tried, kept.as_slice(), place, others, reason)? {
                 Some(fewer) => kept = fewer,
                 None => place += 1,
             }
@@ -171,135 +177,117 @@ impl<K: OutcomeKind> Grounds<'_, K> {
         Ok(kept)
     }
 
-    /// The known literals of which an instance of the axiom at a place of the core speaks.
-    fn spoken_by(
-        &self,
-        alloc: Global,
-        known: &Board,
-        place: u32,
-        values: &Env,
-    ) -> Result<Literals, NoMemory>
-        requires known { known.now.size ≡ K.size self.now.kind.now }
-        requires values { (a : Titled) → slice_get self.now.basis.study.now.axioms place ≡ Some a →
-            IsTrue (pointwise nat_lt values.now (bases_of (K.size self.now.kind.now) a.sentence)) }
+    /// The facts of which an instance of the axiom at a place of the core speaks.
+    fn spoken_by(&self, alloc: Global, place: u32, values: &Env) -> Result<Literals, NoMemory>
+        requires values { (a : Titled) →
+            slice_get self.now.grounds.now.basis.study.now.axioms place ≡ Some a →
+            IsTrue (pointwise nat_lt values.now (bases_of (K.size self.now.grounds.now.kind.now) a.sentence)) }
     {
         bodies_have_values();
-        let axioms = self.basis.study.axioms();
+        let grounds = self.grounds;
+        let axioms = grounds.basis.study.axioms();
         if place as usize >= axioms.len() {
             return Ok(Literals::new(alloc));
         }
         let sentence = axioms.get(place as usize).sentence();
-        literals_of(alloc, self.kind.space(), known, sentence.body(), values)
+        literals_of(
+            alloc,
+            grounds.kind.space(),
+            self.board,
+            sentence.body(),
+            values,
+        )
     }
 
-    /// Facts that a reason may rest on; those that are not known do not count.
-    fn candidates(
-        &self,
-        alloc: Global,
-        known: &Board,
-        reason: &Reason,
-    ) -> Result<Literals, NoMemory>
-        requires known { known.now.size ≡ K.size self.now.kind.now }
+    /// Literals that a reason may rest on; those that are no facts do not count.
+    fn candidates(&self, alloc: Global, reason: &Reason) -> Result<Literals, NoMemory>
         requires values { (k : ℕ) (values : List ℕ) → reason.now ≡ Reason.Axiom k values → (a : Titled) →
-            slice_get self.now.basis.study.now.axioms k ≡ Some a →
-            IsTrue (pointwise nat_lt values (bases_of (K.size self.now.kind.now) a.sentence)) }
+            slice_get self.now.grounds.now.basis.study.now.axioms k ≡ Some a →
+            IsTrue (pointwise nat_lt values (bases_of (K.size self.now.grounds.now.kind.now) a.sentence)) }
     {
+        let grounds = self.grounds;
         match reason {
-            Reason::Axiom(place, values) => self.spoken_by(alloc, known, *place, values),
-            Reason::Outcome(p) => at_profile(alloc, known.as_slice(), *p),
-            Reason::Lemma(place) => match self.basis.earlier.get(*place as usize) {
+            Reason::Axiom(place, values) => self.spoken_by(alloc, *place, values),
+            Reason::Outcome(p) => at_profile(alloc, self.board.as_slice(), *p),
+            Reason::Lemma(place) => match grounds.basis.earlier.get(*place as usize) {
                 Some(lemma) => all_of(alloc, lemma.suppose.as_slice()),
                 None => Ok(Literals::new(alloc)),
             },
         }
     }
 
-    /// All that is known, or all of the profile where the reason is what is left at one. The reason has to refute
-    /// all that is known together with the others.
-    fn all_known(
+    /// All facts, or all of the profile where the reason is what is left at one. The reason has to refute all
+    /// facts together with the others.
+    fn all_facts(
         &self,
         alloc: Global,
-        known: &Board,
         others: &[Literal],
         reason: &Reason,
     ) -> Result<Literals, NoMemory>
-        requires { IsTrue (refutes_by (K.size self.now.kind.now) self.now.basis
-            (known.now.literals ++ others.now) reason.now) }
+        requires { IsTrue (refutes_by (K.size self.now.grounds.now.kind.now) self.now.grounds.now.basis
+            (self.now.board.now.literals ++ others.now) reason.now) }
         ensures rests { IfOk result (λ rests.
-            RestsOn (K.size self.now.kind.now) self.now.basis
-            known.now.literals others.now reason.now rests) }
+            RestsOn (K.size self.now.grounds.now.kind.now) self.now.grounds.now.basis
+            self.now.board.now.literals others.now reason.now rests) }
         ensures there { IfOk result (λ rests. IsTrue (are_there reason.now rests)) }
     {
         match *reason {
-            Reason::Axiom(_, _) => all_of(alloc, known.as_slice()),
-            Reason::Outcome(p) => at_profile(alloc, known.as_slice(), p),
-            Reason::Lemma(_) => all_of(alloc, known.as_slice()),
+            Reason::Axiom(_, _) => all_of(alloc, self.board.as_slice()),
+            Reason::Outcome(p) => at_profile(alloc, self.board.as_slice(), p),
+            Reason::Lemma(_) => all_of(alloc, self.board.as_slice()),
         }
     }
 
-    /// Few facts on which a reason rests that refutes all that is known together with the others.
+    /// Few facts on which a reason rests that refutes all of them together with the others.
     fn few_facts(
         &self,
         alloc: Global,
-        known: &Board,
         tried: &mut Board,
         others: &[Literal],
         reason: &Reason,
     ) -> Result<Literals, NoMemory>
-        requires known { known.now.size ≡ K.size self.now.kind.now }
-        requires tried { tried.old.size ≡ K.size self.now.kind.now }
-        requires refuted { IsTrue (refutes_by (K.size self.now.kind.now) self.now.basis
-            (known.now.literals ++ others.now) reason.now) }
+        requires tried { tried.old.size ≡ K.size self.now.grounds.now.kind.now }
+        requires refuted { IsTrue (refutes_by (K.size self.now.grounds.now.kind.now) self.now.grounds.now.basis
+            (self.now.board.now.literals ++ others.now) reason.now) }
         ensures tried { tried.new.size ≡ tried.old.size }
         ensures rests { IfOk result (λ rests.
-            RestsOn (K.size self.now.kind.now) self.now.basis
-            known.now.literals others.now reason.now rests) }
+            RestsOn (K.size self.now.grounds.now.kind.now) self.now.grounds.now.basis
+            self.now.board.now.literals others.now reason.now rests) }
     {
-        let candidates = self.candidates(alloc, known, reason)?;
+        let candidates = self.candidates(alloc, reason)?;
         let all = candidates.len();
-        let found = self.attempt(
-            alloc,
-            known,
-            tried,
-            candidates.as_slice(),
-            all,
-            others,
-            reason,
-        )?;
+        let found = self.attempt(alloc, tried, candidates.as_slice(), all, others, reason)?;
         match found {
-            Some(rests) => self.least(alloc, known, tried, rests, others, reason),
-            None => self.all_known(alloc, known, others, reason),
+            Some(rests) => self.least(alloc, tried, rests, others, reason),
+            None => self.all_facts(alloc, others, reason),
         }
     }
 
-    /// What a reason rests on that refutes all that is known together with the others: of at most thirty known
-    /// facts of which its instance, its profile or its lemma speaks those that it needs, as far as leaving out one
-    /// after another tells; of more, all; and where these do not do, all that is known, of the profile where the
-    /// reason is what is left at one. What is on the board where facts are tried does not count. The only error is
-    /// want of memory.
+    /// What a reason rests on that refutes all facts together with the others: of at most thirty facts of which
+    /// its instance, its profile or its lemma speaks those that it needs, as far as leaving out one after another
+    /// tells; of more, all; and where these do not do, all facts, of the profile where the reason is what is left
+    /// at one. What is on the board where facts are tried does not count. The only error is want of memory.
     pub fn rests_on(
         &self,
         alloc: Global,
-        known: &Board,
         tried: &mut Board,
         others: &[Literal],
         reason: &Reason,
     ) -> Result<Literals, NoMemory>
-        requires known { known.now.size ≡ K.size self.now.kind.now }
-        requires tried { tried.old.size ≡ K.size self.now.kind.now }
-        requires refuted { IsTrue (refutes_by (K.size self.now.kind.now) self.now.basis
-            (known.now.literals ++ others.now) reason.now) }
+        requires tried { tried.old.size ≡ K.size self.now.grounds.now.kind.now }
+        requires refuted { IsTrue (refutes_by (K.size self.now.grounds.now.kind.now) self.now.grounds.now.basis
+            (self.now.board.now.literals ++ others.now) reason.now) }
         ensures tried { tried.new.size ≡ tried.old.size }
         ensures rests { IfOk result (λ rests.
-            RestsOn (K.size self.now.kind.now) self.now.basis
-            known.now.literals others.now reason.now rests) }
+            RestsOn (K.size self.now.grounds.now.kind.now) self.now.grounds.now.basis
+            self.now.board.now.literals others.now reason.now rests) }
         ensures there { IfOk result (λ rests. IsTrue (are_there reason.now rests)) }
     {
-        let rests = self.few_facts(alloc, known, tried, others, reason)?;
+        let rests = self.few_facts(alloc, tried, others, reason)?;
         if are_there(reason, rests.as_slice()) {
             return Ok(rests);
         }
-        self.all_known(alloc, known, others, reason)
+        self.all_facts(alloc, others, reason)
     }
 }
 

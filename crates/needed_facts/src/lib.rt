@@ -7,5 +7,5 @@ mod literals;
 mod spoken;
 
 pub use basis::Basis;
-pub use grounds::{Grounds, add_others};
+pub use grounds::{Facts, Grounds, add_others};
 pub use literals::{is_literal, profile_of};
