@@ -36,7 +36,7 @@ fn page_over<K: OutcomeKind>(
         report: report.as_bytes(),
         version: VERSION,
     };
-    page_text(alloc, setting.kind, setting.study, &source, verdict)
+    page_text(alloc, setting, &source, verdict)
 }
 
 /// The page of a right verdict on a study, of the files of these names. Error: want of memory.
@@ -78,8 +78,7 @@ fn sharp_page_over<K: OutcomeKind>(
     };
     sharp_page_text(
         alloc,
-        setting.kind,
-        setting.study,
+        setting,
         &source,
         &sharp.core,
         &sharp.story,

@@ -181,7 +181,8 @@ impl<K: OutcomeKind> Facts<'_, K> {
     fn spoken_by(&self, alloc: Global, place: u32, values: &Env) -> Result<Literals, NoMemory>
         requires values { (a : Titled) →
             slice_get self.now.grounds.now.basis.study.now.axioms place ≡ Some a →
-            IsTrue (pointwise nat_lt values.now (bases_of (K.size self.now.grounds.now.kind.now) a.sentence)) }
+            IsTrue (pointwise nat_lt values.now
+            (bases_of (K.size self.now.grounds.now.kind.now) a.sentence)) }
     {
         bodies_have_values();
         let grounds = self.grounds;
@@ -247,7 +248,8 @@ impl<K: OutcomeKind> Facts<'_, K> {
         reason: &Reason,
     ) -> Result<Literals, NoMemory>
         requires tried { tried.old.size ≡ K.size self.now.grounds.now.kind.now }
-        requires refuted { IsTrue (refutes_by (K.size self.now.grounds.now.kind.now) self.now.grounds.now.basis
+        requires refuted { IsTrue (refutes_by
+            (K.size self.now.grounds.now.kind.now) self.now.grounds.now.basis
             (self.now.board.now.literals ++ others.now) reason.now) }
         ensures tried { tried.new.size ≡ tried.old.size }
         ensures rests { IfOk result (λ rests.
@@ -263,10 +265,11 @@ impl<K: OutcomeKind> Facts<'_, K> {
         }
     }
 
-    /// What a reason rests on that refutes all facts together with the others: of at most thirty facts of which
-    /// its instance, its profile or its lemma speaks those that it needs, as far as leaving out one after another
-    /// tells; of more, all; and where these do not do, all facts, of the profile where the reason is what is left
-    /// at one. What is on the board where facts are tried does not count. The only error is want of memory.
+    /// What a reason rests on that refutes all facts together with the others: of at most thirty facts of
+    /// which its instance, its profile or its lemma speaks those that it needs, as far as leaving out one after
+    /// another tells; of more, all; and where these do not do, all facts, of the profile where the reason is
+    /// what is left at one. What is on the board where facts are tried does not count. The only error is want
+    /// of memory.
     pub fn rests_on(
         &self,
         alloc: Global,
@@ -275,7 +278,8 @@ impl<K: OutcomeKind> Facts<'_, K> {
         reason: &Reason,
     ) -> Result<Literals, NoMemory>
         requires tried { tried.old.size ≡ K.size self.now.grounds.now.kind.now }
-        requires refuted { IsTrue (refutes_by (K.size self.now.grounds.now.kind.now) self.now.grounds.now.basis
+        requires refuted { IsTrue (refutes_by
+            (K.size self.now.grounds.now.kind.now) self.now.grounds.now.basis
             (self.now.board.now.literals ++ others.now) reason.now) }
         ensures tried { tried.new.size ≡ tried.old.size }
         ensures rests { IfOk result (λ rests.

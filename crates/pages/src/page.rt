@@ -15,14 +15,14 @@ use crate::words::{opening, styles};
 use html::{Html, put_text};
 use lists::NoMemory;
 use meaning::{Lemma, Witness};
-use outcomes::OutcomeKind;
+use outcomes::{OutcomeKind, Setting};
 use profiles::Space;
 use rule_pages::{put_name, put_rule};
 use std::alloc::Global;
 use story_pages::put_story;
 use tellings::StoryTelling;
 use verdicts::Verdict;
-use vocab::{Axiom, Study, Table};
+use vocab::{Axiom, Table};
 
 /// What a page says beside its study and its verdict.
 #[derive(Drop)]
@@ -249,17 +249,15 @@ fn put_whole<K: OutcomeKind>(
 pub fn put_page<K: OutcomeKind>(
     alloc: Global,
     out: &mut Html,
-    kind: &K,
-    study: &Study,
+    setting: &Setting<K>,
     source: &Source,
     told: &StoryTelling,
     verdict: &Verdict,
 ) -> Result<(), NoMemory>
-    requires { study.now.size ≡ K.size kind.now }
     ensures { OnOk result (out.new ≡ out.old ++
-        page_of study.now source.now.study.now source.now.report.now source.now.version.now
+        page_of setting.now.study.now source.now.study.now source.now.report.now source.now.version.now
         told.now verdict.now) }
 {
-    let about = About::of(study.axioms().as_slice())?;
-    put_whole(alloc, out, kind, &about, source, told, verdict)
+    let about = About::of(setting.study.axioms().as_slice())?;
+    put_whole(alloc, out, setting.kind, &about, source, told, verdict)
 }

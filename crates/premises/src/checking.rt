@@ -12,7 +12,7 @@ use crate::teller::Teller;
 use joined_sentences::{Chains, StepIndex, by_of, is_by};
 use lists::{Items, NoMemory};
 use meaning::{Reason, StoryStep};
-use needed_facts::{add_others, is_literal};
+use needed_facts::{Facts, add_others, is_literal};
 use outcomes::OutcomeKind;
 use std::alloc::Global;
 use tellings::{Passage, Placed, Sentence};
@@ -95,29 +95,28 @@ fn moved_to(p: u32, literal: &Literal) -> Literal
     }
 }
 
-/// Whether all claims of what is on a board stand there of a profile.
-fn all_moved(size: Size, tried: &Board, p: u32) -> bool
-    requires { tried.now.size ≡ size }
-    ensures { IsTrue result →
-        IsTrue (list_all (λ l. has tried.now.literals (moved_to p l)) tried.now.literals) }
+/// Whether all claims of some facts stand among them of a profile.
+fn all_moved<K: OutcomeKind>(facts: &Facts<K>, p: u32) -> bool
+    ensures { IsTrue result → IsTrue
+        (list_all (λ l. has facts.now.board.now.literals (moved_to p l)) facts.now.board.now.literals) }
 {
-    for literal in tried.as_slice() {
+    let size = facts.grounds.kind.space().size();
+    for literal in facts.board.as_slice() {
         let moved = moved_to(p, literal);
-        if !is_literal(size, &moved) || !tried.has(&moved) {
+        if !is_literal(size, &moved) || !facts.board.has(&moved) {
             return false;
         }
     }
     true
 }
 
-/// Whether all claims of what is on a board stand there of the profile, if a reason is what is left at one.
-fn stand_there(size: Size, tried: &Board, reason: &Reason) -> bool
-    requires { tried.now.size ≡ size }
-    ensures { IsTrue result → IsTrue (stand_there tried.now.literals reason.now) }
+/// Whether all claims of some facts stand among them of the profile, if a reason is what is left at one.
+fn stand_there<K: OutcomeKind>(facts: &Facts<K>, reason: &Reason) -> bool
+    ensures { IsTrue result → IsTrue (stand_there facts.now.board.now.literals reason.now) }
 {
     match *reason {
         Reason::Axiom(_, _) => true,
-        Reason::Outcome(p) => all_moved(size, tried, p),
+        Reason::Outcome(p) => all_moved(facts, p),
         Reason::Lemma(_) => true,
     }
 }
@@ -138,11 +137,19 @@ impl<K: OutcomeKind> Teller<'_, K> {
         if !is_literal(size, &other) || tried.has(&other) {
             return false;
         }
-        if !stand_there(size, tried, &step.reason) {
+        let rests = Facts {
+            grounds: &self.grounds,
+            board: tried,
+        };
+        if !stand_there(&rests, &step.reason) {
             return false;
         }
         tried.add(&other);
-        let refuted = self.grounds.refutes(tried, &step.reason);
+        let all = Facts {
+            grounds: &self.grounds,
+            board: tried,
+        };
+        let refuted = all.refutes(&step.reason);
         tried.remove(&other);
         refuted && is_by(sentence.by, by_of(&step.reason))
     }
@@ -169,41 +176,38 @@ impl<K: OutcomeKind> Teller<'_, K> {
         }
         true
     }
+}
 
+/// What a passage is checked against: what lemmas are told by, suppositions on a board of the size, and where
+/// facts are stated.
+#[derive(Drop)]
+pub(crate) struct Checker<'a, K: OutcomeKind> {
+    pub(crate) teller: &'a Teller<'a, K>,
+    pub(crate) supposed: &'a Board,
+    pub(crate) index: &'a StepIndex,
+    ghost size: { supposed.now.size ≡ K.size teller.now.grounds.kind.now },
+}
+
+impl<K: OutcomeKind> Checker<'_, K> {
     /// Whether a fact is one of the size that was forced or supposed, or is stated before a number.
-    fn stands(
-        &self,
-        supposed: &Board,
-        index: &StepIndex,
-        steps: &[Placed],
-        number: usize,
-        literal: &Literal,
-    ) -> bool
-        requires { supposed.now.size ≡ K.size self.now.grounds.kind.now }
-        ensures { IsTrue result → IsTrue (stands_before self.now.forced.now.literals supposed.now.literals
-            steps.now number literal.now) }
+    fn stands(&self, steps: &[Placed], number: usize, literal: &Literal) -> bool
+        ensures { IsTrue result → IsTrue (stands_before self.now.teller.now.forced.now.literals
+            self.now.supposed.now.literals steps.now number literal.now) }
     {
-        is_literal(self.grounds.kind.space().size(), literal)
-            && (self.forced.has(literal)
-                || supposed.has(literal)
-                || is_stated(index, steps, number, literal))
+        let teller = self.teller;
+        is_literal(teller.grounds.kind.space().size(), literal)
+            && (teller.forced.has(literal)
+                || self.supposed.has(literal)
+                || is_stated(self.index, steps, number, literal))
     }
 
     /// Whether all of some facts do.
-    fn all_stand(
-        &self,
-        supposed: &Board,
-        index: &StepIndex,
-        steps: &[Placed],
-        number: usize,
-        literals: &[Literal],
-    ) -> bool
-        requires { supposed.now.size ≡ K.size self.now.grounds.kind.now }
-        ensures { IsTrue result → IsTrue (list_all (stands_before self.now.forced.now.literals
-            supposed.now.literals steps.now number) literals.now) }
+    fn all_stand(&self, steps: &[Placed], number: usize, literals: &[Literal]) -> bool
+        ensures { IsTrue result → IsTrue (list_all (stands_before self.now.teller.now.forced.now.literals
+            self.now.supposed.now.literals steps.now number) literals.now) }
     {
         for literal in literals {
-            if !self.stands(supposed, index, steps, number, literal) {
+            if !self.stands(steps, number, literal) {
                 return false;
             }
         }
@@ -211,40 +215,33 @@ impl<K: OutcomeKind> Teller<'_, K> {
     }
 
     /// Whether each fact that a sentence rests on stands before it.
-    fn are_grounded(&self, supposed: &Board, index: &StepIndex, passage: &Passage) -> bool
-        requires { supposed.now.size ≡ K.size self.now.grounds.kind.now }
-        ensures { IsTrue result → (k : ℕ) → IsTrue (list_all (stands_before self.now.forced.now.literals
-            supposed.now.literals passage.now.steps k) (rests_of (slice_get passage.now.sentences k))) }
+    fn are_grounded(&self, passage: &Passage) -> bool
+        ensures { IsTrue result → (k : ℕ) → IsTrue (list_all
+            (stands_before self.now.teller.now.forced.now.literals self.now.supposed.now.literals
+            passage.now.steps k) (rests_of (slice_get passage.now.sentences k))) }
     {
         let steps = passage.steps.as_slice();
         for number in 0..passage.sentences.len() {
             let rests = passage.sentences.get(number).rests.as_slice();
-            if !self.all_stand(supposed, index, steps, number, rests) {
+            if !self.all_stand(steps, number, rests) {
                 return false;
             }
         }
         true
     }
 
-    /// Whether a passage tells a lemma right up to its end, which rests on these facts. Its suppositions are
-    /// on a board, and the steps of the passage in the index.
-    pub(crate) fn upholds(
-        &self,
-        supposed: &Board,
-        tried: &mut Board,
-        index: &StepIndex,
-        passage: &Passage,
-        end: &[Literal],
-    ) -> bool
-        requires supposed { supposed.now.size ≡ K.size self.now.grounds.kind.now }
-        requires tried { tried.old.size ≡ K.size self.now.grounds.kind.now }
+    /// Whether a passage, whose steps are in the index, tells a lemma right up to its end, which rests on
+    /// these facts.
+    pub(crate) fn upholds(&self, tried: &mut Board, passage: &Passage, end: &[Literal]) -> bool
+        requires { tried.old.size ≡ K.size self.now.teller.now.grounds.kind.now }
         ensures tried { tried.new.size ≡ tried.old.size }
-        ensures upholds { IsTrue result → Upholds (K.size self.now.grounds.kind.now) self.now.grounds.basis
-            self.now.forced.now.literals supposed.now.literals end.now passage.now }
+        ensures upholds { IsTrue result → Upholds (K.size self.now.teller.now.grounds.kind.now)
+            self.now.teller.now.grounds.basis self.now.teller.now.forced.now.literals
+            self.now.supposed.now.literals end.now passage.now }
     {
         let number = passage.sentences.len();
-        self.all_stand(supposed, index, passage.steps.as_slice(), number, end)
-            && self.are_grounded(supposed, index, passage)
-            && self.are_said(tried, passage)
+        self.all_stand(passage.steps.as_slice(), number, end)
+            && self.are_grounded(passage)
+            && self.teller.are_said(tried, passage)
     }
 }

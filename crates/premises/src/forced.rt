@@ -6,24 +6,25 @@ ghost use Rattle.vocab.specs.Literal.{has, opposite_of};
 ghost use Rattle.vocab.specs.Size.{Extent};
 ghost use Rattle.meaning.specs.Literals.{is_literal};
 ghost use Rattle.meaning.specs.Stories.{has_literals};
-ghost use Rattle.story.specs.Conditions.{has_places};
+ghost use Rattle.story.specs.Conditions.{IsClear};
+ghost use Rattle.tellings.specs.Tellings.{several};
 ghost use Rattle.needed_facts.specs.declared.basis.Basis.{Basis};
 ghost use Rattle.needed_facts.specs.Rests.{refutes_by};
 ghost use Rattle.premises.specs.Forcing.{is_forced_by, with_lemmas, with_step, with_steps, AreForced, AreGathered, AreStated};
 ghost use Rattle.premises.specs.SoFar.{bare_steps, FollowsFrom};
 
-use crate::checking::all_say;
+use crate::accepted::AcceptedStory;
+use crate::checking::{Checker, all_say};
 use crate::teller::Teller;
 use crate::telling::say;
 use joined_sentences::{Chains, StepIndex, reshape};
 use lists::{Items, NoMemory};
-use meaning::{Lemma, Literals, Reason, StoryStep};
-use needed_facts::{Basis, Grounds};
+use meaning::{Lemma, Literals, StoryStep};
+use needed_facts::{Basis, Facts, Grounds};
 use outcomes::OutcomeKind;
 use std::alloc::Global;
-use story::refutes;
 use tellings::{Passage, Placed};
-use vocab::{Places, Sort, Study};
+use vocab::Sort;
 use worlds::Board;
 
 /// The facts of a story that are forced, with the sentences that state them.
@@ -125,25 +126,6 @@ impl Gathered {
     }
 }
 
-/// Whether a reason refutes what is on a board, exactly.
-fn is_refuted<K: OutcomeKind>(grounds: &Grounds<K>, board: &Board, reason: &Reason) -> bool
-    requires { board.now.size ≡ K.size grounds.now.kind.now }
-    ensures { result ≡ refutes_by (K.size grounds.now.kind.now) grounds.now.basis
-        board.now.literals reason.now }
-{
-    match refutes(
-        grounds.kind,
-        grounds.basis.study,
-        grounds.basis.core,
-        grounds.basis.earlier,
-        board,
-        reason,
-    ) {
-        Ok(()) => true,
-        Err(_) => false,
-    }
-}
-
 /// Whether the reason of a step refutes the opposite of its fact alone.
 fn is_forced_alone<K: OutcomeKind>(
     grounds: &Grounds<K>,
@@ -159,7 +141,11 @@ fn is_forced_alone<K: OutcomeKind>(
     let other = step.literal.opposite();
     tried.clear();
     tried.add(&other);
-    is_refuted(grounds, tried, &step.reason)
+    let facts = Facts {
+        grounds,
+        board: tried,
+    };
+    facts.refutes(&step.reason)
 }
 
 /// Whether the reason of a step refutes the opposite of its fact together with facts that are forced, where
@@ -178,7 +164,11 @@ fn is_forced_with<K: OutcomeKind>(grounds: &Grounds<K>, facts: &mut Board, step:
         return false;
     }
     facts.add(&other);
-    let refuted = is_refuted(grounds, facts, &step.reason);
+    let all = Facts {
+        grounds,
+        board: facts,
+    };
+    let refuted = all.refutes(&step.reason);
     facts.remove(&other);
     refuted
 }
@@ -210,7 +200,11 @@ fn grounds_of<K: OutcomeKind>(
         return Ok(None);
     }
     let others = [step.literal.opposite()];
-    let rests = grounds.rests_on(alloc, facts, tried, &others, &step.reason)?;
+    let known = Facts {
+        grounds,
+        board: facts,
+    };
+    let rests = known.rests_on(alloc, tried, &others, &step.reason)?;
     Ok(Some(rests))
 }
 
@@ -293,7 +287,12 @@ impl<K: OutcomeKind> Teller<'_, K> {
         if !all_say(alloc, &passage)? {
             return Ok(None);
         }
-        if self.upholds(self.forced, tried, &index, &passage, &[]) {
+        let checker = Checker {
+            teller: self,
+            supposed: self.forced,
+            index: &index,
+        };
+        if checker.upholds(tried, &passage, &[]) {
             return Ok(Some(Forced { board, passage }));
         }
         Ok(None)
@@ -318,28 +317,30 @@ impl<K: OutcomeKind> Teller<'_, K> {
     }
 }
 
-/// The facts of a story's steps that are forced where nothing is supposed, by no lemma. On a board is no
-/// fact.
+/// The lemmas of a story of several; of one alone none.
+#[tactic(auto, using(crate::proofs::SeveralLemmas::one_alone, crate::proofs::SeveralLemmas::all_of_several))]
+fn several(story: &[Lemma]) -> &[Lemma]
+    ensures { result.now ≡ several story.now }
+{
+    if story.len() == 1 { &[] } else { story }
+}
+
+/// The facts that come first in a story. On a board is no fact.
 fn forced_over<'a, K: OutcomeKind>(
     alloc: Global,
-    kind: &'a K,
-    study: &'a Study,
-    core: &'a Places,
+    accepted: &'a AcceptedStory<'a, K>,
     none: &'a Board,
-    story: &[Lemma],
 ) -> Result<Forced, NoMemory>
-    requires study { study.now.size ≡ K.size kind.now }
-    requires core { IsTrue (has_places study.now.axioms core.now) }
-    requires size { none.now.size ≡ K.size kind.now }
-    requires none { none.now.literals ≡ [] }
-    requires literals { IsTrue (list_all (has_literals (K.size kind.now)) story.now) }
-    ensures { IfOk result (AreForced (K.size kind.now) study.now.axioms core.now story.now) }
+    requires { IsClear (K.size accepted.now.setting.now.kind.now) none.now }
+    ensures { IfOk result (AreForced (K.size accepted.now.setting.now.kind.now)
+        accepted.now.setting.now.study.now.axioms accepted.now.core.now (several accepted.now.story.now)) }
 {
+    let setting = accepted.setting;
     let grounds = Grounds {
-        kind,
+        kind: setting.kind,
         basis: Basis {
-            study,
-            core,
+            study: setting.study,
+            core: accepted.core,
             earlier: &[],
         },
     };
@@ -347,25 +348,20 @@ fn forced_over<'a, K: OutcomeKind>(
         grounds,
         forced: none,
     };
-    let forced = teller.forced_in(alloc, story)?;
+    let forced = teller.forced_in(alloc, several(accepted.story.as_slice()))?;
     Ok(forced)
 }
 
-/// The facts of a story's steps that are forced where nothing is supposed, by no lemma. The boards on which
-/// they are tried are let go with the return.
+/// The facts that come first in a story: where it has several lemmas, those of its steps that are forced
+/// where nothing is supposed, by no lemma. The boards on which they are tried are let go with the return.
 pub(crate) fn forced_facts<K: OutcomeKind>(
     alloc: Global,
-    kind: &K,
-    study: &Study,
-    core: &Places,
-    story: &[Lemma],
+    accepted: &AcceptedStory<K>,
 ) -> Result<Forced, NoMemory>
-    requires study { study.now.size ≡ K.size kind.now }
-    requires core { IsTrue (has_places study.now.axioms core.now) }
-    requires literals { IsTrue (list_all (has_literals (K.size kind.now)) story.now) }
-    ensures { IfOk result (AreForced (K.size kind.now) study.now.axioms core.now story.now) }
+    ensures { IfOk result (AreForced (K.size accepted.now.setting.now.kind.now)
+        accepted.now.setting.now.study.now.axioms accepted.now.core.now (several accepted.now.story.now)) }
 {
-    let none = Board::new(alloc, kind)?;
-    let forced = forced_over(alloc, kind, study, core, &none, story)?;
+    let none = Board::new(alloc, accepted.setting.kind)?;
+    let forced = forced_over(alloc, accepted, &none)?;
     Ok(forced)
 }

@@ -1,6 +1,7 @@
 //! What the steps of a story rest on, and its lemmas as sentences.
 #![tactic(auto)]
 
+mod accepted;
 mod checking;
 mod forced;
 mod homes;
@@ -9,4 +10,5 @@ mod teller;
 mod telling;
 mod uses;
 
+pub use accepted::AcceptedStory;
 pub use stories::tell_story;

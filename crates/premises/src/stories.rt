@@ -2,13 +2,12 @@
 
 ghost use Rattle.std.specs.Prelude.{◌≡◌, ℕ, [], take, length, slice_get, Some, IsTrue, IfOk, IfSome};
 ghost use Rattle.meaning.specs.declared.stories.Lemma.{Lemma};
-ghost use Rattle.meaning.specs.Stories.{is_story};
-ghost use Rattle.story.specs.Conditions.{has_places};
-ghost use Rattle.tellings.specs.Tellings.{several, IsStoryTold};
+ghost use Rattle.tellings.specs.Tellings.{IsStoryTold};
 ghost use Rattle.premises.specs.SoFar.{is_lemma_by, IsLemmaToldBy};
 ghost use Rattle.premises.specs.Told.{AreTold};
 
-use crate::checking::all_say;
+use crate::accepted::AcceptedStory;
+use crate::checking::{Checker, all_say};
 use crate::forced::{Forced, forced_facts};
 use crate::homes::homes_of;
 use crate::teller::Teller;
@@ -20,7 +19,7 @@ use needed_facts::{Basis, Grounds};
 use outcomes::OutcomeKind;
 use std::alloc::Global;
 use tellings::{StoryTelling, Telling};
-use vocab::{Places, Sort, Study};
+use vocab::Sort;
 use worlds::Board;
 
 /// What is used anew for each lemma: two boards, and tables by the places of literals.
@@ -85,7 +84,12 @@ impl<K: OutcomeKind> Teller<'_, K> {
         desk.known.clear();
         suppose(&mut desk.known, lemma.suppose.as_slice());
         let facts = end.as_slice();
-        if self.upholds(&desk.known, &mut desk.tried, &desk.index, &passage, facts) {
+        let checker = Checker {
+            teller: self,
+            supposed: &desk.known,
+            index: &desk.index,
+        };
+        if checker.upholds(&mut desk.tried, &passage, facts) {
             return Ok(Some(Telling { passage, end }));
         }
         Ok(None)
@@ -143,28 +147,25 @@ impl<K: OutcomeKind> Teller<'_, K> {
 /// Tells the lemmas of an accepted story, each by the lemmas before it, where some facts are forced.
 fn tell_lemmas<'a, K: OutcomeKind>(
     alloc: Global,
-    kind: &'a K,
-    study: &'a Study,
-    core: &'a Places,
+    accepted: &'a AcceptedStory<'a, K>,
     forced: &'a Board,
-    story: &'a Items<Lemma>,
 ) -> Result<Items<Telling>, NoMemory>
-    requires study { study.now.size ≡ K.size kind.now }
-    requires core { IsTrue (has_places study.now.axioms core.now) }
-    requires forced { forced.now.size ≡ K.size kind.now }
-    requires accepted { IsTrue (is_story (K.size kind.now) study.now.axioms core.now story.now) }
-    ensures all { IfOk result (λ tellings. length tellings ≡ length story.now) }
-    ensures each { IfOk result
-        (AreTold (K.size kind.now) study.now.axioms core.now story.now forced.now.literals) }
+    requires { forced.now.size ≡ K.size accepted.now.setting.now.kind.now }
+    ensures all { IfOk result (λ tellings. length tellings ≡ length accepted.now.story.now) }
+    ensures each { IfOk result (AreTold (K.size accepted.now.setting.now.kind.now)
+        accepted.now.setting.now.study.now.axioms accepted.now.core.now accepted.now.story.now
+        forced.now.literals) }
 {
-    let mut desk = Desk::new(alloc, kind)?;
+    let setting = accepted.setting;
+    let story = accepted.story;
+    let mut desk = Desk::new(alloc, setting.kind)?;
     let mut tellings = Items::new(alloc);
     for place in 0..story.len() {
         let grounds = Grounds {
-            kind,
+            kind: setting.kind,
             basis: Basis {
-                study,
-                core,
+                study: setting.study,
+                core: accepted.core,
                 earlier: &story.as_slice()[..place],
             },
         };
@@ -175,31 +176,18 @@ fn tell_lemmas<'a, K: OutcomeKind>(
     Ok(tellings)
 }
 
-/// The lemmas of a story of several; of one alone none.
-#[tactic(auto, using(crate::proofs::SeveralLemmas::one_alone, crate::proofs::SeveralLemmas::all_of_several))]
-fn several(story: &[Lemma]) -> &[Lemma]
-    ensures { result.now ≡ several story.now }
-{
-    if story.len() == 1 { &[] } else { story }
-}
-
-/// Tells an accepted story over the axioms of a core: first, where it has several lemmas, the facts that are
-/// forced where nothing is supposed, then each lemma by the lemmas before it. The only error is want of memory.
+/// Tells an accepted story: first, where it has several lemmas, the facts that are forced where nothing is
+/// supposed, then each lemma by the lemmas before it. The only error is want of memory.
 pub fn tell_story<K: OutcomeKind>(
     alloc: Global,
-    kind: &K,
-    study: &Study,
-    core: &Places,
-    story: &Items<Lemma>,
+    accepted: &AcceptedStory<K>,
 ) -> Result<StoryTelling, NoMemory>
-    requires study { study.now.size ≡ K.size kind.now }
-    requires core { IsTrue (has_places study.now.axioms core.now) }
-    requires accepted { IsTrue (is_story (K.size kind.now) study.now.axioms core.now story.now) }
-    ensures { IfOk result (IsStoryTold (K.size kind.now) study.now.axioms core.now story.now) }
+    ensures { IfOk result (IsStoryTold (K.size accepted.now.setting.now.kind.now)
+        accepted.now.setting.now.study.now.axioms accepted.now.core.now accepted.now.story.now) }
 {
-    let forced = forced_facts(alloc, kind, study, core, several(story.as_slice()))?;
-    let lemmas = tell_lemmas(alloc, kind, study, core, &forced.board, story)?;
-    let homes = homes_of(alloc, story.as_slice(), lemmas.as_slice())?;
+    let forced = forced_facts(alloc, accepted)?;
+    let lemmas = tell_lemmas(alloc, &*accepted, &forced.board)?;
+    let homes = homes_of(alloc, accepted.story.as_slice(), lemmas.as_slice())?;
     let Forced {
         board: _,
         passage: forced,

@@ -16,7 +16,7 @@ use crate::teller::Teller;
 use joined_sentences::{Chains, by_of, forget, join};
 use lists::{Items, NoMemory};
 use meaning::{Lemma, Literals, StoryStep};
-use needed_facts::is_literal;
+use needed_facts::{Facts, is_literal};
 use outcomes::OutcomeKind;
 use std::alloc::Global;
 use tellings::{Passage, Placed, Telling};
@@ -60,39 +60,8 @@ pub(crate) fn say(
 }
 
 impl<K: OutcomeKind> Teller<'_, K> {
-    /// Tells a step in a sentence that rests on what its reason needs of what is known.
-    fn tell_step(
-        &self,
-        alloc: Global,
-        known: &Board,
-        tried: &mut Board,
-        chains: &mut Chains,
-        passage: &mut Passage,
-        step: &StoryStep,
-    ) -> Result<(), NoMemory>
-        requires known { known.now.size ≡ K.size self.now.grounds.kind.now }
-        requires tried { tried.old.size ≡ K.size self.now.grounds.kind.now }
-        requires refuted { IsTrue (refutes_by (K.size self.now.grounds.kind.now) self.now.grounds.basis
-            (known.now.literals ++ opposite_of step.now.literal ∷ []) step.now.reason) }
-        ensures tried { tried.new.size ≡ tried.old.size }
-        ensures told { (suppose : List Literal) →
-            IsToldSoFar (K.size self.now.grounds.kind.now) self.now.grounds.basis
-            self.now.forced.now.literals suppose
-            known.now.literals passage.old →
-            OnOk result (IsToldSoFar (K.size self.now.grounds.kind.now) self.now.grounds.basis
-            self.now.forced.now.literals
-            suppose (known.now.literals ++ step.now.literal ∷ []) passage.new) }
-        ensures steps { OnOk result
-            (bare_steps passage.new.steps ≡ bare_steps passage.old.steps ++ step.now ∷ []) }
-    {
-        let others = [step.literal.opposite()];
-        let rests = self
-            .grounds
-            .rests_on(alloc, known, tried, &others, &step.reason)?;
-        say(passage, chains, step, rests)
-    }
-
-    /// Tells a step, unless its fact is forced.
+    /// Tells a step in a sentence that rests on what its reason needs of what is known, unless its fact is
+    /// forced.
     fn take_step(
         &self,
         alloc: Global,
@@ -121,7 +90,13 @@ impl<K: OutcomeKind> Teller<'_, K> {
         if self.forced.has(&step.literal) {
             return Ok(());
         }
-        self.tell_step(alloc, known, tried, chains, passage, step)
+        let others = [step.literal.opposite()];
+        let facts = Facts {
+            grounds: &self.grounds,
+            board: known,
+        };
+        let rests = facts.rests_on(alloc, tried, &others, &step.reason)?;
+        say(passage, chains, step, rests)
     }
 
     /// Whether a fact of the size is forced.
@@ -197,9 +172,11 @@ impl<K: OutcomeKind> Teller<'_, K> {
         known.clear();
         suppose(known, lemma.suppose.as_slice());
         let passage = self.tell_steps(alloc, known, tried, chains, lemma)?;
-        let end = self
-            .grounds
-            .rests_on(alloc, known, tried, &[], &lemma.last)?;
+        let facts = Facts {
+            grounds: &self.grounds,
+            board: known,
+        };
+        let end = facts.rests_on(alloc, tried, &[], &lemma.last)?;
         forget(chains, passage.sentences.as_slice());
         Ok(Telling { passage, end })
     }

@@ -10,14 +10,14 @@ use crate::instances::put_instances;
 use html::Html;
 use lists::{Items, NoMemory};
 use meaning::{Lemma, Witnesses};
-use outcomes::OutcomeKind;
+use outcomes::{OutcomeKind, Setting};
 use pages::{About, Source, put_check, put_front, put_proved};
-use premises::tell_story;
+use premises::{AcceptedStory, tell_story};
 use sharp_verdicts::Instances;
 use std::alloc::Global;
 use tellings::StoryTelling;
 use verdicts::Verdict;
-use vocab::{Places, Study};
+use vocab::Places;
 
 /// What the page claims: that no rule satisfies the axioms of the core.
 fn claim_of(alloc: Global, core: &Places) -> Result<Verdict, NoMemory>
@@ -86,15 +86,13 @@ fn put_whole<K: OutcomeKind>(
 fn put_page<K: OutcomeKind>(
     alloc: Global,
     out: &mut Html,
-    kind: &K,
-    study: &Study,
+    setting: &Setting<K>,
     source: &Source,
     told: &StoryTelling,
     sharp: &Sharp,
 ) -> Result<(), NoMemory>
-    requires { study.now.size ≡ K.size kind.now }
     ensures { OnOk result (out.new ≡ out.old ++
-        sharp_page_of study.now source.now.study.now source.now.report.now source.now.version.now told.now
+        sharp_page_of setting.now.study.now source.now.study.now source.now.report.now source.now.version.now told.now
         (record {
           core = sharp.now.core.now;
           story = sharp.now.story.now;
@@ -103,8 +101,8 @@ fn put_page<K: OutcomeKind>(
         })) }
 {
     let claim = claim_of(alloc, sharp.core)?;
-    let about = About::of(study.axioms().as_slice())?;
-    put_whole(alloc, out, kind, &about, &claim, source, told, sharp)?;
+    let about = About::of(setting.study.axioms().as_slice())?;
+    put_whole(alloc, out, setting.kind, &about, &claim, source, told, sharp)?;
     Ok(())
 }
 
@@ -112,22 +110,20 @@ fn put_page<K: OutcomeKind>(
 /// mark for each. The only error is want of memory; what is given is whole.
 pub fn sharp_page_text<K: OutcomeKind>(
     alloc: Global,
-    kind: &K,
-    study: &Study,
+    setting: &Setting<K>,
     source: &Source,
     core: &Places,
     story: &Items<Lemma>,
     instances: &Instances,
     marks: &Witnesses,
 ) -> Result<Html, NoMemory>
-    requires size { study.now.size ≡ K.size kind.now }
-    requires right { IsSharpRight study.now (record {
+    requires right { IsSharpRight setting.now.study.now (record {
       core = core.now;
       story = story.now;
       instances = instances.now;
       marks = marks.now;
     }) }
-    ensures { IfOk result (IsSharpPage study.now source.now.study.now source.now.report.now
+    ensures { IfOk result (IsSharpPage setting.now.study.now source.now.study.now source.now.report.now
         source.now.version.now
         (record {
           core = core.now;
@@ -136,7 +132,12 @@ pub fn sharp_page_text<K: OutcomeKind>(
           marks = marks.now;
         })) }
 {
-    let told = tell_story(alloc, kind, study, core, story)?;
+    let accepted = AcceptedStory {
+        setting: &*setting,
+        core,
+        story,
+    };
+    let told = tell_story(alloc, &accepted)?;
     let sharp = Sharp {
         core,
         story,
@@ -144,6 +145,6 @@ pub fn sharp_page_text<K: OutcomeKind>(
         marks,
     };
     let mut page = Html::new(alloc);
-    put_page(alloc, &mut page, kind, study, source, &told, &sharp)?;
+    put_page(alloc, &mut page, setting, source, &told, &sharp)?;
     Ok(page)
 }

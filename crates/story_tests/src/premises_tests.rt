@@ -11,8 +11,8 @@ use crate::story_tests::{a_does_not_win, axiom_at, lemma, nothing_wins, so, stud
 use crate::studies_by_text::of_two_axioms;
 use lists::NoMemory;
 use meaning::{Lemma, Reason};
-use outcomes::ChoiceKind;
-use premises::tell_story;
+use outcomes::{ChoiceKind, Setting};
+use premises::{AcceptedStory, tell_story};
 use profiles::Space;
 use std::alloc::Global;
 use std::test::Fail;
@@ -119,7 +119,13 @@ fn told(alloc: Global, study: &Study, story: &Story) -> Result<StoryTelling, Fai
         Ok(()) => {}
         Err(_) => return Err(Fail::from("refused")),
     }
-    Ok(tell_story(alloc, &kind, study, &core, story)?)
+    let setting = Setting { kind: &kind, study };
+    let accepted = AcceptedStory {
+        setting: &setting,
+        core: &core,
+        story,
+    };
+    Ok(tell_story(alloc, &accepted)?)
 }
 
 /// How a story of these two lemmas over what forces all facts is told.

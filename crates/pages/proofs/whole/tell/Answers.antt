@@ -1,8 +1,10 @@
 use Rattle.pages.proofs.RightLemmas.{right_parts}
 use Rattle.pages.proofs.whole.tell.Goals as goal
 
-pub tell_story-requires-clause-core : goal.tell_story-requires-clause-core
-tell_story-requires-clause-core g c = λ κs out. (right_parts c.args.study.now c.args.core.now c.args.story.now c.args.witnesses.now c.requires.right).0
+pub invariant_of-accepted : goal.invariant_of-accepted
+invariant_of-accepted g c =
+    let parts = right_parts c.args.setting.now.study.now c.args.core.now c.args.story.now c.args.witnesses.now c.requires.right in
+    record { places = parts.0; accepted = rw (← c.args.setting.now.same) parts.1 }
 
-pub tell_story-requires-clause-accepted : goal.tell_story-requires-clause-accepted
-tell_story-requires-clause-accepted g c = λ κs out. rw (← c.requires.size) (right_parts c.args.study.now c.args.core.now c.args.story.now c.args.witnesses.now c.requires.right).1
+pub returns : goal.returns
+returns g c = rw c.args.setting.now.same c.tell_story.ensures

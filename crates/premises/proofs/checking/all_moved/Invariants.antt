@@ -6,4 +6,4 @@ use Rattle.premises.proofs.checking.all_moved.Given as goal
 
 -- the claims so far stand there of the profile
 abbrev pub invariant-loop-literal : goal.invariant-loop-literal
-invariant-loop-literal l = list_all (λ q. has l.tried.literals (moved_to l.p q)) (take l.literal-index l.literal-items) ≡ true
+invariant-loop-literal g l = list_all (λ q. has l.facts.board.now.literals (moved_to l.p q)) (take l.literal-index l.literal-items) ≡ true

@@ -12,7 +12,7 @@ same _ _ _ h = h
 
 pub returns : goal.returns
 returns g c =
-    let study = c.args.study.now in
+    let study = c.args.setting.now.study.now in
     let source = c.args.source.now in
     let sharp : Pointed = record {
       core = c.args.sharp.now.core.now;
@@ -24,8 +24,8 @@ returns g c =
     λ size axioms claim. sharp_html size axioms claim source.study.now source.report.now source.version.now c.args.told.now sharp in
     let said : Extent → List Titled → Verdict → Type 0 = λ size axioms claim. c.put_whole.new.out ≡ c.args.out.now ++ text size axioms claim in
     same c.put_whole.new.out c.args.out.now (text study.size study.axioms (Impossible sharp.core [] []))
-    (subst (λ (size : Extent). said size study.axioms (Impossible sharp.core [] [])) (sym c.requires)
-    (subst (λ (claim : Verdict). said (g.K.OutcomeKind.size c.args.kind.now) study.axioms claim) c.in_ok-claim.ensures
-    (subst (λ (axioms : List Titled). said (g.K.OutcomeKind.size c.args.kind.now) axioms c.in_ok-claim.claim) c.axioms.ensures.axioms
-    (subst (λ (axioms : List Titled). said (g.K.OutcomeKind.size c.args.kind.now) axioms c.in_ok-claim.claim) c.as_slice.ensures
-    (subst (λ (axioms : List Titled). said (g.K.OutcomeKind.size c.args.kind.now) axioms c.in_ok-claim.claim) c.in_ok-about.ensures c.in_ok-put_whole.ensures)))))
+    (subst (λ (size : Extent). said size study.axioms (Impossible sharp.core [] [])) (sym c.args.setting.now.same)
+    (subst (λ (claim : Verdict). said (g.K.OutcomeKind.size c.args.setting.now.kind.now) study.axioms claim) c.in_ok-claim.ensures
+    (subst (λ (axioms : List Titled). said (g.K.OutcomeKind.size c.args.setting.now.kind.now) axioms c.in_ok-claim.claim) c.axioms.ensures.axioms
+    (subst (λ (axioms : List Titled). said (g.K.OutcomeKind.size c.args.setting.now.kind.now) axioms c.in_ok-claim.claim) c.as_slice.ensures
+    (subst (λ (axioms : List Titled). said (g.K.OutcomeKind.size c.args.setting.now.kind.now) axioms c.in_ok-claim.claim) c.in_ok-about.ensures c.in_ok-put_whole.ensures)))))

@@ -1,4 +1,4 @@
-use Rattle.premises.proofs.teller.Teller.tell_step.Goals as goal
+use Rattle.premises.proofs.teller.Teller.take_step.Goals as goal
 
 pub returns-clause-told : goal.returns-clause-told
 returns-clause-told g c = λ suppose so_far.
