@@ -266,10 +266,10 @@ impl<K: OutcomeKind> Facts<'_, K> {
     }
 
     /// What a reason rests on that refutes all facts together with the others: of at most thirty facts of
-    /// which its instance, its profile or its lemma speaks those that it needs, as far as leaving out one after
-    /// another tells; of more, all; and where these do not do, all facts, of the profile where the reason is
-    /// what is left at one. What is on the board where facts are tried does not count. The only error is want
-    /// of memory.
+    /// which its instance, its profile or its lemma speaks those that it needs, as far as leaving out one
+    /// after another tells; of more, all; and where these do not do, all facts, of the profile where the
+    /// reason is what is left at one. What is on the board where facts are tried does not count. The only
+    /// error is want of memory.
     pub fn rests_on(
         &self,
         alloc: Global,

@@ -1,8 +1,7 @@
 -- One forced fact more.
-use Rattle.std.proofs.Common.{◌≡◌, refl, sym, ap, ◌∙◌, subst, ℕ, ◌<◌, Bool, true, false, cond, not, ◌&&◌, List, [], ◌∷◌, ◌++◌, length, map, take, get_or, ◌+◌}
+use Rattle.std.proofs.Common.{◌≡◌, refl, sym, ap, ◌∙◌, subst, ℕ, ◌<◌, Bool, true, false, cond, not, ◌&&◌, List, [], ◌∷◌, ◌++◌, length, map, take, get_or, ◌+◌, true≢false}
 use Rattle.std.specs.List.{list_all}
 use Rattle.std.specs.Prelude.{slice_get}
-use Rattle.std.proofs.lemmas.Bool.{and_parts, and_from}
 use Rattle.std.proofs.lemmas.List.{map-append, take_more}
 use Rattle.std.proofs.lemmas.List.Sums.{fold_more}
 use Rattle.vocab.specs.declared.literals.Literal.{Literal}
@@ -14,6 +13,7 @@ use Rattle.meaning.specs.declared.stories.Reason.{Reason}
 use Rattle.meaning.specs.declared.stories.Reason.TheVariants.{Axiom as ByAxiom, Outcome as ByOutcome, Lemma as ByLemma}
 use Rattle.meaning.specs.declared.stories.StoryStep.{StoryStep}
 use Rattle.worlds.specs.Boards.{are_distinct, Known}
+use Rattle.worlds.proofs.BoardLemmas.{all_has}
 use Rattle.tellings.specs.Tellings.{are_said, facts_of, forced_facts, rests_of, stands_before, AllSay}
 use Rattle.tellings.specs.declared.tellings.Passage.{Passage}
 use Rattle.tellings.specs.declared.tellings.Placed.{Placed}
@@ -34,12 +34,13 @@ none_forced : (steps : List StoryStep) → unforced [] steps ≡ steps
 none_forced [] = refl
 none_forced (step ∷ steps) = ap (λ (ss : List StoryStep). step ∷ ss) (none_forced steps)
 
--- what the facts of steps pass, each step does
-pub steps_pass : (t : Literal → Bool) (ps : List Placed) → list_all t (facts_of ps) ≡ true → list_all (λ (step : StoryStep). t step.literal) (bare_steps ps) ≡ true
-steps_pass t [] h = refl
-steps_pass t (placed ∷ ps) h =
-    let p = and_parts (t placed.step.literal) (list_all t (facts_of ps)) h in
-    and_from (t placed.step.literal) (list_all (λ (step : StoryStep). t step.literal) (bare_steps ps)) p.0 (steps_pass t ps p.1)
+-- a literal that is not of a size is none of those that are
+pub unknown_outside : (given size : Extent) (ls : List Literal) (l : Literal) → given ≡ size → list_all (is_literal given) ls ≡ true → is_literal size l ≡ false → has ls l ≡ false
+unknown_outside given size ls l same ours outside = cases (has ls l) refl
+  where
+    cases : (b : Bool) → has ls l ≡ b → has ls l ≡ false
+    cases false h = h
+    cases true h = absurd (true≢false (sym (all_has (is_literal given) ls l ours h) ∙ ap (λ (s : Extent). is_literal s l) same ∙ outside))
 
 -- one step more without its place
 pub bare_next : (ps : List Placed) (i : ℕ) (d : Placed) → i < length ps → bare_steps (take (i + 1) ps) ≡ bare_steps (take i ps) ++ (get_or ps i d).step ∷ []

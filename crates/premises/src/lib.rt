@@ -3,6 +3,7 @@
 
 mod accepted;
 mod checking;
+mod desk;
 mod forced;
 mod homes;
 mod stories;

@@ -8,47 +8,19 @@ ghost use Rattle.premises.specs.Told.{AreTold};
 
 use crate::accepted::AcceptedStory;
 use crate::checking::{Checker, all_say};
+use crate::desk::Desk;
 use crate::forced::{Forced, forced_facts};
 use crate::homes::homes_of;
 use crate::teller::Teller;
 use crate::telling::suppose;
-use joined_sentences::{Chains, StepIndex, reshape};
+use joined_sentences::reshape;
 use lists::{Items, NoMemory};
 use meaning::Lemma;
 use needed_facts::{Basis, Grounds};
 use outcomes::OutcomeKind;
 use std::alloc::Global;
 use tellings::{StoryTelling, Telling};
-use vocab::Sort;
 use worlds::Board;
-
-/// What is used anew for each lemma: two boards, and tables by the places of literals.
-#[derive(Drop)]
-struct Desk {
-    known: Board,
-    tried: Board,
-    chains: Chains,
-    index: StepIndex,
-}
-
-impl Desk {
-    /// A desk for a kind's size.
-    fn new<K: OutcomeKind>(alloc: Global, kind: &K) -> Result<Desk, NoMemory>
-        ensures known { IfOk result (λ desk. desk.known.size ≡ K.size kind.now) }
-        ensures tried { IfOk result (λ desk. desk.tried.size ≡ K.size kind.now) }
-    {
-        let size = kind.space().size();
-        Ok(Desk {
-            known: Board::new(alloc, kind)?,
-            tried: Board::new(alloc, kind)?,
-            chains: Chains::new(
-                alloc,
-                (size.sort_len(Sort::Profile) as usize).saturating_add(1),
-            )?,
-            index: StepIndex::new(alloc, size)?,
-        })
-    }
-}
 
 impl<K: OutcomeKind> Teller<'_, K> {
     /// A telling in which sentences of one shape are told as one, where it tells the lemma right. The given one
@@ -95,28 +67,6 @@ impl<K: OutcomeKind> Teller<'_, K> {
         Ok(None)
     }
 
-    /// Tells a lemma that follows from the earlier ones, at a desk.
-    fn tell_at(&self, alloc: Global, desk: &mut Desk, lemma: &Lemma) -> Result<Telling, NoMemory>
-        requires known { desk.old.known.size ≡ K.size self.now.grounds.kind.now }
-        requires tried { desk.old.tried.size ≡ K.size self.now.grounds.kind.now }
-        requires lemma { IsTrue (is_lemma_by (K.size self.now.grounds.kind.now) self.now.grounds.basis
-            lemma.now) }
-        ensures known { desk.new.known.size ≡ desk.old.known.size }
-        ensures tried { desk.new.tried.size ≡ desk.old.tried.size }
-        ensures told { IfOk result
-            (IsLemmaToldBy (K.size self.now.grounds.kind.now) self.now.grounds.basis
-            self.now.forced.now.literals lemma.now) }
-    {
-        let telling = self.tell(
-            alloc,
-            &mut desk.known,
-            &mut desk.tried,
-            &mut desk.chains,
-            lemma,
-        )?;
-        Ok(telling)
-    }
-
     /// Tells a lemma that follows from the earlier ones, with sentences of one shape as one where that tells it
     /// right; else it is told again.
     fn tell_shortly(
@@ -135,11 +85,11 @@ impl<K: OutcomeKind> Teller<'_, K> {
             (IsLemmaToldBy (K.size self.now.grounds.kind.now) self.now.grounds.basis
             self.now.forced.now.literals lemma.now) }
     {
-        let telling = self.tell_at(alloc, desk, lemma)?;
+        let telling = self.tell(alloc, desk, lemma)?;
         let shorter = self.shorten(alloc, desk, lemma, telling)?;
         match shorter {
             Some(telling) => Ok(telling),
-            None => self.tell_at(alloc, desk, lemma),
+            None => self.tell(alloc, desk, lemma),
         }
     }
 }

@@ -1,17 +1,17 @@
 //! What lemmas are told by, and steps in given sentences.
 
-ghost use Rattle.std.specs.Prelude.{◌≡◌, [], ◌∷◌, ◌++◌, IsTrue, IfOk, OnOk};
-ghost use Rattle.std.specs.List.{list_all};
-ghost use Rattle.meaning.specs.Literals.{is_literal};
+ghost use Rattle.std.specs.Prelude.{◌≡◌, [], ◌∷◌, ◌++◌, IfOk, OnOk};
+ghost use Rattle.vocab.specs.Literal.{has};
 ghost use Rattle.premises.specs.SoFar.{bare_steps, unforced};
 
 use joined_sentences::Reshaped;
 use lists::{Items, NoMemory};
 use meaning::StoryStep;
-use needed_facts::Grounds;
+use needed_facts::{Grounds, is_literal};
 use outcomes::OutcomeKind;
 use std::alloc::Global;
 use tellings::{Passage, Placed};
+use vocab::Literal;
 use worlds::Board;
 
 /// What lemmas are told by: what their reasons may cite, and the facts that are forced.
@@ -32,6 +32,17 @@ fn at(numbers: &[u32], place: usize) -> u32 {
 }
 
 impl<K: OutcomeKind> Teller<'_, K> {
+    /// Whether a fact is forced.
+    pub(crate) fn is_forced(&self, literal: &Literal) -> bool
+        ensures { result ≡ has self.now.forced.now.literals literal.now }
+    {
+        let _facts = self.forced.as_slice();
+        if !is_literal(self.grounds.kind.space().size(), literal) {
+            return false;
+        }
+        self.forced.has(literal)
+    }
+
     /// Puts a step to those that are told, with the next of some numbers, unless its fact is forced.
     fn place(
         &self,
@@ -39,11 +50,10 @@ impl<K: OutcomeKind> Teller<'_, K> {
         numbers: &[u32],
         step: &StoryStep,
     ) -> Result<(), NoMemory>
-        requires literal { IsTrue (is_literal (K.size self.now.grounds.kind.now) step.now.literal) }
         ensures { OnOk result (bare_steps placed.new ≡
             bare_steps placed.old ++ unforced self.now.forced.now.literals (step.now ∷ [])) }
     {
-        if self.forced.has(&step.literal) {
+        if self.is_forced(&step.literal) {
             return Ok(());
         }
         let sentence = at(numbers, placed.len());
@@ -61,8 +71,6 @@ impl<K: OutcomeKind> Teller<'_, K> {
         numbers: &[u32],
         steps: &[StoryStep],
     ) -> Result<Items<Placed>, NoMemory>
-        requires { IsTrue
-            (list_all (λ step. is_literal (K.size self.now.grounds.kind.now) step.literal) steps.now) }
         ensures { IfOk result (λ placed.
             bare_steps placed ≡ unforced self.now.forced.now.literals steps.now) }
     {
@@ -80,8 +88,6 @@ impl<K: OutcomeKind> Teller<'_, K> {
         reshaped: Reshaped,
         steps: &[StoryStep],
     ) -> Result<Passage, NoMemory>
-        requires literals { IsTrue
-            (list_all (λ step. is_literal (K.size self.now.grounds.kind.now) step.literal) steps.now) }
         ensures { IfOk result (λ passage.
             bare_steps passage.steps ≡ unforced self.now.forced.now.literals steps.now) }
     {

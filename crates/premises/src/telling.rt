@@ -6,17 +6,18 @@ ghost use Rattle.vocab.specs.declared.literals.Literal.{Literal};
 ghost use Rattle.vocab.specs.Literal.{has, opposite_of};
 ghost use Rattle.vocab.specs.Size.{Extent};
 ghost use Rattle.meaning.specs.Literals.{is_literal};
-ghost use Rattle.meaning.specs.Stories.{are_new, has_literals};
+ghost use Rattle.meaning.specs.Stories.{are_new};
 ghost use Rattle.needed_facts.specs.declared.basis.Basis.{Basis};
 ghost use Rattle.needed_facts.specs.Rests.{refutes_by};
-ghost use Rattle.premises.specs.SoFar.{bare_steps, unforced, steps_follow, is_lemma_by};
+ghost use Rattle.premises.specs.SoFar.{bare_steps, unforced, is_lemma_by};
 ghost use Rattle.premises.specs.SoFar.{FollowsFrom, IsLemmaToldBy, IsToldSoFar};
 
+use crate::desk::Desk;
 use crate::teller::Teller;
 use joined_sentences::{Chains, by_of, forget, join};
 use lists::{Items, NoMemory};
 use meaning::{Lemma, Literals, StoryStep};
-use needed_facts::{Facts, is_literal};
+use needed_facts::Facts;
 use outcomes::OutcomeKind;
 use std::alloc::Global;
 use tellings::{Passage, Placed, Telling};
@@ -73,7 +74,6 @@ impl<K: OutcomeKind> Teller<'_, K> {
     ) -> Result<(), NoMemory>
         requires known { known.now.size ≡ K.size self.now.grounds.kind.now }
         requires tried { tried.old.size ≡ K.size self.now.grounds.kind.now }
-        requires literal { IsTrue (is_literal (K.size self.now.grounds.kind.now) step.now.literal) }
         requires refuted { IsTrue (refutes_by (K.size self.now.grounds.kind.now) self.now.grounds.basis
             (known.now.literals ++ opposite_of step.now.literal ∷ []) step.now.reason) }
         ensures tried { tried.new.size ≡ tried.old.size }
@@ -87,7 +87,7 @@ impl<K: OutcomeKind> Teller<'_, K> {
         ensures steps { OnOk result (bare_steps passage.new.steps ≡
             bare_steps passage.old.steps ++ unforced self.now.forced.now.literals (step.now ∷ [])) }
     {
-        if self.forced.has(&step.literal) {
+        if self.is_forced(&step.literal) {
             return Ok(());
         }
         let others = [step.literal.opposite()];
@@ -97,11 +97,6 @@ impl<K: OutcomeKind> Teller<'_, K> {
         };
         let rests = facts.rests_on(alloc, tried, &others, &step.reason)?;
         say(passage, chains, step, rests)
-    }
-
-    /// Whether a fact of the size is forced.
-    fn is_forced(&self, literal: &Literal) -> bool {
-        is_literal(self.grounds.kind.space().size(), literal) && self.forced.has(literal)
     }
 
     /// How many of some steps are told: those whose facts are not forced.
@@ -124,10 +119,8 @@ impl<K: OutcomeKind> Teller<'_, K> {
         requires known { known.old.size ≡ K.size self.now.grounds.kind.now }
         requires tried { tried.old.size ≡ K.size self.now.grounds.kind.now }
         requires supposed { known.old.literals ≡ lemma.now.suppose }
-        requires literals { IsTrue (has_literals (K.size self.now.grounds.kind.now) lemma.now) }
-        requires follows { IsTrue (steps_follow (K.size self.now.grounds.kind.now) self.now.grounds.basis
-            lemma.now.last
-            lemma.now.suppose lemma.now.steps) }
+        requires lemma { IsTrue (is_lemma_by (K.size self.now.grounds.kind.now) self.now.grounds.basis
+            lemma.now) }
         ensures known { known.new.size ≡ known.old.size }
         ensures tried { tried.new.size ≡ tried.old.size }
         ensures told { IfOk result (IsToldSoFar (K.size self.now.grounds.kind.now) self.now.grounds.basis
@@ -150,34 +143,38 @@ impl<K: OutcomeKind> Teller<'_, K> {
         Ok(passage)
     }
 
-    /// Tells a lemma that follows from the earlier ones.
+    /// Tells a lemma that follows from the earlier ones, at a desk.
     pub(crate) fn tell(
         &self,
         alloc: Global,
-        known: &mut Board,
-        tried: &mut Board,
-        chains: &mut Chains,
+        desk: &mut Desk,
         lemma: &Lemma,
     ) -> Result<Telling, NoMemory>
-        requires known { known.old.size ≡ K.size self.now.grounds.kind.now }
-        requires tried { tried.old.size ≡ K.size self.now.grounds.kind.now }
+        requires known { desk.old.known.size ≡ K.size self.now.grounds.kind.now }
+        requires tried { desk.old.tried.size ≡ K.size self.now.grounds.kind.now }
         requires lemma { IsTrue (is_lemma_by (K.size self.now.grounds.kind.now) self.now.grounds.basis
             lemma.now) }
-        ensures known { known.new.size ≡ known.old.size }
-        ensures tried { tried.new.size ≡ tried.old.size }
+        ensures known { desk.new.known.size ≡ desk.old.known.size }
+        ensures tried { desk.new.tried.size ≡ desk.old.tried.size }
         ensures told { IfOk result
             (IsLemmaToldBy (K.size self.now.grounds.kind.now) self.now.grounds.basis
             self.now.forced.now.literals lemma.now) }
     {
-        known.clear();
-        suppose(known, lemma.suppose.as_slice());
-        let passage = self.tell_steps(alloc, known, tried, chains, lemma)?;
+        desk.known.clear();
+        suppose(&mut desk.known, lemma.suppose.as_slice());
+        let passage = self.tell_steps(
+            alloc,
+            &mut desk.known,
+            &mut desk.tried,
+            &mut desk.chains,
+            lemma,
+        )?;
         let facts = Facts {
             grounds: &self.grounds,
-            board: known,
+            board: &desk.known,
         };
-        let end = facts.rests_on(alloc, tried, &[], &lemma.last)?;
-        forget(chains, passage.sentences.as_slice());
+        let end = facts.rests_on(alloc, &mut desk.tried, &[], &lemma.last)?;
+        forget(&mut desk.chains, passage.sentences.as_slice());
         Ok(Telling { passage, end })
     }
 }

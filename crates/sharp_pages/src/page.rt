@@ -92,8 +92,8 @@ fn put_page<K: OutcomeKind>(
     sharp: &Sharp,
 ) -> Result<(), NoMemory>
     ensures { OnOk result (out.new ≡ out.old ++
-        sharp_page_of setting.now.study.now source.now.study.now source.now.report.now source.now.version.now told.now
-        (record {
+        sharp_page_of setting.now.study.now source.now.study.now source.now.report.now
+        source.now.version.now told.now (record {
           core = sharp.now.core.now;
           story = sharp.now.story.now;
           instances = sharp.now.instances.now;
@@ -102,7 +102,16 @@ fn put_page<K: OutcomeKind>(
 {
     let claim = claim_of(alloc, sharp.core)?;
     let about = About::of(setting.study.axioms().as_slice())?;
-    put_whole(alloc, out, setting.kind, &about, &claim, source, told, sharp)?;
+    put_whole(
+        alloc,
+        out,
+        setting.kind,
+        &about,
+        &claim,
+        source,
+        told,
+        sharp,
+    )?;
     Ok(())
 }
 

@@ -1,16 +1,8 @@
-use Rattle.std.proofs.Common.{◌≡◌, sym, ap, ◌∙◌, subst, true, List, ◌++◌, [], ◌∷◌, take}
-use Rattle.lists.proofs.TestLaws.{all_read}
+use Rattle.std.proofs.Common.{sym, ap, ◌∙◌, List, ◌++◌, [], ◌∷◌, take}
 use Rattle.meaning.specs.declared.stories.StoryStep.{StoryStep}
-use Rattle.meaning.specs.Literals.{is_literal}
 use Rattle.premises.specs.SoFar.{unforced}
 use Rattle.premises.proofs.StepLemmas.{unforced_more}
 use Rattle.premises.proofs.teller.Teller.place_all.Goals as goal
-
-pub place-requires-clause-literal : goal.place-requires-clause-literal
-place-requires-clause-literal g c = λ κs out.
-    let size = g.K.OutcomeKind.size c.args.self.now.grounds.kind.now in
-    subst (λ (step : StoryStep). is_literal size step.literal ≡ true) (sym c.step-item.is)
-    (all_read (λ (step : StoryStep). is_literal size step.literal) c.args.steps.now c.loop-step.step-index c.step-item.result c.loop-step-test.true c.requires)
 
 pub loop-step-preserved : goal.loop-step-preserved
 loop-step-preserved g c =

@@ -5,7 +5,7 @@ use Rattle.meaning.specs.declared.stories.StoryStep.{StoryStep}
 use Rattle.meaning.specs.Literals.{is_literal}
 use Rattle.premises.specs.SoFar.{steps_follow, bare_steps, unforced, IsToldSoFar}
 use Rattle.premises.proofs.ToldLemmas.{told_none}
-use Rattle.premises.proofs.StepLemmas.{NextForced, its_literal, next_forced, unforced_more}
+use Rattle.premises.proofs.StepLemmas.{NextForced, its_literal, next_forced, parts_of, unforced_more}
 use Rattle.premises.proofs.teller.Teller.tell_steps.Goals as goal
 
 pub loop-step-init : goal.loop-step-init
@@ -19,22 +19,15 @@ loop-step-init g c =
       tried_size = refl;
       told = rw (c.requires.supposed, c.new.ensures, c.in_ok-with_room.ensures) (told_none size basis forced suppose);
       so_far = ap bare_steps c.in_ok-with_room.ensures;
-      others = rw (c.requires.supposed, c.as_slice-step-items.ensures) c.requires.follows;
+      others = rw (c.requires.supposed, c.as_slice-step-items.ensures) (parts_of size basis c.args.lemma.now c.requires.lemma).follows;
     }
-
-pub take_step-requires-clause-literal : goal.take_step-requires-clause-literal
-take_step-requires-clause-literal g c = λ κs out.
-    let size = g.K.OutcomeKind.size c.args.self.now.grounds.kind.now in
-    let lt = rw c.as_slice-step-items.ensures at c.loop-step-test.true in
-    let is = rw c.as_slice-step-items.ensures at c.step-item.is in
-    subst (λ (step : StoryStep). is_literal size step.literal ≡ true) (sym is) (its_literal size c.args.lemma.now c.loop-step.step-index c.step-item.result c.requires.literals lt)
 
 pub add-requires-clause-literal : goal.add-requires-clause-literal
 add-requires-clause-literal g c =
     let size = g.K.OutcomeKind.size c.args.self.now.grounds.kind.now in
     let lt = rw c.as_slice-step-items.ensures at c.loop-step-test.true in
     let is = rw c.as_slice-step-items.ensures at c.step-item.is in
-    let fact = subst (λ (step : StoryStep). is_literal size step.literal ≡ true) (sym is) (its_literal size c.args.lemma.now c.loop-step.step-index c.step-item.result c.requires.literals lt) in
+    let fact = subst (λ (step : StoryStep). is_literal size step.literal ≡ true) (sym is) (its_literal size c.args.lemma.now c.loop-step.step-index c.step-item.result (parts_of size c.args.self.now.grounds.basis c.args.lemma.now c.requires.lemma).literals lt) in
     subst (λ (e : Extent). is_literal e c.step-item.result.literal ≡ true) (sym (c.loop-step.invariant.known_size ∙ c.requires.known)) fact
 
 pub take_step-requires-clause-refuted : goal.take_step-requires-clause-refuted
