@@ -34,6 +34,8 @@ pub fn tell<K: OutcomeKind>(
     requires logs { AreSpentLogs setting.now.study.now reduced.logs }
     ensures told { IfOk result (IsToldRight setting.now.study.now) }
     ensures core { IfOk result (λ told. told.core ≡ reduced.refutation.core) }
+    ensures witnesses { IfOk result (λ told. told.witnesses ≡ reduced.refutation.witnesses) }
+    ensures logs { IfOk result (λ told. told.logs ≡ reduced.logs) }
 {
     let Reduced { refutation, logs } = reduced;
     let Refutation {
