@@ -8,9 +8,8 @@ ghost use Rattle.words.specs.Words.{Check};
 ghost use Rattle.answers.specs.Check.{IsJudged};
 ghost use Rattle.command_parts.specs.Answers.{HasText, run_of, answer_status, text_of};
 ghost use Rattle.command_parts.specs.Answered.{Answers};
-ghost use Rattle.vocab.specs.Study.{HasFewAxioms};
 
-use command_parts::{Answer, Opened, Stop, open_study};
+use command_parts::{Answer, Opened, Stop, WholeStudy, open_study};
 use crew::Crew;
 use edge::{Gate, Shelf};
 use kinds::over_kind;
@@ -18,28 +17,29 @@ use report::Topic;
 use report_files::{FileFault, JudgedWorth, judge_file};
 use std::alloc::Global;
 use std::thread::Threads;
-use vocab::Study;
 
 /// What a text is worth over a study, by the study's kind.
 fn check_by_kind<R: Threads + Sync, S: Shelf, G: Gate>(
     alloc: Global,
     crew: &Crew<R, G>,
     shelf: &mut S,
-    study: &Study,
+    whole: &WholeStudy,
     report: &str,
 ) -> Result<JudgedWorth, FileFault>
-    requires listed { HasFewAxioms study.now }
     ensures worth { IfSome (S.files shelf.old)
-        (λ files. IfOk result (IsJudgedWorthOf study.now files report.now)) }
+        (λ files. IfOk result (IsJudgedWorthOf whole.now.study files report.now)) }
     ensures failed { IsErrOf result FileFault.Failed →
         Rose (S.faults shelf.old report.now) (S.faults shelf.new report.now) }
     ensures others { OthersStay (S.left shelf.old) (S.left shelf.new) report.now }
 {
     over_kind!(
-        study.size(),
+        whole.study.size(),
         kind,
         {
-            let topic = Topic { kind: &kind, study };
+            let topic = Topic {
+                kind: &kind,
+                study: &whole.study,
+            };
             judge_file(alloc, crew, &topic, shelf, report)
         }
     )
@@ -50,19 +50,18 @@ fn judge_report<R: Threads + Sync, S: Shelf, G: Gate>(
     alloc: Global,
     crew: &Crew<R, G>,
     shelf: &mut S,
-    study: &Study,
+    whole: &WholeStudy,
     report: &str,
 ) -> Result<Answer, Stop>
-    requires listed { HasFewAxioms study.now }
     ensures judged { IfOk result (λ answer. (files : Files) → S.files shelf.old ≡ Some files →
-        IsJudged files report.now study.now (run_of answer) (text_of answer)) }
+        IsJudged files report.now whole.now.study (run_of answer) (text_of answer)) }
     ensures status { IfOk result (λ answer. answer_status answer ≤ 1) }
     ensures has_text { IfOk result HasText }
     ensures fault { IsErrOf result Stop.ReadFault →
         Rose (S.faults shelf.old report.now) (S.faults shelf.new report.now) }
     ensures others { OthersStay (S.left shelf.old) (S.left shelf.new) report.now }
 {
-    let worth = check_by_kind(alloc, crew, shelf, study, report)?;
+    let worth = check_by_kind(alloc, crew, shelf, whole, report)?;
     Ok(Answer::Judged(worth))
 }
 
@@ -81,7 +80,7 @@ pub fn check<R: Threads + Sync, S: Shelf, G: Gate>(
         (S.left shelf.old) (S.left shelf.new) (S.faults shelf.old) (S.faults shelf.new) result }
 {
     match open_study(alloc, shelf, study) {
-        Ok(Opened::Study(question)) => { judge_report(alloc, crew, shelf, &question, report) }
+        Ok(Opened::Study(whole)) => { judge_report(alloc, crew, shelf, &whole, report) }
         Ok(Opened::Refused(answer)) => Ok(answer),
         Err(stop) => Err(stop),
     }

@@ -5,7 +5,6 @@ ghost use Rattle.edge.specs.Faults.{Rose};
 ghost use Rattle.edge.specs.Shelf.{Files, OthersStay};
 ghost use Rattle.vocab.specs.declared.kinds.Sort.TheVariants.{Profile};
 ghost use Rattle.vocab.specs.Size.{sort_count};
-ghost use Rattle.vocab.specs.Study.{HasFewAxioms};
 ghost use Rattle.meaning.specs.Texts.{outcome_text};
 ghost use Rattle.meaning.specs.Truth.{is_rule};
 ghost use Rattle.choice_sets.specs.Laws.{IsManipulation};
@@ -27,7 +26,7 @@ use report::Topic;
 use report_files::{JudgedWorth, Reader, Worth, worth_of};
 use std::alloc::Global;
 use std::thread::Threads;
-use vocab::{Kind, Name, Study, Table};
+use vocab::{Kind, Name, Table};
 
 /// The text of the set at a profile.
 fn set_at(kind: &SetsKind, table: &Table, profile: u32) -> Name
@@ -83,25 +82,21 @@ fn judge_gain<R: Threads + Sync, S: Shelf, G: Gate>(
     alloc: Global,
     crew: &Crew<R, G>,
     shelf: &mut S,
-    kind: &SetsKind,
-    study: &Study,
+    topic: &Topic<SetsKind>,
     report: &str,
 ) -> Result<Answer, Stop>
-    requires size { study.now.size ≡ ⟦<SetsKind as OutcomeKind>⟧.size kind.now }
-    requires listed { HasFewAxioms study.now }
     ensures said { IfOk result (λ answer. (files : Files) → S.files shelf.old ≡ Some files →
-        IsGainSaid files report.now study.now (run_of answer) (text_of answer)) }
+        IsGainSaid files report.now topic.now.study.now (run_of answer) (text_of answer)) }
     ensures status { IfOk result (λ answer. answer_status answer ≤ 1) }
     ensures has_text { IfOk result HasText }
     ensures fault { IsErrOf result Stop.ReadFault →
         Rose (S.faults shelf.old report.now) (S.faults shelf.new report.now) }
     ensures others { OthersStay (S.left shelf.old) (S.left shelf.new) report.now }
 {
-    let topic = Topic { kind, study };
-    let mut reader = Reader::new(alloc, crew, &topic)?;
+    let mut reader = Reader::new(alloc, crew, topic)?;
     let worth = worth_of(crew, &mut reader, shelf, report)?;
     match worth {
-        Worth::Confirmed(_) => Ok(said_of_rule(kind, reader.table())),
+        Worth::Confirmed(_) => Ok(said_of_rule(topic.kind, reader.table())),
         worth => Ok(Answer::Judged(JudgedWorth::Report(worth))),
     }
 }
@@ -121,16 +116,20 @@ pub fn gain<R: Threads + Sync, S: Shelf, G: Gate>(
         (S.left shelf.old) (S.left shelf.new) (S.faults shelf.old) (S.faults shelf.new) result }
 {
     match open_study(alloc, shelf, study) {
-        Ok(Opened::Study(question)) => {
-            match question.size().kind() {
+        Ok(Opened::Study(whole)) => {
+            match whole.study.size().kind() {
                 Kind::Sets => {
-                    let kind = SetsKind::new(Space::new(question.size()));
+                    let kind = SetsKind::new(Space::new(whole.study.size()));
+                    let topic = Topic {
+                        kind: &kind,
+                        study: &whole.study,
+                    };
                     let crew = Crew {
                         rt,
                         gate,
                         workers: 1,
                     };
-                    judge_gain(alloc, &crew, shelf, &kind, &question, report)
+                    judge_gain(alloc, &crew, shelf, &topic, report)
                 }
                 _ => Ok(Answer::OtherKind),
             }

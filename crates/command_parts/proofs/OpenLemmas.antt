@@ -1,5 +1,5 @@
 -- A study that was read, or refused.
-use Rattle.std.proofs.Common.{◌≡◌, subst, ℕ, ◌≤◌, List, length, Option, Some, IfSome, Err}
+use Rattle.std.proofs.Common.{◌≡◌, subst, ℕ, ◌≤◌, List, length, Option, Some, IfSome, Ok, Err}
 use Rattle.edge.specs.Shelf.{Files}
 use Rattle.study.specs.declared.faults.StudyFault.{StudyFault}
 use Rattle.vocab.specs.Study.{Question, HasFewAxioms}
@@ -21,14 +21,14 @@ refuses_bytes told name bytes text fault h fits bad t files e =
     no_study bytes fault (record { held = if_some told (λ files. files name ≡ Some bytes) files h e; fits = fits }) bad t
 
 -- a study that was read is one that reports speak of
-pub reportable : (told : Option Files) (name : List ℕ) (study : Question) → IsStudyRead told name study → IsReportable study
-reportable told name study read =
-    let whole = studies_whole read.bytes study read.gives in
+pub reportable : (bytes : List ℕ) (study : Question) → IsStudyOf bytes (Ok study) → IsReportable study
+reportable bytes study gives =
+    let whole = studies_whole bytes study gives in
     record { taken = whole.0; size = whole.1; names = whole.2 }
 
 -- and it has at most 40 axioms
-pub listed : (told : Option Files) (name : List ℕ) (study : Question) → IsStudyRead told name study → HasFewAxioms study
-listed told name study read = (studies_whole read.bytes study read.gives).3
+pub listed : (bytes : List ℕ) (study : Question) → IsStudyOf bytes (Ok study) → HasFewAxioms study
+listed bytes study gives = (studies_whole bytes study gives).3
 
 -- it is the study that the file of this name gives
 pub given : (told : Option Files) (name : List ℕ) (study : Question) (files : Files) → IsStudyRead told name study → told ≡ Some files → GivesStudy files name study

@@ -26,5 +26,5 @@ pub record Refuses (told : Option Files) (name : List ℕ) (answer : Answer) : T
 
 -- a study was read, or it is refused
 abbrev pub IsOpened : Option Files → List ℕ → Opened → Type 0
-IsOpened told name (opened.Study study) = IsStudyRead told name study
+IsOpened told name (opened.Study whole) = IsStudyRead told name whole.study
 IsOpened told name (opened.Refused answer) = Refuses told name answer

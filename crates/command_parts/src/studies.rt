@@ -6,10 +6,10 @@ ghost use Rattle.edge.specs.Shelf.{NoneFell, OthersStay};
 ghost use Rattle.command_parts.specs.Opened.{IsOpened};
 
 use crate::answer::{Answer, Stop};
+use crate::whole::WholeStudy;
 use edge::{ReadFault, Shelf, read_all};
 use std::alloc::Global;
 use study::{StudyFault, read_study};
-use vocab::Study;
 
 /// The most bytes of a study.
 const MOST_STUDY_BYTES: u32 = 1_048_576;
@@ -18,7 +18,7 @@ const MOST_STUDY_BYTES: u32 = 1_048_576;
 #[derive(Drop)]
 pub enum Opened {
     /// The study that the bytes give.
-    Study(Study),
+    Study(WholeStudy),
     /// The answer that refuses them, of status 3.
     Refused(Answer),
 }
@@ -39,7 +39,7 @@ pub fn open_study<S: Shelf>(alloc: Global, shelf: &mut S, name: &str) -> Result<
         Err(ReadFault::NoMemory) => return Err(Stop::NoMemory),
     };
     match read_study(alloc, bytes.as_slice()) {
-        Ok(study) => Ok(Opened::Study(study)),
+        Ok(study) => Ok(Opened::Study(WholeStudy { study })),
         Err(StudyFault::NoMemory) => Err(Stop::NoMemory),
         Err(fault) => Ok(Opened::Refused(Answer::NoStudy(fault))),
     }

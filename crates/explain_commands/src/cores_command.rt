@@ -8,51 +8,64 @@ ghost use Rattle.explain_answers.specs.Story.{bare_run};
 ghost use Rattle.explain_parts.specs.Replies.{HasReplyText, Replies, status_of, reply_text};
 
 use clause_form::GroundFault;
-use command_parts::{Answer, Opened, Stop, ground_all, open_study};
+use command_parts::{Answer, Opened, Stop, WholeSetting, WholeStudy, ground_all, open_study};
 use core_maps::map_axioms;
 use crew::Crew;
 use edge::{Gate, Shelf};
 use explain_parts::Reply;
 use kinds::over_kind;
-use outcomes::OutcomeKind;
+use outcomes::{OutcomeKind, Setting};
 use std::alloc::Global;
 use std::thread::Threads;
-use vocab::Study;
 
 /// Maps the axioms of a study of a kind, or says why its clauses are refused.
 fn map_over<R: Threads + Sync, K: OutcomeKind, G: Gate>(
     alloc: Global,
     crew: &Crew<R, G>,
-    kind: &K,
-    study: Study,
+    whole: WholeSetting<K>,
 ) -> Result<Reply, Stop>
-    requires size { study.size ≡ K.size kind.now }
-    ensures row { IfOk result (λ reply. OverClauses study (bare_run (status_of reply)) (reply_text reply)
-        (IsMapped study (status_of reply) (reply_text reply))) }
+    ensures row { IfOk result (λ reply.
+        OverClauses whole.entry.study (bare_run (status_of reply)) (reply_text reply)
+        (IsMapped whole.entry.study (status_of reply) (reply_text reply))) }
     ensures has_text { IfOk result HasReplyText }
     ensures read { result ≢ Err Stop.ReadFault }
 {
-    let clauses = match ground_all(alloc, crew, kind, &study) {
+    let setting = Setting {
+        kind: whole.kind,
+        study: &whole.study,
+    };
+    let clauses = match ground_all(alloc, crew, &setting) {
         Ok(clauses) => clauses,
         Err(GroundFault::NoMemory) => return Err(Stop::NoMemory),
-        Err(fault) => return Ok(Reply::Refused(Answer::NoClauses(study, fault))),
+        Err(fault) => return Ok(Reply::Refused(Answer::NoClauses(whole.study, fault))),
     };
-    let map = map_axioms(alloc, kind, &study, &clauses)?;
-    Ok(Reply::Cores(study, map))
+    let map = map_axioms(alloc, whole.kind, &whole.study, &clauses)?;
+    Ok(Reply::Cores(whole.study, map))
 }
 
 /// Maps the axioms of a study, or says why its clauses are refused.
 fn map_study<R: Threads + Sync, G: Gate>(
     alloc: Global,
     crew: &Crew<R, G>,
-    study: Study,
+    whole: WholeStudy,
 ) -> Result<Reply, Stop>
-    ensures row { IfOk result (λ reply. OverClauses study (bare_run (status_of reply)) (reply_text reply)
-        (IsMapped study (status_of reply) (reply_text reply))) }
+    ensures row { IfOk result (λ reply.
+        OverClauses whole.study (bare_run (status_of reply)) (reply_text reply)
+        (IsMapped whole.study (status_of reply) (reply_text reply))) }
     ensures has_text { IfOk result HasReplyText }
     ensures read { result ≢ Err Stop.ReadFault }
 {
-    over_kind!(study.size(), kind, map_over(alloc, crew, &kind, study))
+    over_kind!(
+        whole.study.size(),
+        kind,
+        {
+            let setting = WholeSetting {
+                kind: &kind,
+                study: whole.study,
+            };
+            map_over(alloc, crew, setting)
+        }
+    )
 }
 
 /// Reads the study, makes the clauses of its axioms, and maps their sets: the least that no rule satisfies, and
@@ -69,7 +82,7 @@ pub fn cores<R: Threads + Sync, S: Shelf, G: Gate>(
         (S.left shelf.old) (S.left shelf.new) (S.faults shelf.old) (S.faults shelf.new) result }
 {
     match open_study(alloc, shelf, study) {
-        Ok(Opened::Study(question)) => { map_study(alloc, crew, question) }
+        Ok(Opened::Study(whole)) => { map_study(alloc, crew, whole) }
         Ok(Opened::Refused(answer)) => Ok(Reply::Refused(answer)),
         Err(stop) => Err(stop),
     }

@@ -77,7 +77,7 @@ pub fn instance<S: Shelf>(
         (S.left shelf.old) (S.left shelf.new) (S.faults shelf.old) (S.faults shelf.new) result }
 {
     match open_study(alloc, shelf, study) {
-        Ok(Opened::Study(question)) => say(alloc, &question, axiom_name, number),
+        Ok(Opened::Study(whole)) => say(alloc, &whole.study, axiom_name, number),
         Ok(Opened::Refused(answer)) => Ok(Reply::Refused(answer)),
         Err(stop) => Err(stop),
     }

@@ -8,56 +8,65 @@ ghost use Rattle.explain_answers.specs.Story.{bare_run};
 ghost use Rattle.explain_parts.specs.Replies.{HasReplyText, Replies, status_of, reply_text};
 
 use clause_form::GroundFault;
-use command_parts::{Answer, Opened, Stop, ground_all, open_study};
+use command_parts::{Answer, Opened, Stop, WholeSetting, WholeStudy, ground_all, open_study};
 use crew::Crew;
 use edge::{Gate, Shelf};
 use explain_parts::Reply;
 use kinds::over_kind;
-use outcomes::OutcomeKind;
+use outcomes::{OutcomeKind, Setting};
 use rule_lists::all_rules;
 use std::alloc::Global;
 use std::thread::Threads;
-use vocab::Study;
 
 /// Lists the rules of a study of a kind, or says why its clauses are refused.
 fn list_over<R: Threads + Sync, K: OutcomeKind, G: Gate>(
     alloc: Global,
     crew: &Crew<R, G>,
-    kind: &K,
-    study: Study,
+    whole: WholeSetting<K>,
     most: u32,
 ) -> Result<Reply, Stop>
-    requires size { study.size ≡ K.size kind.now }
-    ensures row { IfOk result (λ reply. OverClauses study (bare_run (status_of reply)) (reply_text reply)
-        (IsRuleListWritten study most (status_of reply) (reply_text reply))) }
+    ensures row { IfOk result (λ reply.
+        OverClauses whole.entry.study (bare_run (status_of reply)) (reply_text reply)
+        (IsRuleListWritten whole.entry.study most (status_of reply) (reply_text reply))) }
     ensures has_text { IfOk result HasReplyText }
     ensures read { result ≢ Err Stop.ReadFault }
 {
-    let clauses = match ground_all(alloc, crew, kind, &study) {
+    let setting = Setting {
+        kind: whole.kind,
+        study: &whole.study,
+    };
+    let clauses = match ground_all(alloc, crew, &setting) {
         Ok(clauses) => clauses,
         Err(GroundFault::NoMemory) => return Err(Stop::NoMemory),
-        Err(fault) => return Ok(Reply::Refused(Answer::NoClauses(study, fault))),
+        Err(fault) => return Ok(Reply::Refused(Answer::NoClauses(whole.study, fault))),
     };
-    let list = all_rules(alloc, kind, &study, &clauses, most)?;
-    Ok(Reply::Rules(study, list))
+    let list = all_rules(alloc, whole.kind, &whole.study, &clauses, most)?;
+    Ok(Reply::Rules(whole.study, list))
 }
 
 /// Lists the rules of a study, or says why its clauses are refused.
 fn list_study<R: Threads + Sync, G: Gate>(
     alloc: Global,
     crew: &Crew<R, G>,
-    study: Study,
+    whole: WholeStudy,
     most: u32,
 ) -> Result<Reply, Stop>
-    ensures row { IfOk result (λ reply. OverClauses study (bare_run (status_of reply)) (reply_text reply)
-        (IsRuleListWritten study most (status_of reply) (reply_text reply))) }
+    ensures row { IfOk result (λ reply.
+        OverClauses whole.study (bare_run (status_of reply)) (reply_text reply)
+        (IsRuleListWritten whole.study most (status_of reply) (reply_text reply))) }
     ensures has_text { IfOk result HasReplyText }
     ensures read { result ≢ Err Stop.ReadFault }
 {
     over_kind!(
-        study.size(),
+        whole.study.size(),
         kind,
-        list_over(alloc, crew, &kind, study, most)
+        {
+            let setting = WholeSetting {
+                kind: &kind,
+                study: whole.study,
+            };
+            list_over(alloc, crew, setting, most)
+        }
     )
 }
 
@@ -76,7 +85,7 @@ pub fn rules<R: Threads + Sync, S: Shelf, G: Gate>(
         (S.left shelf.old) (S.left shelf.new) (S.faults shelf.old) (S.faults shelf.new) result }
 {
     match open_study(alloc, shelf, study) {
-        Ok(Opened::Study(question)) => { list_study(alloc, crew, question, most) }
+        Ok(Opened::Study(whole)) => { list_study(alloc, crew, whole, most) }
         Ok(Opened::Refused(answer)) => Ok(Reply::Refused(answer)),
         Err(stop) => Err(stop),
     }

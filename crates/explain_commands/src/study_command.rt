@@ -14,7 +14,7 @@ use crew::Crew;
 use edge::{Gate, ReadFault, Shelf, read_all};
 use explain_parts::{Helped, Reply};
 use kinds::over_kind;
-use outcomes::OutcomeKind;
+use outcomes::{OutcomeKind, Setting};
 use std::alloc::Global;
 use std::thread::Threads;
 use study::{StudyFault, read_study};
@@ -38,7 +38,11 @@ fn look_over<R: Threads + Sync, K: OutcomeKind, G: Gate>(
     ensures has_text { IfOk result HasReplyText }
     ensures read { result ≢ Err Stop.ReadFault }
 {
-    let clauses = match ground_all(alloc, crew, kind, &study) {
+    let setting = Setting {
+        kind,
+        study: &study,
+    };
+    let clauses = match ground_all(alloc, crew, &setting) {
         Ok(clauses) => clauses,
         Err(GroundFault::NoMemory) => return Err(Stop::NoMemory),
         Err(fault) => return Ok(Reply::Refused(Answer::NoClauses(study, fault))),

@@ -3,7 +3,6 @@
 ghost use Rattle.std.specs.Prelude.{◌≡◌, ◌≤◌, Some, IfSome, IfOk, IsErrOf};
 ghost use Rattle.edge.specs.Faults.{Rose};
 ghost use Rattle.edge.specs.Shelf.{Files, OthersStay};
-ghost use Rattle.vocab.specs.Study.{HasFewAxioms};
 ghost use Rattle.verdict_reading.specs.Readings.{IsReadOf, ReadingHolds};
 ghost use Rattle.explain_words.specs.Words.{Story};
 ghost use Rattle.explain_answers.specs.Story.{IsToldOf};
@@ -11,7 +10,7 @@ ghost use Rattle.explain_parts.specs.Replies.{HasReplyText, Replies, status_of, 
 ghost use Rattle.explain_story.specs.Replied.{IsReplyTo};
 
 use crate::page::{make_page, make_sharp_page};
-use command_parts::{Answer, Opened, Stop, open_study};
+use command_parts::{Answer, Opened, Stop, WholeStudy, open_study};
 use crew::Crew;
 use edge::{Gate, Shelf};
 use explain_parts::Reply;
@@ -29,22 +28,24 @@ fn read_by_kind<R: Threads + Sync, S: Shelf, G: Gate>(
     alloc: Global,
     crew: &Crew<R, G>,
     shelf: &mut S,
-    study: &Study,
+    whole: &WholeStudy,
     report: &str,
 ) -> Result<Reading, FileFault>
-    requires listed { HasFewAxioms study.now }
     ensures read { IfSome (S.files shelf.old)
-        (λ files. IfOk result (IsReadOf study.now files report.now)) }
-    ensures holds { IfOk result (ReadingHolds study.now) }
+        (λ files. IfOk result (IsReadOf whole.now.study files report.now)) }
+    ensures holds { IfOk result (ReadingHolds whole.now.study) }
     ensures failed { IsErrOf result FileFault.Failed →
         Rose (S.faults shelf.old report.now) (S.faults shelf.new report.now) }
     ensures others { OthersStay (S.left shelf.old) (S.left shelf.new) report.now }
 {
     over_kind!(
-        study.size(),
+        whole.study.size(),
         kind,
         {
-            let topic = Topic { kind: &kind, study };
+            let topic = Topic {
+                kind: &kind,
+                study: &whole.study,
+            };
             read_verdict_file(alloc, crew, &topic, shelf, report)
         }
     )
@@ -95,21 +96,20 @@ fn read_story<R: Threads + Sync, S: Shelf, G: Gate>(
     alloc: Global,
     crew: &Crew<R, G>,
     shelf: &mut S,
-    study: &Study,
+    whole: &WholeStudy,
     name: &str,
     report: &str,
 ) -> Result<Reply, Stop>
-    requires listed { HasFewAxioms study.now }
     ensures told { IfOk result (λ reply. (files : Files) → S.files shelf.old ≡ Some files →
-        IsToldOf files name.now report.now study.now (status_of reply) (reply_text reply)) }
+        IsToldOf files name.now report.now whole.now.study (status_of reply) (reply_text reply)) }
     ensures status { IfOk result (λ reply. status_of reply ≤ 1) }
     ensures has_text { IfOk result HasReplyText }
     ensures fault { IsErrOf result Stop.ReadFault →
         Rose (S.faults shelf.old report.now) (S.faults shelf.new report.now) }
     ensures others { OthersStay (S.left shelf.old) (S.left shelf.new) report.now }
 {
-    let reading = read_by_kind(alloc, crew, shelf, study, report)?;
-    let reply = reply_to(alloc, study, name, report, &reading)?;
+    let reading = read_by_kind(alloc, crew, shelf, whole, report)?;
+    let reply = reply_to(alloc, &whole.study, name, report, &reading)?;
     Ok(reply)
 }
 
@@ -128,7 +128,7 @@ pub fn story<R: Threads + Sync, S: Shelf, G: Gate>(
         (S.left shelf.old) (S.left shelf.new) (S.faults shelf.old) (S.faults shelf.new) result }
 {
     match open_study(alloc, shelf, study) {
-        Ok(Opened::Study(question)) => { read_story(alloc, crew, shelf, &question, study, report) }
+        Ok(Opened::Study(whole)) => { read_story(alloc, crew, shelf, &whole, study, report) }
         Ok(Opened::Refused(answer)) => Ok(Reply::Refused(answer)),
         Err(stop) => Err(stop),
     }

@@ -5,7 +5,6 @@ ghost use Rattle.edge.specs.Faults.{Rose};
 ghost use Rattle.edge.specs.Shelf.{Files, OthersStay};
 ghost use Rattle.meaning.specs.StudyClauses.{study_clauses};
 ghost use Rattle.search_logs.specs.Spent.{all_places};
-ghost use Rattle.verdicts.specs.Laws.{IsReportable};
 ghost use Rattle.adopt.specs.Given.{IsProofOverAll};
 ghost use Rattle.adopt.specs.Told.{IsAdopted};
 ghost use Rattle.words.specs.Words.{Adopt};
@@ -14,10 +13,14 @@ ghost use Rattle.command_parts.specs.Answers.{HasText, run_of, answer_status, te
 ghost use Rattle.command_parts.specs.Answered.{Answers};
 ghost use Rattle.search_commands.specs.Retold.{IsDerivationJudged};
 
+use crate::decide::impossible;
 use adopt::{AdoptFault, Adopted};
 use clause_form::{Ground, GroundFault};
 use cnf::Derivation;
-use command_parts::{Answer, GivenProof, Opened, Stop, ground_study, open_derivation, open_study};
+use command_parts::{
+    Answer, GivenProof, Opened, Stop, WholeSetting, WholeStudy, ground_study, open_derivation,
+    open_study,
+};
 use core_reduce::variables;
 use crew::Crew;
 use edge::{Gate, Shelf};
@@ -25,53 +28,37 @@ use kinds::over_kind;
 use outcomes::{OutcomeKind, Setting};
 use std::alloc::Global;
 use std::thread::Threads;
-use verdicts::Verdict;
-use vocab::Study;
 
 /// The report of a proof that was adopted.
-fn report_of(study: Study, adopted: Adopted, lines: &Derivation) -> Answer
-    requires reportable { IsReportable study }
-    requires adopted { IsAdopted study lines.now adopted }
-    ensures retold { IsRetold study lines.now (run_of result) (text_of result) }
+fn report_of<K: OutcomeKind>(whole: WholeSetting<K>, adopted: Adopted, lines: &Derivation) -> Answer
+    requires { IsAdopted whole.study lines.now adopted }
+    ensures retold { IsRetold whole.entry.study lines.now (run_of result) (text_of result) }
     ensures has_text { HasText result }
 {
     let _ = lines;
-    let Adopted {
-        core,
-        story,
-        witnesses,
-        logs,
-    } = adopted;
-    let verdict = Verdict::Impossible {
-        core,
-        story,
-        witnesses,
-    };
-    Answer::Report(study, verdict, logs)
+    let found = impossible(adopted);
+    Answer::Report(whole.study, found.verdict, found.logs)
 }
 
 /// The report of a derivation from the clauses of a study of a kind, or what is said of its first faulty
 /// line.
 fn judge_lines<K: OutcomeKind>(
     alloc: Global,
-    kind: &K,
-    study: Study,
+    whole: WholeSetting<K>,
     clauses: Ground,
     lines: &Derivation,
 ) -> Result<Answer, Stop>
-    requires size { study.size ≡ K.size kind.now }
-    requires reportable { IsReportable study }
-    requires given { IsProofOverAll study clauses lines.now }
-    ensures judged { IfOk result (IsDerivationJudged study lines.now) }
+    requires { IsProofOverAll whole.study clauses lines.now }
+    ensures judged { IfOk result (IsDerivationJudged whole.entry.study lines.now) }
     ensures has_text { IfOk result HasText }
     ensures read { result ≢ Err Stop.ReadFault }
 {
     let setting = Setting {
-        kind,
-        study: &study,
+        kind: whole.kind,
+        study: &whole.study,
     };
     match adopt::adopt(alloc, &setting, clauses, lines) {
-        Ok(adopted) => Ok(report_of(study, adopted, lines)),
+        Ok(adopted) => Ok(report_of(whole, adopted, lines)),
         Err(AdoptFault::Proof { at, fault }) => Ok(Answer::BadProof { line: at, fault }),
         Err(AdoptFault::NoMemory) => Err(Stop::NoMemory),
     }
@@ -81,24 +68,21 @@ fn judge_lines<K: OutcomeKind>(
 fn judge_over<S: Shelf, K: OutcomeKind>(
     alloc: Global,
     shelf: &mut S,
-    kind: &K,
-    study: Study,
+    whole: WholeSetting<K>,
     clauses: Ground,
     proof: &str,
 ) -> Result<Answer, Stop>
-    requires size { study.size ≡ K.size kind.now }
-    requires reportable { IsReportable study }
-    requires clauses { clauses ≡ study_clauses study.size study.axioms (all_places study) }
+    requires { clauses ≡ study_clauses whole.study.size whole.study.axioms (all_places whole.study) }
     ensures row { IfOk result (λ answer. (files : Files) → S.files shelf.old ≡ Some files →
-        Adopts files proof.now study (run_of answer) (text_of answer)) }
+        Adopts files proof.now whole.entry.study (run_of answer) (text_of answer)) }
     ensures status { IfOk result (λ answer. answer_status answer ≤ 1) }
     ensures has_text { IfOk result HasText }
     ensures fault { IsErrOf result Stop.ReadFault →
         Rose (S.faults shelf.old proof.now) (S.faults shelf.new proof.now) }
     ensures others { OthersStay (S.left shelf.old) (S.left shelf.new) proof.now }
 {
-    match open_derivation(alloc, shelf, proof, variables(kind)) {
-        Ok(GivenProof::Lines(lines)) => judge_lines(alloc, kind, study, clauses, &lines),
+    match open_derivation(alloc, shelf, proof, variables(whole.kind)) {
+        Ok(GivenProof::Lines(lines)) => judge_lines(alloc, whole, clauses, &lines),
         Ok(GivenProof::Refused(answer)) => Ok(answer),
         Err(stop) => Err(stop),
     }
@@ -108,14 +92,13 @@ fn judge_over<S: Shelf, K: OutcomeKind>(
 fn judge_proof<S: Shelf>(
     alloc: Global,
     shelf: &mut S,
-    study: Study,
+    whole: WholeStudy,
     clauses: Ground,
     proof: &str,
 ) -> Result<Answer, Stop>
-    requires reportable { IsReportable study }
-    requires clauses { clauses ≡ study_clauses study.size study.axioms (all_places study) }
+    requires { clauses ≡ study_clauses whole.study.size whole.study.axioms (all_places whole.study) }
     ensures row { IfOk result (λ answer. (files : Files) → S.files shelf.old ≡ Some files →
-        Adopts files proof.now study (run_of answer) (text_of answer)) }
+        Adopts files proof.now whole.study (run_of answer) (text_of answer)) }
     ensures status { IfOk result (λ answer. answer_status answer ≤ 1) }
     ensures has_text { IfOk result HasText }
     ensures fault { IsErrOf result Stop.ReadFault →
@@ -123,9 +106,15 @@ fn judge_proof<S: Shelf>(
     ensures others { OthersStay (S.left shelf.old) (S.left shelf.new) proof.now }
 {
     over_kind!(
-        study.size(),
+        whole.study.size(),
         kind,
-        judge_over(alloc, shelf, &kind, study, clauses, proof)
+        {
+            let setting = WholeSetting {
+                kind: &kind,
+                study: whole.study,
+            };
+            judge_over(alloc, shelf, setting, clauses, proof)
+        }
     )
 }
 
@@ -144,14 +133,14 @@ pub fn adopt<R: Threads + Sync, S: Shelf, G: Gate>(
     ensures { Answers (Some (Adopt study.now proof.now crew.now.workers)) (S.files shelf.old)
         (S.left shelf.old) (S.left shelf.new) (S.faults shelf.old) (S.faults shelf.new) result }
 {
-    let question = match open_study(alloc, shelf, study) {
-        Ok(Opened::Study(question)) => question,
+    let whole = match open_study(alloc, shelf, study) {
+        Ok(Opened::Study(whole)) => whole,
         Ok(Opened::Refused(answer)) => return Ok(answer),
         Err(stop) => return Err(stop),
     };
-    match ground_study(alloc, crew, &question) {
-        Ok(clauses) => judge_proof(alloc, shelf, question, clauses, proof),
+    match ground_study(alloc, crew, &whole.study) {
+        Ok(clauses) => judge_proof(alloc, shelf, whole, clauses, proof),
         Err(GroundFault::NoMemory) => Err(Stop::NoMemory),
-        Err(fault) => Ok(Answer::NoClauses(question, fault)),
+        Err(fault) => Ok(Answer::NoClauses(whole.study, fault)),
     }
 }

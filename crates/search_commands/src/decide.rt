@@ -1,8 +1,8 @@
 //! The command `decide`: reads a study, and searches for a rule, or for a story that there is none.
 
 ghost use Rattle.std.specs.Prelude.{◌≡◌, ◌≢◌, Some, Err, IfOk};
-ghost use Rattle.verdicts.specs.Laws.{IsReportable};
-ghost use Rattle.core_reduce.specs.Answers.{IsDecision, IsFinding, IsRefutation};
+ghost use Rattle.verdicts.specs.declared.verdicts.Verdict.TheVariants.{Impossible};
+ghost use Rattle.core_reduce.specs.Answers.{IsDecision};
 ghost use Rattle.words.specs.Words.{Decide};
 ghost use Rattle.answers.specs.Decide.{IsReported};
 ghost use Rattle.answers.specs.Grounding.{OverClauses};
@@ -10,121 +10,140 @@ ghost use Rattle.command_parts.specs.Answers.{HasText, run_of, text_of};
 ghost use Rattle.command_parts.specs.Answered.{Answers};
 ghost use Rattle.search_commands.specs.Found.{IsVerdict};
 
+use adopt::{Adopted, tell};
 use clause_form::GroundFault;
-use command_parts::{Answer, Opened, Stop, ground_all, open_study};
-use core_reduce::{Decision, Finding, Refutation};
+use command_parts::{Answer, Opened, Stop, WholeSetting, WholeStudy, ground_all, open_study};
+use core_reduce::{Decision, Finding, Reduced};
 use crew::Crew;
 use edge::{Gate, Shelf};
 use kinds::over_kind;
 use lists::NoMemory;
 use outcomes::{OutcomeKind, Setting};
-use retell::retell_simply;
 use search_logs::Logs;
 use std::alloc::Global;
 use std::thread::Threads;
 use verdicts::Verdict;
-use vocab::Study;
 
-/// The verdict of a refutation, with the story that its proof tells.
-fn impossible<K: OutcomeKind>(
-    alloc: Global,
-    setting: &Setting<K>,
-    logs: &Logs,
-    refutation: Refutation,
-) -> Result<Verdict, NoMemory>
-    requires { IsRefutation setting.now.study.now logs.now refutation }
-    ensures { IfOk result (IsVerdict setting.now.study.now logs.now) }
+/// A verdict, and the searches that spent their limit on the way to it.
+#[derive(Drop)]
+pub(crate) struct Found {
+    pub verdict: Verdict,
+    pub logs: Logs,
+}
+
+/// The verdict of a refutation that was told.
+pub(crate) fn impossible(told: Adopted) -> Found
+    ensures verdict { result.verdict ≡ Impossible told.core told.story told.witnesses }
+    ensures logs { result.logs ≡ told.logs }
 {
-    let _ = logs;
-    let Refutation {
-        core,
-        clauses,
-        proof,
-        witnesses,
-    } = refutation;
-    let story = retell_simply(alloc, setting, &core, &clauses, &proof)?;
-    Ok(Verdict::Impossible {
+    let Adopted {
         core,
         story,
         witnesses,
-    })
+        logs,
+    } = told;
+    Found {
+        verdict: Verdict::Impossible {
+            core,
+            story,
+            witnesses,
+        },
+        logs,
+    }
 }
 
-/// The verdict of a finding.
+/// The verdict of a decision, with its logs.
 pub(crate) fn verdict_of<K: OutcomeKind>(
     alloc: Global,
     setting: &Setting<K>,
-    logs: &Logs,
-    finding: Finding,
-) -> Result<Verdict, NoMemory>
-    requires { IsFinding setting.now.study.now logs.now finding }
-    ensures { IfOk result (IsVerdict setting.now.study.now logs.now) }
+    decision: Decision,
+) -> Result<Found, NoMemory>
+    requires { IsDecision setting.now.study.now decision }
+    ensures right { IfOk result (λ found. IsVerdict setting.now.study.now found.logs found.verdict) }
+    ensures logs { IfOk result (λ found. found.logs ≡ decision.logs) }
 {
+    let Decision { finding, logs } = decision;
     match finding {
-        Finding::Possible(table) => Ok(Verdict::Possible(table)),
-        Finding::Impossible(refutation) => impossible(alloc, setting, logs, refutation),
-        Finding::Undecided => Ok(Verdict::Undecided),
+        Finding::Possible(table) => Ok(Found {
+            verdict: Verdict::Possible(table),
+            logs,
+        }),
+        Finding::Impossible(refutation) => {
+            let told = tell(alloc, setting, Reduced { refutation, logs })?;
+            Ok(impossible(told))
+        }
+        Finding::Undecided => Ok(Found {
+            verdict: Verdict::Undecided,
+            logs,
+        }),
     }
 }
 
 /// The report of what a decision came to.
 fn report_of<K: OutcomeKind>(
     alloc: Global,
-    kind: &K,
-    study: Study,
+    whole: WholeSetting<K>,
     decision: Decision,
 ) -> Result<Answer, NoMemory>
-    requires size { study.size ≡ K.size kind.now }
-    requires decision { IsDecision study decision }
-    requires reportable { IsReportable study }
-    ensures reported { IfOk result (λ answer. IsReported study (run_of answer) (text_of answer)) }
+    requires { IsDecision whole.study decision }
+    ensures reported { IfOk result
+        (λ answer. IsReported whole.entry.study (run_of answer) (text_of answer)) }
     ensures has_text { IfOk result HasText }
 {
-    let Decision { finding, logs } = decision;
     let setting = Setting {
-        kind,
-        study: &study,
+        kind: whole.kind,
+        study: &whole.study,
     };
-    let verdict = verdict_of(alloc, &setting, &logs, finding)?;
-    Ok(Answer::Report(study, verdict, logs))
+    let found = verdict_of(alloc, &setting, decision)?;
+    Ok(Answer::Report(whole.study, found.verdict, found.logs))
 }
 
 /// Decides a study of a kind, or says why its clauses are refused.
 fn decide_over<R: Threads + Sync, K: OutcomeKind, G: Gate>(
     alloc: Global,
     crew: &Crew<R, G>,
-    kind: &K,
-    study: Study,
+    whole: WholeSetting<K>,
 ) -> Result<Answer, Stop>
-    requires size { study.size ≡ K.size kind.now }
-    requires reportable { IsReportable study }
-    ensures row { IfOk result (λ answer. OverClauses study (run_of answer) (text_of answer)
-        (IsReported study (run_of answer) (text_of answer))) }
+    ensures row { IfOk result (λ answer. OverClauses whole.entry.study (run_of answer) (text_of answer)
+        (IsReported whole.entry.study (run_of answer) (text_of answer))) }
     ensures has_text { IfOk result HasText }
     ensures read { result ≢ Err Stop.ReadFault }
 {
-    let clauses = match ground_all(alloc, crew, kind, &study) {
+    let setting = Setting {
+        kind: whole.kind,
+        study: &whole.study,
+    };
+    let clauses = match ground_all(alloc, crew, &setting) {
         Ok(clauses) => clauses,
         Err(GroundFault::NoMemory) => return Err(Stop::NoMemory),
-        Err(fault) => return Ok(Answer::NoClauses(study, fault)),
+        Err(fault) => return Ok(Answer::NoClauses(whole.study, fault)),
     };
-    let decision = core_reduce::decide(alloc, kind, &study, clauses)?;
-    Ok(report_of(alloc, kind, study, decision)?)
+    let decision = core_reduce::decide(alloc, whole.kind, &whole.study, clauses)?;
+    Ok(report_of(alloc, whole, decision)?)
 }
 
 /// Decides a study, or says why its clauses are refused.
 fn decide_study<R: Threads + Sync, G: Gate>(
     alloc: Global,
     crew: &Crew<R, G>,
-    study: Study,
+    whole: WholeStudy,
 ) -> Result<Answer, Stop>
-    requires reportable { IsReportable study }
-    ensures row { IfOk result (λ answer. OverClauses study (run_of answer) (text_of answer)
-        (IsReported study (run_of answer) (text_of answer))) }
+    ensures row { IfOk result (λ answer. OverClauses whole.study (run_of answer) (text_of answer)
+        (IsReported whole.study (run_of answer) (text_of answer))) }
     ensures has_text { IfOk result HasText }
     ensures read { result ≢ Err Stop.ReadFault }
 {
-    over_kind!(study.size(), kind, decide_over(alloc, crew, &kind, study))
+    over_kind!(
+        whole.study.size(),
+        kind,
+        {
+            let setting = WholeSetting {
+                kind: &kind,
+                study: whole.study,
+            };
+            decide_over(alloc, crew, setting)
+        }
+    )
 }
 
 /// Reads the study, and decides it: a rule that satisfies all its axioms, or a core of them with a story that
@@ -141,7 +160,7 @@ pub fn decide<R: Threads + Sync, S: Shelf, G: Gate>(
         (S.left shelf.old) (S.left shelf.new) (S.faults shelf.old) (S.faults shelf.new) result }
 {
     match open_study(alloc, shelf, study) {
-        Ok(Opened::Study(question)) => { decide_study(alloc, crew, question) }
+        Ok(Opened::Study(whole)) => { decide_study(alloc, crew, whole) }
         Ok(Opened::Refused(answer)) => Ok(answer),
         Err(stop) => Err(stop),
     }

@@ -8,37 +8,38 @@ ghost use Rattle.command_parts.specs.Answers.{HasText, run_of, text_of};
 ghost use Rattle.command_parts.specs.Answered.{Answers};
 
 use clause_form::GroundFault;
-use command_parts::{Answer, Opened, Stop, ground_all, open_study};
+use command_parts::{Answer, Opened, Stop, WholeSetting, WholeStudy, ground_all, open_study};
 use core_reduce::variables;
 use crew::Crew;
 use edge::{Gate, Shelf};
 use kinds::over_kind;
-use outcomes::OutcomeKind;
+use outcomes::{OutcomeKind, Setting};
 use std::alloc::Global;
 use std::thread::Threads;
-use vocab::Study;
 
 /// The clauses of a study of a kind, or why they are refused.
 fn export_over<R: Threads + Sync, K: OutcomeKind, G: Gate>(
     alloc: Global,
     crew: &Crew<R, G>,
-    kind: &K,
-    study: Study,
+    whole: WholeSetting<K>,
 ) -> Result<Answer, Stop>
-    requires size { study.size ≡ K.size kind.now }
-    ensures row { IfOk result (λ answer. OverClauses study (run_of answer) (text_of answer)
-        (IsWritten study (run_of answer) (text_of answer))) }
+    ensures row { IfOk result (λ answer. OverClauses whole.entry.study (run_of answer) (text_of answer)
+        (IsWritten whole.entry.study (run_of answer) (text_of answer))) }
     ensures has_text { IfOk result HasText }
     ensures read { result ≢ Err Stop.ReadFault }
 {
-    match ground_all(alloc, crew, kind, &study) {
+    let setting = Setting {
+        kind: whole.kind,
+        study: &whole.study,
+    };
+    match ground_all(alloc, crew, &setting) {
         Ok(clauses) => Ok(Answer::Clauses {
-            size: study.size(),
-            variables: variables(kind),
+            size: whole.study.size(),
+            variables: variables(whole.kind),
             clauses,
         }),
         Err(GroundFault::NoMemory) => Err(Stop::NoMemory),
-        Err(fault) => Ok(Answer::NoClauses(study, fault)),
+        Err(fault) => Ok(Answer::NoClauses(whole.study, fault)),
     }
 }
 
@@ -46,14 +47,24 @@ fn export_over<R: Threads + Sync, K: OutcomeKind, G: Gate>(
 fn export_study<R: Threads + Sync, G: Gate>(
     alloc: Global,
     crew: &Crew<R, G>,
-    study: Study,
+    whole: WholeStudy,
 ) -> Result<Answer, Stop>
-    ensures row { IfOk result (λ answer. OverClauses study (run_of answer) (text_of answer)
-        (IsWritten study (run_of answer) (text_of answer))) }
+    ensures row { IfOk result (λ answer. OverClauses whole.study (run_of answer) (text_of answer)
+        (IsWritten whole.study (run_of answer) (text_of answer))) }
     ensures has_text { IfOk result HasText }
     ensures read { result ≢ Err Stop.ReadFault }
 {
-    over_kind!(study.size(), kind, export_over(alloc, crew, &kind, study))
+    over_kind!(
+        whole.study.size(),
+        kind,
+        {
+            let setting = WholeSetting {
+                kind: &kind,
+                study: whole.study,
+            };
+            export_over(alloc, crew, setting)
+        }
+    )
 }
 
 /// Reads the study, and makes the clauses of all its axioms. These are made among 1 to 16 workers, which
@@ -69,7 +80,7 @@ pub fn export<R: Threads + Sync, S: Shelf, G: Gate>(
         (S.left shelf.old) (S.left shelf.new) (S.faults shelf.old) (S.faults shelf.new) result }
 {
     match open_study(alloc, shelf, study) {
-        Ok(Opened::Study(question)) => { export_study(alloc, crew, question) }
+        Ok(Opened::Study(whole)) => { export_study(alloc, crew, whole) }
         Ok(Opened::Refused(answer)) => Ok(answer),
         Err(stop) => Err(stop),
     }

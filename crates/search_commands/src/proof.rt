@@ -9,12 +9,12 @@ ghost use Rattle.command_parts.specs.Answers.{HasText, run_of, text_of};
 ghost use Rattle.command_parts.specs.Answered.{Answers};
 
 use clause_form::GroundFault;
-use command_parts::{Answer, Opened, Stop, ground_all, open_study};
+use command_parts::{Answer, Opened, Stop, WholeSetting, WholeStudy, ground_all, open_study};
 use core_reduce::{Proved, Shown};
 use crew::Crew;
 use edge::{Gate, Shelf};
 use kinds::over_kind;
-use outcomes::OutcomeKind;
+use outcomes::{OutcomeKind, Setting};
 use std::alloc::Global;
 use std::thread::Threads;
 use verdicts::Verdict;
@@ -39,36 +39,48 @@ fn answer_of(study: &Study, proved: Proved) -> Answer
 fn prove_over<R: Threads + Sync, K: OutcomeKind, G: Gate>(
     alloc: Global,
     crew: &Crew<R, G>,
-    kind: &K,
-    study: Study,
+    whole: WholeSetting<K>,
 ) -> Result<Answer, Stop>
-    requires size { study.size ≡ K.size kind.now }
-    ensures row { IfOk result (λ answer. OverClauses study (run_of answer) (text_of answer)
-        (Proves study (run_of answer) (text_of answer))) }
+    ensures row { IfOk result (λ answer. OverClauses whole.entry.study (run_of answer) (text_of answer)
+        (Proves whole.entry.study (run_of answer) (text_of answer))) }
     ensures has_text { IfOk result HasText }
     ensures read { result ≢ Err Stop.ReadFault }
 {
-    let clauses = match ground_all(alloc, crew, kind, &study) {
+    let setting = Setting {
+        kind: whole.kind,
+        study: &whole.study,
+    };
+    let clauses = match ground_all(alloc, crew, &setting) {
         Ok(clauses) => clauses,
         Err(GroundFault::NoMemory) => return Err(Stop::NoMemory),
-        Err(fault) => return Ok(Answer::NoClauses(study, fault)),
+        Err(fault) => return Ok(Answer::NoClauses(whole.study, fault)),
     };
-    let proved = core_reduce::prove(alloc, kind, &study, &clauses)?;
-    Ok(answer_of(&study, proved))
+    let proved = core_reduce::prove(alloc, whole.kind, &whole.study, &clauses)?;
+    Ok(answer_of(&whole.study, proved))
 }
 
 /// Searches over the clauses of a study, or says why these are refused.
 fn prove_study<R: Threads + Sync, G: Gate>(
     alloc: Global,
     crew: &Crew<R, G>,
-    study: Study,
+    whole: WholeStudy,
 ) -> Result<Answer, Stop>
-    ensures row { IfOk result (λ answer. OverClauses study (run_of answer) (text_of answer)
-        (Proves study (run_of answer) (text_of answer))) }
+    ensures row { IfOk result (λ answer. OverClauses whole.study (run_of answer) (text_of answer)
+        (Proves whole.study (run_of answer) (text_of answer))) }
     ensures has_text { IfOk result HasText }
     ensures read { result ≢ Err Stop.ReadFault }
 {
-    over_kind!(study.size(), kind, prove_over(alloc, crew, &kind, study))
+    over_kind!(
+        whole.study.size(),
+        kind,
+        {
+            let setting = WholeSetting {
+                kind: &kind,
+                study: whole.study,
+            };
+            prove_over(alloc, crew, setting)
+        }
+    )
 }
 
 /// Reads the study, and searches over the clauses that `export` writes of it: a trimmed refutation of them,
@@ -85,7 +97,7 @@ pub fn proof<R: Threads + Sync, S: Shelf, G: Gate>(
         (S.left shelf.old) (S.left shelf.new) (S.faults shelf.old) (S.faults shelf.new) result }
 {
     match open_study(alloc, shelf, study) {
-        Ok(Opened::Study(question)) => { prove_study(alloc, crew, question) }
+        Ok(Opened::Study(whole)) => { prove_study(alloc, crew, whole) }
         Ok(Opened::Refused(answer)) => Ok(answer),
         Err(stop) => Err(stop),
     }

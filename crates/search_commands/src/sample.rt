@@ -34,18 +34,17 @@ fn summary_of<K: OutcomeKind>(
     ensures summed { IfOk result (λ answer. IsSummed number study (run_of answer) (text_of answer)) }
     ensures has_text { IfOk result HasText }
 {
-    let Decision { finding, logs } = decision;
     let setting = Setting {
         kind,
         study: &study,
     };
-    let verdict = verdict_of(alloc, &setting, &logs, finding)?;
+    let found = verdict_of(alloc, &setting, decision)?;
     Ok(Answer::Summary {
         number,
         study,
         clauses,
-        verdict,
-        logs,
+        verdict: found.verdict,
+        logs: found.logs,
     })
 }
 
@@ -63,7 +62,11 @@ fn sample_over<R: Threads + Sync, K: OutcomeKind, G: Gate>(
     ensures has_text { IfOk result HasText }
     ensures read { result ≢ Err Stop.ReadFault }
 {
-    let clauses = match ground_all(alloc, crew, kind, &study) {
+    let setting = Setting {
+        kind,
+        study: &study,
+    };
+    let clauses = match ground_all(alloc, crew, &setting) {
         Ok(clauses) => clauses,
         Err(GroundFault::NoMemory) => return Err(Stop::NoMemory),
         Err(fault) => return Ok(Answer::NoClauses(study, fault)),

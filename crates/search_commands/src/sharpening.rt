@@ -2,8 +2,6 @@
 //! which no instance can be left out.
 
 ghost use Rattle.std.specs.Prelude.{◌≡◌, ◌≢◌, Some, Err, IfOk};
-ghost use Rattle.vocab.specs.Study.{HasFewAxioms};
-ghost use Rattle.verdicts.specs.Laws.{IsReportable};
 ghost use Rattle.search_logs.specs.Spent.{AreSpentLogs};
 ghost use Rattle.sharp_verdicts.specs.Totals.{IsWithinTotal};
 ghost use Rattle.core_reduce.specs.Answers.{IsDecision, IsRefutation};
@@ -14,7 +12,7 @@ ghost use Rattle.command_parts.specs.Answers.{HasText, run_of, text_of};
 ghost use Rattle.command_parts.specs.Answered.{Answers};
 
 use clause_form::GroundFault;
-use command_parts::{Answer, Opened, Stop, ground_all, open_study};
+use command_parts::{Answer, Opened, Stop, WholeSetting, WholeStudy, ground_all, open_study};
 use core_reduce::{Decision, Finding, Refutation};
 use crew::Crew;
 use edge::{Gate, Shelf};
@@ -28,37 +26,33 @@ use sharp_text::laws::right_sharp_verdicts_have_texts;
 use std::alloc::Global;
 use std::thread::Threads;
 use verdicts::Verdict;
-use vocab::Study;
 
 /// What a refutation is sharpened to, with the logs of the decision that found it.
 fn sharpened<R: Threads + Sync, K: OutcomeKind, G: Gate>(
     alloc: Global,
     crew: &Crew<R, G>,
-    kind: &K,
-    study: Study,
+    whole: WholeSetting<K>,
     refutation: &Refutation,
     logs: Logs,
 ) -> Result<Answer, NoMemory>
-    requires size { study.size ≡ K.size kind.now }
-    requires reportable { IsReportable study }
-    requires total { IsWithinTotal study }
-    requires refutation { IsRefutation study logs refutation.now }
-    requires spent { AreSpentLogs study logs }
-    ensures row { IfOk result (λ answer. Sharpens study (run_of answer) (text_of answer)) }
+    requires total { IsWithinTotal whole.study }
+    requires refutation { IsRefutation whole.study logs refutation.now }
+    requires spent { AreSpentLogs whole.study logs }
+    ensures row { IfOk result (λ answer. Sharpens whole.entry.study (run_of answer) (text_of answer)) }
     ensures has_text { IfOk result HasText }
 {
     // Its contract says that a right sharp verdict has a text.
     right_sharp_verdicts_have_texts();
     let setting = Setting {
-        kind,
-        study: &study,
+        kind: whole.kind,
+        study: &whole.study,
     };
     let refuted = RefutedStudy {
         setting: &setting,
         refutation,
     };
     let sharp = sharpen::sharpen(alloc, crew, &refuted)?;
-    Ok(Answer::Sharp(study, sharp, logs))
+    Ok(Answer::Sharp(whole.study, sharp, logs))
 }
 
 /// What a decision comes to: an impossibility is sharpened, and each other verdict is reported as `decide`
@@ -66,24 +60,21 @@ fn sharpened<R: Threads + Sync, K: OutcomeKind, G: Gate>(
 fn answer_of<R: Threads + Sync, K: OutcomeKind, G: Gate>(
     alloc: Global,
     crew: &Crew<R, G>,
-    kind: &K,
-    study: Study,
+    whole: WholeSetting<K>,
     decision: Decision,
 ) -> Result<Answer, NoMemory>
-    requires size { study.size ≡ K.size kind.now }
-    requires reportable { IsReportable study }
-    requires total { IsWithinTotal study }
-    requires decision { IsDecision study decision }
-    ensures row { IfOk result (λ answer. Sharpens study (run_of answer) (text_of answer)) }
+    requires total { IsWithinTotal whole.study }
+    requires decision { IsDecision whole.study decision }
+    ensures row { IfOk result (λ answer. Sharpens whole.entry.study (run_of answer) (text_of answer)) }
     ensures has_text { IfOk result HasText }
 {
     let Decision { finding, logs } = decision;
     match finding {
-        Finding::Possible(table) => Ok(Answer::Report(study, Verdict::Possible(table), logs)),
-        Finding::Impossible(refutation) => {
-            sharpened(alloc, crew, kind, study, &refutation, logs)
+        Finding::Possible(table) => {
+            Ok(Answer::Report(whole.study, Verdict::Possible(table), logs))
         }
-        Finding::Undecided => Ok(Answer::Report(study, Verdict::Undecided, logs)),
+        Finding::Impossible(refutation) => sharpened(alloc, crew, whole, &refutation, logs),
+        Finding::Undecided => Ok(Answer::Report(whole.study, Verdict::Undecided, logs)),
     }
 }
 
@@ -92,33 +83,29 @@ fn answer_of<R: Threads + Sync, K: OutcomeKind, G: Gate>(
 fn sharpen_over<R: Threads + Sync, K: OutcomeKind, G: Gate>(
     alloc: Global,
     crew: &Crew<R, G>,
-    kind: &K,
-    study: Study,
+    whole: WholeSetting<K>,
 ) -> Result<Answer, Stop>
-    requires size { study.size ≡ K.size kind.now }
-    requires reportable { IsReportable study }
-    requires listed { HasFewAxioms study }
-    ensures row { IfOk result (λ answer. OverClauses study (run_of answer) (text_of answer)
-        (Sharpens study (run_of answer) (text_of answer))) }
+    ensures row { IfOk result (λ answer. OverClauses whole.entry.study (run_of answer) (text_of answer)
+        (Sharpens whole.entry.study (run_of answer) (text_of answer))) }
     ensures has_text { IfOk result HasText }
     ensures read { result ≢ Err Stop.ReadFault }
 {
-    let clauses = match ground_all(alloc, crew, kind, &study) {
+    let setting = Setting {
+        kind: whole.kind,
+        study: &whole.study,
+    };
+    let clauses = match ground_all(alloc, crew, &setting) {
         Ok(clauses) => clauses,
         Err(GroundFault::NoMemory) => return Err(Stop::NoMemory),
-        Err(fault) => return Ok(Answer::NoClauses(study, fault)),
-    };
-    let setting = Setting {
-        kind,
-        study: &study,
+        Err(fault) => return Ok(Answer::NoClauses(whole.study, fault)),
     };
     match check_total(alloc, crew, &setting) {
         Ok(()) => {}
         Err(TotalFault::Over(counts)) => return Ok(Answer::OverTotal(counts)),
         Err(TotalFault::NoMemory) => return Err(Stop::NoMemory),
     }
-    let decision = core_reduce::decide(alloc, kind, &study, clauses)?;
-    Ok(answer_of(alloc, crew, kind, study, decision)?)
+    let decision = core_reduce::decide(alloc, whole.kind, &whole.study, clauses)?;
+    Ok(answer_of(alloc, crew, whole, decision)?)
 }
 
 /// Decides a study and sharpens an impossibility, or says why its clauses or all its instances together are
@@ -126,16 +113,24 @@ fn sharpen_over<R: Threads + Sync, K: OutcomeKind, G: Gate>(
 fn sharpen_study<R: Threads + Sync, G: Gate>(
     alloc: Global,
     crew: &Crew<R, G>,
-    study: Study,
+    whole: WholeStudy,
 ) -> Result<Answer, Stop>
-    requires reportable { IsReportable study }
-    requires listed { HasFewAxioms study }
-    ensures row { IfOk result (λ answer. OverClauses study (run_of answer) (text_of answer)
-        (Sharpens study (run_of answer) (text_of answer))) }
+    ensures row { IfOk result (λ answer. OverClauses whole.study (run_of answer) (text_of answer)
+        (Sharpens whole.study (run_of answer) (text_of answer))) }
     ensures has_text { IfOk result HasText }
     ensures read { result ≢ Err Stop.ReadFault }
 {
-    over_kind!(study.size(), kind, sharpen_over(alloc, crew, &kind, study))
+    over_kind!(
+        whole.study.size(),
+        kind,
+        {
+            let setting = WholeSetting {
+                kind: &kind,
+                study: whole.study,
+            };
+            sharpen_over(alloc, crew, setting)
+        }
+    )
 }
 
 /// Reads the study, and decides it as `decide` does; of an impossibility it tells a story in which each
@@ -153,7 +148,7 @@ pub fn sharpen<R: Threads + Sync, S: Shelf, G: Gate>(
         (S.left shelf.old) (S.left shelf.new) (S.faults shelf.old) (S.faults shelf.new) result }
 {
     match open_study(alloc, shelf, study) {
-        Ok(Opened::Study(question)) => { sharpen_study(alloc, crew, question) }
+        Ok(Opened::Study(whole)) => { sharpen_study(alloc, crew, whole) }
         Ok(Opened::Refused(answer)) => Ok(answer),
         Err(stop) => Err(stop),
     }

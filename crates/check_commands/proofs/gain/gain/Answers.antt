@@ -3,18 +3,14 @@ use Rattle.vocab.specs.declared.kinds.Kind.TheVariants.{Sets}
 use Rattle.vocab.specs.Size.{Extent}
 use Rattle.command_parts.specs.declared.answer.Answer.TheVariants.{OtherKind}
 use Rattle.command_parts.specs.declared.studies.Opened.{Opened}
-use Rattle.command_parts.proofs.OpenLemmas.{listed}
 use Rattle.command_parts.proofs.PairLemmas.{second_judged, first_refused, first_stopped}
 use Rattle.check_commands.proofs.GainLemmas.{gain_command, gain_rows, no_study_row, other_row, sets_taken}
 use Rattle.check_commands.proofs.gain.gain.Goals as goal
 
-pub judge_gain-requires-clause-listed : goal.judge_gain-requires-clause-listed
-judge_gain-requires-clause-listed g c κs within = listed _ _ _ (rw c.in-Ok-Study.field-0-is at c.in-Ok-Study.ensures.opened)
-
 pub returns-in-Sets : goal.returns-in-Sets
 returns-in-Sets g c =
     let told = g.S.Shelf.files c.args.shelf.now in
-    let question = c.in-Ok-Study.question in
+    let question = c.in-Ok-Study.whole.study in
     let read = rw c.in-Ok-Study.field-0-is at c.in-Ok-Study.ensures.opened in
     let sets : question.size.kind ≡ Sets = ap (λ (s : Extent). s.kind) (sym c.size.ensures) ∙ sym c.kind.ensures ∙ c.in-Sets.is in
     second_judged _ c.args.study.now c.args.report.now (gain_command c.args.study.now c.args.report.now)
@@ -26,7 +22,7 @@ returns-in-Sets g c =
 pub returns-in-Ok-Study : goal.returns-in-Ok-Study
 returns-in-Ok-Study g c =
     let told = g.S.Shelf.files c.args.shelf.now in
-    let question = c.in-Ok-Study.question in
+    let question = c.in-Ok-Study.whole.study in
     let read = rw c.in-Ok-Study.field-0-is at c.in-Ok-Study.ensures.opened in
     let other : question.size.kind ≡ Sets → ⊥ = λ e. c.in_default.not-Sets (c.kind.ensures ∙ ap (λ (s : Extent). s.kind) c.size.ensures ∙ e) in
     first_refused _ c.args.study.now c.args.report.now (gain_command c.args.study.now c.args.report.now) told _ _ _ _ c.open_study.ensures.others

@@ -11,7 +11,7 @@ use Rattle.check_commands.proofs.gain.judge_gain.Goals as goal
 pub returns-in-Confirmed-clause-said : goal.returns-in-Confirmed-clause-said
 returns-in-Confirmed-clause-said g c =
     let told = g.S.Shelf.files c.args.shelf.now in
-    let study = c.args.study.now in
+    let study = c.args.topic.now.study.now in
     let report = c.args.report.now in
     let worth = c.in_ok-worth.worth in
     let claim = c.in-Confirmed.field-0 in
@@ -21,7 +21,7 @@ returns-in-Confirmed-clause-said g c =
     (rules_told told c.worth_of.new.reader study report worth claim rule c.in-Confirmed.is (c.worth_of.ensures.study ∙ c.in_ok-reader.ensures.study)
     c.in_ok-worth.ensures.whole c.table.ensures.value)
     c.said_of_rule.ensures.run
-    (c.said_of_rule.ensures.text ∙ ap (λ (s : Extent). rule_gain_text s rule) (sym c.requires.size))
+    (c.said_of_rule.ensures.text ∙ ap (λ (s : Extent). rule_gain_text s rule) (sym c.args.topic.now.same))
 
 pub returns : goal.returns
 returns g c =
@@ -29,7 +29,7 @@ returns g c =
     let report = c.args.report.now in
     let worth = c.in_ok-worth.worth in
     record {
-      said = refused_file c.args.study.now told report worth c.in_default.not-Confirmed
+      said = refused_file c.args.topic.now.study.now told report worth c.in_default.not-Confirmed
           (subst (λ (q : Question). IfSome told (λ files. IsWorthOf q files report worth)) c.in_ok-reader.ensures.study c.in_ok-worth.ensures.worth);
       status = worth_low worth;
       has_text = tt;

@@ -1,6 +1,12 @@
 use Rattle.std.proofs.Common.{rules, refl}
-use Rattle.command_parts.proofs.OpenLemmas.{refuses_bytes}
+use Rattle.command_parts.proofs.OpenLemmas.{refuses_bytes, reportable, listed}
 use Rattle.command_parts.proofs.studies.open_study.Goals as goal
+
+pub invariant_of-result : goal.invariant_of-result
+invariant_of-result g c = record {
+  reportable = reportable _ c.in-Ok-read_study.study c.in-Ok-read_study.ensures.ok;
+  listed = listed _ c.in-Ok-read_study.study c.in-Ok-read_study.ensures.ok;
+}
 
 pub returns-clause-opened : goal.returns-clause-opened
 returns-clause-opened g c = record {

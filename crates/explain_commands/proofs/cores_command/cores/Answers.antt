@@ -5,7 +5,7 @@ use Rattle.explain_commands.proofs.cores_command.cores.Goals as goal
 pub returns-in-Ok-Study : goal.returns-in-Ok-Study
 returns-in-Ok-Study g c =
     study_reply _ _ _ (cores_command c.args.study.now c.args.crew.now.workers) (g.S.Shelf.files c.args.shelf.now) _ _ _ _ c.open_study.ensures.others
-    c.in-Ok-Study.question c.map_study.result (rw c.in-Ok-Study.field-0-is at c.in-Ok-Study.ensures.opened) c.map_study.ensures.row c.map_study.ensures.has_text c.map_study.ensures.read
+    c.in-Ok-Study.whole.study c.map_study.result (rw c.in-Ok-Study.field-0-is at c.in-Ok-Study.ensures.opened) c.map_study.ensures.row c.map_study.ensures.has_text c.map_study.ensures.read
 
 pub returns-in-Ok-Refused : goal.returns-in-Ok-Refused
 returns-in-Ok-Refused g c =

@@ -5,7 +5,7 @@ use Rattle.explain_commands.proofs.instance_command.instance.Goals as goal
 pub returns-in-Ok-Study : goal.returns-in-Ok-Study
 returns-in-Ok-Study g c =
     study_reply _ _ _ (instance_command c.args.study.now c.args.axiom_name.now c.args.number) (g.S.Shelf.files c.args.shelf.now) _ _ _ _ c.open_study.ensures.others
-    c.in-Ok-Study.question c.say.result (rw c.in-Ok-Study.field-0-is at c.in-Ok-Study.ensures.opened) c.say.ensures.said c.say.ensures.has_text c.say.ensures.read
+    c.in-Ok-Study.whole.study c.say.result (rw c.in-Ok-Study.field-0-is at c.in-Ok-Study.ensures.opened) c.say.ensures.said c.say.ensures.has_text c.say.ensures.read
 
 pub returns-in-Ok-Refused : goal.returns-in-Ok-Refused
 returns-in-Ok-Refused g c =

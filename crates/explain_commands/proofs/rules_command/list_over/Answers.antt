@@ -5,14 +5,14 @@ use Rattle.explain_commands.proofs.rules_command.list_over.Goals as goal
 
 pub returns-in-Err : goal.returns-in-Err
 returns-in-Err g c = record {
-  row = no_clauses c.args.study c.in-Err.fault _ (λ e. search rules) c.in-Err.ensures.fault;
+  row = no_clauses c.args.whole.study c.in-Err.fault _ (λ e. search rules) c.in-Err.ensures.fault;
   has_text = tt;
   read = λ e. absurd (cc);
 }
 
 pub returns : goal.returns
 returns g c = record {
-  row = listed c.args.study c.args.most c.in_ok-list.list c.in-Ok.ensures.none c.in_ok-list.ensures;
-  has_text = are_rules_of c.args.study c.in_ok-list.list.tables c.in_ok-list.ensures.right;
+  row = listed c.args.whole.study c.args.most c.in_ok-list.list c.in-Ok.ensures.none c.in_ok-list.ensures;
+  has_text = are_rules_of c.args.whole.study c.in_ok-list.list.tables c.in_ok-list.ensures.right;
   read = λ e. absurd (cc);
 }

@@ -1,16 +1,11 @@
 use Rattle.command_parts.proofs.StudyLemmas.{study_answer, refused_study, stopped_study}
 use Rattle.search_commands.proofs.DecideLemmas.{decide_command}
-use Rattle.command_parts.proofs.OpenLemmas.{reportable}
 use Rattle.search_commands.proofs.decide.decide.Goals as goal
-
-pub decide_study-requires-clause-reportable : goal.decide_study-requires-clause-reportable
-decide_study-requires-clause-reportable g c κs within =
-    reportable _ _ _ (rw c.in-Ok-Study.field-0-is at c.in-Ok-Study.ensures.opened)
 
 pub returns-in-Ok-Study : goal.returns-in-Ok-Study
 returns-in-Ok-Study g c =
     study_answer _ c.args.study.now _ (decide_command c.args.study.now c.args.crew.now.workers) (g.S.Shelf.files c.args.shelf.now) _ _ _ _ c.open_study.ensures.others
-    c.in-Ok-Study.question c.decide_study.result (rw c.in-Ok-Study.field-0-is at c.in-Ok-Study.ensures.opened)
+    c.in-Ok-Study.whole.study c.decide_study.result (rw c.in-Ok-Study.field-0-is at c.in-Ok-Study.ensures.opened)
     c.decide_study.ensures.row c.decide_study.ensures.has_text c.decide_study.ensures.read
 
 pub returns-in-Ok-Refused : goal.returns-in-Ok-Refused

@@ -1,20 +1,11 @@
 use Rattle.command_parts.proofs.StudyLemmas.{study_answer, refused_study, stopped_study}
 use Rattle.search_commands.proofs.SharpenLemmas.{sharpen_command}
-use Rattle.command_parts.proofs.OpenLemmas.{listed, reportable}
 use Rattle.search_commands.proofs.sharpening.sharpen.Goals as goal
-
-pub sharpen_study-requires-clause-reportable : goal.sharpen_study-requires-clause-reportable
-sharpen_study-requires-clause-reportable g c κs within =
-    reportable _ _ _ (rw c.in-Ok-Study.field-0-is at c.in-Ok-Study.ensures.opened)
-
-pub sharpen_study-requires-clause-listed : goal.sharpen_study-requires-clause-listed
-sharpen_study-requires-clause-listed g c κs within =
-    listed _ _ _ (rw c.in-Ok-Study.field-0-is at c.in-Ok-Study.ensures.opened)
 
 pub returns-in-Ok-Study : goal.returns-in-Ok-Study
 returns-in-Ok-Study g c =
     study_answer _ c.args.study.now _ (sharpen_command c.args.study.now c.args.crew.now.workers) (g.S.Shelf.files c.args.shelf.now) _ _ _ _ c.open_study.ensures.others
-    c.in-Ok-Study.question c.sharpen_study.result (rw c.in-Ok-Study.field-0-is at c.in-Ok-Study.ensures.opened)
+    c.in-Ok-Study.whole.study c.sharpen_study.result (rw c.in-Ok-Study.field-0-is at c.in-Ok-Study.ensures.opened)
     c.sharpen_study.ensures.row c.sharpen_study.ensures.has_text c.sharpen_study.ensures.read
 
 pub returns-in-Ok-Refused : goal.returns-in-Ok-Refused
