@@ -24,3 +24,18 @@ pub struct WholeSetting<'a, K: OutcomeKind> {
     pub ghost reportable: { IsReportable study },
     pub ghost listed: { HasFewAxioms study },
 }
+
+/// The value of an expression in which a name stands for the setting of a whole study, as `over_whole!(whole,
+/// setting, decide_over(alloc, crew, setting))`. It takes `kinds::over_kind` beside it.
+#[macro_export]
+macro_rules! over_whole {
+    ($whole:ident, $setting:ident, $value:expr) => {
+        over_kind!($whole.study.size(), kind, {
+            let $setting = $crate::WholeSetting {
+                kind: &kind,
+                study: $whole.study,
+            };
+            $value
+        })
+    };
+}

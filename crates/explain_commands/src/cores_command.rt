@@ -1,6 +1,6 @@
 //! The command `cores`: reads a study, and maps which sets of its axioms some rule satisfies.
 
-ghost use Rattle.std.specs.Prelude.{◌≡◌, ◌≢◌, Some, Err, IfOk};
+ghost use Rattle.std.specs.Prelude.{◌≢◌, Some, Err, IfOk};
 ghost use Rattle.answers.specs.Grounding.{OverClauses};
 ghost use Rattle.explain_words.specs.Words.{Cores};
 ghost use Rattle.explain_answers.specs.Cores.{IsMapped};
@@ -8,7 +8,7 @@ ghost use Rattle.explain_answers.specs.Story.{bare_run};
 ghost use Rattle.explain_parts.specs.Replies.{HasReplyText, Replies, status_of, reply_text};
 
 use clause_form::GroundFault;
-use command_parts::{Answer, Opened, Stop, WholeSetting, WholeStudy, ground_all, open_study};
+use command_parts::{Answer, Opened, Stop, WholeSetting, WholeStudy, ground_all, open_study, over_whole};
 use core_maps::map_axioms;
 use crew::Crew;
 use edge::{Gate, Shelf};
@@ -55,17 +55,7 @@ fn map_study<R: Threads + Sync, G: Gate>(
     ensures has_text { IfOk result HasReplyText }
     ensures read { result ≢ Err Stop.ReadFault }
 {
-    over_kind!(
-        whole.study.size(),
-        kind,
-        {
-            let setting = WholeSetting {
-                kind: &kind,
-                study: whole.study,
-            };
-            map_over(alloc, crew, setting)
-        }
-    )
+    over_whole!(whole, setting, map_over(alloc, crew, setting))
 }
 
 /// Reads the study, makes the clauses of its axioms, and maps their sets: the least that no rule satisfies, and

@@ -1,6 +1,6 @@
 //! The command `rules`: reads a study, and lists the rules that satisfy its axioms.
 
-ghost use Rattle.std.specs.Prelude.{◌≡◌, ◌≢◌, Some, Err, IfOk};
+ghost use Rattle.std.specs.Prelude.{◌≢◌, Some, Err, IfOk};
 ghost use Rattle.answers.specs.Grounding.{OverClauses};
 ghost use Rattle.explain_words.specs.Words.{Rules};
 ghost use Rattle.explain_answers.specs.Rules.{IsRuleListWritten};
@@ -8,7 +8,7 @@ ghost use Rattle.explain_answers.specs.Story.{bare_run};
 ghost use Rattle.explain_parts.specs.Replies.{HasReplyText, Replies, status_of, reply_text};
 
 use clause_form::GroundFault;
-use command_parts::{Answer, Opened, Stop, WholeSetting, WholeStudy, ground_all, open_study};
+use command_parts::{Answer, Opened, Stop, WholeSetting, WholeStudy, ground_all, open_study, over_whole};
 use crew::Crew;
 use edge::{Gate, Shelf};
 use explain_parts::Reply;
@@ -57,17 +57,7 @@ fn list_study<R: Threads + Sync, G: Gate>(
     ensures has_text { IfOk result HasReplyText }
     ensures read { result ≢ Err Stop.ReadFault }
 {
-    over_kind!(
-        whole.study.size(),
-        kind,
-        {
-            let setting = WholeSetting {
-                kind: &kind,
-                study: whole.study,
-            };
-            list_over(alloc, crew, setting, most)
-        }
-    )
+    over_whole!(whole, setting, list_over(alloc, crew, setting, most))
 }
 
 /// Reads the study, makes the clauses of its axioms, and lists the rules that satisfy all of them, at most

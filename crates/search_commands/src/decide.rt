@@ -12,7 +12,7 @@ ghost use Rattle.search_commands.specs.Found.{IsVerdict};
 
 use adopt::{Adopted, tell};
 use clause_form::GroundFault;
-use command_parts::{Answer, Opened, Stop, WholeSetting, WholeStudy, ground_all, open_study};
+use command_parts::{Answer, Opened, Stop, WholeSetting, WholeStudy, ground_all, open_study, over_whole};
 use core_reduce::{Decision, Finding, Reduced};
 use crew::Crew;
 use edge::{Gate, Shelf};
@@ -133,17 +133,7 @@ fn decide_study<R: Threads + Sync, G: Gate>(
     ensures has_text { IfOk result HasText }
     ensures read { result ≢ Err Stop.ReadFault }
 {
-    over_kind!(
-        whole.study.size(),
-        kind,
-        {
-            let setting = WholeSetting {
-                kind: &kind,
-                study: whole.study,
-            };
-            decide_over(alloc, crew, setting)
-        }
-    )
+    over_whole!(whole, setting, decide_over(alloc, crew, setting))
 }
 
 /// Reads the study, and decides it: a rule that satisfies all its axioms, or a core of them with a story that

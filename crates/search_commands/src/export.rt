@@ -1,6 +1,6 @@
 //! The command `export`: reads a study, and writes its clauses.
 
-ghost use Rattle.std.specs.Prelude.{◌≡◌, ◌≢◌, Some, Err, IfOk};
+ghost use Rattle.std.specs.Prelude.{◌≢◌, Some, Err, IfOk};
 ghost use Rattle.words.specs.Words.{Export};
 ghost use Rattle.answers.specs.Export.{IsWritten};
 ghost use Rattle.answers.specs.Grounding.{OverClauses};
@@ -8,7 +8,7 @@ ghost use Rattle.command_parts.specs.Answers.{HasText, run_of, text_of};
 ghost use Rattle.command_parts.specs.Answered.{Answers};
 
 use clause_form::GroundFault;
-use command_parts::{Answer, Opened, Stop, WholeSetting, WholeStudy, ground_all, open_study};
+use command_parts::{Answer, Opened, Stop, WholeSetting, WholeStudy, ground_all, open_study, over_whole};
 use core_reduce::variables;
 use crew::Crew;
 use edge::{Gate, Shelf};
@@ -54,17 +54,7 @@ fn export_study<R: Threads + Sync, G: Gate>(
     ensures has_text { IfOk result HasText }
     ensures read { result ≢ Err Stop.ReadFault }
 {
-    over_kind!(
-        whole.study.size(),
-        kind,
-        {
-            let setting = WholeSetting {
-                kind: &kind,
-                study: whole.study,
-            };
-            export_over(alloc, crew, setting)
-        }
-    )
+    over_whole!(whole, setting, export_over(alloc, crew, setting))
 }
 
 /// Reads the study, and makes the clauses of all its axioms. These are made among 1 to 16 workers, which

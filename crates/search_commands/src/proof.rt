@@ -1,6 +1,6 @@
 //! The command `proof`: reads a study, and searches for a refutation of its clauses.
 
-ghost use Rattle.std.specs.Prelude.{◌≡◌, ◌≢◌, Some, Err, IfOk};
+ghost use Rattle.std.specs.Prelude.{◌≢◌, Some, Err, IfOk};
 ghost use Rattle.core_reduce.specs.Proofs.{IsProvedRight};
 ghost use Rattle.words.specs.Words.{Proof};
 ghost use Rattle.answers.specs.Proof.{Proves};
@@ -9,7 +9,7 @@ ghost use Rattle.command_parts.specs.Answers.{HasText, run_of, text_of};
 ghost use Rattle.command_parts.specs.Answered.{Answers};
 
 use clause_form::GroundFault;
-use command_parts::{Answer, Opened, Stop, WholeSetting, WholeStudy, ground_all, open_study};
+use command_parts::{Answer, Opened, Stop, WholeSetting, WholeStudy, ground_all, open_study, over_whole};
 use core_reduce::{Proved, Shown};
 use crew::Crew;
 use edge::{Gate, Shelf};
@@ -70,17 +70,7 @@ fn prove_study<R: Threads + Sync, G: Gate>(
     ensures has_text { IfOk result HasText }
     ensures read { result ≢ Err Stop.ReadFault }
 {
-    over_kind!(
-        whole.study.size(),
-        kind,
-        {
-            let setting = WholeSetting {
-                kind: &kind,
-                study: whole.study,
-            };
-            prove_over(alloc, crew, setting)
-        }
-    )
+    over_whole!(whole, setting, prove_over(alloc, crew, setting))
 }
 
 /// Reads the study, and searches over the clauses that `export` writes of it: a trimmed refutation of them,

@@ -1,7 +1,7 @@
 //! The command `sharpen`: reads a study, and searches for a rule, or for a story that there is none, in
 //! which no instance can be left out.
 
-ghost use Rattle.std.specs.Prelude.{◌≡◌, ◌≢◌, Some, Err, IfOk};
+ghost use Rattle.std.specs.Prelude.{◌≢◌, Some, Err, IfOk};
 ghost use Rattle.search_logs.specs.Spent.{AreSpentLogs};
 ghost use Rattle.sharp_verdicts.specs.Totals.{IsWithinTotal};
 ghost use Rattle.core_reduce.specs.Answers.{IsDecision, IsRefutation};
@@ -12,7 +12,7 @@ ghost use Rattle.command_parts.specs.Answers.{HasText, run_of, text_of};
 ghost use Rattle.command_parts.specs.Answered.{Answers};
 
 use clause_form::GroundFault;
-use command_parts::{Answer, Opened, Stop, WholeSetting, WholeStudy, ground_all, open_study};
+use command_parts::{Answer, Opened, Stop, WholeSetting, WholeStudy, ground_all, open_study, over_whole};
 use core_reduce::{Decision, Finding, Refutation};
 use crew::Crew;
 use edge::{Gate, Shelf};
@@ -120,17 +120,7 @@ fn sharpen_study<R: Threads + Sync, G: Gate>(
     ensures has_text { IfOk result HasText }
     ensures read { result ≢ Err Stop.ReadFault }
 {
-    over_kind!(
-        whole.study.size(),
-        kind,
-        {
-            let setting = WholeSetting {
-                kind: &kind,
-                study: whole.study,
-            };
-            sharpen_over(alloc, crew, setting)
-        }
-    )
+    over_whole!(whole, setting, sharpen_over(alloc, crew, setting))
 }
 
 /// Reads the study, and decides it as `decide` does; of an impossibility it tells a story in which each
