@@ -26,8 +26,8 @@ pub record AreCodes (study : Question) (sources : List Sourced) (flags : List Bo
   pub present : (n : ℕ) → IsTrue (includes codes n) → HasPresent study n
   pub named : (j : ℕ) (s : Sourced) (a k : ℕ) → j < upto → slice_get sources j ≡ Some s → s.origin ≡ Instance a k → slice_index_or flags j false ≡ true → IsTrue (includes codes (code_of (record { «axiom» = a; number = k })))
 
--- the instances of which a hint names a clause: they are there, rise, are few enough, and cover each clause that a
--- hint names
+-- the instances of which a hint names a clause: they are there, rise, are few enough, and cover each clause
+-- that a hint names
 pub record AreInstancesCited (study : Question) (sources : List Sourced) (lines : List Line) (instances : List Cited) : Type 0 where
   pub own : AreInstancesOf study instances
   pub rising : AreRisingInstances instances

@@ -325,7 +325,7 @@ fn several(story: &[Lemma]) -> &[Lemma]
     if story.len() == 1 { &[] } else { story }
 }
 
-/// The facts that come first in a story. On a board is no fact.
+/// The facts that come first in a story; `none` is a board without facts.
 fn forced_over<'a, K: OutcomeKind>(
     alloc: Global,
     accepted: &'a AcceptedStory<'a, K>,

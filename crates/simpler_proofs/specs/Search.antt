@@ -3,8 +3,8 @@ use Rattle.std.specs.Prelude.{◌≡◌, ◌≤◌, true}
 use Rattle.simpler_proofs.specs.declared.search.Search.{Search}
 use Rattle.simpler_proofs.specs.Made.{IsPassing, has_at_most}
 
--- each clause that was learned has only variables of the trail, and at most as many literals as the search allows, which
--- is one or more
+-- each clause that was learned has only variables of the trail, and at most as many literals as the search
+-- allows, which is one or more
 pub record IsSearch (s : Search) : Type 0 where
   pub passing : IsPassing (has_at_most s.most) s.clauses.now.clauses s.trail s.seen.items s.lines
   pub least : 1 ≤ s.most

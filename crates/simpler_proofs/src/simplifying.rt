@@ -152,7 +152,8 @@ fn chosen(
     requires over { AreOver formula.now.variables given.now }
     ensures proof { IfOk result (λ made. IfSome made (IsProof formula.now.clauses.now.clauses)) }
     ensures over { IfOk result (λ made. IfSome made (AreOver formula.now.variables)) }
-    ensures simpler { IfOk result (λ made. IfSome made (AreSimpler formula.now.clauses.now.clauses given.now)) }
+    ensures simpler { IfOk result (λ made. IfSome made
+        (AreSimpler formula.now.clauses.now.clauses given.now)) }
 {
     if let Some(made) = by_single(alloc, formula)? {
         return Ok(Some(made));

@@ -1,4 +1,5 @@
--- Worked examples, as the definitions compute them: what is left at profiles, of two alternatives, and what a lemma claims.
+-- Worked examples, as the definitions compute them: what is left at profiles, of two alternatives, and what
+-- a lemma claims.
 use Rattle.std.proofs.Common.{◌≡◌, refl, ℕ, List, [], ◌∷◌, true, false, Bool, map, Some}
 use Rattle.vocab.specs.declared.literals.Literal.{Literal}
 use Rattle.vocab.specs.declared.literals.Literal.TheVariants.{Wins, Loses}

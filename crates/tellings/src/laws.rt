@@ -13,8 +13,8 @@ pub fn used_once_stand_where_used()
     ensures { UsedOnceStandWhereUsed }
 {}
 
-/// In a story of several lemmas the fact of a step comes first where its reason forces it, alone or
-/// together with the facts that were forced before it.
+/// In a story of several lemmas the fact of a step comes first where its reason, an axiom or what is left at
+/// a profile, forces it, alone or together with the facts that were forced before it.
 pub fn forced_facts_come_first()
     ensures { ForcedFactsComeFirst }
 {}

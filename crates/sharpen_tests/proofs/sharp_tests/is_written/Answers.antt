@@ -1,4 +1,3 @@
-use Rattle.std.proofs.Common.{◌≡◌}
 use Rattle.sharp_text.proofs.RangeLaws.{sharp_has_text}
 use Rattle.sharpen_tests.proofs.sharp_tests.is_written.Goals as goal
 

@@ -1,4 +1,3 @@
-use Rattle.std.proofs.Common.{◌≡◌}
 use Rattle.study.proofs.WholeStudies.{studies_whole}
 use Rattle.sharpen_tests.proofs.studies_by_text.given.Goals as goal
 
