@@ -4,15 +4,15 @@ ghost use Rattle.std.specs.Prelude.{◌≡◌, ◌≢◌, ℕ, ◌^◌, ◌-◌,
 ghost use Rattle.meaning.specs.Subsets.{elements, is_element};
 ghost use Rattle.meaning.specs.Texts.{letter};
 
+use profiles::Alternatives;
 use vocab::Name;
 
 /// How many sets of so many alternatives are not empty.
-pub(crate) fn set_count(alternatives: u8) -> u32
-    requires { alternatives ≤ 5 }
-    ensures value { result ≡ 2 ^ alternatives - 1 }
+pub(crate) fn set_count(alternatives: Alternatives) -> u32
+    ensures value { result ≡ 2 ^ alternatives.number - 1 }
     ensures few { result ≤ 31 }
 {
-    (1 << alternatives) - 1
+    (1 << alternatives.number) - 1
 }
 
 /// Whether an alternative is an element of a set.
@@ -25,14 +25,13 @@ pub(crate) fn is_element(set: u32, x: u8) -> bool
 }
 
 /// The text of a set: the letters of its elements, rising.
-pub(crate) fn set_text(alternatives: u8, set: u32) -> Name
-    requires few { alternatives ≤ 5 }
-    requires set { set < 2 ^ alternatives - 1 }
-    ensures { result ≡ map letter (elements alternatives set) }
+pub(crate) fn set_text(alternatives: Alternatives, set: u32) -> Name
+    requires { set < 2 ^ alternatives.number - 1 }
+    ensures { result ≡ map letter (elements alternatives.number set) }
 {
     let mut letters = [0; 5];
     let mut count = 0;
-    for x in 0..alternatives {
+    for x in 0..alternatives.number {
         if is_element(set, x) {
             letters[count] = b'a' + x;
             count += 1;
@@ -42,12 +41,11 @@ pub(crate) fn set_text(alternatives: u8, set: u32) -> Name
 }
 
 /// The set of a text, or None where it is the text of none. Each set is tried in turn.
-pub(crate) fn set_of(alternatives: u8, text: &[u8]) -> Option<u32>
-    requires { alternatives ≤ 5 }
-    ensures found { IfSome result (λ set. (set < 2 ^ alternatives - 1) ×
-        (text.now ≡ map letter (elements alternatives set))) }
-    ensures none { IfNone result ((set : ℕ) → set < 2 ^ alternatives - 1 →
-        text.now ≢ map letter (elements alternatives set)) }
+pub(crate) fn set_of(alternatives: Alternatives, text: &[u8]) -> Option<u32>
+    ensures found { IfSome result (λ set. (set < 2 ^ alternatives.number - 1) ×
+        (text.now ≡ map letter (elements alternatives.number set))) }
+    ensures none { IfNone result ((set : ℕ) → set < 2 ^ alternatives.number - 1 →
+        text.now ≢ map letter (elements alternatives.number set)) }
 {
     for set in 0..set_count(alternatives) {
         if set_text(alternatives, set).bytes() == text {

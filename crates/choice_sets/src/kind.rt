@@ -1,15 +1,16 @@
 //! Sets: an outcome is a set of alternatives that is not empty, and a profile has a variable for each alternative.
 
-ghost use Rattle.std.specs.Prelude.{◌≡◌, ◌≤◌, Err, OnOk};
+ghost use Rattle.std.specs.Prelude.{◌≡◌, ◌<◌, Err, OnOk};
 ghost use Rattle.vocab.specs.declared.kinds.Kind.TheVariants.{Sets};
-ghost use Rattle.vocab.specs.Size.{IsSize};
+ghost use Rattle.vocab.specs.declared.kinds.Sort.TheVariants.{Profile};
+ghost use Rattle.vocab.specs.Size.{IsSize, sort_count};
 ghost use Rattle.outcomes.specs.Frames.{with_clauses, IsFullForAll};
 ghost use Rattle.outcomes.specs.Rows.{set_rows};
 
 use crate::elements::{is_element, set_count, set_of, set_text};
 use cnf::{Clauses, Lit, PushFault};
 use outcomes::OutcomeKind;
-use outcomes::winners::{push_some_wins, winner_lit, winner_of};
+use outcomes::winners::{AtProfile, push_some_wins, winner_lit, winner_of};
 use profiles::{Space, laws};
 use vocab::{Literal, Name};
 
@@ -31,17 +32,29 @@ impl SetsKind {
         laws::spaces_have_sizes(&space);
         SetsKind { space }
     }
+
+    /// A profile, with the alternatives of the size.
+    fn at(&self, p: u32) -> AtProfile
+        requires { p < sort_count self.now.space Profile }
+        ensures number { result.alternatives.number ≡ self.now.space.alternatives }
+        ensures profile { result.profile ≡ p }
+    {
+        AtProfile {
+            alternatives: self.space.alternatives(),
+            profile: p,
+        }
+    }
 }
 
 /// Appends the frame of sets: the clause that some alternative wins.
-fn push_frame(alternatives: u8, p: u32, out: &mut Clauses) -> Result<(), PushFault>
-    requires few { alternatives ≤ 5 }
-    requires profile { p ≤ 20000 }
-    ensures ok { OnOk result (out.new ≡ with_clauses out.old (set_rows alternatives p) p) }
-    ensures full { result ≡ Err PushFault.Full → IsFullForAll out.old (set_rows alternatives p) }
-    ensures fits { OnOk result (¬ IsFullForAll out.old (set_rows alternatives p)) }
+fn push_frame(at: AtProfile, out: &mut Clauses) -> Result<(), PushFault>
+    ensures ok { OnOk result (out.new ≡ with_clauses out.old
+        (set_rows at.alternatives.number at.profile) at.profile) }
+    ensures full { result ≡ Err PushFault.Full →
+        IsFullForAll out.old (set_rows at.alternatives.number at.profile) }
+    ensures fits { OnOk result (¬ IsFullForAll out.old (set_rows at.alternatives.number at.profile)) }
 {
-    push_some_wins(alternatives, p, out)?;
+    push_some_wins(at, out)?;
     let _within = out.len();
     Ok(())
 }
@@ -54,7 +67,7 @@ impl OutcomeKind for SetsKind {
     }
 
     fn outcomes(&self) -> u32 {
-        set_count(self.space.size().alternatives())
+        set_count(self.space.alternatives())
     }
 
     fn bits(&self) -> u32 {
@@ -70,28 +83,27 @@ impl OutcomeKind for SetsKind {
     }
 
     fn lit(&self, literal: &Literal) -> Lit {
-        let alternatives = self.space.size().alternatives();
         match *literal {
-            Literal::Wins(x, p) => winner_lit(alternatives, p, true, x),
-            Literal::Loses(x, p) => winner_lit(alternatives, p, false, x),
+            Literal::Wins(x, p) => winner_lit(self.at(p), true, x),
+            Literal::Loses(x, p) => winner_lit(self.at(p), false, x),
             Literal::Above(_, _, _) => unreachable!(),
         }
     }
 
     fn literal(&self, lit: Lit) -> Literal {
-        winner_of(self.space.size().alternatives(), lit)
+        winner_of(self.space.alternatives(), lit)
     }
 
     fn frame(&self, p: u32, out: &mut Clauses) -> Result<(), PushFault> {
-        push_frame(self.space.size().alternatives(), p, out)
+        push_frame(self.at(p), out)
     }
 
     fn text(&self, outcome: u32) -> Name {
-        set_text(self.space.size().alternatives(), outcome)
+        set_text(self.space.alternatives(), outcome)
     }
 
     fn read(&self, text: &[u8]) -> Option<u32> {
-        set_of(self.space.size().alternatives(), text)
+        set_of(self.space.alternatives(), text)
     }
 
     ghost is_size = { λ k. k.whole };

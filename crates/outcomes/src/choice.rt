@@ -1,12 +1,13 @@
 //! Choices: an outcome is an alternative, and a profile has a variable for each.
 
-ghost use Rattle.std.specs.Prelude.{◌≡◌};
+ghost use Rattle.std.specs.Prelude.{◌≡◌, ◌<◌};
 ghost use Rattle.vocab.specs.declared.kinds.Kind.TheVariants.{Choice};
-ghost use Rattle.vocab.specs.Size.{IsSize};
+ghost use Rattle.vocab.specs.declared.kinds.Sort.TheVariants.{Profile};
+ghost use Rattle.vocab.specs.Size.{IsSize, sort_count};
 
 use crate::frames;
 use crate::kind::OutcomeKind;
-use crate::winners::{winner_lit, winner_of};
+use crate::winners::{AtProfile, winner_lit, winner_of};
 use cnf::{Clauses, Lit, PushFault};
 use profiles::{Space, laws};
 use vocab::{Literal, Name};
@@ -27,6 +28,18 @@ impl ChoiceKind {
     {
         laws::spaces_have_sizes(&space);
         ChoiceKind { space }
+    }
+
+    /// A profile, with the alternatives of the size.
+    fn at(&self, p: u32) -> AtProfile
+        requires { p < sort_count self.now.space Profile }
+        ensures number { result.alternatives.number ≡ self.now.space.alternatives }
+        ensures profile { result.profile ≡ p }
+    {
+        AtProfile {
+            alternatives: self.space.alternatives(),
+            profile: p,
+        }
     }
 }
 
@@ -54,20 +67,19 @@ impl OutcomeKind for ChoiceKind {
     }
 
     fn lit(&self, literal: &Literal) -> Lit {
-        let alternatives = self.space.size().alternatives();
         match *literal {
-            Literal::Wins(x, p) => winner_lit(alternatives, p, true, x),
-            Literal::Loses(x, p) => winner_lit(alternatives, p, false, x),
+            Literal::Wins(x, p) => winner_lit(self.at(p), true, x),
+            Literal::Loses(x, p) => winner_lit(self.at(p), false, x),
             Literal::Above(_, _, _) => unreachable!(),
         }
     }
 
     fn literal(&self, lit: Lit) -> Literal {
-        winner_of(self.space.size().alternatives(), lit)
+        winner_of(self.space.alternatives(), lit)
     }
 
     fn frame(&self, p: u32, out: &mut Clauses) -> Result<(), PushFault> {
-        frames::push_choice(self.space.size().alternatives(), p, out)
+        frames::push_choice(self.at(p), out)
     }
 
     fn text(&self, outcome: u32) -> Name {

@@ -7,90 +7,77 @@ ghost use Rattle.outcomes.specs.Places.{pair_lit, pair_at, triple_at};
 ghost use Rattle.outcomes.specs.Rows.{some_wins, one_loses, no_round, choice_rows, ranking_rows};
 
 use crate::places;
-use crate::winners::{push_some_wins, winner_lit};
+use crate::winners::{AtProfile, push_some_wins, winner_lit};
 use cnf::{Clauses, Lit, PushFault};
 
 /// The variable of a pair at a profile, with a sign.
-pub(crate) fn pair_lit(alternatives: u8, p: u32, positive: bool, x: u8, y: u8) -> Lit
-    requires few { alternatives ≤ 5 }
-    requires profile { p ≤ 20000 }
+pub(crate) fn pair_lit(at: AtProfile, positive: bool, x: u8, y: u8) -> Lit
     requires rises { x < y }
-    requires below { y < alternatives }
-    ensures { result ≡ pair_lit alternatives p positive x y }
+    requires below { y < at.alternatives.number }
+    ensures { result ≡ pair_lit at.alternatives.number at.profile positive x y }
 {
-    let first = p * places::pair_count(alternatives) + 1;
-    Lit::new(first + places::place_of(alternatives, x, y), positive)
+    let first = at.profile * places::pair_count(at.alternatives) + 1;
+    Lit::new(first + places::place_of(at.alternatives, x, y), positive)
 }
 
 /// Appends the clause that one of a pair does not win.
-fn push_one_loses(alternatives: u8, p: u32, place: u32, out: &mut Clauses) -> Result<(), PushFault>
-    requires few { alternatives ≤ 5 }
-    requires profile { p ≤ 20000 }
-    requires place { place < length (pairs alternatives) }
+fn push_one_loses(at: AtProfile, place: u32, out: &mut Clauses) -> Result<(), PushFault>
+    requires { place < length (pairs at.alternatives.number) }
     ensures ok { OnOk result (out.new ≡ with_clauses out.old
-        (one_loses alternatives p (pair_at alternatives place) ∷ []) p) }
+        (one_loses at.alternatives.number at.profile (pair_at at.alternatives.number place) ∷ []) at.profile) }
     ensures full { result ≡ Err PushFault.Full →
-        IsFullForAll out.old (one_loses alternatives p (pair_at alternatives place) ∷ []) }
+        IsFullForAll out.old (one_loses at.alternatives.number at.profile (pair_at at.alternatives.number place) ∷ []) }
 {
-    let (x, y) = places::pair_at(alternatives, place);
-    let loses = [
-        winner_lit(alternatives, p, false, x),
-        winner_lit(alternatives, p, false, y),
-    ];
-    out.push(&loses, u64::from(p))
+    let (x, y) = places::pair_at(at.alternatives, place);
+    let loses = [winner_lit(at, false, x), winner_lit(at, false, y)];
+    out.push(&loses, u64::from(at.profile))
 }
 
 /// Appends the frame of choices.
-pub(crate) fn push_choice(alternatives: u8, p: u32, out: &mut Clauses) -> Result<(), PushFault>
-    requires few { alternatives ≤ 5 }
-    requires profile { p ≤ 20000 }
-    ensures ok { OnOk result (out.new ≡ with_clauses out.old (choice_rows alternatives p) p) }
-    ensures full { result ≡ Err PushFault.Full → IsFullForAll out.old (choice_rows alternatives p) }
-    ensures fits { OnOk result (¬ IsFullForAll out.old (choice_rows alternatives p)) }
+pub(crate) fn push_choice(at: AtProfile, out: &mut Clauses) -> Result<(), PushFault>
+    ensures ok { OnOk result (out.new ≡ with_clauses out.old (choice_rows at.alternatives.number at.profile) at.profile) }
+    ensures full { result ≡ Err PushFault.Full → IsFullForAll out.old (choice_rows at.alternatives.number at.profile) }
+    ensures fits { OnOk result (¬ IsFullForAll out.old (choice_rows at.alternatives.number at.profile)) }
 {
-    push_some_wins(alternatives, p, out)?;
-    for place in 0..places::pair_count(alternatives) {
-        push_one_loses(alternatives, p, place, out)?;
+    push_some_wins(at, out)?;
+    for place in 0..places::pair_count(at.alternatives) {
+        push_one_loses(at, place, out)?;
     }
     let _within = out.len();
     Ok(())
 }
 
 /// Appends the two clauses that the alternatives of a triple do not stand in a circle.
-fn push_no_round(alternatives: u8, p: u32, place: u32, out: &mut Clauses) -> Result<(), PushFault>
-    requires few { alternatives ≤ 5 }
-    requires profile { p ≤ 20000 }
-    requires place { place < length (triples alternatives) }
+fn push_no_round(at: AtProfile, place: u32, out: &mut Clauses) -> Result<(), PushFault>
+    requires { place < length (triples at.alternatives.number) }
     ensures ok { OnOk result (out.new ≡ with_clauses out.old
-        (no_round alternatives p (triple_at alternatives place)) p) }
+        (no_round at.alternatives.number at.profile (triple_at at.alternatives.number place)) at.profile) }
     ensures full { result ≡ Err PushFault.Full →
-        IsFullForAll out.old (no_round alternatives p (triple_at alternatives place)) }
+        IsFullForAll out.old (no_round at.alternatives.number at.profile (triple_at at.alternatives.number place)) }
 {
-    let (x, y, z) = places::triple_at(alternatives, place);
+    let (x, y, z) = places::triple_at(at.alternatives, place);
     let not_up = [
-        pair_lit(alternatives, p, false, x, y),
-        pair_lit(alternatives, p, true, x, z),
-        pair_lit(alternatives, p, false, y, z),
+        pair_lit(at, false, x, y),
+        pair_lit(at, true, x, z),
+        pair_lit(at, false, y, z),
     ];
-    out.push(&not_up, u64::from(p))?;
+    out.push(&not_up, u64::from(at.profile))?;
     let not_down = [
-        pair_lit(alternatives, p, true, x, y),
-        pair_lit(alternatives, p, false, x, z),
-        pair_lit(alternatives, p, true, y, z),
+        pair_lit(at, true, x, y),
+        pair_lit(at, false, x, z),
+        pair_lit(at, true, y, z),
     ];
-    out.push(&not_down, u64::from(p))
+    out.push(&not_down, u64::from(at.profile))
 }
 
 /// Appends the frame of rankings.
-pub(crate) fn push_ranking(alternatives: u8, p: u32, out: &mut Clauses) -> Result<(), PushFault>
-    requires few { alternatives ≤ 5 }
-    requires profile { p ≤ 20000 }
-    ensures ok { OnOk result (out.new ≡ with_clauses out.old (ranking_rows alternatives p) p) }
-    ensures full { result ≡ Err PushFault.Full → IsFullForAll out.old (ranking_rows alternatives p) }
-    ensures fits { OnOk result (¬ IsFullForAll out.old (ranking_rows alternatives p)) }
+pub(crate) fn push_ranking(at: AtProfile, out: &mut Clauses) -> Result<(), PushFault>
+    ensures ok { OnOk result (out.new ≡ with_clauses out.old (ranking_rows at.alternatives.number at.profile) at.profile) }
+    ensures full { result ≡ Err PushFault.Full → IsFullForAll out.old (ranking_rows at.alternatives.number at.profile) }
+    ensures fits { OnOk result (¬ IsFullForAll out.old (ranking_rows at.alternatives.number at.profile)) }
 {
-    for place in 0..places::triple_count(alternatives) {
-        push_no_round(alternatives, p, place, out)?;
+    for place in 0..places::triple_count(at.alternatives) {
+        push_no_round(at, place, out)?;
     }
     let _within = out.len();
     Ok(())

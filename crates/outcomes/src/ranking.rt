@@ -1,13 +1,15 @@
 //! Rankings: an outcome is a strict ranking, and a profile has a variable for each pair of alternatives.
 
-ghost use Rattle.std.specs.Prelude.{◌≡◌};
-ghost use Rattle.vocab.specs.declared.kinds.Kind.TheVariants.{Ranking};
-ghost use Rattle.vocab.specs.Size.{IsSize};
+ghost use Rattle.std.specs.Prelude.{◌≡◌, ◌<◌};
+ghost use Rattle.vocab.specs.declared.kinds.Kind.TheVariants as kinds;
+ghost use Rattle.vocab.specs.declared.kinds.Sort.TheVariants.{Profile};
+ghost use Rattle.vocab.specs.Size.{IsSize, factorial, sort_count};
 
 use crate::kind::OutcomeKind;
+use crate::winners::AtProfile;
 use crate::{frames, places};
 use cnf::{Clauses, Lit, PushFault};
-use profiles::{Space, is_above, laws, place_of, ranking_count, ranking_text};
+use profiles::{Ranking, Space, is_above, laws, place_of, ranking_count, ranking_text};
 use vocab::{Literal, Name};
 
 /// Outcomes that are strict rankings: the code of an outcome is the place of its ranking among all rankings,
@@ -15,18 +17,42 @@ use vocab::{Literal, Name};
 #[derive(Clone, Copy)]
 pub struct RankingKind {
     space: Space,
-    ghost ranks: { space.kind ≡ Ranking },
+    ghost ranks: { space.kind ≡ kinds.Ranking },
     ghost whole: { IsSize space },
 }
 
 impl RankingKind {
     /// The rankings at the profiles of a space.
     pub fn new(space: Space) -> RankingKind
-        requires { space.kind ≡ Ranking }
+        requires { space.kind ≡ kinds.Ranking }
         ensures { ⟦<RankingKind as OutcomeKind>⟧.size result ≡ space }
     {
         laws::spaces_have_sizes(&space);
         RankingKind { space }
+    }
+
+    /// A profile, with the alternatives of the size.
+    fn at(&self, p: u32) -> AtProfile
+        requires { p < sort_count self.now.space Profile }
+        ensures number { result.alternatives.number ≡ self.now.space.alternatives }
+        ensures profile { result.profile ≡ p }
+    {
+        AtProfile {
+            alternatives: self.space.alternatives(),
+            profile: p,
+        }
+    }
+
+    /// The ranking that an outcome is.
+    fn ranked(&self, outcome: u32) -> Ranking
+        requires { outcome < factorial self.now.space.alternatives }
+        ensures number { result.alternatives.number ≡ self.now.space.alternatives }
+        ensures place { result.place ≡ outcome }
+    {
+        Ranking {
+            alternatives: self.space.alternatives(),
+            place: outcome,
+        }
     }
 }
 
@@ -38,31 +64,29 @@ impl OutcomeKind for RankingKind {
     }
 
     fn outcomes(&self) -> u32 {
-        ranking_count(self.space.size().alternatives())
+        ranking_count(self.space.alternatives())
     }
 
     fn bits(&self) -> u32 {
-        places::pair_count(self.space.size().alternatives())
+        places::pair_count(self.space.alternatives())
     }
 
     fn holds(&self, outcome: u32, literal: &Literal) -> bool {
         match *literal {
             Literal::Above(x, y, _) => {
-                let alternatives = self.space.size().alternatives();
-                is_above(alternatives, outcome, u32::from(x), u32::from(y))
+                is_above(self.ranked(outcome), u32::from(x), u32::from(y))
             }
             _ => unreachable!(),
         }
     }
 
     fn lit(&self, literal: &Literal) -> Lit {
-        let alternatives = self.space.size().alternatives();
         match *literal {
             Literal::Above(x, y, p) => {
                 if x < y {
-                    frames::pair_lit(alternatives, p, true, x, y)
+                    frames::pair_lit(self.at(p), true, x, y)
                 } else {
-                    frames::pair_lit(alternatives, p, false, y, x)
+                    frames::pair_lit(self.at(p), false, y, x)
                 }
             }
             _ => unreachable!(),
@@ -70,7 +94,7 @@ impl OutcomeKind for RankingKind {
     }
 
     fn literal(&self, lit: Lit) -> Literal {
-        let alternatives = self.space.size().alternatives();
+        let alternatives = self.space.alternatives();
         let count = places::pair_count(alternatives);
         let variable = lit.variable() - 1;
         let (x, y) = places::pair_at(alternatives, variable % count);
@@ -83,15 +107,15 @@ impl OutcomeKind for RankingKind {
     }
 
     fn frame(&self, p: u32, out: &mut Clauses) -> Result<(), PushFault> {
-        frames::push_ranking(self.space.size().alternatives(), p, out)
+        frames::push_ranking(self.at(p), out)
     }
 
     fn text(&self, outcome: u32) -> Name {
-        ranking_text(self.space.size().alternatives(), outcome)
+        ranking_text(self.ranked(outcome))
     }
 
     fn read(&self, text: &[u8]) -> Option<u32> {
-        place_of(self.space.size().alternatives(), text)
+        place_of(self.space.alternatives(), text)
     }
 
     ghost is_size = { λ k. k.whole };

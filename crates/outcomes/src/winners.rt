@@ -8,24 +8,31 @@ ghost use Rattle.outcomes.specs.Places.{winner_lit};
 ghost use Rattle.outcomes.specs.Rows.{some_wins};
 
 use cnf::{Clauses, Lit, PushFault};
+use profiles::Alternatives;
 use vocab::Literal;
 
+/// A profile, by a number of at most 20000, of so many alternatives: the variables of its outcome stand together.
+#[derive(Clone, Copy)]
+pub struct AtProfile {
+    pub alternatives: Alternatives,
+    pub profile: u32,
+    pub ghost few: { profile ≤ 20000 },
+}
+
 /// The variable of an alternative at a profile, with a sign.
-pub fn winner_lit(alternatives: u8, p: u32, positive: bool, x: u8) -> Lit
-    requires few { alternatives ≤ 5 }
-    requires profile { p ≤ 20000 }
-    ensures { result ≡ winner_lit alternatives p positive x }
+pub fn winner_lit(at: AtProfile, positive: bool, x: u8) -> Lit
+    ensures { result ≡ winner_lit at.alternatives.number at.profile positive x }
 {
-    Lit::new(p * u32::from(alternatives) + u32::from(x) + 1, positive)
+    let first = at.profile * u32::from(at.alternatives.number) + 1;
+    Lit::new(first + u32::from(x), positive)
 }
 
 /// The literal of a variable with a sign.
-pub fn winner_of(alternatives: u8, lit: Lit) -> Literal
-    requires some { 1 ≤ alternatives }
-    requires low { 1 ≤ lit.variable }
-    ensures { result ≡ winner_at alternatives (lit.variable - 1) lit.positive }
+pub fn winner_of(alternatives: Alternatives, lit: Lit) -> Literal
+    requires { 1 ≤ lit.variable }
+    ensures { result ≡ winner_at alternatives.number (lit.variable - 1) lit.positive }
 {
-    let count = u32::from(alternatives);
+    let count = u32::from(alternatives.number);
     let variable = lit.variable() - 1;
     let x = (variable % count) as u8;
     let p = variable / count;
@@ -37,18 +44,21 @@ pub fn winner_of(alternatives: u8, lit: Lit) -> Literal
 }
 
 /// Appends the clause that some alternative wins.
-pub fn push_some_wins(alternatives: u8, p: u32, out: &mut Clauses) -> Result<(), PushFault>
-    requires few { alternatives ≤ 5 }
-    requires profile { p ≤ 20000 }
-    ensures ok { OnOk result (out.new ≡ with_clauses out.old (some_wins alternatives p ∷ []) p) }
-    ensures full { result ≡ Err PushFault.Full → IsFullForAll out.old (some_wins alternatives p ∷ []) }
+pub fn push_some_wins(at: AtProfile, out: &mut Clauses) -> Result<(), PushFault>
+    ensures ok { OnOk result (out.new ≡ with_clauses out.old
+        (some_wins at.alternatives.number at.profile ∷ []) at.profile) }
+    ensures full { result ≡ Err PushFault.Full →
+        IsFullForAll out.old (some_wins at.alternatives.number at.profile ∷ []) }
 {
     let wins = [
-        winner_lit(alternatives, p, true, 0),
-        winner_lit(alternatives, p, true, 1),
-        winner_lit(alternatives, p, true, 2),
-        winner_lit(alternatives, p, true, 3),
-        winner_lit(alternatives, p, true, 4),
+        winner_lit(at, true, 0),
+        winner_lit(at, true, 1),
+        winner_lit(at, true, 2),
+        winner_lit(at, true, 3),
+        winner_lit(at, true, 4),
     ];
-    out.push(&wins[..alternatives as usize], u64::from(p))
+    out.push(
+        &wins[..at.alternatives.number as usize],
+        u64::from(at.profile),
+    )
 }

@@ -81,7 +81,7 @@ fn put_some(out: &mut Html, space: &Space) -> Result<(), NoMemory>
 fn put_domain(out: &mut Html, space: &Space) -> Result<(), NoMemory>
     ensures { OnOk result (out.new ≡ out.old ++ domain_html space.now) }
 {
-    if space.ballots() == ranking_count(space.size().alternatives()) {
+    if space.ballots() == ranking_count(space.alternatives()) {
         return Ok(());
     }
     put_some(out, space)

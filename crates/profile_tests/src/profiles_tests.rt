@@ -1,7 +1,9 @@
 //! Ballots and profiles by number: texts, votes and changes, where all ballots may be cast, where fewer may, and
 //! where voters may be absent.
 
-use profiles::{NotAProfile, Space, is_above, place_of, ranking_count, ranking_text};
+use profiles::{
+    Alternatives, NotAProfile, Ranking, Space, is_above, place_of, ranking_count, ranking_text,
+};
 use std::process::Abort;
 use vocab::{Kind, Size};
 
@@ -99,7 +101,7 @@ static EXCHANGES: [(u32, u32); 4] = [(0, 1), (0, 2), (1, 2), (1, 1)];
 static CYCLE: [(u32, u32); 3] = [(0, 1), (1, 2), (2, 0)];
 
 /// Alternatives, and how many rankings they have.
-static RANKINGS: [(u8, u32); 6] = [(0, 1), (1, 1), (2, 2), (3, 6), (4, 24), (5, 120)];
+static RANKINGS: [(u8, u32); 5] = [(1, 1), (2, 2), (3, 6), (4, 24), (5, 120)];
 
 /// The ballots (1: ab, 3: ab and ba), whether voters may be absent, and the text of no profile of two voters.
 static NO_PROFILES: [(u128, bool, &[u8]); 14] = [
@@ -520,23 +522,33 @@ fn one_voter_of_three_is_there(rt: HostRuntime) {
 // Whatever a size's ballots are: among all rankings acb has place 1 and cab place 4.
 #[test]
 fn rankings_by_place(rt: HostRuntime) {
-    for (alternatives, count) in rankings() {
-        assert!(rt; *alternatives <= 5);
-        assert!(rt; ranking_count(*alternatives) == *count);
+    for (number, count) in rankings() {
+        assert!(rt; 1 <= *number && *number <= 5);
+        assert!(rt; ranking_count(Alternatives { number: *number }) == *count);
     }
+    let three = Alternatives { number: 3 };
+    let four = Alternatives { number: 4 };
     let places = [
-        place_of(3, b"acb"),
-        place_of(3, b"cab"),
-        place_of(3, b"caa"),
-        place_of(4, b"cab"),
+        place_of(three, b"acb"),
+        place_of(three, b"cab"),
+        place_of(three, b"caa"),
+        place_of(four, b"cab"),
     ];
     assert!(rt; places == [Some(1), Some(4), None, None]);
-    assert!(rt; ranking_text(3, 4).bytes() == b"cab".as_slice());
-    assert!(rt; ranking_text(4, 6).bytes() == b"bacd".as_slice());
+    let cab = Ranking {
+        alternatives: three,
+        place: 4,
+    };
+    let bacd = Ranking {
+        alternatives: four,
+        place: 6,
+    };
+    assert!(rt; ranking_text(cab).bytes() == b"cab".as_slice());
+    assert!(rt; ranking_text(bacd).bytes() == b"bacd".as_slice());
     let above = [
-        is_above(3, 4, 2, 0),
-        is_above(3, 4, 1, 0),
-        is_above(3, 4, 0, 0),
+        is_above(cab, 2, 0),
+        is_above(cab, 1, 0),
+        is_above(cab, 0, 0),
     ];
     assert!(rt; above == [true, false, false]);
 }

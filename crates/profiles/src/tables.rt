@@ -7,8 +7,10 @@ ghost use Rattle.std.specs.Prelude.{◌≡◌, ◌≢◌, ℕ, ◌+◌, ◌-◌,
 ghost use Rattle.std.specs.Bool.{OnTrue, OnFalse};
 ghost use Rattle.vocab.specs.Size.{factorial};
 ghost use Rattle.meaning.specs.Space.{ranking, ranking_number, exchanged, is_above, place};
-ghost use Rattle.meaning.specs.Texts.{letter};
+ghost use Rattle.meaning.specs.Texts.{ranking_text};
 ghost use Rattle.profiles.specs.Weights.{rank_of};
+
+use crate::rankings::{Alternatives, Ranking};
 
 /// Each ranking, from best to worst.
 static RANKINGS: [[u8; 5]; 120] = [
@@ -275,56 +277,44 @@ fn place_at(ballot: u32, alternative: usize) -> u8
     PLACES[ballot as usize][alternative]
 }
 
-/// Whether x stands above y in the ranking of a place among all rankings of so many alternatives.
-pub fn is_above(alternatives: u8, ballot: u32, x: u32, y: u32) -> bool
-    requires some { 1 ≤ alternatives }
-    requires few { alternatives ≤ 5 }
-    requires ballot { ballot < factorial alternatives }
-    requires x { x < alternatives }
-    requires y { y < alternatives }
-    ensures { result ≡ is_above (ranking alternatives ballot) x y }
+/// Whether x stands above y in a ranking.
+pub fn is_above(order: Ranking, x: u32, y: u32) -> bool
+    requires x { x < order.alternatives.number }
+    requires y { y < order.alternatives.number }
+    ensures { result ≡ is_above (ranking order.alternatives.number order.place) x y }
 {
-    let left_out = 5 - alternatives as usize;
-    place_at(ballot, left_out + x as usize) < place_at(ballot, left_out + y as usize)
+    let left_out = 5 - order.alternatives.number as usize;
+    place_at(order.place, left_out + x as usize) < place_at(order.place, left_out + y as usize)
 }
 
-/// The letter at a place of a ballot, the best at place 0.
-pub(crate) fn letter_at(alternatives: u8, ballot: u32, place: u8) -> u8
-    requires some { 1 ≤ alternatives }
-    requires few { alternatives ≤ 5 }
-    requires ballot { ballot < factorial alternatives }
-    requires place { place < alternatives }
-    ensures { result ≡ slice_index (map letter (ranking alternatives ballot)) place }
+/// The letter at a place of a ranking, the best at place 0.
+pub(crate) fn letter_at(order: Ranking, place: u8) -> u8
+    requires { place < order.alternatives.number }
+    ensures { result ≡ slice_index (ranking_text order.alternatives.number order.place) place }
 {
-    let left_out = 5 - alternatives;
-    b'a' + alternative_at(ballot, (left_out + place) as usize) - left_out
+    let left_out = 5 - order.alternatives.number;
+    b'a' + alternative_at(order.place, (left_out + place) as usize) - left_out
 }
 
-/// The letters of a ballot from best to worst, in front of zeros.
-pub(crate) fn spelled(alternatives: u8, ballot: u32) -> [u8; 5]
-    requires some { 1 ≤ alternatives }
-    requires few { alternatives ≤ 5 }
-    requires ballot { ballot < factorial alternatives }
-    ensures { take alternatives result ≡ map letter (ranking alternatives ballot) }
+/// The letters of a ranking from best to worst, in front of zeros.
+pub(crate) fn spelled(order: Ranking) -> [u8; 5]
+    ensures { take order.alternatives.number result ≡ ranking_text order.alternatives.number order.place }
 {
     let mut letters = [0; 5];
-    for place in 0..alternatives {
-        letters[place as usize] = letter_at(alternatives, ballot, place);
+    for place in 0..order.alternatives.number {
+        letters[place as usize] = letter_at(order, place);
     }
     letters
 }
 
-/// Whether a text is the letters of a ballot.
-pub(crate) fn spells(alternatives: u8, ballot: u32, text: &[u8]) -> bool
-    requires some { 1 ≤ alternatives }
-    requires few { alternatives ≤ 5 }
-    requires ballot { ballot < factorial alternatives }
-    requires length { length text.now ≡ alternatives }
-    ensures same { OnTrue result (text.now ≡ map letter (ranking alternatives ballot)) }
-    ensures other { OnFalse result (text.now ≢ map letter (ranking alternatives ballot)) }
+/// Whether a text is the letters of a ranking.
+pub(crate) fn spells(order: Ranking, text: &[u8]) -> bool
+    requires { length text.now ≡ order.alternatives.number }
+    ensures same { OnTrue result (text.now ≡ ranking_text order.alternatives.number order.place) }
+    ensures other { OnFalse result (text.now ≢ ranking_text order.alternatives.number order.place) }
 {
-    for place in 0..alternatives {
-        if text[place as usize] != letter_at(alternatives, ballot, place) {
+    for place in 0..order.alternatives.number {
+        if text[place as usize] != letter_at(order, place) {
             return false;
         }
     }
@@ -436,11 +426,10 @@ static EXCHANGED: [[u8; 120]; 11] = [
 static FACTORIALS: [u32; 6] = [1, 1, 2, 6, 24, 120];
 
 /// How many rankings there are of so many alternatives.
-pub fn ranking_count(alternatives: u8) -> u32
-    requires { alternatives ≤ 5 }
-    ensures { result ≡ factorial alternatives }
+pub fn ranking_count(alternatives: Alternatives) -> u32
+    ensures { result ≡ factorial alternatives.number }
 {
-    FACTORIALS[alternatives as usize]
+    FACTORIALS[alternatives.number as usize]
 }
 
 fn factorial_of(items: usize) -> u32
@@ -475,16 +464,15 @@ pub(crate) fn rank(text: &[u8]) -> u32
 }
 
 /// For each ballot the ballot with x and y exchanged.
-pub(crate) fn exchanged_ballots(alternatives: u8, x: u32, y: u32) -> &'static [u8; 120]
-    requires some { 1 ≤ alternatives }
-    requires few { alternatives ≤ 5 }
-    requires x { x < alternatives }
-    requires y { y < alternatives }
-    ensures { (b : ℕ) → b < factorial alternatives → (slice_index result.now b < factorial alternatives)
-        × (slice_index result.now b ≡ ranking_number alternatives
-        (map (exchanged x y) (ranking alternatives b))) }
+pub(crate) fn exchanged_ballots(alternatives: Alternatives, x: u32, y: u32) -> &'static [u8; 120]
+    requires x { x < alternatives.number }
+    requires y { y < alternatives.number }
+    ensures { (b : ℕ) → b < factorial alternatives.number →
+        (slice_index result.now b < factorial alternatives.number)
+        × (slice_index result.now b ≡ ranking_number alternatives.number
+        (map (exchanged x y) (ranking alternatives.number b))) }
 {
-    let left_out = 5 - alternatives as usize;
+    let left_out = 5 - alternatives.number as usize;
     let pair = PAIRS[left_out + x as usize][left_out + y as usize];
     &EXCHANGED[pair as usize]
 }

@@ -82,7 +82,7 @@ pub(crate) fn read_place(space: &Space, word: &[u8]) -> Option<u32>
     ensures { result ≡ read_place space.now.alternatives word.now }
 {
     profiles::laws::spaces_have_sizes(space);
-    place_of(space.size().alternatives(), word)
+    place_of(space.alternatives(), word)
 }
 
 fn read_ballot(space: &Space, word: &[u8]) -> Option<u32>

@@ -1,6 +1,6 @@
 //! Which rankings voters may cast, and the size of a study.
 
-ghost use Rattle.std.specs.Prelude.{◌≡◌, ◌≢◌, ◌≤◌, ◌<◌, Some, IfOk};
+ghost use Rattle.std.specs.Prelude.{◌≡◌, ◌≢◌, ◌<◌, Some, Ok, Err, IfOk, IfErr};
 ghost use Rattle.vocab.specs.Size.{is_digit_set};
 ghost use Rattle.study.specs.Ballots.{alternatives_of, ballots_in, sized};
 ghost use Rattle.study.specs.Refusing.{Gives};
@@ -9,15 +9,14 @@ use crate::drafts::Head;
 use crate::entries::{Texts, copied};
 use crate::faults::{StudyFault, Text};
 use lists::NoMemory;
-use profiles::{place_of, ranking_count};
+use profiles::{Alternatives, place_of, ranking_count};
 use std::alloc::Global;
 use vocab::{Size, SizeFault};
 
 /// How many alternatives there are, if they and the voters are as many as a size may have.
-fn alternatives_of(voters: i64, alternatives: i64) -> Result<u8, StudyFault>
-    ensures value { result ≡ alternatives_of voters alternatives }
-    ensures some { IfOk result (λ m. 1 ≤ m) }
-    ensures few { IfOk result (λ m. m ≤ 5) }
+fn alternatives_of(voters: i64, alternatives: i64) -> Result<Alternatives, StudyFault>
+    ensures ok { IfOk result (λ found. alternatives_of voters alternatives ≡ Ok found.number) }
+    ensures refused { IfErr result (λ fault. alternatives_of voters alternatives ≡ Err fault) }
 {
     if voters < 1 || 8 < voters {
         return Err(StudyFault::Size(SizeFault::Voters(voters)));
@@ -25,7 +24,9 @@ fn alternatives_of(voters: i64, alternatives: i64) -> Result<u8, StudyFault>
     if alternatives < 1 || 5 < alternatives {
         return Err(StudyFault::Size(SizeFault::Alternatives(alternatives)));
     }
-    Ok(alternatives as u8)
+    Ok(Alternatives {
+        number: alternatives as u8,
+    })
 }
 
 /// The fault of a ballot.
@@ -47,10 +48,12 @@ fn is_set(ballots: u128, place: u32) -> bool
 }
 
 /// The rankings of some texts, as digits, or the first text that is no ranking or stands earlier.
-fn listed_digits(alloc: Global, alternatives: u8, texts: &[Text]) -> Result<u128, StudyFault>
-    requires some { 1 ≤ alternatives }
-    requires few { alternatives ≤ 5 }
-    ensures { Gives (ballots_in alternatives (Some texts.now)) result }
+fn listed_digits(
+    alloc: Global,
+    alternatives: Alternatives,
+    texts: &[Text],
+) -> Result<u128, StudyFault>
+    ensures { Gives (ballots_in alternatives.number (Some texts.now)) result }
 {
     let mut ballots = 0;
     for text in texts {
@@ -66,10 +69,12 @@ fn listed_digits(alloc: Global, alternatives: u8, texts: &[Text]) -> Result<u128
 }
 
 /// The rankings that may be cast, as digits: those of the texts, or all where there are none.
-fn ballots_in(alloc: Global, alternatives: u8, texts: &Option<Texts>) -> Result<u128, StudyFault>
-    requires some { 1 ≤ alternatives }
-    requires few { alternatives ≤ 5 }
-    ensures { Gives (ballots_in alternatives texts.now) result }
+fn ballots_in(
+    alloc: Global,
+    alternatives: Alternatives,
+    texts: &Option<Texts>,
+) -> Result<u128, StudyFault>
+    ensures { Gives (ballots_in alternatives.number texts.now) result }
 {
     match texts {
         Some(texts) => listed_digits(alloc, alternatives, texts.as_slice()),

@@ -4,4 +4,4 @@ use Rattle.choice_sets.proofs.ElementLemmas.{few_sets}
 use Rattle.choice_sets.proofs.elements.set_count.Goals as goal
 
 pub returns-clause-few : goal.returns-clause-few
-returns-clause-few c = omega (arith, one_shl c.args.alternatives 32 (omega (arith, c.requires)), few_sets c.args.alternatives c.requires)
+returns-clause-few c = omega (arith, one_shl c.args.alternatives.number 32 (omega (arith, c.args.alternatives.few)), few_sets c.args.alternatives.number c.args.alternatives.few)

@@ -6,12 +6,12 @@ use Rattle.choice_sets.proofs.elements.set_text.Goals as goal
 use Rattle.choice_sets.proofs.elements.set_text.Goals.{then-is_element, else-is_element}
 
 pub is_element-requires-clause-set : goal.is_element-requires-clause-set
-is_element-requires-clause-set c = omega (arith, c.requires.set, few_sets c.args.alternatives c.requires.few)
+is_element-requires-clause-set c = omega (arith, c.requires, few_sets c.args.alternatives.number c.args.alternatives.few)
 
 pub loop-x-preserved : goal.loop-x-preserved
 loop-x-preserved c = elim c.if-is_element.branch [
   | then-is_element w ↦
-      let v : c.loop-x.count < length c.loop-x.letters = omega (arith, c.loop-x.invariant.size, c.loop-x.invariant.few, c.loop-x-test.true, c.requires.few) in
+      let v : c.loop-x.count < length c.loop-x.letters = omega (arith, c.loop-x.invariant.size, c.loop-x.invariant.few, c.loop-x-test.true, c.args.alternatives.few) in
       record {
         size = ap length w.letters-is ∙ length-set c.loop-x.letters c.loop-x.count _ ∙ c.loop-x.invariant.size;
         few = omega (arith, w.count-is, c.loop-x.invariant.few);
@@ -35,5 +35,5 @@ loop-x-preserved c = elim c.if-is_element.branch [
 
 pub unwrap-requires : goal.unwrap-requires
 unwrap-requires c =
-    let last : c.loop-x.x ≡ c.args.alternatives = omega (arith, c.loop-x-test.false, c.loop-x.auto.x-end) in
-    c.new.ensures.when.1 (rw (c.loop-x.invariant.front, last) (set_names c.args.alternatives c.args.set c.requires.few c.requires.set))
+    let last : c.loop-x.x ≡ c.args.alternatives.number = omega (arith, c.loop-x-test.false, c.loop-x.auto.x-end) in
+    c.new.ensures.when.1 (rw (c.loop-x.invariant.front, last) (set_names c.args.alternatives.number c.args.set c.args.alternatives.few c.requires))

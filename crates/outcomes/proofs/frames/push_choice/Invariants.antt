@@ -7,4 +7,4 @@ use Rattle.outcomes.proofs.frames.push_choice.Given as goal
 
 abbrev pub invariant-loop-place : goal.invariant-loop-place
 invariant-loop-place l =
-    l.out ≡ with_clauses l.fn.out (rows_to (some_wins l.alternatives l.p ∷ []) (λ (t : ℕ × ℕ). one_loses l.alternatives l.p t ∷ []) (pairs l.alternatives) l.place) l.p
+    l.out ≡ with_clauses l.fn.out (rows_to (some_wins l.at.alternatives.number l.at.profile ∷ []) (λ (t : ℕ × ℕ). one_loses l.at.alternatives.number l.at.profile t ∷ []) (pairs l.at.alternatives.number) l.place) l.at.profile

@@ -6,4 +6,4 @@ use Rattle.outcomes.proofs.Growth.{rows_to}
 use Rattle.outcomes.proofs.frames.push_ranking.Given as goal
 
 abbrev pub invariant-loop-place : goal.invariant-loop-place
-invariant-loop-place l = l.out ≡ with_clauses l.fn.out (rows_to [] (no_round l.alternatives l.p) (triples l.alternatives) l.place) l.p
+invariant-loop-place l = l.out ≡ with_clauses l.fn.out (rows_to [] (no_round l.at.alternatives.number l.at.profile) (triples l.at.alternatives.number) l.place) l.at.profile

@@ -6,5 +6,5 @@ use Rattle.profiles.proofs.tables.spelled.Given as goal
 abbrev pub invariant-loop-place : goal.invariant-loop-place
 invariant-loop-place l = record {
   size : length l.letters ≡ 5;
-  front : take l.place l.letters ≡ take l.place (map letter (ranking l.alternatives l.ballot));
+  front : take l.place l.letters ≡ take l.place (map letter (ranking l.order.alternatives.number l.order.place));
 }

@@ -10,5 +10,5 @@ returns-in_default c = λ b rest h e.
 
 pub returns-in_default-read_ballot : goal.returns-in_default-read_ballot
 returns-in_default-read_ballot c = λ b rest h e.
-    let long : c.alternatives.result ≡ length (ballot_text c.args.self.now b) = c.alternatives.ensures.value ∙ sym (length-ballot_text c.args.self.now b h) in
-    c.in_default-read_ballot.ensures.none b h (c.in-Some.ensures.cases.1 ∙ ap (take c.alternatives.result) e ∙ ap (λ k. take k (ballot_text c.args.self.now b ++ rest)) long ∙ take-append_seam (ballot_text c.args.self.now b) rest)
+    let long : c.alternatives.result.number ≡ length (ballot_text c.args.self.now b) = c.alternatives.ensures ∙ sym (length-ballot_text c.args.self.now b h) in
+    c.in_default-read_ballot.ensures.none b h (c.in-Some.ensures.cases.1 ∙ ap (take c.alternatives.result.number) e ∙ ap (λ k. take k (ballot_text c.args.self.now b ++ rest)) long ∙ take-append_seam (ballot_text c.args.self.now b) rest)

@@ -17,7 +17,7 @@ exchanged-requires-clause-cast c =
     rw c.weight-weight.ensures.value (next_ballot_below c.args.self.now c.loop-i.i c.loop-i.rest c.voters-i-end.ensures.valid inner c.loop-i.invariant.left)
 
 pub exchanged-requires-clause-row : goal.exchanged-requires-clause-row
-exchanged-requires-clause-row c = λ place l. rw c.alternatives.ensures.value at (c.exchanged_ballots-exchanged.ensures place (rw c.alternatives.ensures.value l)).1
+exchanged-requires-clause-row c = λ place l. rw c.alternatives.ensures at (c.exchanged_ballots-exchanged.ensures place (rw c.alternatives.ensures l)).1
 
 pub loop-i-preserved : goal.loop-i-preserved
 loop-i-preserved c =
