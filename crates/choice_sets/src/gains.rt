@@ -24,29 +24,42 @@ pub struct Manipulation {
     pub ballot: u32,
 }
 
+/// A voter at a profile.
+struct VoterAt<'a> {
+    space: &'a Space,
+    profile: u32,
+    voter: u32,
+    ghost listed: { profile < sort_count space.now Profile },
+    ghost votes: { voter < space.now.voters },
+}
+
+/// A rule whose outcomes are sets, as its table.
+struct SetRule<'a> {
+    space: &'a Space,
+    table: &'a Table,
+    ghost gives_sets: { space.now.kind ≡ Sets },
+    ghost rule: { IsTrue (is_rule space.now table.now) },
+}
+
 /// Whether an alternative is another, or stands above it in a voter's ballot at a profile.
-fn is_same_or_above(space: &Space, voter: u32, profile: u32, y: u8, x: u8) -> bool
-    requires voter { voter < space.now.voters }
-    requires profile { profile < sort_count space.now Profile }
-    requires y { y < space.now.alternatives }
-    requires x { x < space.now.alternatives }
-    ensures { result ≡ (y == x || prefers space.now voter y x profile) }
+fn is_same_or_above(at: &VoterAt, y: u8, x: u8) -> bool
+    requires y { y < at.now.space.now.alternatives }
+    requires x { x < at.now.space.now.alternatives }
+    ensures { result ≡ (y == x || prefers at.now.space.now at.now.voter y x at.now.profile) }
 {
-    y == x || space.prefers(voter, u32::from(y), u32::from(x), profile)
+    y == x || at.space.prefers(at.voter, u32::from(y), u32::from(x), at.profile)
 }
 
 /// Whether an alternative is each element of a set, or stands above it in a voter's ballot at a profile.
-fn is_as_good(space: &Space, voter: u32, profile: u32, y: u8, set: u32) -> bool
-    requires voter { voter < space.now.voters }
-    requires profile { profile < sort_count space.now Profile }
-    requires y { y < space.now.alternatives }
-    requires set { set < 2 ^ space.now.alternatives - 1 }
-    ensures { result ≡ list_all (λ x. y == x || prefers space.now voter y x profile)
-        (elements space.now.alternatives set) }
+fn is_as_good(at: &VoterAt, y: u8, set: u32) -> bool
+    requires y { y < at.now.space.now.alternatives }
+    requires set { set < 2 ^ at.now.space.now.alternatives - 1 }
+    ensures { result ≡ list_all (λ x. y == x || prefers at.now.space.now at.now.voter y x at.now.profile)
+        (elements at.now.space.now.alternatives set) }
 {
-    laws::spaces_have_sizes(space);
-    for x in 0..space.size().alternatives() {
-        if is_element(set, x) && !is_same_or_above(space, voter, profile, y, x) {
+    laws::spaces_have_sizes(at.space);
+    for x in 0..at.space.size().alternatives() {
+        if is_element(set, x) && !is_same_or_above(at, y, x) {
             return false;
         }
     }
@@ -55,17 +68,15 @@ fn is_as_good(space: &Space, voter: u32, profile: u32, y: u8, set: u32) -> bool
 
 /// Whether each element of a set is each element of another, or stands above it in a voter's ballot at a
 /// profile.
-fn are_as_good(space: &Space, voter: u32, profile: u32, set: u32, other: u32) -> bool
-    requires voter { voter < space.now.voters }
-    requires profile { profile < sort_count space.now Profile }
-    requires set { set < 2 ^ space.now.alternatives - 1 }
-    requires other { other < 2 ^ space.now.alternatives - 1 }
-    ensures { result ≡ are_as_good space.now voter profile (elements space.now.alternatives set)
-        (elements space.now.alternatives other) }
+fn are_as_good(at: &VoterAt, set: u32, other: u32) -> bool
+    requires set { set < 2 ^ at.now.space.now.alternatives - 1 }
+    requires other { other < 2 ^ at.now.space.now.alternatives - 1 }
+    ensures { result ≡ are_as_good at.now.space.now at.now.voter at.now.profile
+        (elements at.now.space.now.alternatives set) (elements at.now.space.now.alternatives other) }
 {
-    laws::spaces_have_sizes(space);
-    for y in 0..space.size().alternatives() {
-        if is_element(set, y) && !is_as_good(space, voter, profile, y, other) {
+    laws::spaces_have_sizes(at.space);
+    for y in 0..at.space.size().alternatives() {
+        if is_element(set, y) && !is_as_good(at, y, other) {
             return false;
         }
     }
@@ -73,54 +84,55 @@ fn are_as_good(space: &Space, voter: u32, profile: u32, set: u32, other: u32) ->
 }
 
 /// The outcome at a profile.
-fn outcome_at(space: &Space, table: &Table, profile: u32) -> u32
-    requires kind { space.now.kind ≡ Sets }
-    requires rule { IsTrue (is_rule space.now table.now) }
-    requires profile { profile < sort_count space.now Profile }
-    ensures value { result ≡ slice_index table.now profile }
-    ensures in_range { result < 2 ^ space.now.alternatives - 1 }
+fn outcome_at(rule: &SetRule, profile: u32) -> u32
+    requires { profile < sort_count rule.now.space.now Profile }
+    ensures value { result ≡ slice_index rule.now.table.now profile }
+    ensures in_range { result < 2 ^ rule.now.space.now.alternatives - 1 }
 {
-    laws::spaces_have_sizes(space);
-    u32::from(*table.get(profile as usize))
+    laws::spaces_have_sizes(rule.space);
+    u32::from(*rule.table.get(profile as usize))
 }
 
 /// Whether the voter gains.
-fn is_gain(space: &Space, table: &Table, manipulation: Manipulation) -> bool
-    requires kind { space.now.kind ≡ Sets }
-    requires rule { IsTrue (is_rule space.now table.now) }
-    requires profile { manipulation.profile < sort_count space.now Profile }
-    requires voter { manipulation.voter < space.now.voters }
-    requires ballot { manipulation.ballot < sort_count space.now Ballot }
-    ensures { result ≡ gains space.now table.now manipulation }
+fn is_gain(rule: &SetRule, manipulation: Manipulation) -> bool
+    requires profile { manipulation.profile < sort_count rule.now.space.now Profile }
+    requires voter { manipulation.voter < rule.now.space.now.voters }
+    requires ballot { manipulation.ballot < sort_count rule.now.space.now Ballot }
+    ensures { result ≡ gains rule.now.space.now rule.now.table.now manipulation }
 {
     let Manipulation {
         profile,
         voter,
         ballot,
     } = manipulation;
+    let space = rule.space;
     if space.ballot_of(profile, voter) >= space.ballots() {
         return false;
     }
-    let before = outcome_at(space, table, profile);
-    let after = outcome_at(space, table, space.with(profile, voter, ballot));
-    after != before && are_as_good(space, voter, profile, after, before)
+    let before = outcome_at(rule, profile);
+    let after = outcome_at(rule, space.with(profile, voter, ballot));
+    let at = VoterAt {
+        space,
+        profile,
+        voter,
+    };
+    after != before && are_as_good(&at, after, before)
 }
 
 /// The first ballot by which a voter gains at a profile.
-fn gain_of_voter(space: &Space, table: &Table, profile: u32, voter: u32) -> Option<Manipulation>
-    requires kind { space.now.kind ≡ Sets }
-    requires rule { IsTrue (is_rule space.now table.now) }
-    requires profile { profile < sort_count space.now Profile }
-    requires voter { voter < space.now.voters }
-    ensures { result ≡ find (gains space.now table.now) (of_voter space.now profile voter) }
+fn gain_of_voter(rule: &SetRule, profile: u32, voter: u32) -> Option<Manipulation>
+    requires profile { profile < sort_count rule.now.space.now Profile }
+    requires voter { voter < rule.now.space.now.voters }
+    ensures { result ≡ find (gains rule.now.space.now rule.now.table.now)
+        (of_voter rule.now.space.now profile voter) }
 {
-    for ballot in 0..space.ballots() {
+    for ballot in 0..rule.space.ballots() {
         let manipulation = Manipulation {
             profile,
             voter,
             ballot,
         };
-        if is_gain(space, table, manipulation) {
+        if is_gain(rule, manipulation) {
             return Some(manipulation);
         }
     }
@@ -128,14 +140,13 @@ fn gain_of_voter(space: &Space, table: &Table, profile: u32, voter: u32) -> Opti
 }
 
 /// The first gain at a profile, by voter and ballot.
-fn gain_at(space: &Space, table: &Table, profile: u32) -> Option<Manipulation>
-    requires kind { space.now.kind ≡ Sets }
-    requires rule { IsTrue (is_rule space.now table.now) }
-    requires profile { profile < sort_count space.now Profile }
-    ensures { result ≡ find (gains space.now table.now) (of_profile space.now profile) }
+fn gain_at(rule: &SetRule, profile: u32) -> Option<Manipulation>
+    requires { profile < sort_count rule.now.space.now Profile }
+    ensures { result ≡ find (gains rule.now.space.now rule.now.table.now)
+        (of_profile rule.now.space.now profile) }
 {
-    for voter in 0..u32::from(space.size().voters()) {
-        let found = gain_of_voter(space, table, profile, voter);
+    for voter in 0..u32::from(rule.space.size().voters()) {
+        let found = gain_of_voter(rule, profile, voter);
         if found.is_some() {
             return found;
         }
@@ -150,9 +161,12 @@ pub fn gain(kind: &SetsKind, table: &Table) -> Option<Manipulation>
     requires { IsTrue (is_rule (⟦<SetsKind as OutcomeKind>⟧.size kind.now) table.now) }
     ensures { result ≡ first_gain (⟦<SetsKind as OutcomeKind>⟧.size kind.now) table.now }
 {
-    let space = kind.space();
-    for profile in 0..space.count() {
-        let found = gain_at(space, table, profile);
+    let rule = SetRule {
+        space: kind.space(),
+        table,
+    };
+    for profile in 0..rule.space.count() {
+        let found = gain_at(&rule, profile);
         if found.is_some() {
             return found;
         }

@@ -7,4 +7,4 @@ use Rattle.choice_sets.proofs.KeptLemmas.{all_pass}
 use Rattle.choice_sets.proofs.gains.are_as_good.Given as goal
 
 abbrev pub invariant-loop-y : goal.invariant-loop-y
-invariant-loop-y l = all_pass (λ y. list_all (λ x. y == x || prefers l.space l.voter y x l.profile) (elements l.space.alternatives l.other)) (is_element l.set) l.y ≡ true
+invariant-loop-y l = all_pass (λ y. list_all (λ x. y == x || prefers l.at.space.now l.at.voter y x l.at.profile) (elements l.at.space.now.alternatives l.other)) (is_element l.set) l.y ≡ true

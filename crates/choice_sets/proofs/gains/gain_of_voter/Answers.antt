@@ -22,9 +22,9 @@ module _ (profile voter count : ℕ) (t : Manipulation → Bool) where
 
 pub returns-then-is_gain : goal.returns-then-is_gain
 returns-then-is_gain c =
-    let size = c.args.space.now in
+    let size = c.args.rule.now.space.now in
     let count = sort_count size Ballot in
-    let t = gains size c.args.table.now in
+    let t = gains size c.args.rule.now.table.now in
     let within : c.loop-ballot.ballot < count = subst (λ (n : ℕ). c.loop-ballot.ballot < n) c.ballots-ballot-end.ensures.value c.loop-ballot-test.true in
     here t (by c.args.profile c.args.voter count t) count c.loop-ballot.ballot _ within (alone c.args.profile c.args.voter count t c.loop-ballot.ballot true (sym c.is_gain.ensures ∙ c.if-is_gain.true))
     ∙ c.loop-ballot.invariant
@@ -33,18 +33,18 @@ returns-then-is_gain c =
 
 pub loop-ballot-preserved : goal.loop-ballot-preserved
 loop-ballot-preserved c =
-    let size = c.args.space.now in
+    let size = c.args.rule.now.space.now in
     let count = sort_count size Ballot in
-    let t = gains size c.args.table.now in
+    let t = gains size c.args.rule.now.table.now in
     let within : c.loop-ballot.ballot < count = subst (λ (n : ℕ). c.loop-ballot.ballot < n) c.ballots-ballot-end.ensures.value c.loop-ballot-test.true in
     later t (by c.args.profile c.args.voter count t) count c.loop-ballot.ballot within (alone c.args.profile c.args.voter count t c.loop-ballot.ballot false (sym c.is_gain.ensures ∙ c.if-is_gain.false))
     ∙ c.loop-ballot.invariant
 
 pub returns : goal.returns
 returns c =
-    let size = c.args.space.now in
+    let size = c.args.rule.now.space.now in
     let count = sort_count size Ballot in
-    let t = gains size c.args.table.now in
+    let t = gains size c.args.rule.now.table.now in
     let past : count ≤ c.loop-ballot.ballot = subst (λ (n : ℕ). n ≤ c.loop-ballot.ballot) c.ballots-ballot-end.ensures.value c.loop-ballot-test.false in
     nowhere t (by c.args.profile c.args.voter count t) count c.loop-ballot.ballot past
     ∙ c.loop-ballot.invariant

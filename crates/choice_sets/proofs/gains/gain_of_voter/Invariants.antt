@@ -7,5 +7,5 @@ use Rattle.choice_sets.proofs.gains.gain_of_voter.Given as goal
 
 abbrev pub invariant-loop-ballot : goal.invariant-loop-ballot
 invariant-loop-ballot l =
-    let first = first_from (gains l.space l.table) (λ b. record { profile = l.profile; voter = l.voter; ballot = b } ∷ []) (sort_count l.space Ballot) in
+    let first = first_from (gains l.rule.space.now l.rule.table.now) (λ b. record { profile = l.profile; voter = l.voter; ballot = b } ∷ []) (sort_count l.rule.space.now Ballot) in
     first l.ballot ≡ first 0

@@ -6,4 +6,4 @@ use Rattle.choice_sets.proofs.KeptLemmas.{all_pass}
 use Rattle.choice_sets.proofs.gains.is_as_good.Given as goal
 
 abbrev pub invariant-loop-x : goal.invariant-loop-x
-invariant-loop-x l = all_pass (λ x. l.y == x || prefers l.space l.voter l.y x l.profile) (is_element l.set) l.x ≡ true
+invariant-loop-x l = all_pass (λ x. l.y == x || prefers l.at.space.now l.at.voter l.y x l.at.profile) (is_element l.set) l.x ≡ true
