@@ -1,84 +1,100 @@
 //! Runs of consecutive pieces, cut among workers.
 
-ghost use Rattle.std.specs.Prelude.{◌≡◌, ℕ, ◌+◌, ◌-◌, ◌*◌, ◌/◌, ◌<◌, ◌≤◌, IfOk, length, vec_len};
+ghost use Rattle.std.specs.Prelude.{◌≡◌, ℕ, ◌+◌, ◌-◌, ◌*◌, ◌/◌, ◌<◌, ◌≤◌, IfOk, IfSome, length, vec_len};
 ghost use Rattle.std.specs.Thread.{IsSync};
 ghost use Rattle.crew.specs.Right.{AreRight};
 
+use crate::crews::Crew;
 use crate::jobs::{Job, Parts};
 use edge::Gate;
 use lists::NoMemory;
 use std::alloc::Global;
 use std::thread::{Threads, join};
 
-/// The parts of the pieces from `from` up to `to`, one after another.
-fn in_turn<J: Job, G: Gate>(
-    alloc: Global,
-    job: &J,
-    gate: &G,
+/// A run of consecutive pieces, from `from` up to `to`, and the crew that works on them.
+#[derive(Drop)]
+struct Run<'a, R, G> {
+    crew: Crew<'a, R, G>,
     from: u32,
     to: u32,
-) -> Result<Vec<J::Part>, NoMemory>
-    requires rising { from ≤ to }
-    requires has { (piece : ℕ) → piece < to → J.has job.now piece }
-    ensures len { IfOk result (λ parts. vec_len parts ≡ to - from) }
-    ensures right { IfOk result (λ parts. AreRight (J.is_right job.now) from parts.items) }
-{
-    let mut parts = Vec::new(alloc);
-    for piece in from..to {
-        gate.enter(piece);
-        parts.push(job.part(piece)?)?;
-    }
-    Ok(parts)
+    ghost rising: { from ≤ to },
 }
 
-/// Where the pieces from `from` up to `to` are cut in two, so that the first run has as large a share of them
-/// as these workers are of all.
-fn cut(from: u32, to: u32, fewer: u8, workers: u8) -> u32
-    requires rising { from ≤ to }
-    requires some { 1 ≤ workers }
-    requires fewer { fewer ≤ workers }
-    ensures least { from ≤ result }
-    ensures most { result ≤ to }
-    ensures share { result ≡ from + (to - from) * fewer / workers }
+/// A run in two, of which the first has half of the workers, rounded down, and as large a share of the
+/// pieces. None where there is one worker, or at most one piece.
+fn cut<'a, R, G>(run: &Run<'a, R, G>) -> Option<(Run<'a, R, G>, Run<'a, R, G>)>
+    ensures begins { IfSome result (λ runs. runs.0.from ≡ run.now.from) }
+    ensures share { IfSome result (λ runs. runs.0.to ≡ run.now.from
+        + (run.now.to - run.now.from) * (run.now.crew.workers / 2) / run.now.crew.workers) }
+    ensures meets { IfSome result (λ runs. runs.1.from ≡ runs.0.to) }
+    ensures ends { IfSome result (λ runs. runs.1.to ≡ run.now.to) }
+    ensures fewer { IfSome result (λ runs. runs.0.crew.workers ≡ run.now.crew.workers / 2) }
+    ensures others { IfSome result (λ runs. runs.1.crew.workers
+        ≡ run.now.crew.workers - run.now.crew.workers / 2) }
 {
-    let share = u64::from(to - from) * u64::from(fewer) / u64::from(workers);
-    from + share as u32
-}
-
-/// The parts of the pieces from `from` up to `to`: the workers are halved, and the pieces are cut as the
-/// workers are, until a run has one of either.
-fn among<R: Threads + Sync, J: Job, G: Gate>(
-    rt: &R,
-    alloc: Global,
-    job: &J,
-    gate: &G,
-    from: u32,
-    to: u32,
-    workers: u8,
-) -> Result<Vec<J::Part>, NoMemory>
-    requires rising { from ≤ to }
-    requires has { (piece : ℕ) → piece < to → J.has job.now piece }
-    ensures len { IfOk result (λ parts. vec_len parts ≡ to - from) }
-    ensures right { IfOk result (λ parts. AreRight (J.is_right job.now) from parts.items) }
-{
-    if workers <= 1 || to - from <= 1 {
-        return in_turn(alloc, job, gate, from, to);
-    }
+    let (from, to) = (run.from, run.to);
+    let workers = run.crew.workers;
     let fewer = workers / 2;
-    let others = workers - fewer;
-    let middle = cut(from, to, fewer, workers);
+    if fewer == 0 || to - from <= 1 {
+        return None;
+    }
+    let share = u64::from(to - from) * u64::from(fewer) / u64::from(workers);
+    let middle = from + share as u32;
+    let (rt, gate) = (run.crew.rt, run.crew.gate);
+    let first = Run {
+        crew: Crew {
+            rt,
+            gate,
+            workers: fewer,
+        },
+        from,
+        to: middle,
+    };
+    let second = Run {
+        crew: Crew {
+            rt,
+            gate,
+            workers: workers - fewer,
+        },
+        from: middle,
+        to,
+    };
+    Some((first, second))
+}
+
+/// The parts of a run: the workers are halved, and the pieces are cut as the workers are, until a run has one
+/// of either. The parts of such a run are made one after another.
+fn among<R: Threads + Sync, J: Job, G: Gate>(
+    alloc: Global,
+    job: &J,
+    run: &Run<R, G>,
+) -> Result<Vec<J::Part>, NoMemory>
+    requires has { (piece : ℕ) → piece < run.now.to → J.has job.now piece }
+    ensures len { IfOk result (λ parts. vec_len parts ≡ run.now.to - run.now.from) }
+    ensures right { IfOk result (λ parts. AreRight (J.is_right job.now) run.now.from parts.items) }
+{
+    let Some((first, second)) = cut(run) else {
+        let mut parts = Vec::new(alloc);
+        for piece in run.from..run.to {
+            run.crew.gate.enter(piece);
+            parts.push(job.part(piece)?)?;
+        }
+        return Ok(parts);
+    };
     let (left, right) = join(
-        rt,
+        run.crew.rt,
         || -> Result<Vec<J::Part>, NoMemory>
-            requires { IsSync R.row × (from ≤ middle) × ((piece : ℕ) → piece < middle → J.has job.now piece) }
-            ensures len { IfOk result (λ parts. vec_len parts ≡ middle - from) }
-            ensures right { IfOk result (λ parts. AreRight (J.is_right job.entry.now) from parts.items) }
-        { among(rt, alloc, job, gate, from, middle, fewer) },
+            requires { IsSync R.row × ((piece : ℕ) → piece < first.to → J.has job.now piece) }
+            ensures len { IfOk result (λ parts. vec_len parts ≡ first.entry.to - first.entry.from) }
+            ensures right { IfOk result (λ parts.
+                AreRight (J.is_right job.entry.now) first.entry.from parts.items) }
+        { among(alloc, job, &first) },
         || -> Result<Vec<J::Part>, NoMemory>
-            requires { IsSync R.row × (middle ≤ to) × ((piece : ℕ) → piece < to → J.has job.now piece) }
-            ensures len { IfOk result (λ parts. vec_len parts ≡ to - middle) }
-            ensures right { IfOk result (λ parts. AreRight (J.is_right job.entry.now) middle parts.items) }
-        { among(rt, alloc, job, gate, middle, to, others) },
+            requires { IsSync R.row × ((piece : ℕ) → piece < second.to → J.has job.now piece) }
+            ensures len { IfOk result (λ parts. vec_len parts ≡ second.entry.to - second.entry.from) }
+            ensures right { IfOk result (λ parts.
+                AreRight (J.is_right job.entry.now) second.entry.from parts.items) }
+        { among(alloc, job, &second) },
     );
     let mut parts = left?;
     let mut rest = right?;
@@ -90,19 +106,24 @@ fn among<R: Threads + Sync, J: Job, G: Gate>(
 /// 16. At most so many consecutive runs of pieces are worked on at a time, and the gate is told of each piece
 /// before it begins.
 pub fn map_pieces<R: Threads + Sync, J: Job, G: Gate>(
-    rt: &R,
     alloc: Global,
+    crew: &Crew<R, G>,
     job: &J,
     pieces: u32,
-    workers: u8,
-    gate: &G,
 ) -> Result<Parts<J::Part>, NoMemory>
-    requires some { 1 ≤ workers }
-    requires few { workers ≤ 16 }
     requires has { (piece : ℕ) → piece < pieces → J.has job.now piece }
     ensures len { IfOk result (λ parts. length parts ≡ pieces) }
     ensures right { IfOk result (λ parts. AreRight (J.is_right job.now) 0 parts) }
 {
-    let parts = among(rt, alloc, job, gate, 0, pieces, workers)?;
+    let run = Run {
+        crew: Crew {
+            rt: crew.rt,
+            gate: crew.gate,
+            workers: crew.workers,
+        },
+        from: 0,
+        to: pieces,
+    };
+    let parts = among(alloc, job, &run)?;
     Ok(Parts::from_vec(parts))
 }

@@ -3,7 +3,7 @@
 
 ghost use Rattle.std.specs.Prelude.{◌≡◌, length};
 
-use crew::{Job, Parts, map_pieces};
+use crew::{Crew, Job, Parts, map_pieces};
 use edge::{Gate, Open};
 use lists::NoMemory;
 use std::sync::atomic::{AtomicU64, Ordering};
@@ -62,7 +62,12 @@ fn parts_come_in_order(rt: HostRuntime) -> Result<(), Fail> {
     let job = Squares { refused: 100 };
     for (pieces, workers) in shared() {
         assert!(rt; 1 <= *workers && *workers <= 16);
-        let parts = map_pieces(&rt, rt.alloc(), &job, *pieces, *workers, &Open)?;
+        let crew = Crew {
+            rt: &rt,
+            gate: &Open,
+            workers: *workers,
+        };
+        let parts = map_pieces(rt.alloc(), &crew, &job, *pieces)?;
         assert!(rt; parts.len() == *pieces as usize && are_squares(&parts, *pieces));
     }
     Ok(())
@@ -73,7 +78,12 @@ fn a_piece_without_memory_is_the_answer(rt: HostRuntime) {
     for (refused, workers) in refused_pieces() {
         assert!(rt; 1 <= *workers && *workers <= 16);
         let job = Squares { refused: *refused };
-        assert!(rt; map_pieces(&rt, rt.alloc(), &job, 5, *workers, &Open).is_err());
+        let crew = Crew {
+            rt: &rt,
+            gate: &Open,
+            workers: *workers,
+        };
+        assert!(rt; map_pieces(rt.alloc(), &crew, &job, 5).is_err());
     }
 }
 
@@ -100,14 +110,12 @@ fn the_gate_is_told_of_each_piece(rt: HostRuntime) -> Result<(), Fail> {
             calls: AtomicU64::new(0),
             pieces: AtomicU64::new(0),
         };
-        map_pieces(
-            &rt,
-            rt.alloc(),
-            &Squares { refused: 100 },
-            17,
+        let crew = Crew {
+            rt: &rt,
+            gate: &gate,
             workers,
-            &gate,
-        )?;
+        };
+        map_pieces(rt.alloc(), &crew, &Squares { refused: 100 }, 17)?;
         let told = [
             gate.calls.load(Ordering::SeqCst),
             gate.pieces.load(Ordering::SeqCst),
@@ -162,14 +170,12 @@ fn no_more_pieces_are_inside_than_workers(rt: HostRuntime) -> Result<(), Fail> {
             now: AtomicU64::new(0),
             most: AtomicU64::new(0),
         };
-        map_pieces(
-            &rt,
-            rt.alloc(),
-            &Staying { inside: &inside },
-            17,
+        let crew = Crew {
+            rt: &rt,
+            gate: &inside,
             workers,
-            &inside,
-        )?;
+        };
+        map_pieces(rt.alloc(), &crew, &Staying { inside: &inside }, 17)?;
         let most = inside.most.load(Ordering::SeqCst);
         assert!(rt; 1 <= most && most <= u64::from(workers));
         assert!(rt; inside.now.load(Ordering::SeqCst) == 0);
@@ -207,7 +213,12 @@ fn two_workers_share_the_work(rt: HostRuntime) -> Result<(), Fail> {
         second: AtomicU64::new(0),
         met: AtomicU64::new(0),
     };
-    let parts = map_pieces(&rt, rt.alloc(), &Squares { refused: 100 }, 2, 2, &gate)?;
+    let crew = Crew {
+        rt: &rt,
+        gate: &gate,
+        workers: 2,
+    };
+    let parts = map_pieces(rt.alloc(), &crew, &Squares { refused: 100 }, 2)?;
     assert!(rt; parts.len() == 2);
     assert!(rt; gate.met.load(Ordering::SeqCst) == 1);
     Ok(())
@@ -242,7 +253,12 @@ fn pieces_are_cut_as_the_workers_are(rt: HostRuntime) -> Result<(), Fail> {
         calls: AtomicU64::new(0),
         pieces: AtomicU64::new(0),
     };
-    map_pieces(&rt, rt.alloc(), &Squares { refused: 100 }, 9, 3, &gate)?;
+    let crew = Crew {
+        rt: &rt,
+        gate: &gate,
+        workers: 3,
+    };
+    map_pieces(rt.alloc(), &crew, &Squares { refused: 100 }, 9)?;
     assert!(rt; gate.pieces.load(Ordering::SeqCst) == 73);
     Ok(())
 }

@@ -100,7 +100,7 @@ fn measure_round<R: Threads + Sync, K: OutcomeKind, G: Gate>(
         to,
     };
     let count = (to - from).div_ceil(PIECE) as u32;
-    let parts = map_pieces(crew.rt, alloc, &job, count, crew.workers, crew.gate)?;
+    let parts = map_pieces(alloc, crew, &job, count)?;
     push_sums(&parts, sums)?;
     Ok(first_found(round, &parts))
 }

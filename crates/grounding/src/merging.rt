@@ -138,7 +138,7 @@ fn make_parts<R: Threads + Sync, K: OutcomeKind, G: Gate>(
         to,
     };
     let count = (to - from).div_ceil(PART) as u32;
-    let parts = map_pieces(crew.rt, alloc, &job, count, crew.workers, crew.gate)?;
+    let parts = map_pieces(alloc, crew, &job, count)?;
     Ok(parts)
 }
 

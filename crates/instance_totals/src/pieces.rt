@@ -118,6 +118,6 @@ pub(crate) fn sum_of_axiom<R: Threads + Sync, K: OutcomeKind, G: Gate>(
     { sum_of(kind, study, place, start, end) };
     let job = Summing { sum: &sum, count };
     let pieces = count.div_ceil(PIECE) as u32;
-    let parts = map_pieces(crew.rt, alloc, &job, pieces, crew.workers, crew.gate)?;
+    let parts = map_pieces(alloc, crew, &job, pieces)?;
     Ok(sum_of_parts(study, place, count, &parts))
 }

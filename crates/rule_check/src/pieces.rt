@@ -86,6 +86,6 @@ pub(crate) fn round_failure<R: Threads + Sync, K: OutcomeKind, G: Gate>(
         to,
     };
     let count = (to - from).div_ceil(PIECE) as u32;
-    let parts = map_pieces(crew.rt, alloc, &pieces, count, crew.workers, crew.gate)?;
+    let parts = map_pieces(alloc, crew, &pieces, count)?;
     Ok(first_found(round, &parts))
 }
