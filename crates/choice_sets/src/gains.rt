@@ -25,6 +25,7 @@ pub struct Manipulation {
 }
 
 /// A voter at a profile.
+#[derive(Drop)]
 struct VoterAt<'a> {
     space: &'a Space,
     profile: u32,
@@ -34,6 +35,7 @@ struct VoterAt<'a> {
 }
 
 /// A rule whose outcomes are sets, as its table.
+#[derive(Drop)]
 struct SetRule<'a> {
     space: &'a Space,
     table: &'a Table,
