@@ -1,3 +1,4 @@
 pub mod PieceLemmas
 pub mod CheckLemmas
 pub mod BlockLemmas
+pub mod PlanLemmas

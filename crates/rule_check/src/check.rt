@@ -1,23 +1,23 @@
 //! The first axiom that a rule does not satisfy.
 
-ghost use Rattle.std.specs.Prelude.{◌≡◌, ◌≤◌, nat_lt, length, IsTrue, IfOk};
+ghost use Rattle.std.specs.Prelude.{◌≡◌, nat_lt, length, IsTrue, IfOk};
 ghost use Rattle.std.specs.List.{list_all};
 ghost use Rattle.vocab.specs.Limits.{instance_count};
-ghost use Rattle.vocab.specs.Study.{is_sentence};
 ghost use Rattle.meaning.specs.Truth.{is_rule};
 ghost use Rattle.verdicts.specs.Faults.{table_fault};
-ghost use Rattle.rule_check.specs.Pieces.{CanBeTried, IsLeastFalse};
+ghost use Rattle.rule_check.specs.Pieces.{IsLeastFalse};
 
-use crate::blocks::{Round, plan_for};
+use crate::blocks::plan_for;
 use crate::pieces::{ROUND, round_failure};
+use crate::trials::{Round, Trial};
 use crew::Crew;
 use edge::Gate;
 use lists::NoMemory;
-use outcomes::OutcomeKind;
+use outcomes::{OutcomeKind, Setting};
 use std::alloc::Global;
 use std::thread::Threads;
 use verdicts::Refusal;
-use vocab::{Axiom, Study, Table};
+use vocab::Table;
 use worlds::instance_count;
 
 /// The least of many instances that is false of the rule, of round after round.
@@ -26,19 +26,16 @@ fn least_failure<R: Threads + Sync, K: OutcomeKind, G: Gate>(
     crew: &Crew<R, G>,
     all: &Round<K>,
 ) -> Result<Option<u64>, NoMemory>
-    requires can { CanBeTried (K.size all.now.kind.now) all.now.table.now all.now.named.now
-        all.now.plan.now all.now.to }
-    ensures { IfOk result (λ found. IsLeastFalse (K.size all.now.kind.now) all.now.table.now
-        all.now.named.now all.now.from all.now.to found) }
+    ensures { IfOk result (λ found. IsLeastFalse (K.size all.now.trial.now.kind.now)
+        all.now.trial.now.table.now all.now.trial.now.named.now all.now.from all.now.to found) }
 {
+    let (trial, plan) = (all.trial, all.plan);
     let mut from = all.from;
     while from < all.to {
         let to = from + (all.to - from).min(ROUND);
         let round = Round {
-            kind: all.kind,
-            table: all.table,
-            named: all.named,
-            plan: all.plan,
+            trial,
+            plan,
             from,
             to,
         };
@@ -54,22 +51,16 @@ fn least_failure<R: Threads + Sync, K: OutcomeKind, G: Gate>(
 fn axiom_failure<R: Threads + Sync, K: OutcomeKind, G: Gate>(
     alloc: Global,
     crew: &Crew<R, G>,
-    kind: &K,
-    table: &Table,
-    named: &Axiom,
+    trial: &Trial<K>,
 ) -> Result<Option<u64>, NoMemory>
-    requires rule { IsTrue (is_rule (K.size kind.now) table.now) }
-    requires sentence { IsTrue (is_sentence (K.size kind.now) named.now) }
-    requires limit { instance_count (K.size kind.now) named.now.sentence ≤ 40000000 }
-    ensures { IfOk result (λ found. IsLeastFalse (K.size kind.now) table.now named.now 0
-        (instance_count (K.size kind.now) named.now.sentence) found) }
+    ensures { IfOk result (λ found. IsLeastFalse (K.size trial.now.kind.now) trial.now.table.now
+        trial.now.named.now 0 (instance_count (K.size trial.now.kind.now) trial.now.named.now.sentence)
+        found) }
 {
-    let count = instance_count(kind.space(), named.sentence());
-    let plan = plan_for(alloc, kind, named, count)?;
+    let count = instance_count(trial.kind.space(), trial.named.sentence());
+    let plan = plan_for(alloc, trial, count)?;
     let all = Round {
-        kind,
-        table,
-        named,
+        trial,
         plan: &plan,
         from: 0,
         to: count,
@@ -84,21 +75,21 @@ fn axiom_failure<R: Threads + Sync, K: OutcomeKind, G: Gate>(
 pub fn check_rule<R: Threads + Sync, K: OutcomeKind, G: Gate>(
     alloc: Global,
     crew: &Crew<R, G>,
-    kind: &K,
-    study: &Study,
+    setting: &Setting<K>,
     table: &Table,
     places: &[u32],
 ) -> Result<Option<Refusal>, NoMemory>
-    requires size { study.now.size ≡ K.size kind.now }
-    requires rule { IsTrue (is_rule study.now.size table.now) }
-    requires places { IsTrue (list_all (λ k. nat_lt k (length study.now.axioms)) places.now) }
-    ensures { IfOk result (λ fault. fault ≡ table_fault study.now table.now places.now) }
+    requires rule { IsTrue (is_rule setting.now.study.now.size table.now) }
+    requires places { IsTrue (list_all (λ k. nat_lt k (length setting.now.study.now.axioms)) places.now) }
+    ensures { IfOk result (λ fault. fault ≡ table_fault setting.now.study.now table.now places.now) }
 {
-    let axioms = study.axioms();
+    let kind = setting.kind;
+    let axioms = setting.study.axioms();
     for place in places {
-        let axiom = axioms.get(*place as usize);
-        if let Some(instance) = axiom_failure(alloc, crew, kind, table, axiom)? {
-            let name = axiom.name();
+        let named = axioms.get(*place as usize);
+        let trial = Trial { kind, table, named };
+        if let Some(instance) = axiom_failure(alloc, crew, &trial)? {
+            let name = named.name();
             return Ok(Some(Refusal::Fails {
                 axiom: name,
                 instance,

@@ -4,5 +4,6 @@
 mod blocks;
 mod check;
 mod pieces;
+mod trials;
 
 pub use check::check_rule;

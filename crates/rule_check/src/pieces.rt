@@ -2,9 +2,10 @@
 
 ghost use Rattle.std.specs.Prelude.{◌≤◌, ◌+◌, IfOk, length};
 ghost use Rattle.crew.specs.Right.{AreRight};
-ghost use Rattle.rule_check.specs.Pieces.{CanBeTried, IsLeastFalse, IsLeastOfPiece, start_of_piece, end_of_piece};
+ghost use Rattle.rule_check.specs.Pieces.{IsLeastFalse, IsLeastOfPiece, start_of_piece, end_of_piece};
 
-use crate::blocks::{Round, least_false};
+use crate::blocks::least_false;
+use crate::trials::Round;
 use crew::{Crew, Job, Parts, map_pieces};
 use edge::Gate;
 use lists::NoMemory;
@@ -45,11 +46,12 @@ impl<F: Fn(u64, u64) -> Option<u64> + Sync> Job for Pieces<'_, F> {
 
 /// The first instance that was found, of the pieces of a round in order.
 fn first_found<K: OutcomeKind>(round: &Round<K>, parts: &Parts<Option<u64>>) -> Option<u64>
-    requires right { AreRight (IsLeastOfPiece (K.size round.now.kind.now) round.now.table.now
-        round.now.named.now round.now.from round.now.to) 0 parts.now }
+    requires right { AreRight (IsLeastOfPiece (K.size round.now.trial.now.kind.now)
+        round.now.trial.now.table.now round.now.trial.now.named.now round.now.from round.now.to)
+        0 parts.now }
     requires whole { round.now.to ≤ start_of_piece round.now.from (length parts.now) }
-    ensures { IsLeastFalse (K.size round.now.kind.now) round.now.table.now round.now.named.now
-        round.now.from round.now.to result }
+    ensures { IsLeastFalse (K.size round.now.trial.now.kind.now) round.now.trial.now.table.now
+        round.now.trial.now.named.now round.now.from round.now.to result }
 {
     let _ = round;
     for piece in 0..parts.len() {
@@ -66,20 +68,23 @@ pub(crate) fn round_failure<R: Threads + Sync, K: OutcomeKind, G: Gate>(
     crew: &Crew<R, G>,
     round: &Round<K>,
 ) -> Result<Option<u64>, NoMemory>
-    requires can { CanBeTried (K.size round.now.kind.now) round.now.table.now round.now.named.now
-        round.now.plan.now round.now.to }
-    requires rising { round.now.from ≤ round.now.to }
-    requires short { round.now.to ≤ round.now.from + 1048576 }
-    ensures { IfOk result (λ found. IsLeastFalse (K.size round.now.kind.now) round.now.table.now
-        round.now.named.now round.now.from round.now.to found) }
+    ensures { IfOk result (λ found. IsLeastFalse (K.size round.now.trial.now.kind.now)
+        round.now.trial.now.table.now round.now.trial.now.named.now round.now.from round.now.to found) }
 {
     let (from, to) = (round.from, round.to);
     let find = |start: u64, end: u64| -> Option<u64>
-        requires { CanBeTried (K.size round.now.kind.now) round.now.table.now round.now.named.now
-            round.now.plan.now end }
-        ensures { IsLeastFalse (K.size round.entry.now.kind.now) round.entry.now.table.now
-            round.entry.now.named.now start end result }
-    { least_false(round, start, end) };
+        requires { (start ≤ end) × (end ≤ round.now.to) }
+        ensures { IsLeastFalse (K.size round.entry.now.trial.now.kind.now)
+            round.entry.now.trial.now.table.now round.entry.now.trial.now.named.now start end result }
+    {
+        let (trial, plan) = (round.trial, round.plan);
+        least_false(&Round {
+            trial,
+            plan,
+            from: start,
+            to: end,
+        })
+    };
     let pieces = Pieces {
         find: &find,
         from,

@@ -9,7 +9,7 @@ use crate::studies_by_text::of_two_axioms;
 use crew::Crew;
 use edge::{Gate, Open};
 use lists::Items;
-use outcomes::ChoiceKind;
+use outcomes::{ChoiceKind, Setting};
 use profiles::Space;
 use rule_check::check_rule;
 use std::alloc::Global;
@@ -82,7 +82,11 @@ fn fault<R: Threads + Sync, G: Gate>(
     let kind = ChoiceKind::new(Space::new(study.size()));
     let table = rule(alloc)?;
     let crew = Crew { rt, gate, workers };
-    Ok(check_rule(alloc, &crew, &kind, &study, &table, places)?)
+    let setting = Setting {
+        kind: &kind,
+        study: &study,
+    };
+    Ok(check_rule(alloc, &crew, &setting, &table, places)?)
 }
 
 /// The axiom `first` at its least false instance, where the first variable is profile 30.

@@ -59,8 +59,7 @@ fn check<R: Threads + Sync, G: Gate, K: OutcomeKind>(
     requires places { AreAxiomPlaces subject.now.setting.study.now places.now }
     ensures { IfOk result (λ fault. fault ≡ table_fault subject.now.setting.study.now table.now places.now) }
 {
-    let (kind, study) = (subject.setting.kind, subject.setting.study);
-    check_rule(subject.alloc, crew, kind, study, table, places)
+    check_rule(subject.alloc, crew, &subject.setting, table, places)
 }
 
 impl Judging {

@@ -4,4 +4,4 @@ use Rattle.rule_check.proofs.blocks.block_failure.Given as goal
 
 -- the instances so far are true
 abbrev pub invariant-loop-k : goal.invariant-loop-k
-invariant-loop-k g l = AreInstancesTrue (g.K.OutcomeKind.size l.round.kind.now) l.round.table.now l.round.named.now.sentence l.from (l.from + l.k)
+invariant-loop-k g l = AreInstancesTrue (g.K.OutcomeKind.size l.block.trial.now.kind.now) l.block.trial.now.table.now l.block.trial.now.named.now.sentence l.block.from (l.block.from + l.k)

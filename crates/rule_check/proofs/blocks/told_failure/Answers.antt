@@ -5,8 +5,8 @@ use Rattle.rule_check.proofs.blocks.told_failure.Goals as goal
 pub returns-in-Some : goal.returns-in-Some
 returns-in-Some g c =
     let round = c.args.round.now in
-    let within : c.loop-number.number + c.min-lanes.result ≤ c.args.to = omega arith in
-    first_beyond (g.K.OutcomeKind.size round.kind.now) round.table.now round.named.now c.args.from c.loop-number.number (c.loop-number.number + c.min-lanes.result) c.args.to c.in-Some.instance c.loop-number.invariant.after within
+    let within : c.loop-number.number + c.min-lanes.result ≤ round.to = omega arith in
+    first_beyond (g.K.OutcomeKind.size round.trial.now.kind.now) round.trial.now.table.now round.trial.now.named.now round.from c.loop-number.number (c.loop-number.number + c.min-lanes.result) round.to c.in-Some.instance c.loop-number.invariant.after within
     c.loop-number.invariant.true (rw c.in-Some.is at c.block_failure.ensures)
 
 pub loop-number-preserved : goal.loop-number-preserved
@@ -14,7 +14,7 @@ loop-number-preserved g c =
     let round = c.args.round.now in
     record {
       after = omega (arith, c.loop-number.invariant.after);
-      true = true_beyond (g.K.OutcomeKind.size round.kind.now) round.table.now round.named.now c.args.from c.loop-number.number (c.loop-number.number + c.min-lanes.result) c.loop-number.invariant.true (rw c.in_default.is at c.block_failure.ensures);
+      true = true_beyond (g.K.OutcomeKind.size round.trial.now.kind.now) round.trial.now.table.now round.trial.now.named.now round.from c.loop-number.number (c.loop-number.number + c.min-lanes.result) c.loop-number.invariant.true (rw c.in_default.is at c.block_failure.ensures);
     }
 
 pub returns : goal.returns

@@ -6,7 +6,7 @@ use Rattle.rule_check.proofs.check.least_failure.Given as goal
 abbrev pub invariant-loop-from : goal.invariant-loop-from
 invariant-loop-from g l = record {
   after : l.all.from ≤ l.from;
-  true : AreInstancesTrue (g.K.OutcomeKind.size l.all.kind.now) l.all.table.now l.all.named.now.sentence l.all.from l.from;
+  true : AreInstancesTrue (g.K.OutcomeKind.size l.all.trial.now.kind.now) l.all.trial.now.table.now l.all.trial.now.named.now.sentence l.all.from l.from;
 }
 
 abbrev pub decreases-loop-from : goal.decreases-loop-from
