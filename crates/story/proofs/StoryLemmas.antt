@@ -1,10 +1,9 @@
 -- The lemmas of a story, one after another.
-use Rattle.std.proofs.Common.{◌≡◌, sym, ◌∙◌, ap, ap₂, subst, ℕ, ◌+◌, ◌<◌, Bool, true, false, List, [], ◌∷◌, ◌++◌, take, drop, length, arith, Option, Some, None, Result, Ok, Err}
-use Rattle.std.specs.Prelude.{slice_get, OnOk}
+use Rattle.std.proofs.Common.{◌≡◌, ◌∙◌, sym, ap, refl, ℕ, ◌+◌, ◌-◌, ◌<◌, ◌≤◌, Bool, true, false, List, [], ◌∷◌, ◌++◌, take, drop, length, get_or, arith, true≢false, eqb-true, Option, Some, None}
+use Rattle.std.specs.Prelude.{◌==◌}
 use Rattle.std.specs.Option.{option_map, option_or}
-use Rattle.std.proofs.lemmas.List.{drop_more, take_more, drop_all}
-use Rattle.std.proofs.lemmas.Option.{get_or_from_slice_get}
-use Rattle.lists.proofs.PlaceLaws.{there_is}
+use Rattle.std.proofs.lemmas.Bool.{eq-eqb, false_from_ne_true}
+use Rattle.std.proofs.lemmas.List.{drop_more, take_more, drop_all, length-drop, length-take-le}
 use Rattle.vocab.specs.Size.{Extent}
 use Rattle.vocab.specs.Titled.{Titled}
 use Rattle.meaning.specs.declared.stories.Lemma.{Lemma}
@@ -12,66 +11,67 @@ use Rattle.meaning.specs.declared.stories.PlacedFault.{PlacedFault}
 use Rattle.meaning.specs.declared.stories.StoryRefusal.{StoryRefusal}
 use Rattle.meaning.specs.declared.stories.StoryRefusal.TheVariants.{Lemma as InLemma}
 use Rattle.meaning.specs.StoryFaults.{lemma_fault, next_refusal, refusal_from}
-use Rattle.story.specs.Answers.{AnswersFault}
 
--- an answer Ok says that there is no fault
-pub on_ok : {T E : Type 0} (r : Result T E) (fault : Option E) (P : Type 0) → AnswersFault r fault → (fault ≡ None → P) → OnOk r P
-on_ok (Ok x) fault P h give = give h
-on_ok (Err e) fault P h give = tt
+-- whether nothing is left
+abbrev is_end : {A : Type 0} → List A → Bool
+is_end [] = true
+is_end (x ∷ xs) = false
 
--- what is left of a list begins with the item at its place
-left : {A : Type 0} (xs : List A) (i : ℕ) (x : A) → i < length xs → slice_get xs i ≡ Some x → drop i xs ≡ x ∷ drop (i + 1) xs
-left xs i x lt at = drop_more xs i x lt ∙ ap (λ y. y ∷ drop (i + 1) xs) (get_or_from_slice_get xs i x x at)
+end_at : {A : Type 0} (n i : ℕ) (rest : List A) → i < n → length rest ≡ n - (i + 1) → (i == n - 1) ≡ is_end rest
+end_at n i [] lt count = eq-eqb i (n - 1) (omega (arith, lt, count))
+end_at n i (x ∷ xs) lt count = false_from_ne_true _ (λ last. absurd (omega (arith, lt, count, eqb-true i (n - 1) last)))
 
--- and the items up to it end with it
-up_to : {A : Type 0} (xs : List A) (i : ℕ) (x : A) → i < length xs → slice_get xs i ≡ Some x → take (i + 1) xs ≡ take i xs ++ x ∷ []
-up_to xs i x lt at = take_more xs i x lt ∙ ap (λ y. take i xs ++ y ∷ []) (get_or_from_slice_get xs i x x at)
+module _ (size : Extent) (axioms : List Titled) (core : List ℕ) where
+  -- the refusal of what is left of a story, where the earlier lemmas follow; none at its end
+  abbrev pub left_refusal : List Lemma → List Lemma → Option StoryRefusal
+  left_refusal earlier [] = None
+  left_refusal earlier (lemma ∷ rest) = refusal_from size axioms core earlier (lemma ∷ rest)
 
--- ---- one lemma
+  -- at the start all is left
+  pub all_left : (story : List Lemma) → false ≡ (length story == 0) → refusal_from size axioms core [] story ≡ left_refusal [] story
+  all_left [] some = absurd (true≢false (sym some))
+  all_left (lemma ∷ rest) some = refl
 
-module _ (size : Extent) (axioms : List Titled) (core : List ℕ) (earlier : List Lemma) (final : Bool) (lemma : Lemma) where
-  pub not_refused : lemma_fault size axioms core earlier final lemma ≡ None → next_refusal size axioms core earlier final lemma ≡ None
-  not_refused none = ap (option_map (λ fault. InLemma (length earlier) fault)) none
+  -- at the end nothing is
+  pub none_left : (whole : Option StoryRefusal) (earlier story : List Lemma) (place : ℕ) → whole ≡ left_refusal earlier (drop place story) → length story ≤ place → whole ≡ None
+  none_left whole earlier story place rest done = rest ∙ ap (left_refusal earlier) (drop_all place story done)
 
-  pub refused_at : (place : ℕ) (f : PlacedFault) → length earlier ≡ place → lemma_fault size axioms core earlier final lemma ≡ Some f → next_refusal size axioms core earlier final lemma ≡ Some (InLemma place f)
-  refused_at place f is some = ap (option_map (λ fault. InLemma (length earlier) fault)) some ∙ ap (λ n. Some (InLemma n f)) is
+  none_next : (earlier : List Lemma) (lemma : Lemma) (rest : List Lemma) → next_refusal size axioms core earlier (is_end rest) lemma ≡ None → left_refusal earlier (lemma ∷ rest) ≡ left_refusal (earlier ++ lemma ∷ []) rest
+  none_next earlier lemma [] none = none
+  none_next earlier lemma (next ∷ rest) none = ap (λ o. option_or o (refusal_from size axioms core (earlier ++ lemma ∷ []) (next ∷ rest))) none
 
--- ---- one after another
+  some_next : (earlier : List Lemma) (lemma : Lemma) (rest : List Lemma) (r : StoryRefusal) → next_refusal size axioms core earlier (is_end rest) lemma ≡ Some r → left_refusal earlier (lemma ∷ rest) ≡ Some r
+  some_next earlier lemma [] r some = some
+  some_next earlier lemma (next ∷ rest) r some = ap (λ o. option_or o (refusal_from size axioms core (earlier ++ lemma ∷ []) (next ∷ rest))) some
 
-module _ (size : Extent) (axioms : List Titled) (core : List ℕ) (story : List Lemma) (place : ℕ) where
-  -- what is left of the story, where some lemmas follow
-  abbrev pub rest_of : List Lemma → Option StoryRefusal
-  rest_of ls = refusal_from size axioms core (take place story) ls
+  module _ (story : List Lemma) (place : ℕ) (lemma : Lemma) (lt : place < length story) (at : lemma ≡ get_or story place lemma)
+      (whole : Option StoryRefusal) (rest : whole ≡ left_refusal (take place story) (drop place story)) where
+    left : drop place story ≡ lemma ∷ drop (place + 1) story
+    left = drop_more story place lemma lt ∙ ap (λ l. l ∷ drop (place + 1) story) (sym at)
 
-  -- a fact about the refusal of the lemma at the place
-  abbrev pub OfNext : Bool → (Option StoryRefusal → Type 0) → Type 0
-  OfNext final P = (lemma : Lemma) → slice_get story place ≡ Some lemma → P (next_refusal size axioms core (take place story) final lemma)
+    up_to : take (place + 1) story ≡ take place story ++ lemma ∷ []
+    up_to = take_more story place lemma lt ∙ ap (λ l. take place story ++ l ∷ []) (sym at)
 
-  two_left : place + 1 < length story → (lemma : Lemma) → slice_get story place ≡ Some lemma
-      → rest_of (drop place story) ≡ option_or (next_refusal size axioms core (take place story) false lemma) (refusal_from size axioms core (take (place + 1) story) (drop (place + 1) story))
-  two_left lt lemma at =
-      let next = there_is story (place + 1) lt in
-      let after : drop (place + 1) story ≡ next.0 ∷ drop (place + 1 + 1) story = left story (place + 1) next.0 lt next.1 in
-      ap rest_of (left story place lemma (omega arith) at ∙ ap (λ ls. lemma ∷ ls) after)
-      ∙ ap₂ (λ earlier ls. option_or (next_refusal size axioms core (take place story) false lemma) (refusal_from size axioms core earlier ls)) (sym (up_to story place lemma (omega arith) at)) (sym after)
+    final_is : (place == length story - 1) ≡ is_end (drop (place + 1) story)
+    final_is = end_at (length story) place (drop (place + 1) story) lt (length-drop (place + 1) story)
 
-  -- a lemma without fault before the last
-  pub followed : place + 1 < length story → OfNext false (λ o. o ≡ None) → rest_of (drop place story) ≡ refusal_from size axioms core (take (place + 1) story) (drop (place + 1) story)
-  followed lt none =
-      let lemma = there_is story place (omega arith) in
-      two_left lt lemma.0 lemma.1 ∙ ap (λ o. option_or o (refusal_from size axioms core (take (place + 1) story) (drop (place + 1) story))) (none lemma.0 lemma.1)
+    same_next : (fault : Option PlacedFault) → lemma_fault size axioms core (take place story) (place == length story - 1) lemma ≡ fault
+        → next_refusal size axioms core (take place story) (is_end (drop (place + 1) story)) lemma ≡ option_map (λ f. InLemma (length (take place story)) f) fault
+    same_next fault is = ap (λ final. next_refusal size axioms core (take place story) final lemma) (sym final_is) ∙ ap (option_map (λ f. InLemma (length (take place story)) f)) is
 
-  -- one with a fault
-  pub refused : place + 1 < length story → (r : StoryRefusal) → OfNext false (λ o. o ≡ Some r) → rest_of (drop place story) ≡ Some r
-  refused lt r some =
-      let lemma = there_is story place (omega arith) in
-      two_left lt lemma.0 lemma.1 ∙ ap (λ o. option_or o (refusal_from size axioms core (take (place + 1) story) (drop (place + 1) story))) (some lemma.0 lemma.1)
+    -- the lemma at the place has no fault
+    pub followed : lemma_fault size axioms core (take place story) (place == length story - 1) lemma ≡ None → whole ≡ left_refusal (take (place + 1) story) (drop (place + 1) story)
+    followed none =
+        rest
+        ∙ ap (left_refusal (take place story)) left
+        ∙ none_next (take place story) lemma (drop (place + 1) story) (same_next None none)
+        ∙ ap (λ earlier. left_refusal earlier (drop (place + 1) story)) (sym up_to)
 
-  -- the last one
-  pub ended : {T : Type 0} (r : Result T StoryRefusal) → place + 1 ≡ length story → OfNext true (λ o. AnswersFault r o) → AnswersFault r (rest_of (drop place story))
-  ended r is answer =
-      let lemma = there_is story place (omega arith) in
-      let none : drop (place + 1) story ≡ [] = drop_all (place + 1) story (omega arith) in
-      let whole : rest_of (drop place story) ≡ next_refusal size axioms core (take place story) true lemma.0
-      = ap rest_of (left story place lemma.0 (omega arith) lemma.1 ∙ ap (λ ls. lemma.0 ∷ ls) none) in
-      subst (λ o. AnswersFault r o) (sym whole) (answer lemma.0 lemma.1)
+    -- it has one
+    pub refused : (f : PlacedFault) → lemma_fault size axioms core (take place story) (place == length story - 1) lemma ≡ Some f → whole ≡ Some (InLemma place f)
+    refused f some =
+        let r : StoryRefusal = InLemma (length (take place story)) f in
+        rest
+        ∙ ap (left_refusal (take place story)) left
+        ∙ some_next (take place story) lemma (drop (place + 1) story) r (same_next (Some f) some)
+        ∙ ap (λ n. Some (InLemma n f)) (length-take-le place story (omega (arith, lt)))

@@ -1,4 +1,4 @@
-//! What the lines of a lemma are checked against.
+//! What a reason may cite.
 
 ghost use Rattle.std.specs.Prelude.{IsTrue};
 ghost use Rattle.std.specs.List.{list_all};
@@ -9,13 +9,13 @@ use meaning::Lemma;
 use outcomes::{OutcomeKind, Setting};
 use vocab::Places;
 
-/// A study with the kind of its rules, a core of its axioms, and lemmas: those that may be cited, or a whole
-/// story.
+/// What reasons may cite: axioms of a study, and lemmas. The core has places of the study's axioms alone, and
+/// the lemmas have literals of the size alone.
 #[derive(Drop)]
-pub(crate) struct Grounds<'a, K: OutcomeKind> {
+pub struct Grounds<'a, K: OutcomeKind> {
     pub setting: &'a Setting<'a, K>,
     pub core: &'a Places,
     pub lemmas: &'a [Lemma],
-    ghost places: { IsTrue (has_places setting.now.study.now.axioms core.now) },
-    ghost literals: { IsTrue (list_all (has_literals (K.size setting.now.kind.now)) lemmas.now) },
+    pub ghost places: { IsTrue (has_places setting.now.study.now.axioms core.now) },
+    pub ghost literals: { IsTrue (list_all (has_literals (K.size setting.now.kind.now)) lemmas.now) },
 }

@@ -8,7 +8,8 @@ mod lines;
 mod reasons;
 mod stories;
 
-pub use lemmas::check_lemma;
-pub use lines::{suppose, take_step};
-pub use reasons::refutes;
-pub use stories::{Story, check_story};
+pub use grounds::Grounds;
+pub use lemmas::CheckableLemma;
+pub use lines::suppose;
+pub use reasons::KnownLiterals;
+pub use stories::{CheckableStory, Story, check_story};

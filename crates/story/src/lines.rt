@@ -1,19 +1,16 @@
 //! The lines of a lemma, one by one, over a board of what the lines before say.
 
-ghost use Rattle.std.specs.Prelude.{◌≡◌, [], ◌∷◌, ◌++◌, IsTrue, IsFalse, OnOk, OnErr};
-ghost use Rattle.std.specs.List.{list_all};
-ghost use Rattle.vocab.specs.Literal.{opposite_of};
+ghost use Rattle.std.specs.Prelude.{◌≡◌, [], ◌∷◌, ◌++◌, IsTrue, OnOk, OnErr};
 ghost use Rattle.meaning.specs.Literals.{is_literal};
-ghost use Rattle.meaning.specs.Stories.{is_decided, has_literals};
-ghost use Rattle.meaning.specs.StoryFaults.{reason_fault};
+ghost use Rattle.meaning.specs.Stories.{is_decided};
 ghost use Rattle.story.specs.Answers.{AnswersFault};
-ghost use Rattle.story.specs.Conditions.{has_places};
 ghost use Rattle.story.specs.Lines.{supposition_fault, step_fault};
 
 use crate::grounds::Grounds;
-use meaning::{Lemma, StoryFault, StoryStep};
-use outcomes::{OutcomeKind, Setting};
-use vocab::{Literal, Places, Study};
+use crate::reasons::KnownLiterals;
+use meaning::{StoryFault, StoryStep};
+use outcomes::OutcomeKind;
+use vocab::Literal;
 use worlds::Board;
 
 /// Supposes a literal: it comes on the board. Else `Supposes` in the last lemma, which may have no
@@ -36,40 +33,11 @@ pub fn suppose(final_one: bool, board: &mut Board, literal: &Literal) -> Result<
     Ok(())
 }
 
-/// Takes a step: its literal comes on the board. Else `Known` where the literal or its opposite is on the
-/// board, and the fault of its reason, which has to refute the board with the opposite of the literal; the
-/// literals of the board then stay. No memory is taken.
-pub fn take_step<K: OutcomeKind>(
-    kind: &K,
-    study: &Study,
-    core: &Places,
-    earlier: &[Lemma],
-    board: &mut Board,
-    step: &StoryStep,
-) -> Result<(), StoryFault>
-    requires study { study.now.size ≡ K.size kind.now }
-    requires board { board.old.size ≡ K.size kind.now }
-    requires core { IsTrue (has_places study.now.axioms core.now) }
-    requires earlier { IsTrue (list_all (has_literals (K.size kind.now)) earlier.now) }
-    requires literal { IsTrue (is_literal (K.size kind.now) step.now.literal) }
-    ensures fault { AnswersFault result (step_fault (K.size kind.now) study.now.axioms core.now earlier.now
-        board.old.literals step.now) }
-    ensures size { board.new.size ≡ board.old.size }
-    ensures ok { OnOk result (board.new.literals ≡ board.old.literals ++ step.now.literal ∷ []) }
-    ensures err { OnErr result (board.new.literals ≡ board.old.literals) }
-{
-    let setting = Setting { kind, study };
-    let grounds = Grounds {
-        setting: &setting,
-        core,
-        lemmas: earlier,
-    };
-    grounds.take_step(board, step)
-}
-
 impl<K: OutcomeKind> Grounds<'_, K> {
-    /// Takes a step: its literal comes on the board.
-    pub(crate) fn take_step(&self, board: &mut Board, step: &StoryStep) -> Result<(), StoryFault>
+    /// Takes a step: its literal comes on the board. Else `Known` where the literal or its opposite is on the
+    /// board, and the fault of its reason, which has to refute the board with the opposite of the literal;
+    /// the literals of the board then stay. No memory is taken.
+    pub fn take_step(&self, board: &mut Board, step: &StoryStep) -> Result<(), StoryFault>
         requires board { board.old.size ≡ K.size self.now.setting.now.kind.now }
         requires literal { IsTrue (is_literal (K.size self.now.setting.now.kind.now) step.now.literal) }
         ensures fault { AnswersFault result (step_fault (K.size self.now.setting.now.kind.now)
@@ -82,27 +50,20 @@ impl<K: OutcomeKind> Grounds<'_, K> {
         if is_decided(board, &step.literal) {
             return Err(StoryFault::Known);
         }
-        self.force(board, step)?;
-        board.add(&step.literal);
-        Ok(())
-    }
-
-    /// Whether the reason of a step refutes the board with the opposite of the step's literal.
-    fn force(&self, board: &mut Board, step: &StoryStep) -> Result<(), StoryFault>
-        requires board { board.old.size ≡ K.size self.now.setting.now.kind.now }
-        requires literal { IsTrue (is_literal (K.size self.now.setting.now.kind.now) step.now.literal) }
-        requires fresh { IsFalse (is_decided board.old.literals step.now.literal) }
-        ensures fault { AnswersFault result (reason_fault (K.size self.now.setting.now.kind.now)
-            self.now.setting.now.study.now.axioms self.now.core.now self.now.lemmas.now
-            (board.old.literals ++ opposite_of step.now.literal ∷ []) step.now.reason) }
-        ensures size { board.new.size ≡ board.old.size }
-        ensures literals { board.new.literals ≡ board.old.literals }
-    {
         let opposite = step.literal.opposite();
         board.add(&opposite);
-        let answer = self.refutes(board, &step.reason);
+        let known = KnownLiterals {
+            grounds: self,
+            board,
+        };
+        let answer = known.refutes(&step.reason);
         board.remove(&opposite);
-        answer
+        match answer {
+            Ok(()) => {}
+            Err(fault) => return Err(fault),
+        }
+        board.add(&step.literal);
+        Ok(())
     }
 }
 
