@@ -16,10 +16,10 @@ use crate::literals::{is_literal, profile_of};
 use crate::spoken::literals_of;
 use lists::NoMemory;
 use meaning::{Literals, Reason};
-use outcomes::OutcomeKind;
 use outcomes::laws::kinds_have_sizes;
+use outcomes::{OutcomeKind, Setting};
 use std::alloc::Global;
-use story::refutes;
+use story::KnownLiterals;
 use vocab::{Env, Literal, Size};
 use worlds::Board;
 use worlds::laws::bodies_have_values;
@@ -69,14 +69,20 @@ impl<K: OutcomeKind> Facts<'_, K> {
             self.now.board.now.literals reason.now }
     {
         let grounds = self.grounds;
-        match refutes(
-            grounds.kind,
-            grounds.basis.study,
-            grounds.basis.core,
-            grounds.basis.earlier,
-            self.board,
-            reason,
-        ) {
+        let setting = Setting {
+            kind: grounds.kind,
+            study: grounds.basis.study,
+        };
+        let cited = story::Grounds {
+            setting: &setting,
+            core: grounds.basis.core,
+            lemmas: grounds.basis.earlier,
+        };
+        let known = KnownLiterals {
+            grounds: &cited,
+            board: self.board,
+        };
+        match known.refutes(reason) {
             Ok(()) => true,
             Err(_) => false,
         }

@@ -9,8 +9,8 @@ use meaning::Lemma;
 use outcomes::{OutcomeKind, Setting};
 use vocab::Places;
 
-/// What reasons may cite: axioms of a study, and lemmas. The core has places of the study's axioms alone, and
-/// the lemmas have literals of the size alone.
+/// What reasons may cite: the axioms of a core, and lemmas. The core has places of the study's axioms alone,
+/// and the lemmas have literals of the size alone.
 #[derive(Drop)]
 pub struct Grounds<'a, K: OutcomeKind> {
     pub setting: &'a Setting<'a, K>,

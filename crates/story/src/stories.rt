@@ -38,21 +38,21 @@ pub struct CheckableStory<'a, K: OutcomeKind> {
 /// line and its lemma, from 0, `Empty` where there is no lemma, or `NoMemory`.
 pub fn check_story<K: OutcomeKind>(
     alloc: Global,
-    told: &CheckableStory<K>,
+    checkable: &CheckableStory<K>,
 ) -> Result<(), StoryRefusal>
     ensures answer { (result ≡ Err StoryRefusal.NoMemory) ⊎
-        AnswersFault result (story_refusal (K.size told.now.setting.now.kind.now)
-        told.now.setting.now.study.now.axioms told.now.core.now told.now.story.now) }
-    ensures accepted { OnOk result (IsTrue (is_story (K.size told.now.setting.now.kind.now)
-        told.now.setting.now.study.now.axioms told.now.core.now told.now.story.now)) }
+        AnswersFault result (story_refusal (K.size checkable.now.setting.now.kind.now)
+        checkable.now.setting.now.study.now.axioms checkable.now.core.now checkable.now.story.now) }
+    ensures accepted { OnOk result (IsTrue (is_story (K.size checkable.now.setting.now.kind.now)
+        checkable.now.setting.now.study.now.axioms checkable.now.core.now checkable.now.story.now)) }
     ensures no_rule { OnOk result ((table : List ℕ) →
-        ¬ IsTrue (satisfies (K.size told.now.setting.now.kind.now) told.now.setting.now.study.now.axioms
-        told.now.core.now table)) }
+        ¬ IsTrue (satisfies (K.size checkable.now.setting.now.kind.now)
+        checkable.now.setting.now.study.now.axioms checkable.now.core.now table)) }
 {
     faultless_is_accepted();
     accepted_story_has_no_rule();
-    match Board::new(alloc, told.setting.kind) {
-        Ok(mut board) => told.check_lemmas(&mut board),
+    match Board::new(alloc, checkable.setting.kind) {
+        Ok(mut board) => checkable.check_lemmas(&mut board),
         Err(_) => Err(StoryRefusal::NoMemory),
     }
 }

@@ -16,7 +16,7 @@ use premises::{AcceptedStory, tell_story};
 use profiles::Space;
 use std::alloc::Global;
 use std::test::Fail;
-use story::{Story, check_story};
+use story::{CheckableStory, Story, check_story};
 use tellings::StoryTelling;
 use vocab::{Env, Literal, Places, Study};
 
@@ -115,11 +115,16 @@ fn told(alloc: Global, study: &Study, story: &Story) -> Result<StoryTelling, Fai
     let kind = ChoiceKind::new(Space::new(two_and_two()?));
     let mut core = Places::new(alloc);
     core.append(&[0, 1])?;
-    match check_story(alloc, &kind, study, &core, story) {
+    let setting = Setting { kind: &kind, study };
+    let checkable = CheckableStory {
+        setting: &setting,
+        core: &core,
+        story,
+    };
+    match check_story(alloc, &checkable) {
         Ok(()) => {}
         Err(_) => return Err(Fail::from("refused")),
     }
-    let setting = Setting { kind: &kind, study };
     let accepted = AcceptedStory {
         setting: &setting,
         core: &core,

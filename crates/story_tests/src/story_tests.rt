@@ -11,11 +11,11 @@ ghost use Rattle.meaning.proofs.WorkedExamples.{choice};
 use crate::studies_by_text::of_two_axioms;
 use lists::{Items, NoMemory};
 use meaning::{Lemma, PlacedFault, Reason, StoryFault, StoryRefusal, StoryStep};
-use outcomes::ChoiceKind;
+use outcomes::{ChoiceKind, Setting};
 use profiles::Space;
 use std::alloc::Global;
 use std::test::Fail;
-use story::{Story, check_story};
+use story::{CheckableStory, Story, check_story};
 use vocab::{Env, Kind, Literal, Places, Size, Study};
 
 static SYMMETRIC: &str =
@@ -79,7 +79,16 @@ fn answer(
     let mut story = Story::new(alloc);
     story.push(first)?;
     story.push(second)?;
-    Ok(check_story(alloc, &kind, &study, &places, &story))
+    let setting = Setting {
+        kind: &kind,
+        study: &study,
+    };
+    let checkable = CheckableStory {
+        setting: &setting,
+        core: &places,
+        story: &story,
+    };
+    Ok(check_story(alloc, &checkable))
 }
 
 pub(crate) fn axiom_at(place: u32, x: u32) -> Reason {
@@ -206,7 +215,16 @@ fn a_story_has_a_lemma(rt: HostRuntime) -> Result<(), Fail> {
     let kind = ChoiceKind::new(Space::new(two_and_two()?));
     let study = study(alloc)?;
     let (core, story) = (Places::new(alloc), Story::new(alloc));
-    let answer = check_story(alloc, &kind, &study, &core, &story);
+    let setting = Setting {
+        kind: &kind,
+        study: &study,
+    };
+    let checkable = CheckableStory {
+        setting: &setting,
+        core: &core,
+        story: &story,
+    };
+    let answer = check_story(alloc, &checkable);
     assert!(rt; answer == Err(StoryRefusal::Empty));
     Ok(())
 }

@@ -20,7 +20,7 @@ use outcomes::OutcomeKind;
 use report_lines::Place;
 use std::alloc::Global;
 use std::mem::replace;
-use story::{refutes, suppose, take_step};
+use story::{Grounds, KnownLiterals, suppose};
 use verdicts::Refusal;
 use vocab::Literal;
 
@@ -76,14 +76,12 @@ impl Judging {
             literal: *literal,
             reason: *reason,
         };
-        match take_step(
-            subject.setting.kind,
-            subject.setting.study,
-            &self.core,
-            self.earlier.as_slice(),
-            &mut self.board,
-            &step,
-        ) {
+        let grounds = Grounds {
+            setting: &subject.setting,
+            core: &self.core,
+            lemmas: self.earlier.as_slice(),
+        };
+        match grounds.take_step(&mut self.board, &step) {
             Ok(()) => {}
             Err(fault) => return Ok(Some(refusal_of(fault))),
         }
@@ -103,14 +101,16 @@ impl Judging {
             reason.now ≡ held_reason wanted →
             Takes subject.now.setting.study.now s (Clash wanted) self.new result }
     {
-        match refutes(
-            subject.setting.kind,
-            subject.setting.study,
-            &self.core,
-            self.earlier.as_slice(),
-            &self.board,
-            reason,
-        ) {
+        let grounds = Grounds {
+            setting: &subject.setting,
+            core: &self.core,
+            lemmas: self.earlier.as_slice(),
+        };
+        let known = KnownLiterals {
+            grounds: &grounds,
+            board: &self.board,
+        };
+        match known.refutes(reason) {
             Ok(()) => {}
             Err(fault) => return Ok(Some(refusal_of(fault))),
         }
