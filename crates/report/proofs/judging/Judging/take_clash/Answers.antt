@@ -8,12 +8,11 @@ use Rattle.report.proofs.StoryLineLemmas.{refused, accepted, earlier_there, few_
 use Rattle.report.proofs.WitnessLineLemmas.{in_range}
 use Rattle.report.proofs.judging.Judging.take_clash.Goals as goal
 
-pub refutes-requires-clause-core : goal.refutes-requires-clause-core
-refutes-requires-clause-core g c κs within = in_range c.args.subject.now.setting.study.now c.args.self.now c.requires.read
-
-pub refutes-requires-clause-earlier : goal.refutes-requires-clause-earlier
-refutes-requires-clause-earlier g c κs within =
-    earlier_there c.args.subject.now.setting.study.now c.args.self.now c.requires.read (g.K.OutcomeKind.size c.args.subject.now.setting.kind.now) c.as_slice.result.now c.args.subject.now.setting.same c.as_slice.ensures
+pub invariant_of-grounds : goal.invariant_of-grounds
+invariant_of-grounds g c = record {
+  places = in_range c.args.subject.now.setting.study.now c.args.self.now c.requires.read;
+  literals = earlier_there c.args.subject.now.setting.study.now c.args.self.now c.requires.read (g.K.OutcomeKind.size c.args.subject.now.setting.kind.now) c.as_slice.result.now c.args.subject.now.setting.same c.as_slice.ensures;
+}
 
 pub end_lemma-requires : goal.end_lemma-requires
 end_lemma-requires g c = record { room = few_earlier c.args.subject.now.setting.study.now c.args.self.now c.requires.read }

@@ -8,12 +8,11 @@ use Rattle.report.proofs.StoryLineLemmas.{refused, accepted, earlier_there, step
 use Rattle.report.proofs.WitnessLineLemmas.{in_range}
 use Rattle.report.proofs.judging.Judging.take_so.Goals as goal
 
-pub take_step-requires-clause-core : goal.take_step-requires-clause-core
-take_step-requires-clause-core g c κs within = in_range c.args.subject.now.setting.study.now c.args.self.now c.requires.read
-
-pub take_step-requires-clause-earlier : goal.take_step-requires-clause-earlier
-take_step-requires-clause-earlier g c κs within =
-    earlier_there c.args.subject.now.setting.study.now c.args.self.now c.requires.read (g.K.OutcomeKind.size c.args.subject.now.setting.kind.now) c.as_slice.result.now c.args.subject.now.setting.same c.as_slice.ensures
+pub invariant_of-grounds : goal.invariant_of-grounds
+invariant_of-grounds g c = record {
+  places = in_range c.args.subject.now.setting.study.now c.args.self.now c.requires.read;
+  literals = earlier_there c.args.subject.now.setting.study.now c.args.self.now c.requires.read (g.K.OutcomeKind.size c.args.subject.now.setting.kind.now) c.as_slice.result.now c.args.subject.now.setting.same c.as_slice.ensures;
+}
 
 pub returns-in-Err : goal.returns-in-Err
 returns-in-Err g c = λ s wanted h at held.
