@@ -7,37 +7,25 @@ ghost use Rattle.simpler_proofs.specs.Made.{EachPasses, IsProof, has_at_most, is
 ghost use Rattle.simpler_proofs.specs.Search.{IsSearch, IsAtRoot, IsSameSearch};
 
 use crate::formula::Formula;
-use crate::made::finish;
+use crate::made::{Numbered, finish};
 use crate::search::Search;
 use cnf::{Clauses, Derivation, Lit, Lits};
 use lists::{Items, NoMemory};
 use propagate::Trail;
 use std::alloc::Global;
 
-/// The variable at a place of the order that begins after the first ones, and goes on with these.
-fn turned(place: u32, first: u32, variables: u32) -> u32
-    requires place { place < variables }
-    requires first { first ≤ variables }
-    requires few { variables < 2 ^ 31 }
-    ensures least { 1 ≤ result }
-    ensures most { result ≤ variables }
-{
-    if place < variables - first {
-        place + first + 1
-    } else {
-        place - (variables - first) + 1
-    }
-}
-
 /// Both literals of each variable in turn, those of the variables after the first ones before these.
-pub fn literals_in_turn(alloc: Global, variables: u32, first: u32) -> Result<Lits, NoMemory>
-    requires few { variables < 2 ^ 31 }
-    requires first { first ≤ variables }
-{
+pub fn literals_in_turn(alloc: Global, formula: &Formula, first: u32) -> Result<Lits, NoMemory> {
+    let after = formula.variables.saturating_sub(first);
     let mut tried = Items::new(alloc);
-    for place in 0..2 * variables {
-        let variable = turned(place / 2, first, variables);
-        tried.push(Lit::new(variable, place % 2 == 0))?;
+    for place in 0..formula.variables {
+        let variable = if place < after {
+            place + first + 1
+        } else {
+            place - after + 1
+        };
+        tried.push(Lit::new(variable, true))?;
+        tried.push(Lit::new(variable, false))?;
     }
     Ok(tried)
 }
@@ -109,7 +97,10 @@ pub fn by_literals(
     let ended = rounds(alloc, &mut search, tried)?;
     *budget = search.budget;
     if ended {
-        let made = finish(alloc, formula.clauses, &search.lines)?;
+        let lines = Numbered {
+            lines: search.lines,
+        };
+        let made = finish(alloc, formula.clauses, &lines)?;
         return Ok(made);
     }
     Ok(None)
@@ -128,13 +119,12 @@ pub fn by_failed_literals(
 ) -> Result<Option<Derivation>, NoMemory>
     requires few { variables < 2 ^ 31 }
     requires range { All (λ clause. All (λ l. l.variable ≤ variables) clause) clauses.now.clauses }
-    requires first { first ≤ variables }
     ensures proof { IfOk result (λ made. IfSome made (IsProof clauses.now.clauses)) }
     ensures over { IfOk result (λ made. IfSome made (AreOver variables)) }
     ensures single { IfOk result (λ made. IfSome made (EachPasses is_single)) }
 {
     let formula = Formula { clauses, variables };
-    let tried = literals_in_turn(alloc, variables, first)?;
+    let tried = literals_in_turn(alloc, &formula, first)?;
     let made = by_literals(alloc, &formula, tried.as_slice(), 1, budget)?;
     Ok(made)
 }

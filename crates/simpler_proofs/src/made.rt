@@ -18,6 +18,21 @@ use std::alloc::Global;
 /// The most lines before the last two.
 pub const MOST_LINES: usize = 999_998;
 
+/// Lines of which there are at most 1,000,000.
+#[derive(Drop)]
+pub(crate) struct FewLines<'a> {
+    pub(crate) lines: &'a [Line],
+    pub ghost few: { length lines.now ≤ 1000000 },
+}
+
+/// Lines that are made, at most 1,000,000, each with a number that has a next one.
+#[derive(Drop)]
+pub(crate) struct Numbered {
+    pub(crate) lines: Derivation,
+    pub ghost few: { length lines ≤ 1000000 },
+    pub ghost numbers: { IsTrue (list_all has_next lines) },
+}
+
 /// The ids of clauses that are numbered from 0.
 fn ids(alloc: Global, numbers: &[u32]) -> Result<Ids, NoMemory> {
     let mut ids = Items::with_room(alloc, numbers.len())?;
@@ -122,16 +137,14 @@ pub fn assume(trail: &mut Trail, lit: Lit, budget: &mut u32) -> Option<u32>
 pub fn finish(
     alloc: Global,
     clauses: &Clauses,
-    lines: &Derivation,
+    made: &Numbered,
 ) -> Result<Option<Derivation>, NoMemory>
-    requires few { length lines.now ≤ 1000000 }
-    requires numbers { IsTrue (list_all has_next lines.now) }
-    ensures proof { IfOk result (λ made. IfSome made (IsProof clauses.now.clauses)) }
-    ensures passes { IfOk result (λ made. IfSome made (λ new. (test : Clause → Bool) →
-        EachPasses test lines.now → EachPasses test new)) }
+    ensures proof { IfOk result (λ proof. IfSome proof (IsProof clauses.now.clauses)) }
+    ensures passes { IfOk result (λ proof. IfSome proof (λ new. (test : Clause → Bool) →
+        EachPasses test made.now.lines → EachPasses test new)) }
 {
-    match check(alloc, clauses, lines) {
-        Ok(()) => Ok(Some(trim(alloc, clauses, lines)?)),
+    match check(alloc, clauses, &made.lines) {
+        Ok(()) => Ok(Some(trim(alloc, clauses, &made.lines)?)),
         Err(CheckFault::Line { .. }) => Ok(None),
         Err(CheckFault::NoMemory) => Err(NoMemory),
     }

@@ -5,7 +5,7 @@ ghost use Rattle.std.specs.List.{list_all};
 ghost use Rattle.lrat_check.specs.Ranges.{has_next};
 ghost use Rattle.simpler_proofs.specs.Made.{HasHintsOf, AreReordered, IsProof};
 
-use crate::made::{MOST_LINES, finish};
+use crate::made::{FewLines, MOST_LINES, Numbered, finish};
 use crate::rebuilding::{add_line, clause_of_line};
 use crate::turns::{Sources, hints_in_turn};
 use cnf::{Clauses, Derivation, Line, Step};
@@ -90,14 +90,13 @@ fn in_turn(
     alloc: Global,
     clauses: &Clauses,
     variables: u32,
-    lines: &[Line],
-) -> Result<Derivation, NoMemory>
-    requires few { length lines.now ≤ 1000000 }
-    ensures few { IfOk result (λ made. length made ≤ 1000000) }
-    ensures numbers { IfOk result (λ made. IsTrue (list_all has_next made)) }
-{
+    given: &FewLines,
+) -> Result<Numbered, NoMemory> {
+    let lines = given.lines;
     let mut sources = Sources::new(alloc, variables)?;
-    let mut made = Items::new(alloc);
+    let mut made = Numbered {
+        lines: Items::new(alloc),
+    };
     for k in 0..lines.len() {
         let hints = hints_in_turn(alloc, clauses, &lines[..k], &lines[k], &mut sources)?;
         let mut clause = Items::new(alloc);
@@ -125,8 +124,11 @@ pub fn ordered(
     if given.len() > MOST_LINES {
         return Ok(given);
     }
-    let lines = in_turn(alloc, clauses, variables, given.as_slice())?;
-    match finish(alloc, clauses, &lines)? {
+    let few = FewLines {
+        lines: given.as_slice(),
+    };
+    let numbered = in_turn(alloc, clauses, variables, &few)?;
+    match finish(alloc, clauses, &numbered)? {
         None => Ok(given),
         Some(made) => {
             if are_reordered(alloc, &given, &made)? {

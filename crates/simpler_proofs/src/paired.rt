@@ -6,11 +6,11 @@ ghost use Rattle.cnf.specs.Fresh.{AreOver, added_by};
 ghost use Rattle.simpler_proofs.specs.Made.{ArePaired, EachPasses, IsProof, is_pair};
 
 use crate::failed_literals::{by_literals, literals_in_turn};
-use crate::formula::Formula;
+use crate::formula::{Formula, Given};
 use crate::leaving_out::shorter;
 use crate::needed::are_needed;
 use crate::rebuilding::clause_of_line;
-use crate::vivification::vivify;
+use crate::vivification::by_vivification;
 use cnf::{Clauses, Derivation, Ids, Line, Step};
 use lists::{Items, NoMemory};
 use std::alloc::Global;
@@ -62,20 +62,36 @@ fn all_but(alloc: Global, lines: &Derivation, place: usize) -> Result<Derivation
     Ok(rest)
 }
 
+/// A formula, and lines each clause of which has at most two literals, of no other variables.
+#[derive(Drop)]
+struct Pairs<'f, 'a> {
+    formula: &'f Formula<'a>,
+    lines: &'f Derivation,
+    ghost over: { AreOver formula.now.variables lines.now },
+    ghost pairs: { EachPasses is_pair lines.now },
+}
+
+/// A formula, and a refutation of it in which each clause has at most two literals, of no other variables.
+#[derive(Drop)]
+struct PairProof<'f, 'a> {
+    formula: &'f Formula<'a>,
+    lines: Derivation,
+    ghost proof: { IsProof formula.now.clauses.now.clauses lines },
+    ghost over: { AreOver formula.now.variables lines },
+    ghost pairs: { EachPasses is_pair lines },
+}
+
 /// A refutation by parts of clauses that have at most two literals.
-fn by_parts(
-    alloc: Global,
-    formula: &Formula,
-    given: &Derivation,
-    budget: u32,
-) -> Result<Option<Derivation>, NoMemory>
-    requires over { AreOver formula.now.variables given.now }
-    requires pairs { EachPasses is_pair given.now }
-    ensures proof { IfOk result (λ made. IfSome made (IsProof formula.now.clauses.now.clauses)) }
-    ensures over { IfOk result (λ made. IfSome made (AreOver formula.now.variables)) }
+fn by_parts(alloc: Global, pairs: &Pairs, budget: u32) -> Result<Option<Derivation>, NoMemory>
+    ensures proof { IfOk result (λ made. IfSome made (IsProof pairs.now.formula.now.clauses.now.clauses)) }
+    ensures over { IfOk result (λ made. IfSome made (AreOver pairs.now.formula.now.variables)) }
     ensures pairs { IfOk result (λ made. IfSome made (EachPasses is_pair)) }
 {
-    let made = vivify(alloc, formula.clauses, formula.variables, given, budget)?;
+    let given = Given {
+        formula: pairs.formula,
+        lines: pairs.lines,
+    };
+    let made = by_vivification(alloc, &given, budget)?;
     Ok(made)
 }
 
@@ -83,25 +99,26 @@ fn by_parts(
 /// propagation may make.
 fn without(
     alloc: Global,
-    formula: &Formula,
-    lines: Derivation,
+    given: PairProof,
     place: usize,
     budget: u32,
 ) -> Result<Option<Derivation>, NoMemory>
-    requires proof { IsProof formula.now.clauses.now.clauses lines }
-    requires over { AreOver formula.now.variables lines }
-    requires pairs { EachPasses is_pair lines }
-    ensures proof { IfOk result (λ made. IfSome made (IsProof formula.now.clauses.now.clauses)) }
-    ensures over { IfOk result (λ made. IfSome made (AreOver formula.now.variables)) }
+    ensures proof { IfOk result (λ made. IfSome made
+        (IsProof given.entry.formula.now.clauses.now.clauses)) }
+    ensures over { IfOk result (λ made. IfSome made (AreOver given.entry.formula.now.variables)) }
     ensures pairs { IfOk result (λ made. IfSome made (EachPasses is_pair)) }
 {
-    if place.saturating_add(1) >= lines.len() {
-        return Ok(Some(lines));
+    if place.saturating_add(1) >= given.lines.len() {
+        return Ok(Some(given.lines));
     }
-    let rest = all_but(alloc, &lines, place)?;
-    match by_parts(alloc, formula, &rest, budget)? {
-        None => Ok(Some(lines)),
-        Some(made) => Ok(shorter(Some(lines), made)),
+    let rest = all_but(alloc, &given.lines, place)?;
+    let pairs = Pairs {
+        formula: given.formula,
+        lines: &rest,
+    };
+    match by_parts(alloc, &pairs, budget)? {
+        None => Ok(Some(given.lines)),
+        Some(made) => Ok(shorter(Some(given.lines), made)),
     }
 }
 
@@ -116,23 +133,18 @@ fn share_of(count: usize) -> u32 {
 /// A refutation by the clauses of a given one, or by fewer of them: each line is left out in turn, from the last
 /// to the first, and stays so where that has fewer hints. Each try may take as many entries, clauses and
 /// variables as the others.
-fn with_fewer_lines(
-    alloc: Global,
-    formula: &Formula,
-    given: Derivation,
-) -> Result<Option<Derivation>, NoMemory>
-    requires proof { IsProof formula.now.clauses.now.clauses given }
-    requires over { AreOver formula.now.variables given }
-    requires pairs { EachPasses is_pair given }
-    ensures proof { IfOk result (λ made. IfSome made (IsProof formula.now.clauses.now.clauses)) }
-    ensures over { IfOk result (λ made. IfSome made (AreOver formula.now.variables)) }
+fn with_fewer_lines(alloc: Global, given: PairProof) -> Result<Option<Derivation>, NoMemory>
+    ensures proof { IfOk result (λ made. IfSome made
+        (IsProof given.entry.formula.now.clauses.now.clauses)) }
+    ensures over { IfOk result (λ made. IfSome made (AreOver given.entry.formula.now.variables)) }
     ensures pairs { IfOk result (λ made. IfSome made (EachPasses is_pair)) }
 {
-    let count = given.len();
+    let formula = given.formula;
+    let count = given.lines.len();
     let share = share_of(count)
         .saturating_sub(formula.clauses.len())
         .saturating_sub(formula.variables);
-    let mut best = Some(given);
+    let mut best = Some(given.lines);
     if share == 0 {
         return Ok(best);
     }
@@ -141,7 +153,7 @@ fn with_fewer_lines(
             return Ok(None);
         };
         let place = count.saturating_sub(turn).saturating_sub(1);
-        best = without(alloc, formula, lines, place, share)?;
+        best = without(alloc, PairProof { formula, lines }, place, share)?;
     }
     Ok(best)
 }
@@ -157,11 +169,15 @@ fn shortest(alloc: Global, formula: &Formula) -> Result<Option<Derivation>, NoMe
     let mut best = None;
     for turn in 0..ORDERS {
         let first = turn * (formula.variables / ORDERS);
-        let tried = literals_in_turn(alloc, formula.variables, first)?;
+        let tried = literals_in_turn(alloc, formula, first)?;
         match by_literals(alloc, formula, tried.as_slice(), 2, &mut budget)? {
             None => return Ok(best),
             Some(made) => {
-                if let Some(fewer) = with_fewer_lines(alloc, formula, made)? {
+                let given = PairProof {
+                    formula,
+                    lines: made,
+                };
+                if let Some(fewer) = with_fewer_lines(alloc, given)? {
                     best = shorter(best, fewer);
                 }
             }

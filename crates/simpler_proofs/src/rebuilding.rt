@@ -8,7 +8,7 @@ ghost use Rattle.lrat_check.specs.Ranges.{has_next};
 ghost use Rattle.simpler_proofs.specs.Made.{EachPasses, IsProof, all_added, clause_of_id, is_single};
 
 use crate::literal_sets::{LiteralSet, Standing, add_clause, clause_at, origin_at, service};
-use crate::made::{MOST_LINES, finish};
+use crate::made::{FewLines, MOST_LINES, Numbered, finish};
 use crate::thinning::thin;
 use crate::ways::Way;
 use cnf::{Clauses, Derivation, Ids, Line, Lit, Lits, Step};
@@ -206,18 +206,16 @@ pub fn add_line(
     clauses: &Clauses,
     clause: Lits,
     hints: Ids,
-    lines: &mut Derivation,
+    made: &mut Numbered,
 ) -> Result<(), NoMemory>
-    requires few { length lines.old < 1000000 }
-    requires numbers { IsTrue (list_all has_next lines.old) }
-    ensures more { OnOk result (length lines.new ≡ length lines.old + 1) }
-    ensures numbers { OnOk result (IsTrue (list_all has_next lines.new)) }
-    ensures passes { OnOk result ((test : Clause → Bool) → IsTrue (test clause) →
-        EachPasses test lines.old → EachPasses test lines.new) }
+    requires room { length made.old.lines < 1000000 }
+    ensures more { OnOk result (length made.new.lines ≡ length made.old.lines + 1) }
+    ensures passes { (test : Clause → Bool) → IsTrue (test clause) →
+        EachPasses test made.old.lines → EachPasses test made.new.lines }
 {
-    let at = lines.len() as u32 + 1;
+    let at = made.lines.len() as u32 + 1;
     let id = clauses.len() as u64 + at as u64;
-    lines.push(Line {
+    made.lines.push(Line {
         at,
         step: Step::Add { id, clause, hints },
     })?;
@@ -240,26 +238,29 @@ fn single_clause(alloc: Global, variables: u32, supposed: Option<Lit>) -> Result
     Ok(clause)
 }
 
+/// Lines that are made, each clause of which has at most one literal, with one of so many variables.
+#[derive(Drop)]
+struct Singles {
+    variables: u32,
+    made: Numbered,
+    ghost over: { AreOver variables made.lines },
+    ghost single: { EachPasses is_single made.lines },
+}
+
 /// Adds a line whose clause is the opposite of what is supposed.
 fn add_single(
     alloc: Global,
     clauses: &Clauses,
-    variables: u32,
     supposed: Option<Lit>,
     hints: Ids,
-    lines: &mut Derivation,
+    singles: &mut Singles,
 ) -> Result<(), NoMemory>
-    requires few { length lines.old < 1000000 }
-    requires numbers { IsTrue (list_all has_next lines.old) }
-    requires over { AreOver variables lines.old }
-    requires single { EachPasses is_single lines.old }
-    ensures more { OnOk result (length lines.new ≡ length lines.old + 1) }
-    ensures numbers { OnOk result (IsTrue (list_all has_next lines.new)) }
-    ensures over { OnOk result (AreOver variables lines.new) }
-    ensures single { OnOk result (EachPasses is_single lines.new) }
+    requires room { length singles.old.made.lines < 1000000 }
+    ensures more { OnOk result (length singles.new.made.lines ≡ length singles.old.made.lines + 1) }
+    ensures variables { singles.new.variables ≡ singles.old.variables }
 {
-    let clause = single_clause(alloc, variables, supposed)?;
-    add_line(clauses, clause, hints, lines)?;
+    let clause = single_clause(alloc, singles.variables, supposed)?;
+    add_line(clauses, clause, hints, &mut singles.made)?;
     Ok(())
 }
 
@@ -269,23 +270,24 @@ fn thin_lines(
     clauses: &Clauses,
     part: &Clauses,
     variables: u32,
-    lines: &[Line],
+    given: &FewLines,
     budget: &mut u32,
-) -> Result<Derivation, NoMemory>
-    requires few { length lines.now ≤ 1000000 }
-    ensures few { IfOk result (λ made. length made ≤ 1000000) }
-    ensures numbers { IfOk result (λ made. IsTrue (list_all has_next made)) }
-    ensures over { IfOk result (AreOver variables) }
-    ensures single { IfOk result (EachPasses is_single) }
+) -> Result<Singles, NoMemory>
+    ensures variables { IfOk result (λ singles. singles.variables ≡ variables) }
 {
-    let mut made = Items::new(alloc);
+    let lines = given.lines;
+    let mut singles = Singles {
+        variables,
+        made: Numbered {
+            lines: Items::new(alloc),
+        },
+    };
     for k in 0..lines.len() {
         let line = &lines[k];
         let hints = thin_hints(alloc, clauses, part, variables, &lines[..k], line, budget)?;
-        let supposed = supposed_of(line);
-        add_single(alloc, clauses, variables, supposed, hints, &mut made)?;
+        add_single(alloc, clauses, supposed_of(line), hints, &mut singles)?;
     }
-    Ok(made)
+    Ok(singles)
 }
 
 /// A refutation of all clauses from one of a part of them, of which each clause has at most one literal: each
@@ -307,14 +309,10 @@ pub fn thinned(
     if lines.len() > MOST_LINES {
         return Ok(None);
     }
-    let made = thin_lines(
-        alloc,
-        clauses,
-        part,
-        variables,
-        lines.as_slice(),
-        &mut budget,
-    )?;
-    let proof = finish(alloc, clauses, &made)?;
+    let given = FewLines {
+        lines: lines.as_slice(),
+    };
+    let singles = thin_lines(alloc, clauses, part, variables, &given, &mut budget)?;
+    let proof = finish(alloc, clauses, &singles.made)?;
     Ok(proof)
 }

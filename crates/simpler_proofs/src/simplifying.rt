@@ -5,12 +5,12 @@ ghost use Rattle.cnf.specs.Fresh.{AreOver};
 ghost use Rattle.simpler_proofs.specs.Made.{EachPasses, IsProof, AreSimpler, is_single};
 
 use crate::failed_literals::{by_literals, literals_in_turn};
-use crate::formula::Formula;
+use crate::formula::{Formula, Given};
 use crate::leaving_out::{mark_cited, marked_clauses, shorter, with_fewer_lines};
 use crate::ordering::ordered;
 use crate::paired::by_two;
 use crate::rebuilding::thinned;
-use crate::vivification::vivify;
+use crate::vivification::by_vivification;
 use cnf::{Clauses, Derivation};
 use lists::NoMemory;
 use propagate::stay_within;
@@ -44,7 +44,7 @@ fn shortest(
     let mut best = None;
     for turn in 0..ORDERS {
         let first = turn * (formula.variables / ORDERS);
-        let tried = literals_in_turn(alloc, formula.variables, first)?;
+        let tried = literals_in_turn(alloc, formula, first)?;
         match by_literals(alloc, formula, tried.as_slice(), 1, &mut budget)? {
             None => return Ok(best),
             Some(made) => {
@@ -144,24 +144,19 @@ fn by_single(alloc: Global, formula: &Formula) -> Result<Option<Derivation>, NoM
 }
 
 /// A refutation by failed literals, or else by failed literals under one assumption, or else by vivification.
-fn chosen(
-    alloc: Global,
-    formula: &Formula,
-    given: &Derivation,
-) -> Result<Option<Derivation>, NoMemory>
-    requires over { AreOver formula.now.variables given.now }
-    ensures proof { IfOk result (λ made. IfSome made (IsProof formula.now.clauses.now.clauses)) }
-    ensures over { IfOk result (λ made. IfSome made (AreOver formula.now.variables)) }
+fn chosen(alloc: Global, given: &Given) -> Result<Option<Derivation>, NoMemory>
+    ensures proof { IfOk result (λ made. IfSome made (IsProof given.now.formula.now.clauses.now.clauses)) }
+    ensures over { IfOk result (λ made. IfSome made (AreOver given.now.formula.now.variables)) }
     ensures simpler { IfOk result (λ made. IfSome made
-        (AreSimpler formula.now.clauses.now.clauses given.now)) }
+        (AreSimpler given.now.formula.now.clauses.now.clauses given.now.lines.now)) }
 {
-    if let Some(made) = by_single(alloc, formula)? {
+    if let Some(made) = by_single(alloc, given.formula)? {
         return Ok(Some(made));
     }
-    if let Some(made) = by_two(alloc, formula)? {
+    if let Some(made) = by_two(alloc, given.formula)? {
         return Ok(Some(made));
     }
-    let made = vivify(alloc, formula.clauses, formula.variables, given, BUDGET)?;
+    let made = by_vivification(alloc, given, BUDGET)?;
     Ok(made)
 }
 
@@ -186,7 +181,11 @@ pub fn simplify(
     ensures simpler { IfOk result (λ made. IfSome made (AreSimpler clauses.now.clauses given.now)) }
 {
     let formula = Formula { clauses, variables };
-    match chosen(alloc, &formula, given)? {
+    let lines = Given {
+        formula: &formula,
+        lines: given,
+    };
+    match chosen(alloc, &lines)? {
         None => Ok(None),
         Some(made) => {
             let last = ordered(alloc, clauses, variables, made)?;

@@ -10,7 +10,8 @@ ghost use Rattle.propagate.specs.Values.{StaysWithin};
 ghost use Rattle.propagate.specs.TrailState.{IsTrail};
 ghost use Rattle.simpler_proofs.specs.Made.{EachPasses, IsMade, IsPassing, IsProof, is_part_of};
 
-use crate::made::{MOST_LINES, assume, finish, learn, settle};
+use crate::formula::{Formula, Given};
+use crate::made::{MOST_LINES, Numbered, assume, finish, learn, settle};
 use crate::reasons::{mark_forced, reasons, unmark};
 use cnf::{Clauses, Derivation, Line, Lit, Lits, Step};
 use lists::{Items, NoMemory};
@@ -176,6 +177,36 @@ fn shorten_all(
     Ok(false)
 }
 
+/// A refutation of a formula of which each clause is empty or part of one of the given lines', with no more
+/// literals. `budget` is how many entries propagation may make; where it is spent, there is none.
+pub(crate) fn by_vivification(
+    alloc: Global,
+    given: &Given,
+    budget: u32,
+) -> Result<Option<Derivation>, NoMemory>
+    ensures proof { IfOk result (λ made. IfSome made (IsProof given.now.formula.now.clauses.now.clauses)) }
+    ensures over { IfOk result (λ made. IfSome made (AreOver given.now.formula.now.variables)) }
+    ensures parts { IfOk result (λ made. IfSome made (EachPasses (is_part_of given.now.lines.now))) }
+{
+    let formula = given.formula;
+    let mut trail = Trail::new(alloc, formula.clauses, formula.variables)?;
+    let mut seen = vec![in alloc; false; formula.variables as usize]?;
+    let mut lines = Items::new(alloc);
+    if shorten_all(
+        alloc,
+        formula.clauses,
+        &mut trail,
+        &mut seen,
+        &mut lines,
+        budget,
+        given.lines,
+    )? {
+        let made = finish(alloc, formula.clauses, &Numbered { lines })?;
+        return Ok(made);
+    }
+    Ok(None)
+}
+
 /// A refutation of which each clause is empty or part of one of the given lines', with no more literals. No
 /// variable of a clause is above the number of variables. `budget` is how many entries propagation may make;
 /// where it is spent, there is none.
@@ -193,14 +224,11 @@ pub fn vivify(
     ensures over { IfOk result (λ made. IfSome made (AreOver variables)) }
     ensures parts { IfOk result (λ made. IfSome made (EachPasses (is_part_of given.now))) }
 {
-    let mut trail = Trail::new(alloc, clauses, variables)?;
-    let mut seen = vec![in alloc; false; variables as usize]?;
-    let mut lines = Items::new(alloc);
-    if shorten_all(
-        alloc, clauses, &mut trail, &mut seen, &mut lines, budget, given,
-    )? {
-        let made = finish(alloc, clauses, &lines)?;
-        return Ok(made);
-    }
-    Ok(None)
+    let formula = Formula { clauses, variables };
+    let lines = Given {
+        formula: &formula,
+        lines: given,
+    };
+    let made = by_vivification(alloc, &lines, budget)?;
+    Ok(made)
 }

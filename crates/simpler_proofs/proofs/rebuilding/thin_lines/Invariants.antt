@@ -1,15 +1,9 @@
-use Rattle.std.proofs.Common.{◌≡◌, true, length}
-use Rattle.std.specs.List.{list_all}
-use Rattle.cnf.specs.Fresh.{AreOver}
-use Rattle.lrat_check.specs.Ranges.{has_next}
-use Rattle.simpler_proofs.specs.Made.{EachPasses, is_single}
+use Rattle.std.proofs.Common.{◌≡◌, length}
 use Rattle.simpler_proofs.proofs.rebuilding.thin_lines.Given as goal
 
 abbrev pub invariant-loop-k : goal.invariant-loop-k
 invariant-loop-k l = record {
   end : l.k-end ≡ length l.lines;
-  count : length l.made ≡ l.k;
-  numbers : list_all has_next l.made ≡ true;
-  over : AreOver l.variables l.made;
-  single : EachPasses is_single l.made;
+  count : length l.singles.made.lines ≡ l.k;
+  variables : l.singles.variables ≡ l.variables;
 }
