@@ -13,23 +13,15 @@ use Rattle.cnf.proofs.LitLaws.{all_members}
 use Rattle.cnf.specs.Fresh.{AreOver, added_by, is_over}
 use Rattle.cnf.specs.declared.derivations.Line.{Line}
 use Rattle.propagate.specs.Values.{StaysWithin}
-use Rattle.propagate.specs.TrailState.{TrailState}
-use Rattle.simpler_proofs.specs.Made.{EachPasses, IsMade, IsPassing, is_pair, is_part, is_part_of, has_at_most}
+use Rattle.simpler_proofs.specs.Made.{EachPasses, is_pair, is_part, is_part_of, has_at_most}
 
 -- the variables of a clause that is over so many
 pub stays_within : (n : ℕ) (clause : Clause) → is_over n clause ≡ true → StaysWithin n clause
 stays_within n clause h i d lt = leb-true _ _ (and_parts _ _ (all_read (λ (l : Signed). nat_le 1 l.variable && nat_le l.variable n) clause i d lt h)).1
 
--- propagation at level 0 adds at most the empty clause
-pub passing_settled : (test : Clause → Bool) (input : List Clause) (old new : TrailState) (marks before : List Bool) (lines more : List Line) → test [] ≡ true → IsPassing test input old before lines →
-    IsMade input new more → length marks ≡ new.variables → new.variables ≡ old.variables →
-    ((t : Clause → Bool) → t [] ≡ true → EachPasses t lines → EachPasses t more) → IsPassing test input new marks more
-passing_settled test input old new marks before lines more empty p made seen variables passes = record {
-  made = made;
-  seen = seen;
-  over = subst (λ (n : ℕ). AreOver n more) (sym variables) (passes (is_over old.variables) refl p.over);
-  passes = passes test empty p.passes;
-}
+-- what is added at level 0 is empty
+pub over_settled : (n m : ℕ) (lines more : List Line) → m ≡ n → AreOver n lines → ((test : Clause → Bool) → test [] ≡ true → EachPasses test lines → EachPasses test more) → AreOver m more
+over_settled n m lines more same over passes = subst (λ (v : ℕ). AreOver v more) (sym same) (passes (is_over n) refl over)
 
 -- a test of each clause is one of the clause at a place
 pub each_at : (test : Clause → Bool) (lines : List Line) (i : ℕ) (d : Line) → EachPasses test lines → i < length lines → test (added_by (get_or lines i d).step) ≡ true
@@ -43,36 +35,24 @@ part_of given i d part lt few h =
     let contained : contains_clause whole part ≡ true = h (has_lit whole) (all_members (has_lit whole) whole (λ k e. e)) in
     or_right (is_empty_clause part) _ (list_any_at (λ (g : Line). is_part (added_by g.step) part) given i d lt (and_from _ _ contained (le-leb (length part) (length whole) few)))
 
+-- each part of a clause passes a test: a clause that is no longer, and of no other literals
+abbrev pub PartsPass : (Clause → Bool) → Clause → Type 0
+PartsPass test clause = (part : Clause) → length part ≤ length clause → ((pass : Signed → Bool) → list_all pass clause ≡ true → list_all pass part ≡ true) → test part ≡ true
+
 -- what is left of a clause is added
-pub passing_left : (test : Clause → Bool) (input : List Clause) (old new : TrailState) (marks before : List Bool) (lines more : List Line) (clause : Clause) → is_over old.variables clause ≡ true →
-    ((part : Clause) → length part ≤ length clause → ((pass : Signed → Bool) → list_all pass clause ≡ true → list_all pass part ≡ true) → test part ≡ true) →
-    IsPassing test input old before lines → IsMade input new more → length marks ≡ new.variables → new.variables ≡ old.variables →
-    ((t : Clause → Bool) → ((part : Clause) → length part ≤ length clause → ((pass : Signed → Bool) → list_all pass clause ≡ true → list_all pass part ≡ true) → t part ≡ true) →
-    EachPasses t lines → EachPasses t more) → IsPassing test input new marks more
-passing_left test input old new marks before lines more clause over fits p made seen variables passes = record {
-  made = made;
-  seen = seen;
-  over = subst (λ (n : ℕ). AreOver n more) (sym variables)
-      (passes (is_over old.variables) (λ part few h. h (λ (l : Signed). nat_le 1 l.variable && nat_le l.variable old.variables) over) p.over);
-  passes = passes test fits p.passes;
-}
+pub over_left : (n m : ℕ) (lines more : List Line) (clause : Clause) → m ≡ n → is_over n clause ≡ true → AreOver n lines → ((test : Clause → Bool) → PartsPass test clause → EachPasses test lines → EachPasses test more) → AreOver m more
+over_left n m lines more clause same in_range over passes = subst (λ (v : ℕ). AreOver v more) (sym same)
+    (passes (is_over n) (λ part few h. h (λ (l : Signed). nat_le 1 l.variable && nat_le l.variable n) in_range) over)
 
--- what is left of a clause with few literals is added
-pub passing_short : (most : ℕ) (input : List Clause) (old new : TrailState) (marks before : List Bool) (lines more : List Line) (clause : Clause) → is_over old.variables clause ≡ true → length clause ≤ most →
-    IsPassing (has_at_most most) input old before lines → IsMade input new more → length marks ≡ new.variables → new.variables ≡ old.variables →
-    ((t : Clause → Bool) → ((part : Clause) → length part ≤ length clause → ((pass : Signed → Bool) → list_all pass clause ≡ true → list_all pass part ≡ true) → t part ≡ true) →
-    EachPasses t lines → EachPasses t more) → IsPassing (has_at_most most) input new marks more
-passing_short most input old new marks before lines more clause over short =
-    passing_left (has_at_most most) input old new marks before lines more clause over (λ part few h. le-leb _ _ (omega (arith, few, short)))
+-- what is left of a clause with few literals
+pub short_left : (most : ℕ) (lines more : List Line) (clause : Clause) → length clause ≤ most → EachPasses (has_at_most most) lines → ((test : Clause → Bool) → PartsPass test clause → EachPasses test lines → EachPasses test more) → EachPasses (has_at_most most) more
+short_left most lines more clause short h passes = passes (has_at_most most) (λ part few _. le-leb _ _ (omega (arith, few, short))) h
 
--- what is left of the clause of a given line is added
-pub passing_shortened : (given : List Line) (input : List Clause) (old new : TrailState) (marks before : List Bool) (lines more : List Line) (i : ℕ) (d : Line) → i < length given → AreOver old.variables given →
-    IsPassing (is_part_of given) input old before lines → IsMade input new more → length marks ≡ new.variables → new.variables ≡ old.variables →
-    ((t : Clause → Bool) → ((part : Clause) → length part ≤ length (added_by (get_or given i d).step) → ((pass : Signed → Bool) → list_all pass (added_by (get_or given i d).step) ≡ true → list_all pass part ≡ true) → t part ≡ true) →
-    EachPasses t lines → EachPasses t more) → IsPassing (is_part_of given) input new marks more
-passing_shortened given input old new marks before lines more i d lt over p made seen variables passes =
-    passing_left (is_part_of given) input old new marks before lines more (added_by (get_or given i d).step) (each_at (is_over old.variables) given i d over lt)
-    (λ part few h. part_of given i d part lt few h) p made seen variables passes
+-- what is left of the clause of a given line
+pub parts_left : (given lines more : List Line) (i : ℕ) (d : Line) (clause : Clause) → i < length given → added_by (get_or given i d).step ≡ clause → EachPasses (is_part_of given) lines →
+    ((test : Clause → Bool) → PartsPass test clause → EachPasses test lines → EachPasses test more) → EachPasses (is_part_of given) more
+parts_left given lines more i d clause lt at h passes = passes (is_part_of given)
+    (subst (PartsPass (is_part_of given)) at (λ part few all. part_of given i d part lt few all)) h
 
 -- a part of a clause of at most two literals has at most two
 pair_of_part : (whole part : Clause) → is_pair whole ≡ true → is_part whole part ≡ true → is_pair part ≡ true

@@ -1,16 +1,15 @@
 -- Derivations that are made in place of a given one.
-use Rattle.std.specs.Prelude.{◌≡◌, ℕ, zero, suc, ◌+◌, ◌-◌, ◌<◌, ◌≤◌, ◌^◌, nat_le, ◌&&◌, ◌||◌, Bool, List, [], ◌++◌, map, length, get_or, slice_index_or, All, ⊤, IsPermutation, IsTrue, ◌⊎◌}
+use Rattle.std.specs.Prelude.{◌≡◌, ℕ, zero, suc, ◌-◌, ◌<◌, ◌^◌, nat_le, ◌&&◌, ◌||◌, Bool, List, [], ◌++◌, map, length, get_or, slice_index_or, All, ⊤, IsPermutation, IsTrue, ◌⊎◌}
 use Rattle.std.specs.List.{list_all, list_any, Contains}
 use Rattle.cnf.specs.Signed.{Signed}
 use Rattle.cnf.specs.Sat.{Clause, contains_clause}
 use Rattle.cnf.specs.Derived.{IsAccepted}
-use Rattle.cnf.specs.Fresh.{added_by, AreOver}
+use Rattle.cnf.specs.Fresh.{added_by}
 use Rattle.cnf.specs.Trimmed.{is_empty_clause, is_trimmed}
 use Rattle.cnf.specs.declared.derivations.Line.{Line}
 use Rattle.cnf.specs.declared.derivations.Step.{Step}
 use Rattle.cnf.specs.declared.derivations.Step.TheVariants.{Add, Drop}
 use Rattle.lrat_check.specs.Ranges.{has_next}
-use Rattle.propagate.specs.TrailState.{TrailState, IsTrail}
 
 -- each clause that the lines add passes a test
 abbrev pub EachPasses : (Clause → Bool) → List Line → Type 0
@@ -76,23 +75,9 @@ pub record AreReordered (given lines : List Line) : Type 0 where
   pub count : length lines ≡ length given
   pub each : (k : ℕ) (d : Line) → k < length given → HasHintsOf (get_or given k d).step (get_or lines k d).step
 
--- a derivation that is being made: the trail is over the clauses and those of the lines
-pub record IsMade (input : List Clause) (t : TrailState) (lines : List Line) : Type 0 where
-  pub form : IsTrail t
-  pub clauses : length t.clauses ≡ length input + length lines
-  pub few : length lines ≤ 1000000
-  pub numbers : IsTrue (list_all has_next lines)
-
 -- a refutation of the clauses in which each line and each hint is needed
 pub record IsProof (input : List Clause) (lines : List Line) : Type 0 where
   pub trimmed : IsTrue (is_trimmed input lines)
   pub accepted : IsAccepted input lines
   pub few : length lines < 2 ^ 32 - 1
   pub numbers : IsTrue (list_all has_next lines)
-
--- such a derivation, each clause of which passes a test and has variables of the trail, beside marks for these
-pub record IsPassing (test : Clause → Bool) (input : List Clause) (t : TrailState) (marks : List Bool) (lines : List Line) : Type 0 where
-  pub made : IsMade input t lines
-  pub seen : length marks ≡ t.variables
-  pub over : AreOver t.variables lines
-  pub passes : EachPasses test lines

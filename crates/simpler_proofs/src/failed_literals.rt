@@ -4,14 +4,13 @@
 ghost use Rattle.std.specs.Prelude.{◌≡◌, ◌<◌, ◌≤◌, ◌^◌, false, All, length, OnOk, IfOk, IfSome};
 ghost use Rattle.cnf.specs.Fresh.{AreOver};
 ghost use Rattle.simpler_proofs.specs.Made.{EachPasses, IsProof, has_at_most, is_single};
-ghost use Rattle.simpler_proofs.specs.Search.{IsSearch, IsAtRoot, IsSameSearch};
+ghost use Rattle.simpler_proofs.specs.Search.{IsAtRoot, IsSameSearch};
 
 use crate::formula::Formula;
-use crate::made::{Numbered, finish};
+use crate::made::{Draft, finish};
 use crate::search::Search;
 use cnf::{Clauses, Derivation, Lit, Lits};
 use lists::{Items, NoMemory};
-use propagate::Trail;
 use std::alloc::Global;
 
 /// Both literals of each variable in turn, those of the variables after the first ones before these.
@@ -34,7 +33,6 @@ pub fn literals_in_turn(alloc: Global, formula: &Formula, first: u32) -> Result<
 /// is whether the clauses are refuted.
 fn round(alloc: Global, search: &mut Search, tried: &[Lit]) -> Result<bool, NoMemory>
     requires root { IsAtRoot search.old }
-    ensures search { OnOk result (IsSearch search.new) }
     ensures root { IfOk result (λ ended. ended ≡ false → IsAtRoot search.new) }
     ensures same { OnOk result (IsSameSearch search.old search.new) }
 {
@@ -48,21 +46,18 @@ fn round(alloc: Global, search: &mut Search, tried: &[Lit]) -> Result<bool, NoMe
 
 /// Goes round until the clauses are refuted, or a round learns nothing.
 fn rounds(alloc: Global, search: &mut Search, tried: &[Lit]) -> Result<bool, NoMemory>
-    requires search { IsSearch search.old }
-    requires level { search.old.trail.level ≡ 0 }
-    requires room { length search.old.lines < 1000000 }
-    ensures search { OnOk result (IsSearch search.new) }
+    requires room { length search.old.draft.lines.items < 1000000 }
     ensures same { OnOk result (IsSameSearch search.old search.new) }
 {
     if search.close(alloc)? {
         return Ok(true);
     }
     for _ in 0..tried.len() {
-        let before = search.lines.len();
+        let before = search.draft.lines.len();
         if round(alloc, search, tried)? {
             return Ok(true);
         }
-        if search.lines.len() == before {
+        if search.draft.lines.len() == before {
             return Ok(false);
         }
     }
@@ -87,20 +82,14 @@ pub fn by_literals(
     ensures short { IfOk result (λ made. IfSome made (EachPasses (has_at_most most))) }
 {
     let mut search = Search {
-        clauses: formula.clauses,
+        draft: Draft::new(alloc, formula, *budget)?,
         most,
-        trail: Trail::new(alloc, formula.clauses, formula.variables)?,
-        seen: vec![in alloc; false; formula.variables as usize]?,
-        lines: Items::new(alloc),
-        budget: *budget,
     };
     let ended = rounds(alloc, &mut search, tried)?;
-    *budget = search.budget;
+    let Search { draft, most: _ } = search;
+    *budget = draft.budget;
     if ended {
-        let lines = Numbered {
-            lines: search.lines,
-        };
-        let made = finish(alloc, formula.clauses, &lines)?;
+        let made = finish(alloc, formula.clauses, &draft.into_lines())?;
         return Ok(made);
     }
     Ok(None)

@@ -6,9 +6,10 @@ ghost use Rattle.cnf.specs.Sat.{Clause};
 ghost use Rattle.lrat_check.specs.Ranges.{has_next};
 ghost use Rattle.propagate.specs.Values.{StaysWithin, IsUnassigned};
 ghost use Rattle.propagate.specs.TrailState.{IsTrail, known};
-ghost use Rattle.simpler_proofs.specs.Made.{EachPasses, IsMade, IsProof};
+ghost use Rattle.simpler_proofs.specs.Made.{EachPasses, IsProof};
 
-use crate::reasons::reasons;
+use crate::formula::Formula;
+use crate::reasons::MarkedTrail;
 use cnf::{Clauses, Derivation, Ids, Line, Lit, Lits, Step};
 use lists::{Items, NoMemory};
 use lrat_check::{CheckFault, check, trim};
@@ -42,71 +43,101 @@ fn ids(alloc: Global, numbers: &[u32]) -> Result<Ids, NoMemory> {
     Ok(ids)
 }
 
-/// Adds a clause after the others, by its hints, to the trail and to the lines.
-pub fn learn(
-    alloc: Global,
-    clauses: &Clauses,
-    trail: &mut Trail,
-    clause: Lits,
-    hints: &[u32],
-    lines: &mut Derivation,
-) -> Result<(), NoMemory>
-    requires made { IsMade clauses.now.clauses trail.old lines.old }
-    requires level { trail.old.level ≡ 0 }
-    requires variables { StaysWithin trail.old.variables clause }
-    requires room { length lines.old < 1000000 }
-    ensures made { OnOk result (IsMade clauses.now.clauses trail.new lines.new) }
-    ensures level { OnOk result (trail.new.level ≡ 0) }
-    ensures variables { OnOk result (trail.new.variables ≡ trail.old.variables) }
-    ensures more { OnOk result (length lines.new ≡ length lines.old + 1) }
-    ensures passes { OnOk result ((test : Clause → Bool) → IsTrue (test clause) →
-        EachPasses test lines.old → EachPasses test lines.new) }
-{
-    let at = lines.len() as u32 + 1;
-    let id = clauses.len() as u64 + at as u64;
-    trail.learn(clause.as_slice())?;
-    let hints = ids(alloc, hints)?;
-    lines.push(Line {
-        at,
-        step: Step::Add { id, clause, hints },
-    })?;
-    Ok(())
+/// A derivation that is being made of clauses: a trail over these and over those that its lines add, with
+/// nothing assumed, the lines, and how many entries propagation may still make.
+#[derive(Drop)]
+pub(crate) struct Draft<'a> {
+    pub(crate) clauses: &'a Clauses,
+    pub(crate) marked: MarkedTrail,
+    pub(crate) lines: Vec<Line>,
+    pub(crate) budget: u32,
+    pub ghost level: { marked.trail.level ≡ 0 },
+    pub ghost count: { length marked.trail.clauses ≡ length clauses.now.clauses + length lines.items },
+    pub ghost few: { length lines.items ≤ 1000000 },
+    pub ghost numbers: { IsTrue (list_all has_next lines.items) },
 }
 
-/// Propagates at level 0. Where a clause is falsified, the empty clause is added, and the answer is true.
-pub fn settle(
-    alloc: Global,
-    clauses: &Clauses,
-    trail: &mut Trail,
-    seen: &mut Vec<bool>,
-    lines: &mut Derivation,
-) -> Result<bool, NoMemory>
-    requires made { IsMade clauses.now.clauses trail.old lines.old }
-    requires seen { length seen.old.items ≡ trail.old.variables }
-    requires level { trail.old.level ≡ 0 }
-    requires room { length lines.old < 1000000 }
-    ensures made { OnOk result (IsMade clauses.now.clauses trail.new lines.new) }
-    ensures seen { OnOk result (length seen.new.items ≡ trail.new.variables) }
-    ensures level { OnOk result (trail.new.level ≡ 0) }
-    ensures variables { OnOk result (trail.new.variables ≡ trail.old.variables) }
-    ensures settled { IfOk result (λ ended. ended ≡ false → trail.new.settled ≡ true) }
-    ensures same { IfOk result (λ ended. ended ≡ false → lines.new ≡ lines.old) }
-    ensures passes { OnOk result ((test : Clause → Bool) → IsTrue (test []) →
-        EachPasses test lines.old → EachPasses test lines.new) }
-{
-    match trail.propagate() {
-        Outcome::Closed => Ok(false),
-        Outcome::Conflict(k) => {
-            let hints = reasons(alloc, trail, seen, k)?;
-            learn(
-                alloc,
-                clauses,
-                trail,
-                Items::new(alloc),
-                hints.as_slice(),
-                lines,
-            )?;
-            Ok(true)
+impl<'a> Draft<'a> {
+    /// The draft without a line over the clauses of a formula.
+    pub(crate) fn new(
+        alloc: Global,
+        formula: &Formula<'a>,
+        budget: u32,
+    ) -> Result<Draft<'a>, NoMemory>
+        ensures variables { IfOk result (λ draft. draft.marked.trail.variables ≡ formula.now.variables) }
+        ensures lines { IfOk result (λ draft. draft.lines.items ≡ []) }
+    {
+        let trail = Trail::new(alloc, formula.clauses, formula.variables)?;
+        let seen = vec![in alloc; false; formula.variables as usize]?;
+        Ok(Draft {
+            clauses: formula.clauses,
+            marked: MarkedTrail { trail, seen },
+            lines: Vec::new(alloc),
+            budget,
+        })
+    }
+
+    /// The lines.
+    pub(crate) fn into_lines(self) -> Numbered
+        ensures { result.lines ≡ self.entry.lines.items }
+    {
+        let Draft {
+            clauses: _,
+            marked: _,
+            lines,
+            budget: _,
+        } = self;
+        Numbered {
+            lines: Items::from_vec(lines),
+        }
+    }
+}
+
+impl Draft<'_> {
+    /// Adds a clause after the others, by its hints, to the trail and to the lines.
+    pub(crate) fn learn(
+        &mut self,
+        alloc: Global,
+        clause: Lits,
+        hints: &[u32],
+    ) -> Result<(), NoMemory>
+        requires variables { StaysWithin self.old.marked.trail.variables clause }
+        requires room { length self.old.lines.items < 1000000 }
+        ensures clauses { self.new.clauses ≡ self.old.clauses }
+        ensures variables { self.new.marked.trail.variables ≡ self.old.marked.trail.variables }
+        ensures more { OnOk result (length self.new.lines.items ≡ length self.old.lines.items + 1) }
+        ensures passes { (test : Clause → Bool) → IsTrue (test clause) →
+            EachPasses test self.old.lines.items → EachPasses test self.new.lines.items }
+    {
+        let at = self.lines.as_slice().len() as u32 + 1;
+        let id = self.clauses.len() as u64 + at as u64;
+        let hints = ids(alloc, hints)?;
+        self.lines.reserve(1)?;
+        self.marked.trail.learn(clause.as_slice())?;
+        self.lines.push_reserved(Line {
+            at,
+            step: Step::Add { id, clause, hints },
+        });
+        Ok(())
+    }
+
+    /// Propagates at level 0. Where a clause is falsified, the empty clause is added, and the answer is true.
+    pub(crate) fn settle(&mut self, alloc: Global) -> Result<bool, NoMemory>
+        requires room { length self.old.lines.items < 1000000 }
+        ensures clauses { self.new.clauses ≡ self.old.clauses }
+        ensures variables { self.new.marked.trail.variables ≡ self.old.marked.trail.variables }
+        ensures settled { IfOk result (λ ended. ended ≡ false → self.new.marked.trail.settled ≡ true) }
+        ensures same { IfOk result (λ ended. ended ≡ false → self.new.lines ≡ self.old.lines) }
+        ensures passes { (test : Clause → Bool) → IsTrue (test []) →
+            EachPasses test self.old.lines.items → EachPasses test self.new.lines.items }
+    {
+        match self.marked.trail.propagate() {
+            Outcome::Closed => Ok(false),
+            Outcome::Conflict(k) => {
+                let hints = self.marked.reasons(alloc, k)?;
+                self.learn(alloc, Items::new(alloc), hints.as_slice())?;
+                Ok(true)
+            }
         }
     }
 }

@@ -1,6 +1,6 @@
 //! The clauses on which a falsified clause rests.
 
-ghost use Rattle.std.specs.Prelude.{◌≡◌, ◌<◌, ◌≤◌, length, OnOk};
+ghost use Rattle.std.specs.Prelude.{◌≡◌, ◌<◌, ◌≤◌, length};
 ghost use Rattle.propagate.specs.Values.{UsesUpTo};
 ghost use Rattle.propagate.specs.TrailState.{IsTrail};
 
@@ -9,25 +9,32 @@ use lists::NoMemory;
 use propagate::Trail;
 use std::alloc::Global;
 
-/// Takes the mark of a variable away, and says whether it had one.
-pub fn unmark(seen: &mut Vec<bool>, variable: u32) -> bool
-    requires low { 1 ≤ variable }
-    requires high { variable ≤ length seen.old.items }
+/// A trail, and a mark for each of its variables.
+#[derive(Drop)]
+pub(crate) struct MarkedTrail {
+    pub(crate) trail: Trail,
+    pub(crate) seen: Vec<bool>,
+    pub ghost form: { ∥ IsTrail trail ∥₁ },
+    pub ghost marks: { length seen.items ≡ trail.variables },
+}
+
+/// Takes the mark of the variable of a literal away, and says whether it had one.
+pub fn unmark(seen: &mut Vec<bool>, lit: Lit) -> bool
+    requires { lit.variable ≤ length seen.old.items }
     ensures { length seen.new.items ≡ length seen.old.items }
 {
-    let place = variable as usize - 1;
+    let place = lit.variable() as usize - 1;
     let had = seen[place];
     seen[place] = false;
     had
 }
 
-/// Marks a variable.
-pub fn mark(seen: &mut Vec<bool>, variable: u32)
-    requires low { 1 ≤ variable }
-    requires high { variable ≤ length seen.old.items }
+/// Marks the variable of a literal.
+pub fn mark(seen: &mut Vec<bool>, lit: Lit)
+    requires { lit.variable ≤ length seen.old.items }
     ensures { length seen.new.items ≡ length seen.old.items }
 {
-    seen[variable as usize - 1] = true;
+    seen[lit.variable() as usize - 1] = true;
 }
 
 /// Marks the variables of a clause.
@@ -36,73 +43,69 @@ fn mark_all(seen: &mut Vec<bool>, clause: &[Lit])
     ensures { length seen.new.items ≡ length seen.old.items }
 {
     for lit in clause {
-        mark(seen, lit.variable());
+        mark(seen, *lit);
     }
 }
 
-/// Marks the variable of the literal that a clause forced, where it is true.
-pub fn mark_forced(trail: &Trail, seen: &mut Vec<bool>, k: u32)
-    requires form { IsTrail trail.now }
-    requires seen { length seen.old.items ≡ trail.now.variables }
-    requires clause { k < length trail.now.clauses }
-    ensures { length seen.new.items ≡ trail.now.variables }
+/// Marks the variable of the literal of a clause that is true.
+fn mark_true(trail: &Trail, seen: &mut Vec<bool>, clause: &[Lit])
+    requires { UsesUpTo (length seen.old.items) clause.now }
+    ensures { length seen.new.items ≡ length seen.old.items }
 {
-    for lit in trail.clause(k) {
+    for lit in clause {
         if trail.value(lit.variable()) == Some(lit.positive()) {
-            mark(seen, lit.variable());
+            mark(seen, *lit);
         }
     }
 }
 
-/// Goes one entry back: a marked one that was forced is replaced by the clause that forced it.
-fn trace(
-    trail: &Trail,
-    place: u32,
-    seen: &mut Vec<bool>,
-    hints: &mut Vec<u32>,
-) -> Result<(), NoMemory>
-    requires form { IsTrail trail.now }
-    requires seen { length seen.old.items ≡ trail.now.variables }
-    requires place { place < length trail.now.entries }
-    ensures { OnOk result (length seen.new.items ≡ trail.now.variables) }
-{
-    let variable = trail.at(place).variable();
-    if !unmark(seen, variable) {
-        return Ok(());
+impl MarkedTrail {
+    /// Marks the variable of the literal that a clause forced, where it is true.
+    #[tactic(auto, using(crate::proofs::Entries::clause_within))]
+    pub(crate) fn mark_forced(&mut self, k: u32)
+        requires { k < length self.old.trail.clauses }
+        ensures { self.new.trail ≡ self.old.trail }
+    {
+        mark_true(&self.trail, &mut self.seen, self.trail.clause(k));
     }
-    match trail.reason(variable) {
-        None => mark(seen, variable),
-        Some(k) => {
-            hints.push(k)?;
-            mark_all(seen, trail.clause(k));
-            let _ = unmark(seen, variable);
-        }
-    }
-    Ok(())
-}
 
-/// The numbers of the clauses on which a falsified clause rests, each the reason of an entry and in their
-/// order, and its own number last. The variables that are marked are then those of the decided entries on
-/// which it rests, where none was marked before.
-pub fn reasons(
-    alloc: Global,
-    trail: &Trail,
-    seen: &mut Vec<bool>,
-    conflict: u32,
-) -> Result<Vec<u32>, NoMemory>
-    requires form { IsTrail trail.now }
-    requires seen { length seen.old.items ≡ trail.now.variables }
-    requires conflict { conflict < length trail.now.clauses }
-    ensures { OnOk result (length seen.new.items ≡ trail.now.variables) }
-{
-    let mut hints = Vec::new(alloc);
-    hints.push(conflict)?;
-    mark_all(seen, trail.clause(conflict));
-    let mut place = trail.len();
-    'tracing: while place > 0 {
-        place -= 1;
-        trace(trail, place, seen, &mut hints)?;
+    /// Goes one entry back: a marked one that was forced is replaced by the clause that forced it.
+    fn trace(&mut self, place: u32, hints: &mut Vec<u32>) -> Result<(), NoMemory>
+        requires { place < length self.old.trail.entries }
+        ensures { self.new.trail ≡ self.old.trail }
+    {
+        let lit = self.trail.at(place);
+        if !unmark(&mut self.seen, lit) {
+            return Ok(());
+        }
+        match self.trail.reason(lit.variable()) {
+            None => mark(&mut self.seen, lit),
+            Some(k) => {
+                hints.push(k)?;
+                mark_all(&mut self.seen, self.trail.clause(k));
+                let _ = unmark(&mut self.seen, lit);
+            }
+        }
+        Ok(())
     }
-    hints.reverse();
-    Ok(hints)
+
+    /// The numbers of the clauses on which a falsified clause rests, each the reason of an entry and in their
+    /// order, and its own number last. The variables that are marked are then those of the decided entries on
+    /// which it rests, where none was marked before.
+    #[tactic(auto, using(crate::proofs::Entries::clause_within))]
+    pub(crate) fn reasons(&mut self, alloc: Global, conflict: u32) -> Result<Vec<u32>, NoMemory>
+        requires { conflict < length self.old.trail.clauses }
+        ensures { self.new.trail ≡ self.old.trail }
+    {
+        let mut hints = Vec::new(alloc);
+        hints.push(conflict)?;
+        mark_all(&mut self.seen, self.trail.clause(conflict));
+        let mut place = self.trail.len();
+        'tracing: while place > 0 {
+            place -= 1;
+            self.trace(place, &mut hints)?;
+        }
+        hints.reverse();
+        Ok(hints)
+    }
 }

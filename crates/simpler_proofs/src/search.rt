@@ -2,46 +2,35 @@
 //! clause is falsified then, those on which that rests are learned as a clause (Freeman, 1995).
 
 ghost use Rattle.std.specs.Prelude.{◌≡◌, ◌<◌, ◌≤◌, ◌+◌, false, length, OnOk, IfOk, IsTrue};
-ghost use Rattle.cnf.specs.Fresh.{is_over};
-ghost use Rattle.simpler_proofs.specs.Search.{IsSearch, IsAtRoot, IsSameSearch};
+ghost use Rattle.cnf.specs.Fresh.{AreOver, is_over};
+ghost use Rattle.simpler_proofs.specs.Made.{EachPasses, has_at_most};
 
-use crate::made::{MOST_LINES, settle};
-use crate::vivification::shorten;
-use cnf::{Clauses, Derivation, Lit};
+use crate::made::{Draft, MOST_LINES};
+use cnf::Lit;
 use lists::NoMemory;
-use propagate::Trail;
 use std::alloc::Global;
 
-/// The clauses that are given, and how many literals one that is learned has at most; a trail over the given
-/// ones and the learned, marks for its variables, the lines that add the learned ones, and how many entries
-/// propagation may still make.
+/// A search for clauses, each of at most so many literals, one or more: the derivation that adds those that are
+/// learned.
 #[derive(Drop)]
 pub(crate) struct Search<'a> {
-    pub(crate) clauses: &'a Clauses,
+    pub(crate) draft: Draft<'a>,
     pub(crate) most: usize,
-    pub(crate) trail: Trail,
-    pub(crate) seen: Vec<bool>,
-    pub(crate) lines: Derivation,
-    pub(crate) budget: u32,
+    pub ghost least: { 1 ≤ most },
+    pub ghost over: { AreOver draft.marked.trail.variables draft.lines.items },
+    pub ghost short: { EachPasses (has_at_most most) draft.lines.items },
 }
 
 impl Search<'_> {
+    ghost use Rattle.simpler_proofs.specs.Search.{IsAtRoot, IsSameSearch};
+
     /// Propagates at level 0. Where a clause is falsified, the empty clause is added, and the answer is true.
     pub(crate) fn close(&mut self, alloc: Global) -> Result<bool, NoMemory>
-        requires search { IsSearch self.old }
-        requires level { self.old.trail.level ≡ 0 }
-        requires room { length self.old.lines < 1000000 }
-        ensures search { OnOk result (IsSearch self.new) }
+        requires room { length self.old.draft.lines.items < 1000000 }
         ensures root { IfOk result (λ ended. ended ≡ false → IsAtRoot self.new) }
         ensures same { OnOk result (IsSameSearch self.old self.new) }
     {
-        let ended = settle(
-            alloc,
-            self.clauses,
-            &mut self.trail,
-            &mut self.seen,
-            &mut self.lines,
-        )?;
+        let ended = self.draft.settle(alloc)?;
         Ok(ended)
     }
 
@@ -51,37 +40,29 @@ impl Search<'_> {
     /// trail has entries at level 0.
     fn probe(&mut self, alloc: Global, clause: &[Lit]) -> Result<(), NoMemory>
         requires root { IsAtRoot self.old }
-        requires over { IsTrue (is_over self.old.trail.variables clause.now) }
+        requires over { IsTrue (is_over self.old.draft.marked.trail.variables clause.now) }
         requires short { length clause.now ≤ self.old.most }
-        requires room { length self.old.lines < 1000000 }
-        ensures search { OnOk result (IsSearch self.new) }
-        ensures level { OnOk result (self.new.trail.level ≡ 0) }
+        requires room { length self.old.draft.lines.items < 1000000 }
         ensures same { OnOk result (IsSameSearch self.old self.new) }
-        ensures more { OnOk result (length self.new.lines ≤ length self.old.lines + 1) }
+        ensures more { OnOk result
+            (length self.new.draft.lines.items ≤ length self.old.draft.lines.items + 1) }
     {
-        let found = shorten(
-            alloc,
-            self.clauses,
-            &mut self.trail,
-            &mut self.seen,
-            &mut self.lines,
-            &mut self.budget,
-            clause,
-        )?;
+        let found = self.draft.shorten(alloc, clause)?;
         if found && self.most > 1 {
-            self.budget = self.budget.saturating_sub(self.trail.len());
+            let entries = self.draft.marked.trail.len();
+            self.draft.budget = self.draft.budget.saturating_sub(entries);
         }
         Ok(())
     }
 
     /// Whether each literal has a variable of the trail that has no value.
     fn are_open(&self, clause: &[Lit]) -> bool
-        requires { IsSearch self.now }
-        ensures { IsTrue result → IsTrue (is_over self.now.trail.variables clause.now) }
+        ensures { IsTrue result → IsTrue (is_over self.now.draft.marked.trail.variables clause.now) }
     {
+        let marked = &self.draft.marked;
         for k in 0..clause.len() {
             let variable = clause[k].variable();
-            if variable as usize > self.seen.len() || self.trail.value(variable).is_some() {
+            if variable as usize > marked.seen.len() || marked.trail.value(variable).is_some() {
                 return false;
             }
         }
@@ -93,11 +74,10 @@ impl Search<'_> {
     pub(crate) fn attempt(&mut self, alloc: Global, clause: &[Lit]) -> Result<bool, NoMemory>
         requires root { IsAtRoot self.old }
         requires short { length clause.now ≤ self.old.most }
-        ensures search { OnOk result (IsSearch self.new) }
         ensures root { IfOk result (λ ended. ended ≡ false → IsAtRoot self.new) }
         ensures same { OnOk result (IsSameSearch self.old self.new) }
     {
-        if self.budget == 0 || self.lines.len() > MOST_LINES || !self.are_open(clause) {
+        if self.draft.budget == 0 || self.draft.lines.len() > MOST_LINES || !self.are_open(clause) {
             return Ok(false);
         }
         self.probe(alloc, clause)?;
@@ -108,7 +88,6 @@ impl Search<'_> {
     /// Tries the opposite of each literal. The answer is whether the clauses are refuted.
     pub(crate) fn each_alone(&mut self, alloc: Global, tried: &[Lit]) -> Result<bool, NoMemory>
         requires root { IsAtRoot self.old }
-        ensures search { OnOk result (IsSearch self.new) }
         ensures root { IfOk result (λ ended. ended ≡ false → IsAtRoot self.new) }
         ensures same { OnOk result (IsSameSearch self.old self.new) }
     {

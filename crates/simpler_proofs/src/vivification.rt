@@ -1,180 +1,184 @@
 //! Vivification: of each clause only those literals stay on which a conflict rests (Piette, Hamadi and Sais,
 //! 2008).
 
-ghost use Rattle.std.specs.Prelude.{◌≡◌, ◌<◌, ◌≤◌, ◌+◌, ◌^◌, [], Bool, true, false, All, length, OnOk, IfOk, IfSome, IsTrue};
+ghost use Rattle.std.specs.Prelude.{◌≡◌, ◌<◌, ◌≤◌, ◌+◌, ◌^◌, Bool, true, false, All, length, OnOk, IfOk, IfSome, IsTrue};
 ghost use Rattle.std.specs.List.{list_all};
 ghost use Rattle.cnf.specs.Signed.{Signed};
 ghost use Rattle.cnf.specs.Sat.{Clause};
-ghost use Rattle.cnf.specs.Fresh.{AreOver, is_over, added_by};
+ghost use Rattle.cnf.specs.Fresh.{AreOver, is_over};
 ghost use Rattle.propagate.specs.Values.{StaysWithin};
-ghost use Rattle.propagate.specs.TrailState.{IsTrail};
-ghost use Rattle.simpler_proofs.specs.Made.{EachPasses, IsMade, IsPassing, IsProof, is_part_of};
+ghost use Rattle.simpler_proofs.specs.Made.{EachPasses, IsProof, is_part_of};
 
 use crate::formula::{Formula, Given};
-use crate::made::{MOST_LINES, Numbered, assume, finish, learn, settle};
-use crate::reasons::{mark_forced, reasons, unmark};
-use cnf::{Clauses, Derivation, Line, Lit, Lits, Step};
+use crate::made::{Draft, MOST_LINES, assume, finish};
+use crate::reasons::{MarkedTrail, unmark};
+use cnf::{Clauses, Derivation, Lit, Lits, Step};
 use lists::{Items, NoMemory};
-use propagate::Trail;
 use std::alloc::Global;
 
-/// Assumes the opposites of the literals one after another, until a clause is falsified or forces one of
-/// them. Gives the number of that clause.
-fn conflict_of(trail: &mut Trail, clause: &[Lit], budget: &mut u32) -> Option<u32>
-    requires form { IsTrail trail.old }
-    requires settled { trail.old.settled ≡ true }
-    requires variables { StaysWithin trail.old.variables clause.now }
-    ensures form { IsTrail trail.new }
-    ensures variables { trail.new.variables ≡ trail.old.variables }
-    ensures clauses { trail.new.clauses ≡ trail.old.clauses }
-    ensures some { IfSome result (λ k. k < length trail.new.clauses) }
-{
-    for lit in clause {
-        match trail.value(lit.variable()) {
-            Some(value) => {
-                if value == lit.positive() {
-                    return trail.reason(lit.variable());
+/// What is left of a clause, and the numbers of the clauses on which its conflict rests.
+#[derive(Drop)]
+struct Left {
+    clause: Lits,
+    reasons: Vec<u32>,
+}
+
+impl MarkedTrail {
+    /// Assumes the opposites of the literals one after another, until a clause is falsified or forces one of
+    /// them. Gives the number of that clause.
+    fn conflict_of(&mut self, clause: &[Lit], budget: &mut u32) -> Option<u32>
+        requires settled { self.old.trail.settled ≡ true }
+        requires variables { StaysWithin self.old.trail.variables clause.now }
+        ensures variables { self.new.trail.variables ≡ self.old.trail.variables }
+        ensures clauses { self.new.trail.clauses ≡ self.old.trail.clauses }
+        ensures some { IfSome result (λ k. k < length self.new.trail.clauses) }
+    {
+        for lit in clause {
+            match self.trail.value(lit.variable()) {
+                Some(value) => {
+                    if value == lit.positive() {
+                        return self.trail.reason(lit.variable());
+                    }
+                }
+                None => {
+                    if let Some(k) = assume(&mut self.trail, lit.opposite(), budget) {
+                        return Some(k);
+                    }
                 }
             }
-            None => {
-                if let Some(k) = assume(trail, lit.opposite(), budget) {
-                    return Some(k);
-                }
+        }
+        None
+    }
+    /// The literals whose variables are marked. The marks are taken away.
+    fn marked_of(&mut self, alloc: Global, clause: &[Lit]) -> Result<Lits, NoMemory>
+        requires variables { StaysWithin self.old.trail.variables clause.now }
+        ensures trail { self.new.trail ≡ self.old.trail }
+        ensures part { IfOk result (λ marked. (test : Signed → Bool) → IsTrue (list_all test clause.now) →
+            IsTrue (list_all test marked)) }
+        ensures few { IfOk result (λ marked. length marked ≤ length clause.now) }
+    {
+        let mut marked = Items::new(alloc);
+        for lit in clause {
+            if unmark(&mut self.seen, *lit) {
+                marked.push(*lit)?;
+            }
+        }
+        Ok(marked)
+    }
+    /// What is left of a clause by the conflict to which the opposites of its literals lead; nothing where they
+    /// lead to none. Then the trail is at level 0 again.
+    fn left_of(
+        &mut self,
+        alloc: Global,
+        clause: &[Lit],
+        budget: &mut u32,
+    ) -> Result<Option<Left>, NoMemory>
+        requires settled { self.old.trail.settled ≡ true }
+        requires variables { StaysWithin self.old.trail.variables clause.now }
+        ensures level { self.new.trail.level ≡ 0 }
+        ensures variables { self.new.trail.variables ≡ self.old.trail.variables }
+        ensures clauses { self.new.trail.clauses ≡ self.old.trail.clauses }
+        ensures part { IfOk result (λ left. IfSome left (λ l. (test : Signed → Bool) →
+            IsTrue (list_all test clause.now) → IsTrue (list_all test l.clause))) }
+        ensures few { IfOk result (λ left. IfSome left (λ l. length l.clause ≤ length clause.now)) }
+    {
+        let Some(k) = self.conflict_of(clause, budget) else {
+            self.trail.back_to(0);
+            return Ok(None);
+        };
+        let found = self.reasons(alloc, k);
+        self.mark_forced(k);
+        self.trail.back_to(0);
+        let reasons = found?;
+        let clause = self.marked_of(alloc, clause)?;
+        Ok(Some(Left { clause, reasons }))
+    }
+}
+
+impl Draft<'_> {
+    /// Adds what is left of a clause. The answer is whether a conflict was found.
+    pub(crate) fn shorten(&mut self, alloc: Global, clause: &[Lit]) -> Result<bool, NoMemory>
+        requires settled { self.old.marked.trail.settled ≡ true }
+        requires over { IsTrue (is_over self.old.marked.trail.variables clause.now) }
+        requires room { length self.old.lines.items < 1000000 }
+        ensures clauses { self.new.clauses ≡ self.old.clauses }
+        ensures variables { self.new.marked.trail.variables ≡ self.old.marked.trail.variables }
+        ensures more { OnOk result (length self.new.lines.items ≤ length self.old.lines.items + 1) }
+        ensures passes { (test : Clause → Bool) →
+            ((part : Clause) → length part ≤ length clause.now →
+            ((pass : Signed → Bool) → IsTrue (list_all pass clause.now) → IsTrue (list_all pass part)) →
+            IsTrue (test part)) →
+            EachPasses test self.old.lines.items → EachPasses test self.new.lines.items }
+    {
+        match self.marked.left_of(alloc, clause, &mut self.budget)? {
+            None => Ok(false),
+            Some(left) => {
+                let Left { clause, reasons } = left;
+                self.learn(alloc, clause, reasons.as_slice())?;
+                Ok(true)
             }
         }
     }
-    None
 }
 
-/// The literals whose variables are marked. The marks are taken away.
-fn marked(alloc: Global, clause: &[Lit], seen: &mut Vec<bool>) -> Result<Lits, NoMemory>
-    requires variables { StaysWithin (length seen.old.items) clause.now }
-    ensures seen { length seen.new.items ≡ length seen.old.items }
-    ensures part { IfOk result (λ marked. (test : Signed → Bool) → IsTrue (list_all test clause.now) →
-        IsTrue (list_all test marked)) }
-    ensures few { IfOk result (λ marked. length marked ≤ length clause.now) }
-{
-    let mut marked = Items::new(alloc);
-    for lit in clause {
-        if unmark(seen, lit.variable()) {
-            marked.push(*lit)?;
-        }
-    }
-    Ok(marked)
+/// Given lines, and a derivation each clause of which is empty or part of one of these, with no more literals.
+#[derive(Drop)]
+struct Vivifying<'f, 'a> {
+    given: &'f Given<'f, 'a>,
+    draft: Draft<'a>,
+    ghost variables: { draft.marked.trail.variables ≡ given.now.formula.now.variables },
+    ghost over: { AreOver given.now.formula.now.variables draft.lines.items },
+    ghost parts: { EachPasses (is_part_of given.now.lines.now) draft.lines.items },
 }
 
-/// Adds what is left of a clause. The answer is whether a conflict was found.
-pub fn shorten(
-    alloc: Global,
-    clauses: &Clauses,
-    trail: &mut Trail,
-    seen: &mut Vec<bool>,
-    lines: &mut Derivation,
-    budget: &mut u32,
-    clause: &[Lit],
-) -> Result<bool, NoMemory>
-    requires made { IsMade clauses.now.clauses trail.old lines.old }
-    requires seen { length seen.old.items ≡ trail.old.variables }
-    requires settled { trail.old.settled ≡ true }
-    requires over { IsTrue (is_over trail.old.variables clause.now) }
-    requires room { length lines.old < 1000000 }
-    ensures made { OnOk result (IsMade clauses.now.clauses trail.new lines.new) }
-    ensures seen { OnOk result (length seen.new.items ≡ trail.new.variables) }
-    ensures level { OnOk result (trail.new.level ≡ 0) }
-    ensures variables { OnOk result (trail.new.variables ≡ trail.old.variables) }
-    ensures more { OnOk result (length lines.new ≤ length lines.old + 1) }
-    ensures passes { OnOk result ((test : Clause → Bool) →
-        ((part : Clause) → length part ≤ length clause.now →
-        ((pass : Signed → Bool) → IsTrue (list_all pass clause.now) → IsTrue (list_all pass part)) →
-        IsTrue (test part)) →
-        EachPasses test lines.old → EachPasses test lines.new) }
-{
-    let Some(k) = conflict_of(trail, clause, budget) else {
-        trail.back_to(0);
-        return Ok(false);
-    };
-    let hints = reasons(alloc, trail, seen, k)?;
-    mark_forced(trail, seen, k);
-    let rest = marked(alloc, clause, seen)?;
-    trail.back_to(0);
-    learn(alloc, clauses, trail, rest, hints.as_slice(), lines)?;
-    Ok(true)
-}
+impl Vivifying<'_, '_> {
+    /// Propagates at level 0. Where a clause is falsified, the empty clause is added, and the answer is true.
+    fn settle(&mut self, alloc: Global) -> Result<bool, NoMemory>
+        requires room { length self.old.draft.lines.items < 1000000 }
+        ensures given { self.new.given ≡ self.old.given }
+        ensures settled { IfOk result (λ ended. ended ≡ false → self.new.draft.marked.trail.settled ≡ true) }
+    {
+        let ended = self.draft.settle(alloc)?;
+        Ok(ended)
+    }
 
-/// Adds what is left of the clause of a line. The answer is whether a conflict was found.
-fn shorten_line(
-    alloc: Global,
-    clauses: &Clauses,
-    trail: &mut Trail,
-    seen: &mut Vec<bool>,
-    lines: &mut Derivation,
-    budget: &mut u32,
-    given: &Derivation,
-    k: usize,
-) -> Result<bool, NoMemory>
-    requires passing { IsPassing (is_part_of given.now) clauses.now.clauses trail.old
-        seen.old.items lines.old }
-    requires level { trail.old.level ≡ 0 }
-    requires settled { trail.old.settled ≡ true }
-    requires given { AreOver trail.old.variables given.now }
-    requires place { k < length given.now }
-    ensures passing { OnOk result (IsPassing
-        (is_part_of given.now) clauses.now.clauses trail.new seen.new.items lines.new) }
-    ensures level { OnOk result (trail.new.level ≡ 0) }
-    ensures variables { OnOk result (trail.new.variables ≡ trail.old.variables) }
-    ensures room { IfOk result (λ found. found ≡ true → length lines.new < 1000000) }
-{
-    if *budget == 0 || lines.len() > MOST_LINES {
-        return Ok(false);
-    }
-    match &given.get(k).step {
-        Step::Add { clause, .. } => {
-            let found = shorten(
-                alloc,
-                clauses,
-                trail,
-                seen,
-                lines,
-                budget,
-                clause.as_slice(),
-            )?;
-            Ok(found)
-        }
-        Step::Drop { .. } => Ok(false),
-    }
-}
-
-/// Goes through the lines until the clauses are refuted.
-fn shorten_all(
-    alloc: Global,
-    clauses: &Clauses,
-    trail: &mut Trail,
-    seen: &mut Vec<bool>,
-    lines: &mut Derivation,
-    mut budget: u32,
-    given: &Derivation,
-) -> Result<bool, NoMemory>
-    requires passing { IsPassing (is_part_of given.now) clauses.now.clauses trail.old
-        seen.old.items lines.old }
-    requires level { trail.old.level ≡ 0 }
-    requires given { AreOver trail.old.variables given.now }
-    requires room { length lines.old < 1000000 }
-    ensures passing { OnOk result (IsPassing
-        (is_part_of given.now) clauses.now.clauses trail.new seen.new.items lines.new) }
-    ensures variables { OnOk result (trail.new.variables ≡ trail.old.variables) }
-{
-    if settle(alloc, clauses, trail, seen, lines)? {
-        return Ok(true);
-    }
-    for k in 0..given.len() {
-        if !shorten_line(alloc, clauses, trail, seen, lines, &mut budget, given, k)? {
+    /// Adds what is left of the clause of a line. The answer is whether a conflict was found.
+    fn shorten_line(&mut self, alloc: Global, k: usize) -> Result<bool, NoMemory>
+        requires settled { self.old.draft.marked.trail.settled ≡ true }
+        requires place { k < length self.old.given.now.lines.now }
+        ensures given { self.new.given ≡ self.old.given }
+        ensures room { IfOk result (λ found. found ≡ true → length self.new.draft.lines.items < 1000000) }
+    {
+        if self.draft.budget == 0 || self.draft.lines.len() > MOST_LINES {
             return Ok(false);
         }
-        if settle(alloc, clauses, trail, seen, lines)? {
-            return Ok(true);
+        match &self.given.lines.get(k).step {
+            Step::Add { clause, .. } => {
+                let found = self.draft.shorten(alloc, clause.as_slice())?;
+                Ok(found)
+            }
+            Step::Drop { .. } => Ok(false),
         }
     }
-    Ok(false)
+
+    /// Goes through the lines until the clauses are refuted.
+    fn shorten_all(&mut self, alloc: Global) -> Result<bool, NoMemory>
+        requires room { length self.old.draft.lines.items < 1000000 }
+        ensures given { OnOk result (self.new.given ≡ self.old.given) }
+    {
+        if self.settle(alloc)? {
+            return Ok(true);
+        }
+        for k in 0..self.given.lines.len() {
+            if !self.shorten_line(alloc, k)? {
+                return Ok(false);
+            }
+            if self.settle(alloc)? {
+                return Ok(true);
+            }
+        }
+        Ok(false)
+    }
 }
 
 /// A refutation of a formula of which each clause is empty or part of one of the given lines', with no more
@@ -189,19 +193,11 @@ pub(crate) fn by_vivification(
     ensures parts { IfOk result (λ made. IfSome made (EachPasses (is_part_of given.now.lines.now))) }
 {
     let formula = given.formula;
-    let mut trail = Trail::new(alloc, formula.clauses, formula.variables)?;
-    let mut seen = vec![in alloc; false; formula.variables as usize]?;
-    let mut lines = Items::new(alloc);
-    if shorten_all(
-        alloc,
-        formula.clauses,
-        &mut trail,
-        &mut seen,
-        &mut lines,
-        budget,
-        given.lines,
-    )? {
-        let made = finish(alloc, formula.clauses, &Numbered { lines })?;
+    let draft = Draft::new(alloc, formula, budget)?;
+    let mut vivifying = Vivifying { given, draft };
+    if vivifying.shorten_all(alloc)? {
+        let Vivifying { given: _, draft } = vivifying;
+        let made = finish(alloc, formula.clauses, &draft.into_lines())?;
         return Ok(made);
     }
     Ok(None)

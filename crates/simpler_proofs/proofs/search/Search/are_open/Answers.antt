@@ -7,7 +7,7 @@ use Rattle.simpler_proofs.proofs.search.Search.are_open.Goals as goal
 
 pub returns : goal.returns
 returns c = λ _.
-    let n : ℕ = c.args.self.now.trail.variables in
+    let n : ℕ = c.args.self.now.draft.marked.trail.variables in
     let clause = c.args.clause.now in
     list_all-from_AllPass (λ (l : Signed). nat_le 1 l.variable && nat_le l.variable n) clause (λ k d lt.
     let here : k < c.loop-k.k = omega (arith, lt, c.loop-k-test.false, c.loop-k.invariant.end) in

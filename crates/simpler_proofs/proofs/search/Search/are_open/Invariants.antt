@@ -7,5 +7,5 @@ abbrev pub invariant-loop-k : goal.invariant-loop-k
 invariant-loop-k l = record {
   end : l.k-end ≡ length l.clause;
   least : (k : ℕ) (d : Signed) → k < l.k → 1 ≤ (get_or l.clause k d).variable;
-  most : (k : ℕ) (d : Signed) → k < l.k → (get_or l.clause k d).variable ≤ l.self.trail.variables;
+  most : (k : ℕ) (d : Signed) → k < l.k → (get_or l.clause k d).variable ≤ l.self.draft.marked.trail.variables;
 }

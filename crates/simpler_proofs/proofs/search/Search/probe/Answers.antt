@@ -1,24 +1,14 @@
-use Rattle.simpler_proofs.proofs.Passing.{passing_short}
+use Rattle.simpler_proofs.proofs.Passing.{over_left, short_left}
 use Rattle.simpler_proofs.proofs.search.Search.probe.Goals as goal
 
--- a clause was learned
-pub returns-then-self-gt1-clause-search : goal.returns-then-self-gt1-clause-search
-returns-then-self-gt1-clause-search c =
+pub invariant_of-self-clause-over : goal.invariant_of-self-clause-over
+invariant_of-self-clause-over c =
     let s = c.args.self.now in
-    let made = c.in_ok-found.ensures in
-    record {
-      passing = passing_short s.most s.clauses.now.clauses s.trail c.shorten.new.trail c.shorten.new.seen.items s.seen.items s.lines c.shorten.new.lines
-          c.args.clause.now c.requires.over c.requires.short c.requires.root.search.passing made.made made.seen made.variables made.passes;
-      least = c.requires.root.search.least;
-    }
+    let new = c.shorten.new.self in
+    over_left s.draft.marked.trail.variables new.marked.trail.variables s.draft.lines.items new.lines.items c.args.clause.now c.shorten.ensures.variables c.requires.over s.over c.shorten.ensures.passes
 
--- nothing was falsified, or each clause that is learned has one literal
-pub returns-else-found-clause-search : goal.returns-else-found-clause-search
-returns-else-found-clause-search c =
+pub invariant_of-self-clause-short : goal.invariant_of-self-clause-short
+invariant_of-self-clause-short c =
     let s = c.args.self.now in
-    let made = c.in_ok-found.ensures in
-    record {
-      passing = passing_short s.most s.clauses.now.clauses s.trail c.shorten.new.trail c.shorten.new.seen.items s.seen.items s.lines c.shorten.new.lines
-          c.args.clause.now c.requires.over c.requires.short c.requires.root.search.passing made.made made.seen made.variables made.passes;
-      least = c.requires.root.search.least;
-    }
+    let new = c.shorten.new.self in
+    short_left s.most s.draft.lines.items new.lines.items c.args.clause.now c.requires.short s.short c.shorten.ensures.passes
