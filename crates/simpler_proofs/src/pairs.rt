@@ -62,22 +62,6 @@ impl MarkedTrail {
 }
 
 impl Search<'_> {
-    /// Tries each literal under a first one. The answer is whether the clauses are refuted.
-    fn each_under(&mut self, alloc: Global, tried: &[Lit], first: Lit) -> Result<bool, NoMemory>
-        requires root { IsAtRoot self.old }
-        requires two { 2 ≤ self.old.most }
-        ensures root { IfOk result (λ ended. ended ≡ false → IsAtRoot self.new) }
-        ensures same { OnOk result (IsSameSearch self.old self.new) }
-    {
-        for second in tried {
-            let both = [first.opposite(), second.opposite()];
-            if self.attempt(alloc, both.as_slice())? {
-                return Ok(true);
-            }
-        }
-        Ok(false)
-    }
-
     /// Tries under a first literal each that has no value under it, where the budget allows it. The answer is
     /// whether the clauses are refuted.
     fn under(&mut self, alloc: Global, tried: &[Lit], first: Lit) -> Result<bool, NoMemory>
@@ -102,32 +86,17 @@ impl Search<'_> {
         if self.close(alloc)? {
             return Ok(true);
         }
-        let ended = self.each_under(alloc, open.as_slice(), first)?;
-        Ok(ended)
+        for second in open.as_slice() {
+            let both = [first.opposite(), second.opposite()];
+            if self.attempt(alloc, both.as_slice())? {
+                return Ok(true);
+            }
+        }
+        Ok(false)
     }
 
-    /// Tries under a first literal the others; and where it has a value then, each alone. The answer is whether
+    /// Tries under each literal the others; and where it has a value then, each alone. The answer is whether
     /// the clauses are refuted.
-    fn turn(&mut self, alloc: Global, tried: &[Lit], first: Lit) -> Result<bool, NoMemory>
-        requires root { IsAtRoot self.old }
-        requires two { 2 ≤ self.old.most }
-        ensures root { IfOk result (λ ended. ended ≡ false → IsAtRoot self.new) }
-        ensures same { OnOk result (IsSameSearch self.old self.new) }
-    {
-        if self.draft.marked.trail.value(first.variable()).is_some() {
-            return Ok(false);
-        }
-        if self.under(alloc, tried, first)? {
-            return Ok(true);
-        }
-        if self.draft.marked.trail.value(first.variable()).is_none() {
-            return Ok(false);
-        }
-        let ended = self.each_alone(alloc, tried)?;
-        Ok(ended)
-    }
-
-    /// Tries each literal as the first one. The answer is whether the clauses are refuted.
     pub(crate) fn each_in_turn(&mut self, alloc: Global, tried: &[Lit]) -> Result<bool, NoMemory>
         requires root { IsAtRoot self.old }
         requires two { 2 ≤ self.old.most }
@@ -135,7 +104,15 @@ impl Search<'_> {
         ensures same { OnOk result (IsSameSearch self.old self.new) }
     {
         for first in tried {
-            if self.turn(alloc, tried, *first)? {
+            if self.draft.marked.trail.value(first.variable()).is_some() {
+                continue;
+            }
+            if self.under(alloc, tried, *first)? {
+                return Ok(true);
+            }
+            if self.draft.marked.trail.value(first.variable()).is_some()
+                && self.each_alone(alloc, tried)?
+            {
                 return Ok(true);
             }
         }

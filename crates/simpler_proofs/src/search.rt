@@ -34,27 +34,6 @@ impl Search<'_> {
         Ok(ended)
     }
 
-    /// Assumes the opposites of the literals of a clause, one after another, and propagates. Where a clause is
-    /// falsified, or forces one of them, what is left of the given one is learned. Then the trail is at level 0
-    /// again. Where clauses of two literals may be learned, a conflict also takes as many off the budget as the
-    /// trail has entries at level 0.
-    fn probe(&mut self, alloc: Global, clause: &[Lit]) -> Result<(), NoMemory>
-        requires root { IsAtRoot self.old }
-        requires over { IsTrue (is_over self.old.draft.marked.trail.variables clause.now) }
-        requires short { length clause.now ≤ self.old.most }
-        requires room { length self.old.draft.lines.items < 1000000 }
-        ensures same { OnOk result (IsSameSearch self.old self.new) }
-        ensures more { OnOk result
-            (length self.new.draft.lines.items ≤ length self.old.draft.lines.items + 1) }
-    {
-        let found = self.draft.shorten(alloc, clause)?;
-        if found && self.most > 1 {
-            let entries = self.draft.marked.trail.len();
-            self.draft.budget = self.draft.budget.saturating_sub(entries);
-        }
-        Ok(())
-    }
-
     /// Whether each literal has a variable of the trail that has no value.
     fn are_open(&self, clause: &[Lit]) -> bool
         ensures { IsTrue result → IsTrue (is_over self.now.draft.marked.trail.variables clause.now) }
@@ -70,7 +49,10 @@ impl Search<'_> {
     }
 
     /// Tries to learn a clause, or a part of it, where none of its variables has a value and the budget allows
-    /// it. The answer is whether the clauses are refuted.
+    /// it: the opposites of its literals are assumed, one after another, and where a clause is falsified, or
+    /// forces one of them, what is left of the given one is learned. Where clauses of two literals may be
+    /// learned, a conflict also takes as many off the budget as the trail has entries at level 0. The answer is
+    /// whether the clauses are refuted.
     pub(crate) fn attempt(&mut self, alloc: Global, clause: &[Lit]) -> Result<bool, NoMemory>
         requires root { IsAtRoot self.old }
         requires short { length clause.now ≤ self.old.most }
@@ -80,7 +62,11 @@ impl Search<'_> {
         if self.draft.budget == 0 || self.draft.lines.len() > MOST_LINES || !self.are_open(clause) {
             return Ok(false);
         }
-        self.probe(alloc, clause)?;
+        let found = self.draft.shorten(alloc, clause)?;
+        if found && self.most > 1 {
+            let entries = self.draft.marked.trail.len();
+            self.draft.budget = self.draft.budget.saturating_sub(entries);
+        }
         let ended = self.close(alloc)?;
         Ok(ended)
     }

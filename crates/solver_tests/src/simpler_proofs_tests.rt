@@ -1,6 +1,6 @@
 //! Clause lists whose simpler proofs are known.
 
-ghost use Rattle.std.specs.Prelude.{◌≤◌, All, IfOk, IsTrue};
+ghost use Rattle.std.specs.Prelude.{All, IfOk, IsTrue};
 ghost use Rattle.cnf.specs.Fresh.{AreOver, is_over};
 ghost use Rattle.propagate.specs.Values.{StaysWithin};
 
@@ -66,9 +66,7 @@ fn narrow(alloc: Global, numbers: &[i32]) -> Result<Clauses, Fail>
 }
 
 /// The proof by failed literals of the clauses of some numbers.
-fn failed(alloc: Global, numbers: &[i32], first: u32, mut budget: u32) -> Result<usize, Fail>
-    requires { first ≤ 12 }
-{
+fn failed(alloc: Global, numbers: &[i32], first: u32, mut budget: u32) -> Result<usize, Fail> {
     let clauses = narrow(alloc, numbers)?;
     let made = by_failed_literals(alloc, &clauses, 12, first, &mut budget)?;
     Ok(shape(&made))
@@ -247,9 +245,7 @@ fn hints_in(lines: &Derivation) -> usize {
 
 /// How many hints the proof by failed literals has that begins at a variable; and that of the simpler
 /// proof.
-fn hints_from(alloc: Global, numbers: &[i32], first: u32) -> Result<usize, Fail>
-    requires { first ≤ 12 }
-{
+fn hints_from(alloc: Global, numbers: &[i32], first: u32) -> Result<usize, Fail> {
     let clauses = narrow(alloc, numbers)?;
     let mut budget = 1000;
     let made = by_failed_literals(alloc, &clauses, 12, first, &mut budget)?.ok_or("a proof")?;

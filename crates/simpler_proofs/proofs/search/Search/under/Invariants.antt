@@ -1,5 +1,5 @@
 use Rattle.simpler_proofs.specs.Search.{IsAtRoot, IsSameSearch}
-use Rattle.simpler_proofs.proofs.search.Search.each_under.Given as goal
+use Rattle.simpler_proofs.proofs.search.Search.under.Given as goal
 
 abbrev pub invariant-loop-second : goal.invariant-loop-second
 invariant-loop-second l = record {
