@@ -6,7 +6,7 @@ ghost use Rattle.cnf.specs.Fresh.{AreOver};
 ghost use Rattle.simpler_proofs.specs.Made.{EachPasses, IsProof, has_at_most, is_single};
 ghost use Rattle.simpler_proofs.specs.Search.{IsAtRoot, IsSameSearch};
 
-use crate::formula::Formula;
+use crate::formula::Cnf;
 use crate::made::{Draft, finish};
 use crate::search::Search;
 use cnf::{Clauses, Derivation, Lit, Lits};
@@ -14,7 +14,7 @@ use lists::{Items, NoMemory};
 use std::alloc::Global;
 
 /// Both literals of each variable in turn, those of the variables after the first ones before these.
-pub fn literals_in_turn(alloc: Global, formula: &Formula, first: u32) -> Result<Lits, NoMemory> {
+pub fn literals_in_turn(alloc: Global, formula: &Cnf, first: u32) -> Result<Lits, NoMemory> {
     let after = formula.variables.saturating_sub(first);
     let mut tried = Items::new(alloc);
     for place in 0..formula.variables {
@@ -71,7 +71,7 @@ fn rounds(alloc: Global, search: &mut Search, tried: &[Lit]) -> Result<bool, NoM
 /// nothing is left that fails, there is no refutation.
 pub fn by_literals(
     alloc: Global,
-    formula: &Formula,
+    formula: &Cnf,
     tried: &[Lit],
     most: usize,
     budget: &mut u32,
@@ -112,7 +112,7 @@ pub fn by_failed_literals(
     ensures over { IfOk result (λ made. IfSome made (AreOver variables)) }
     ensures single { IfOk result (λ made. IfSome made (EachPasses is_single)) }
 {
-    let formula = Formula { clauses, variables };
+    let formula = Cnf { clauses, variables };
     let tried = literals_in_turn(alloc, &formula, first)?;
     let made = by_literals(alloc, &formula, tried.as_slice(), 1, budget)?;
     Ok(made)

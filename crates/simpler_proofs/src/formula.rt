@@ -5,9 +5,9 @@ ghost use Rattle.cnf.specs.Fresh.{AreOver};
 
 use cnf::{Clauses, Derivation};
 
-/// Clauses, and a number of variables that no variable of theirs is above.
+/// A formula in conjunctive normal form: clauses, and a number that no variable of theirs is above.
 #[derive(Drop)]
-pub(crate) struct Formula<'a> {
+pub(crate) struct Cnf<'a> {
     pub(crate) clauses: &'a Clauses,
     pub(crate) variables: u32,
     pub ghost few: { variables < 2 ^ 31 },
@@ -17,7 +17,7 @@ pub(crate) struct Formula<'a> {
 /// A formula, and lines whose clauses have no other variables.
 #[derive(Drop)]
 pub(crate) struct Given<'f, 'a> {
-    pub(crate) formula: &'f Formula<'a>,
+    pub(crate) formula: &'f Cnf<'a>,
     pub(crate) lines: &'f Derivation,
     pub ghost over: { AreOver formula.now.variables lines.now },
 }

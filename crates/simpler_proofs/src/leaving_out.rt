@@ -3,7 +3,7 @@
 ghost use Rattle.std.specs.Prelude.{◌≤◌, ◌<◌, ◌^◌, ◌⊎◌, ◌≡◌, Some, All};
 
 use crate::failed_literals::by_literals;
-use crate::formula::Formula;
+use crate::formula::Cnf;
 use crate::literal_sets::{add_clause, clause_at};
 use crate::rebuilding::supposed_of;
 use cnf::{Clauses, Derivation, Lits, Step};
@@ -89,7 +89,7 @@ fn supposed_but(alloc: Global, lines: &Derivation, place: usize) -> Result<Lits,
 /// as there are clauses and variables, beside its entries.
 fn without(
     alloc: Global,
-    formula: &Formula,
+    formula: &Cnf,
     lines: Derivation,
     place: usize,
     budget: &mut u32,
@@ -112,7 +112,7 @@ fn without(
 /// propagation may make.
 pub fn with_fewer_lines(
     alloc: Global,
-    formula: &Formula,
+    formula: &Cnf,
     given: &Derivation,
     mut budget: u32,
 ) -> Result<Option<Derivation>, NoMemory> {

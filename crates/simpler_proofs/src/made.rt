@@ -8,7 +8,7 @@ ghost use Rattle.propagate.specs.Values.{StaysWithin, IsUnassigned};
 ghost use Rattle.propagate.specs.TrailState.{IsTrail, known};
 ghost use Rattle.simpler_proofs.specs.Made.{EachPasses, IsProof};
 
-use crate::formula::Formula;
+use crate::formula::Cnf;
 use crate::reasons::MarkedTrail;
 use cnf::{Clauses, Derivation, Ids, Line, Lit, Lits, Step};
 use lists::{Items, NoMemory};
@@ -59,11 +59,7 @@ pub(crate) struct Draft<'a> {
 
 impl<'a> Draft<'a> {
     /// The draft without a line over the clauses of a formula.
-    pub(crate) fn new(
-        alloc: Global,
-        formula: &Formula<'a>,
-        budget: u32,
-    ) -> Result<Draft<'a>, NoMemory>
+    pub(crate) fn new(alloc: Global, formula: &Cnf<'a>, budget: u32) -> Result<Draft<'a>, NoMemory>
         ensures variables { IfOk result (λ draft. draft.marked.trail.variables ≡ formula.now.variables) }
         ensures lines { IfOk result (λ draft. draft.lines.items ≡ []) }
     {

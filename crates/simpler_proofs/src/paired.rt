@@ -6,7 +6,7 @@ ghost use Rattle.cnf.specs.Fresh.{AreOver, added_by};
 ghost use Rattle.simpler_proofs.specs.Made.{ArePaired, EachPasses, IsProof, is_pair};
 
 use crate::failed_literals::{by_literals, literals_in_turn};
-use crate::formula::{Formula, Given};
+use crate::formula::{Cnf, Given};
 use crate::leaving_out::shorter;
 use crate::needed::are_needed;
 use crate::rebuilding::clause_of_line;
@@ -65,7 +65,7 @@ fn all_but(alloc: Global, lines: &Derivation, place: usize) -> Result<Derivation
 /// A formula, and lines each clause of which has at most two literals, of no other variables.
 #[derive(Drop)]
 struct Pairs<'f, 'a> {
-    formula: &'f Formula<'a>,
+    formula: &'f Cnf<'a>,
     lines: &'f Derivation,
     ghost over: { AreOver formula.now.variables lines.now },
     ghost pairs: { EachPasses is_pair lines.now },
@@ -74,7 +74,7 @@ struct Pairs<'f, 'a> {
 /// A formula, and a refutation of it in which each clause has at most two literals, of no other variables.
 #[derive(Drop)]
 struct PairProof<'f, 'a> {
-    formula: &'f Formula<'a>,
+    formula: &'f Cnf<'a>,
     lines: Derivation,
     ghost proof: { IsProof formula.now.clauses.now.clauses lines },
     ghost over: { AreOver formula.now.variables lines },
@@ -160,7 +160,7 @@ fn with_fewer_lines(alloc: Global, given: PairProof) -> Result<Option<Derivation
 
 /// The refutation with the fewest hints of those in orders that begin at different variables, each with as few
 /// lines as it does with. Of the budget each order takes as many as there are clauses, beside its entries.
-fn shortest(alloc: Global, formula: &Formula) -> Result<Option<Derivation>, NoMemory>
+fn shortest(alloc: Global, formula: &Cnf) -> Result<Option<Derivation>, NoMemory>
     ensures proof { IfOk result (λ made. IfSome made (IsProof formula.now.clauses.now.clauses)) }
     ensures over { IfOk result (λ made. IfSome made (AreOver formula.now.variables)) }
     ensures pairs { IfOk result (λ made. IfSome made (EachPasses is_pair)) }
@@ -190,7 +190,7 @@ fn shortest(alloc: Global, formula: &Formula) -> Result<Option<Derivation>, NoMe
 /// A refutation of the clauses in which each clause has at most two literals, by failed literals under one
 /// assumption, with few hints, none of which does with one literal fewer; none where there is none, or a budget
 /// is spent.
-pub fn by_two(alloc: Global, formula: &Formula) -> Result<Option<Derivation>, NoMemory>
+pub fn by_two(alloc: Global, formula: &Cnf) -> Result<Option<Derivation>, NoMemory>
     ensures proof { IfOk result (λ made. IfSome made (IsProof formula.now.clauses.now.clauses)) }
     ensures over { IfOk result (λ made. IfSome made (AreOver formula.now.variables)) }
     ensures paired { IfOk result (λ made. IfSome made (ArePaired formula.now.clauses.now.clauses)) }

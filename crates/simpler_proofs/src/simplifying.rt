@@ -5,7 +5,7 @@ ghost use Rattle.cnf.specs.Fresh.{AreOver};
 ghost use Rattle.simpler_proofs.specs.Made.{EachPasses, IsProof, AreSimpler, is_single};
 
 use crate::failed_literals::{by_literals, literals_in_turn};
-use crate::formula::{Formula, Given};
+use crate::formula::{Cnf, Given};
 use crate::leaving_out::{mark_cited, marked_clauses, shorter, with_fewer_lines};
 use crate::ordering::ordered;
 use crate::paired::by_two;
@@ -33,7 +33,7 @@ const ORDERS: u32 = 8;
 /// are clauses, beside its entries. The clauses that one of them cites are marked.
 fn shortest(
     alloc: Global,
-    formula: &Formula,
+    formula: &Cnf,
     cited: &mut Vec<bool>,
 ) -> Result<Option<Derivation>, NoMemory>
     ensures proof { IfOk result (λ made. IfSome made (IsProof formula.now.clauses.now.clauses)) }
@@ -61,7 +61,7 @@ fn shortest(
 /// with fewer hints in each. None where the marked clauses don't refute, or a budget is spent.
 fn rebuilt(
     alloc: Global,
-    formula: &Formula,
+    formula: &Cnf,
     marked: &[bool],
     given: &Derivation,
 ) -> Result<Option<Derivation>, NoMemory>
@@ -73,7 +73,7 @@ fn rebuilt(
     if !stay_within(&part, formula.variables) {
         return Ok(None);
     }
-    let rest = Formula {
+    let rest = Cnf {
         clauses: &part,
         variables: formula.variables,
     };
@@ -101,7 +101,7 @@ fn can_look_at_all(clauses: &Clauses, variables: u32, lines: usize) -> bool {
 /// is not accepted, and where there are too many clauses and lines to look at all clauses for each line.
 fn thinned_by_all(
     alloc: Global,
-    formula: &Formula,
+    formula: &Cnf,
     given: &Derivation,
 ) -> Result<Option<Derivation>, NoMemory>
     ensures proof { IfOk result (λ made. IfSome made (IsProof formula.now.clauses.now.clauses)) }
@@ -125,7 +125,7 @@ fn thinned_by_all(
 }
 
 /// A refutation by failed literals, the shortest that was found.
-fn by_single(alloc: Global, formula: &Formula) -> Result<Option<Derivation>, NoMemory>
+fn by_single(alloc: Global, formula: &Cnf) -> Result<Option<Derivation>, NoMemory>
     ensures proof { IfOk result (λ made. IfSome made (IsProof formula.now.clauses.now.clauses)) }
     ensures over { IfOk result (λ made. IfSome made (AreOver formula.now.variables)) }
     ensures single { IfOk result (λ made. IfSome made (EachPasses is_single)) }
@@ -180,7 +180,7 @@ pub fn simplify(
     ensures over { IfOk result (λ made. IfSome made (AreOver variables)) }
     ensures simpler { IfOk result (λ made. IfSome made (AreSimpler clauses.now.clauses given.now)) }
 {
-    let formula = Formula { clauses, variables };
+    let formula = Cnf { clauses, variables };
     let lines = Given {
         formula: &formula,
         lines: given,

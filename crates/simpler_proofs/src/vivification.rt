@@ -9,7 +9,7 @@ ghost use Rattle.cnf.specs.Fresh.{AreOver, is_over};
 ghost use Rattle.propagate.specs.Values.{StaysWithin};
 ghost use Rattle.simpler_proofs.specs.Made.{EachPasses, IsProof, is_part_of};
 
-use crate::formula::{Formula, Given};
+use crate::formula::{Cnf, Given};
 use crate::made::{Draft, MOST_LINES, assume, finish};
 use crate::reasons::{MarkedTrail, unmark};
 use cnf::{Clauses, Derivation, Lit, Lits, Step};
@@ -220,7 +220,7 @@ pub fn vivify(
     ensures over { IfOk result (λ made. IfSome made (AreOver variables)) }
     ensures parts { IfOk result (λ made. IfSome made (EachPasses (is_part_of given.now))) }
 {
-    let formula = Formula { clauses, variables };
+    let formula = Cnf { clauses, variables };
     let lines = Given {
         formula: &formula,
         lines: given,
