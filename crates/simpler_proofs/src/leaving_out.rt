@@ -1,6 +1,6 @@
 //! Refutations by failed literals of which one line after the other is left out.
 
-ghost use Rattle.std.specs.Prelude.{◌≤◌, ◌<◌, ◌^◌, ◌⊎◌, ◌≡◌, Some, All};
+ghost use Rattle.std.specs.Prelude.{◌⊎◌, ◌≡◌, Some};
 
 use crate::failed_literals::by_literals;
 use crate::formula::Cnf;

@@ -1,6 +1,6 @@
 //! A derivation that is being made, beside a trail over its clauses.
 
-ghost use Rattle.std.specs.Prelude.{◌≡◌, ◌≢◌, ◌<◌, ◌≤◌, ◌-◌, ◌+◌, ◌^◌, [], Bool, true, false, length, OnOk, IfOk, IfSome, IfNone, IsTrue};
+ghost use Rattle.std.specs.Prelude.{◌≡◌, ◌<◌, ◌≤◌, ◌+◌, [], Bool, true, false, length, OnOk, IfOk, IfSome, IfNone, IsTrue};
 ghost use Rattle.std.specs.List.{list_all};
 ghost use Rattle.cnf.specs.Sat.{Clause};
 ghost use Rattle.lrat_check.specs.Ranges.{has_next};

@@ -1,8 +1,6 @@
 //! A refutation with the hints of its lines in another order.
 
-ghost use Rattle.std.specs.Prelude.{◌≡◌, ◌≤◌, length, IfOk, IsTrue, IsPermutation};
-ghost use Rattle.std.specs.List.{list_all};
-ghost use Rattle.lrat_check.specs.Ranges.{has_next};
+ghost use Rattle.std.specs.Prelude.{◌≡◌, IfOk, IsTrue, IsPermutation};
 ghost use Rattle.simpler_proofs.specs.Made.{HasHintsOf, AreReordered, IsProof};
 
 use crate::made::{FewLines, MOST_LINES, Numbered, finish};

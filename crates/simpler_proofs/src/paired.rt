@@ -1,6 +1,6 @@
 //! Refutations by failed literals under one assumption, in several orders and with fewer lines.
 
-ghost use Rattle.std.specs.Prelude.{◌<◌, ◌≤◌, ◌^◌, Bool, All, OnOk, IfOk, IfSome, IsTrue};
+ghost use Rattle.std.specs.Prelude.{Bool, OnOk, IfOk, IfSome, IsTrue};
 ghost use Rattle.cnf.specs.Sat.{Clause};
 ghost use Rattle.cnf.specs.Fresh.{AreOver, added_by};
 ghost use Rattle.simpler_proofs.specs.Made.{ArePaired, EachPasses, IsProof, is_pair};

@@ -1,10 +1,8 @@
 //! Refutations by failed literals made again over the clauses that some of them cite.
 
-ghost use Rattle.std.specs.Prelude.{◌≡◌, ◌<◌, ◌≤◌, ◌+◌, ◌++◌, Bool, length, OnOk, IfOk, IfSome, IsTrue};
-ghost use Rattle.std.specs.List.{list_all};
+ghost use Rattle.std.specs.Prelude.{◌≡◌, ◌<◌, ◌+◌, ◌++◌, Bool, length, OnOk, IfOk, IfSome, IsTrue};
 ghost use Rattle.cnf.specs.Sat.{Clause};
 ghost use Rattle.cnf.specs.Fresh.{AreOver, added_by, is_over};
-ghost use Rattle.lrat_check.specs.Ranges.{has_next};
 ghost use Rattle.simpler_proofs.specs.Made.{EachPasses, IsProof, all_added, clause_of_id, is_single};
 
 use crate::literal_sets::{LiteralSet, Standing, add_clause, clause_at, origin_at, service};

@@ -1,7 +1,7 @@
 //! A search for clauses that propagation gives: the opposites of some literals are assumed, and where a
 //! clause is falsified then, those on which that rests are learned as a clause (Freeman, 1995).
 
-ghost use Rattle.std.specs.Prelude.{◌≡◌, ◌<◌, ◌≤◌, ◌+◌, false, length, OnOk, IfOk, IsTrue};
+ghost use Rattle.std.specs.Prelude.{◌≡◌, ◌<◌, ◌≤◌, false, length, OnOk, IfOk, IsTrue};
 ghost use Rattle.cnf.specs.Fresh.{AreOver, is_over};
 ghost use Rattle.simpler_proofs.specs.Made.{EachPasses, has_at_most};
 

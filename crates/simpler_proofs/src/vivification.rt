@@ -49,6 +49,7 @@ impl MarkedTrail {
         }
         None
     }
+
     /// The literals whose variables are marked. The marks are taken away.
     fn marked_of(&mut self, alloc: Global, clause: &[Lit]) -> Result<Lits, NoMemory>
         requires variables { StaysWithin self.old.trail.variables clause.now }
@@ -65,6 +66,7 @@ impl MarkedTrail {
         }
         Ok(marked)
     }
+
     /// What is left of a clause by the conflict to which the opposites of its literals lead; nothing where they
     /// lead to none. Then the trail is at level 0 again.
     fn left_of(
