@@ -1,11 +1,8 @@
 -- The instances of an axiom in pieces of 64.
 use Rattle.std.specs.Prelude.{◌≡◌, ℕ, ◌+◌, ◌-◌, ◌*◌, ◌≤◌, ◌<◌, min, IsTrue, IsFalse, List, map, Option, MatchOption}
 use Rattle.std.specs.List.{flat_map}
-use Rattle.vocab.specs.Limits.{instance_count}
 use Rattle.vocab.specs.Range.{up_from}
 use Rattle.vocab.specs.Size.{Extent}
-use Rattle.vocab.specs.Study.{is_sentence}
-use Rattle.vocab.specs.Titled.{Titled}
 use Rattle.vocab.specs.Tree.{Tree}
 use Rattle.cnf.specs.Sat.{Clause}
 use Rattle.meaning.specs.declared.clauses.Counts.{Counts}
@@ -81,16 +78,3 @@ module _ (size : Extent) (sentence : Tree) where
   -- the least one of a piece, by its measure
   abbrev pub IsFirstWideOfPiece : ℕ → ℕ → ℕ → Measured → Type 0
   IsFirstWideOfPiece from to piece measured = IsFirstWide (start_of from piece) (end_of from to piece) measured.wide
-
-module _ (size : Extent) (a : Titled) where
-  -- a sentence of few instances has those from one number up to another
-  pub record AreInstances (from to : ℕ) : Type 0 where
-    pub sentence : IsTrue (is_sentence size a)
-    pub few : instance_count size a.sentence ≤ 40000000
-    pub rising : from ≤ to
-    pub within : to ≤ instance_count size a.sentence
-
-  -- and none of them is too wide
-  pub record AreNarrowInstances (from to : ℕ) : Type 0 where
-    pub instances : AreInstances from to
-    pub narrow : AreNarrow size a.sentence from to

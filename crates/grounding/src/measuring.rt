@@ -1,15 +1,13 @@
 //! The measures of the instances of an axiom, in rounds of pieces.
 
-ghost use Rattle.std.specs.Prelude.{ℕ, ◌≤◌, ◌+◌, IfOk, IsFalse, IsTrue, length};
+ghost use Rattle.std.specs.Prelude.{ℕ, ◌≤◌, IfOk, IsFalse, IsTrue, length};
 ghost use Rattle.vocab.specs.Limits.{instance_count};
-ghost use Rattle.vocab.specs.Study.{is_sentence};
 ghost use Rattle.crew.specs.Right.{AreRight};
-ghost use Rattle.grounding.specs.Pieces.{AreInstances, IsFirstWide, IsFirstWideOfPiece, end_of, measure_at, start_of};
+ghost use Rattle.grounding.specs.Pieces.{IsFirstWide, IsFirstWideOfPiece, end_of, measure_at, start_of};
 ghost use Rattle.clause_form.specs.Wide.{is_wide};
-ghost use Rattle.lanes.specs.Lanes.{IsPlan};
 
 use crate::parts::{Measured, WideInstance, measure_all};
-use crate::pieces::{MOST_CLAUSES, MOST_LITERALS, PIECE, ROUND, Round, SMALL};
+use crate::pieces::{Groundable, MOST_CLAUSES, MOST_LITERALS, PIECE, Planned, ROUND, Round, SMALL};
 use clause_form::most_counts;
 use crew::{Crew, Job, Parts, map_pieces};
 use edge::Gate;
@@ -19,7 +17,6 @@ use meaning::Counts;
 use outcomes::OutcomeKind;
 use std::alloc::Global;
 use std::thread::Threads;
-use vocab::Axiom;
 use worlds::instance_count;
 
 /// The pieces of the instances from `from` up to `to`, and how a piece is measured.
@@ -48,12 +45,11 @@ impl<F: Fn(u64, u64) -> Measured + Sync> Job for Measuring<'_, F> {
 
 /// The first instance that is too wide, of the pieces of a round in order.
 fn first_found<K: OutcomeKind>(round: &Round<K>, parts: &Parts<Measured>) -> Option<WideInstance>
-    requires right { AreRight
-        (IsFirstWideOfPiece (K.size round.now.kind.now) round.now.named.now.sentence round.now.from
-        round.now.to) 0 parts.now }
+    requires right { AreRight (IsFirstWideOfPiece (K.size round.now.planned.now.kind.now)
+        round.now.planned.now.named.now.sentence round.now.from round.now.to) 0 parts.now }
     requires whole { round.now.to ≤ start_of round.now.from (length parts.now) }
-    ensures { IsFirstWide
-        (K.size round.now.kind.now) round.now.named.now.sentence round.now.from round.now.to result }
+    ensures { IsFirstWide (K.size round.now.planned.now.kind.now)
+        round.now.planned.now.named.now.sentence round.now.from round.now.to result }
 {
     let _ = round;
     for piece in 0..parts.len() {
@@ -79,21 +75,15 @@ fn measure_round<R: Threads + Sync, K: OutcomeKind, G: Gate>(
     round: &Round<K>,
     sums: &mut Vec<Counts>,
 ) -> Result<Option<WideInstance>, NoMemory>
-    requires instances { AreInstances
-        (K.size round.now.kind.now) round.now.named.now round.now.from round.now.to }
-    requires short { round.now.to ≤ round.now.from + 65536 }
-    requires plan { IsPlan (K.size round.now.kind.now) round.now.named.now.sentence round.now.plan.now }
-    ensures { IfOk result
-        (λ found. IsFirstWide
-        (K.size round.now.kind.now) round.now.named.now.sentence round.now.from round.now.to found) }
+    ensures { IfOk result (IsFirstWide (K.size round.now.planned.now.kind.now)
+        round.now.planned.now.named.now.sentence round.now.from round.now.to) }
 {
     let (from, to) = (round.from, round.to);
     let measure = |start: u64, end: u64| -> Measured
-        requires { AreInstances (K.size round.now.kind.now) round.now.named.now start end ×
-            IsPlan (K.size round.now.kind.now) round.now.named.now.sentence round.now.plan.now }
-        ensures { IsFirstWide
-            (K.size round.entry.now.kind.now) round.entry.now.named.now.sentence start end result.wide }
-    { measure_all(round.kind, round.named, round.plan, start, end) };
+        requires { end ≤ round.now.planned.now.count }
+        ensures { IsFirstWide (K.size round.entry.now.planned.now.kind.now)
+            round.entry.now.planned.now.named.now.sentence start end result.wide }
+    { measure_all(round.planned, start, end) };
     let job = Measuring {
         measure: &measure,
         from,
@@ -107,43 +97,31 @@ fn measure_round<R: Threads + Sync, K: OutcomeKind, G: Gate>(
 
 /// Whether the clauses of each round of instances are within the limits of a round, by the shape of the
 /// sentence alone. Then no instance is too wide.
-fn has_small_rounds<K: OutcomeKind>(kind: &K, named: &Axiom) -> bool
+fn has_small_rounds<K: OutcomeKind>(groundable: &Groundable<K>) -> bool
     ensures { IsTrue result → (k : ℕ) →
-        IsFalse (is_wide (measure_at (K.size kind.now) named.now.sentence k)) }
+        IsFalse (is_wide (measure_at (K.size groundable.now.kind.now) groundable.now.named.now.sentence k)) }
 {
-    let most = most_counts(kind.space(), named.sentence().body());
+    let most = most_counts(groundable.kind.space(), groundable.named.sentence().body());
     most.clauses <= MOST_CLAUSES / (PIECE * SMALL)
         && most.literals <= MOST_LITERALS / (PIECE * SMALL)
 }
 
-/// The first instance of an axiom that is too wide, of round after round. Where the shape of the sentence
-/// tells that there is none and that all rounds are small, nothing is measured. Appends the sum of the measures of
-/// each piece, up to the round that has it.
-pub(crate) fn measure_axiom<R: Threads + Sync, K: OutcomeKind, G: Gate>(
+/// The first instance that is too wide, of round after round. Appends the sum of the measures of each piece, up
+/// to the round that has it.
+fn measure_rounds<R: Threads + Sync, K: OutcomeKind, G: Gate>(
     alloc: Global,
     crew: &Crew<R, G>,
-    kind: &K,
-    named: &Axiom,
+    planned: &Planned<K>,
     sums: &mut Vec<Counts>,
 ) -> Result<Option<WideInstance>, NoMemory>
-    requires sentence { IsTrue (is_sentence (K.size kind.now) named.now) }
-    requires few { instance_count (K.size kind.now) named.now.sentence ≤ 40000000 }
     ensures { IfOk result
-        (λ found. IsFirstWide (K.size kind.now) named.now.sentence 0
-        (instance_count (K.size kind.now) named.now.sentence) found) }
+        (IsFirstWide (K.size planned.now.kind.now) planned.now.named.now.sentence 0 planned.now.count) }
 {
-    if has_small_rounds(kind, named) {
-        return Ok(None);
-    }
-    let plan = plan_of(alloc, kind, named)?;
-    let count = instance_count(kind.space(), named.sentence());
     let mut from = 0;
-    while from < count {
-        let to = count.min(from + PIECE * ROUND);
+    while from < planned.count {
+        let to = planned.count.min(from + PIECE * ROUND);
         let round = Round {
-            kind,
-            named,
-            plan: &plan,
+            planned: &*planned,
             from,
             to,
         };
@@ -153,4 +131,29 @@ pub(crate) fn measure_axiom<R: Threads + Sync, K: OutcomeKind, G: Gate>(
         from = to;
     }
     Ok(None)
+}
+
+/// The first instance of an axiom that is too wide. Where the shape of the sentence tells that there is none and
+/// that all rounds are small, nothing is measured. Appends the sum of the measures of each piece, up to the round
+/// that has it.
+pub(crate) fn measure_axiom<R: Threads + Sync, K: OutcomeKind, G: Gate>(
+    alloc: Global,
+    crew: &Crew<R, G>,
+    groundable: &Groundable<K>,
+    sums: &mut Vec<Counts>,
+) -> Result<Option<WideInstance>, NoMemory>
+    ensures { IfOk result (IsFirstWide (K.size groundable.now.kind.now) groundable.now.named.now.sentence 0
+        (instance_count (K.size groundable.now.kind.now) groundable.now.named.now.sentence)) }
+{
+    if has_small_rounds(groundable) {
+        return Ok(None);
+    }
+    let plan = plan_of(alloc, groundable.kind, groundable.named)?;
+    let planned = Planned {
+        kind: groundable.kind,
+        named: groundable.named,
+        plan: &plan,
+        count: instance_count(groundable.kind.space(), groundable.named.sentence()),
+    };
+    measure_rounds(alloc, crew, &planned, sums)
 }

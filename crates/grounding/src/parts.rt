@@ -1,32 +1,30 @@
 //! The measures and the clauses of some instances of an axiom, one after another.
 
-ghost use Rattle.std.specs.Prelude.{◌≡◌, ℕ, ◌<◌, ◌≤◌, ◌-◌, ◌^◌, ◌++◌, List, IfOk, OnOk, IsFalse, IsTrue};
+ghost use Rattle.std.specs.Prelude.{◌≡◌, ℕ, ◌<◌, ◌≤◌, ◌+◌, ◌++◌, List, IfOk, OnOk, IsFalse, IsTrue};
 ghost use Rattle.std.specs.Int.{bit_at};
-ghost use Rattle.vocab.specs.Limits.{instance_count};
 ghost use Rattle.vocab.specs.Size.{Extent};
-ghost use Rattle.vocab.specs.Study.{is_sentence};
 ghost use Rattle.vocab.specs.Tree.{tree_of};
 ghost use Rattle.meaning.specs.Clauses.{plus};
 ghost use Rattle.meaning.specs.Measure.{measure_of};
 ghost use Rattle.meaning.specs.Written.{write_out};
 ghost use Rattle.worlds.specs.Conditions.{IsFormulaAt};
 ghost use Rattle.clause_form.specs.Wide.{is_wide, numbered};
-ghost use Rattle.lanes.specs.Lanes.{HasKnownPremise, IsPlan, IsPremiseToldFrom, IsToldFrom};
+ghost use Rattle.lanes.specs.Lanes.{HasKnownPremise, IsToldFrom};
 ghost use Rattle.grounding.specs.Parts.{KeepSame, from_rows};
-ghost use Rattle.grounding.specs.Pieces.{AreNarrow, IsFirstWide, IsKeptPart, measure_at, sources_at, sources_of};
+ghost use Rattle.grounding.specs.Pieces.{IsFirstWide, IsKeptPart, measure_at, sources_at, sources_of};
 
 use crate::literals::pair_of;
 use crate::part::Part;
-use crate::pieces::PIECE;
+use crate::pieces::{PIECE, Piece, Planned, Stretch};
 use crate::sorting::{Sorter, push_pair, push_sorted};
 use clause_form::{ClauseList, is_wide, measure, narrow_clauses, open_clauses, sum};
 use cnf::Store;
-use lanes::{Plan, TwoWords, is_told, told, told_sides, values_at};
+use lanes::{is_told, told, told_sides, values_at};
 use lists::NoMemory;
 use meaning::Counts;
 use outcomes::OutcomeKind;
 use std::alloc::Global;
-use vocab::{Axiom, Env, Formula};
+use vocab::{Env, Formula};
 
 /// How many rows of instances stand in memory before they are let go.
 const MOST_ROWS: usize = 1000;
@@ -45,62 +43,42 @@ pub(crate) struct Measured {
     pub(crate) wide: Option<WideInstance>,
 }
 
-/// Whether the bit of an instance is set in a word of the 64 from a number on.
-fn is_told_at(word: u64, from: u64, number: u64) -> bool
-    requires { from ≤ number }
-    ensures { IsTrue result → bit_at word (number - from) ≡ 1 }
+/// Whether bit k of a word is set, of which there are 64.
+fn is_told_at(word: u64, k: u64) -> bool
+    ensures { IsTrue result → bit_at word k ≡ 1 }
 {
-    number - from < 64 && is_told(word, number - from)
+    k < 64 && is_told(word, k)
 }
 
-/// The measure of an instance, where it may be told to be true whatever the rule: it then has none.
-fn measure_at<K: OutcomeKind>(
-    kind: &K,
-    named: &Axiom,
-    plan: &Plan,
-    known: u64,
-    from: u64,
-    number: u64,
-) -> Counts
-    requires sentence { IsTrue (is_sentence (K.size kind.now) named.now) }
-    requires few { instance_count (K.size kind.now) named.now.sentence ≤ 40000000 }
-    requires within { number < instance_count (K.size kind.now) named.now.sentence }
-    requires plan { IsPlan (K.size kind.now) named.now.sentence plan.now }
-    requires told { IsToldFrom (K.size kind.now) named.now.sentence from known }
-    requires rising { from ≤ number }
-    ensures { result ≡ measure_at (K.size kind.now) named.now.sentence number }
+/// The measure of the k-th instance from a number on, where it may be told to be true whatever the rule: it then
+/// has none.
+fn measure_at<K: OutcomeKind>(planned: &Planned<K>, known: u64, from: u64, k: u64) -> Counts
+    requires within { from + k < planned.now.count }
+    requires told { IsToldFrom (K.size planned.now.kind.now) planned.now.named.now.sentence from known }
+    ensures { result ≡ measure_at (K.size planned.now.kind.now) planned.now.named.now.sentence (from + k) }
 {
-    if is_told_at(known, from, number) {
+    if is_told_at(known, k) {
         return Counts {
             clauses: 0,
             literals: 0,
         };
     }
-    let values = values_at(kind, named, plan, number);
-    measure(kind, named.sentence().body(), &values)
+    let values = values_at(planned.kind, planned.named, planned.plan, from + k);
+    measure(planned.kind, planned.named.sentence().body(), &values)
 }
 
 /// The measures of the instances from `from` up to `to`.
-pub(crate) fn measure_all<K: OutcomeKind>(
-    kind: &K,
-    named: &Axiom,
-    plan: &Plan,
-    from: u64,
-    to: u64,
-) -> Measured
-    requires sentence { IsTrue (is_sentence (K.size kind.now) named.now) }
-    requires few { instance_count (K.size kind.now) named.now.sentence ≤ 40000000 }
-    requires within { to ≤ instance_count (K.size kind.now) named.now.sentence }
-    requires plan { IsPlan (K.size kind.now) named.now.sentence plan.now }
-    ensures { IsFirstWide (K.size kind.now) named.now.sentence from to result.wide }
+pub(crate) fn measure_all<K: OutcomeKind>(planned: &Planned<K>, from: u64, to: u64) -> Measured
+    requires { to ≤ planned.now.count }
+    ensures { IsFirstWide (K.size planned.now.kind.now) planned.now.named.now.sentence from to result.wide }
 {
     let mut total = Counts {
         clauses: 0,
         literals: 0,
     };
-    let known = told(kind, named, plan, from);
+    let known = told(planned.kind, planned.named, planned.plan, from);
     for number in from..to {
-        let measure = measure_at(kind, named, plan, known, from, number);
+        let measure = measure_at(planned, known, from, number - from);
         if is_wide(measure) {
             return Measured {
                 sum: total,
@@ -140,7 +118,14 @@ fn untold_clauses<K: OutcomeKind>(
     Ok(())
 }
 
-/// Appends the clauses of a formula that is not too wide with their origin. Its rows stand behind those of others.
+/// Lists that are used again for each instance: the rows of instances, one after another, and those for sorting.
+#[derive(Drop)]
+struct Buffers {
+    rows: ClauseList,
+    sorter: Sorter,
+}
+
+/// Appends the clauses of a formula that is not too wide with their origin.
 fn push_formula<K: OutcomeKind>(
     alloc: Global,
     kind: &K,
@@ -148,8 +133,7 @@ fn push_formula<K: OutcomeKind>(
     env: &Env,
     whole: bool,
     origin: u64,
-    rows: &mut ClauseList,
-    sorter: &mut Sorter,
+    buffers: &mut Buffers,
     part: &mut Part,
 ) -> Result<(), NoMemory>
     requires fits { IsFormulaAt (K.size kind.now) (tree_of formula.now) env.now }
@@ -162,9 +146,9 @@ fn push_formula<K: OutcomeKind>(
         push_pair(pair.0, pair.1, origin, part)?;
         return Ok(());
     }
-    let start = rows.len();
-    untold_clauses(alloc, kind, formula, env, whole, rows)?;
-    push_sorted(rows, start, origin, sorter, part)?;
+    let start = buffers.rows.len();
+    untold_clauses(alloc, kind, formula, env, whole, &mut buffers.rows)?;
+    push_sorted(&buffers.rows, start, origin, &mut buffers.sorter, part)?;
     Ok(())
 }
 
@@ -183,124 +167,101 @@ fn rest_of(formula: &Formula, premise: bool) -> &Formula
     }
 }
 
-/// Appends the clauses of an instance that is not too wide, where it may be told to be true whatever the
-/// rule: it then has none. Its rows stand behind those of others.
+/// Appends the clauses of the k-th instance of a piece, where it may be told to be true whatever the rule: it then
+/// has none.
 fn push_instance<K: OutcomeKind>(
     alloc: Global,
-    kind: &K,
-    named: &Axiom,
-    plan: &Plan,
-    base: u64,
-    known: TwoWords,
-    from: u64,
-    number: u64,
-    rows: &mut ClauseList,
-    sorter: &mut Sorter,
+    piece: &Piece<K>,
+    k: u64,
+    buffers: &mut Buffers,
     part: &mut Part,
 ) -> Result<(), NoMemory>
-    requires sentence { IsTrue (is_sentence (K.size kind.now) named.now) }
-    requires few { instance_count (K.size kind.now) named.now.sentence ≤ 40000000 }
-    requires within { number < instance_count (K.size kind.now) named.now.sentence }
-    requires plan { IsPlan (K.size kind.now) named.now.sentence plan.now }
-    requires base { base ≤ 2 ^ 60 }
-    requires narrow { IsFalse (is_wide (measure_at (K.size kind.now) named.now.sentence number)) }
-    requires told { IsToldFrom (K.size kind.now) named.now.sentence from known.all }
-    requires premise { IsPremiseToldFrom (K.size kind.now) named.now.sentence from known.premise }
-    requires rising { from ≤ number }
-    ensures { OnOk result
-        (KeepSame part.new (part.old ++ sources_at (K.size kind.now) named.now.sentence base number)) }
+    requires { piece.now.from + k < piece.now.to }
+    ensures { OnOk result (KeepSame part.new (part.old ++ sources_at (K.size piece.now.numbered.now.kind.now)
+        piece.now.numbered.now.named.now.sentence piece.now.numbered.now.base (piece.now.from + k))) }
 {
-    if is_told_at(known.all, from, number) {
+    if is_told_at(piece.known.all, k) {
         return Ok(());
     }
-    let values = values_at(kind, named, plan, number);
-    let premise = is_told_at(known.premise, from, number);
-    let formula = rest_of(named.sentence().body(), premise);
+    let numbered = piece.numbered;
+    let number = piece.from + k;
+    let values = values_at(numbered.kind, numbered.named, numbered.plan, number);
+    let premise = is_told_at(piece.known.premise, k);
     push_formula(
         alloc,
-        kind,
-        formula,
+        numbered.kind,
+        rest_of(numbered.named.sentence().body(), premise),
         &values,
-        plan.is_whole(),
-        base + number,
-        rows,
-        sorter,
+        numbered.plan.is_whole(),
+        numbered.base + number,
+        buffers,
         part,
     )?;
     Ok(())
 }
 
-/// Appends the clauses of the instances from `from` up to `to`, of which none is too wide. The number of an
-/// instance is added to `base`. What is known is asked for 64 instances.
-fn push_piece<K: OutcomeKind>(
+/// Appends the clauses of the instances of a piece.
+fn push_instances<K: OutcomeKind>(
     alloc: Global,
-    kind: &K,
-    named: &Axiom,
-    plan: &Plan,
-    base: u64,
-    from: u64,
-    to: u64,
+    piece: &Piece<K>,
     part: &mut Part,
 ) -> Result<(), NoMemory>
-    requires sentence { IsTrue (is_sentence (K.size kind.now) named.now) }
-    requires few { instance_count (K.size kind.now) named.now.sentence ≤ 40000000 }
-    requires within { to ≤ instance_count (K.size kind.now) named.now.sentence }
-    requires plan { IsPlan (K.size kind.now) named.now.sentence plan.now }
-    requires rising { from ≤ to }
-    requires base { base ≤ 2 ^ 60 }
-    requires narrow { AreNarrow (K.size kind.now) named.now.sentence from to }
-    ensures { OnOk result
-        (KeepSame part.new (part.old ++ sources_of (K.size kind.now) named.now.sentence base from to)) }
+    ensures { OnOk result (KeepSame part.new (part.old ++ sources_of (K.size piece.now.numbered.now.kind.now)
+        piece.now.numbered.now.named.now.sentence piece.now.numbered.now.base
+        piece.now.from piece.now.to)) }
 {
-    let known = told_sides(kind, named, plan, from);
-    let mut sorter = Sorter::new(alloc);
-    let mut rows: ClauseList = Store::new(alloc);
-    for number in from..to {
-        if rows.len() > MOST_ROWS {
-            rows = Store::new(alloc);
+    let mut buffers = Buffers {
+        rows: Store::new(alloc),
+        sorter: Sorter::new(alloc),
+    };
+    for k in 0..piece.to - piece.from {
+        if buffers.rows.len() > MOST_ROWS {
+            buffers.rows = Store::new(alloc);
         }
-        push_instance(
-            alloc,
-            kind,
-            named,
-            plan,
-            base,
-            known,
-            from,
-            number,
-            &mut rows,
-            &mut sorter,
-            part,
-        )?;
+        push_instance(alloc, piece, k, &mut buffers, part)?;
     }
     Ok(())
 }
 
-/// The clauses of the instances from `from` up to `to`, of which none is too wide, piece by piece. The number
-/// of an instance is added to `base`.
+/// Appends the clauses of a stretch. What is known is asked for its first 64 instances.
+fn push_piece<K: OutcomeKind>(
+    alloc: Global,
+    stretch: &Stretch<K>,
+    part: &mut Part,
+) -> Result<(), NoMemory>
+    ensures { OnOk result (KeepSame part.new (part.old ++
+        sources_of (K.size stretch.now.numbered.now.kind.now) stretch.now.numbered.now.named.now.sentence
+        stretch.now.numbered.now.base stretch.now.from stretch.now.to)) }
+{
+    let numbered = stretch.numbered;
+    let piece = Piece {
+        numbered,
+        from: stretch.from,
+        to: stretch.to,
+        known: told_sides(numbered.kind, numbered.named, numbered.plan, stretch.from),
+    };
+    push_instances(alloc, &piece, part)
+}
+
+/// The clauses of a stretch, piece by piece.
 pub(crate) fn clauses_of_all<K: OutcomeKind>(
     alloc: Global,
-    kind: &K,
-    named: &Axiom,
-    plan: &Plan,
-    base: u64,
-    from: u64,
-    to: u64,
+    stretch: &Stretch<K>,
 ) -> Result<Part, NoMemory>
-    requires sentence { IsTrue (is_sentence (K.size kind.now) named.now) }
-    requires few { instance_count (K.size kind.now) named.now.sentence ≤ 40000000 }
-    requires within { to ≤ instance_count (K.size kind.now) named.now.sentence }
-    requires plan { IsPlan (K.size kind.now) named.now.sentence plan.now }
-    requires rising { from ≤ to }
-    requires base { base ≤ 2 ^ 60 }
-    requires narrow { AreNarrow (K.size kind.now) named.now.sentence from to }
-    ensures { IfOk result (IsKeptPart (K.size kind.now) named.now.sentence base from to) }
+    ensures { IfOk result (IsKeptPart (K.size stretch.now.numbered.now.kind.now)
+        stretch.now.numbered.now.named.now.sentence stretch.now.numbered.now.base
+        stretch.now.from stretch.now.to) }
 {
     let mut part = Part::new(alloc);
-    let mut start = from;
-    while start < to {
-        let end = to.min(start + PIECE);
-        push_piece(alloc, kind, named, plan, base, start, end, &mut part)?;
+    let mut start = stretch.from;
+    while start < stretch.to {
+        let end = stretch.to.min(start + PIECE);
+        let piece = Stretch {
+            numbered: stretch.numbered,
+            from: start,
+            to: end,
+        };
+        push_piece(alloc, &piece, &mut part)?;
         start = end;
     }
     part.forget(alloc);

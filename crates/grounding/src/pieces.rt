@@ -1,6 +1,14 @@
-//! Rounds of pieces.
+//! What is made of an axiom, and the rounds of pieces in which it is made.
 
-use lanes::Plan;
+ghost use Rattle.std.specs.Prelude.{◌≡◌, ◌+◌, ◌<◌, ◌≤◌, ◌^◌, IsTrue};
+ghost use Rattle.vocab.specs.Limits.{instance_count};
+ghost use Rattle.vocab.specs.Study.{is_sentence};
+ghost use Rattle.lanes.specs.Lanes.{IsPlan, IsPremiseToldFrom, IsToldFrom};
+ghost use Rattle.lanes.proofs.OnceLaws.{once};
+ghost use Rattle.grounding.specs.Pieces.{AreNarrow};
+
+use lanes::{Plan, TwoWords};
+use outcomes::OutcomeKind;
 use vocab::Axiom;
 
 /// How many instances a piece has.
@@ -24,21 +32,83 @@ pub(crate) const MOST_CLAUSES: u64 = 4_000_000;
 /// The most literals of a round of several pieces, by their measures.
 pub(crate) const MOST_LITERALS: u64 = 60_000_000;
 
-/// A round: the instances of an axiom from `from` up to `to`.
+/// An axiom with its place in a study, below 4,000,000, and the kind of its rules: a sentence of at most 40,000,000
+/// instances.
 #[derive(Drop)]
-pub(crate) struct Round<'a, K> {
+pub(crate) struct Groundable<'a, K: OutcomeKind> {
     pub(crate) kind: &'a K,
     pub(crate) named: &'a Axiom,
-    pub(crate) plan: &'a Plan,
-    pub(crate) from: u64,
-    pub(crate) to: u64,
+    pub(crate) place: u32,
+    pub(crate) ghost sentence: { IsTrue (is_sentence (K.size kind.now) named.now) },
+    pub(crate) ghost few: { instance_count (K.size kind.now) named.now.sentence ≤ 40000000 },
+    pub(crate) ghost low: { place < 4000000 },
 }
 
-/// An axiom whose instances are gone through by a plan, and what is added to the number of an instance.
+/// Such an axiom, the plan by which its instances are gone through, and how many they are.
 #[derive(Drop)]
-pub(crate) struct Planned<'a, K> {
+pub(crate) struct Planned<'a, K: OutcomeKind> {
     pub(crate) kind: &'a K,
     pub(crate) named: &'a Axiom,
     pub(crate) plan: &'a Plan,
+    pub(crate) count: u64,
+    pub(crate) ghost sentence: { IsTrue (is_sentence (K.size kind.now) named.now) },
+    pub(crate) ghost few: { instance_count (K.size kind.now) named.now.sentence ≤ 40000000 },
+    pub(crate) ghost planned: { IsPlan (K.size kind.now) named.now.sentence
+        plan.now } by { Prim.hlevel once },
+    pub(crate) ghost counted: { count ≡ instance_count (K.size kind.now) named.now.sentence },
+}
+
+/// A round of such an axiom: its instances from `from` up to `to`, at most 1,024 pieces.
+#[derive(Drop)]
+pub(crate) struct Round<'a, K: OutcomeKind> {
+    pub(crate) planned: &'a Planned<'a, K>,
+    pub(crate) from: u64,
+    pub(crate) to: u64,
+    pub(crate) ghost rising: { from ≤ to },
+    pub(crate) ghost within: { to ≤ planned.now.count },
+    pub(crate) ghost short: { to ≤ from + 65536 },
+}
+
+/// An axiom that has a plan, and none of whose instances is too wide. The number of an instance is added to
+/// `base`, at most 2 ^ 60, so that it says the axiom too.
+#[derive(Drop)]
+pub(crate) struct Numbered<'a, K: OutcomeKind> {
+    pub(crate) kind: &'a K,
+    pub(crate) named: &'a Axiom,
+    pub(crate) plan: &'a Plan,
+    pub(crate) count: u64,
     pub(crate) base: u64,
+    pub(crate) ghost sentence: { IsTrue (is_sentence (K.size kind.now) named.now) },
+    pub(crate) ghost few: { instance_count (K.size kind.now) named.now.sentence ≤ 40000000 },
+    pub(crate) ghost planned: { IsPlan (K.size kind.now) named.now.sentence
+        plan.now } by { Prim.hlevel once },
+    pub(crate) ghost counted: { count ≡ instance_count (K.size kind.now) named.now.sentence },
+    pub(crate) ghost narrow: { AreNarrow (K.size kind.now) named.now.sentence 0 count },
+    pub(crate) ghost small: { base ≤ 2 ^ 60 },
+}
+
+/// The instances of such an axiom from `from` up to `to`, at most 8,192 pieces.
+#[derive(Drop)]
+pub(crate) struct Stretch<'a, K: OutcomeKind> {
+    pub(crate) numbered: &'a Numbered<'a, K>,
+    pub(crate) from: u64,
+    pub(crate) to: u64,
+    pub(crate) ghost rising: { from ≤ to },
+    pub(crate) ghost within: { to ≤ numbered.now.count },
+    pub(crate) ghost short: { to ≤ from + 524288 },
+}
+
+/// A stretch, and what is known of its first 64 instances, as far as it has them.
+#[derive(Drop)]
+pub(crate) struct Piece<'a, K: OutcomeKind> {
+    pub(crate) numbered: &'a Numbered<'a, K>,
+    pub(crate) from: u64,
+    pub(crate) to: u64,
+    pub(crate) known: TwoWords,
+    pub(crate) ghost rising: { from ≤ to },
+    pub(crate) ghost within: { to ≤ numbered.now.count },
+    pub(crate) ghost told: { IsToldFrom (K.size numbered.now.kind.now) numbered.now.named.now.sentence
+        from known.all } by { Prim.hlevel once },
+    pub(crate) ghost premise: { IsPremiseToldFrom (K.size numbered.now.kind.now)
+        numbered.now.named.now.sentence from known.premise } by { Prim.hlevel once },
 }

@@ -9,3 +9,4 @@ pub mod TableLaws
 pub mod UnderLaws
 pub mod LaneLaws
 pub mod PlanLaws
+pub mod OnceLaws

@@ -7,9 +7,9 @@ use Rattle.grounding.proofs.measuring.first_found.Goals as goal
 
 pub returns-in-Some : goal.returns-in-Some
 returns-in-Some g c =
-    let size = g.K.OutcomeKind.size c.args.round.now.kind.now in
+    let size = g.K.OutcomeKind.size c.args.round.now.planned.now.kind.now in
     let round = c.args.round.now in
-    let sentence = round.named.now.sentence in
+    let sentence = round.planned.now.named.now.sentence in
     let piece = c.loop-piece.piece in
     let right = IsFirstWideOfPiece size sentence round.from round.to in
     let here : right piece c.get.result.now = subst (λ n. right n c.get.result.now) (zero-add piece) (AreRight-at right 0 piece _ c.get.result.now c.get.ensures c.requires.right) in
@@ -18,9 +18,9 @@ returns-in-Some g c =
 
 pub loop-piece-preserved : goal.loop-piece-preserved
 loop-piece-preserved g c =
-    let size = g.K.OutcomeKind.size c.args.round.now.kind.now in
+    let size = g.K.OutcomeKind.size c.args.round.now.planned.now.kind.now in
     let round = c.args.round.now in
-    let sentence = round.named.now.sentence in
+    let sentence = round.planned.now.named.now.sentence in
     let piece = c.loop-piece.piece in
     let right = IsFirstWideOfPiece size sentence round.from round.to in
     let here : right piece c.get.result.now = subst (λ n. right n c.get.result.now) (zero-add piece) (AreRight-at right 0 piece _ c.get.result.now c.get.ensures c.requires.right) in
@@ -29,6 +29,6 @@ loop-piece-preserved g c =
 
 pub returns : goal.returns
 returns g c =
-    let size = g.K.OutcomeKind.size c.args.round.now.kind.now in
+    let size = g.K.OutcomeKind.size c.args.round.now.planned.now.kind.now in
     let round = c.args.round.now in
-    narrow_to_end size round.named.now.sentence round.from round.to c.loop-piece.piece (omega (arith, c.requires.whole)) c.loop-piece.invariant
+    narrow_to_end size round.planned.now.named.now.sentence round.from round.to c.loop-piece.piece (omega (arith, c.requires.whole)) c.loop-piece.invariant

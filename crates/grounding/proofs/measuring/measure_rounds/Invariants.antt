@@ -1,13 +1,13 @@
 use Rattle.std.proofs.Common.{◌-◌, ◌≤◌}
 use Rattle.grounding.specs.Pieces.{AreNarrow}
-use Rattle.grounding.proofs.measuring.measure_axiom.Given as goal
+use Rattle.grounding.proofs.measuring.measure_rounds.Given as goal
 
 -- the instances so far are narrow
 abbrev pub invariant-loop-from : goal.invariant-loop-from
 invariant-loop-from g l = record {
-  within : l.from ≤ l.count;
-  narrow : AreNarrow (g.K.OutcomeKind.size l.kind) l.named.sentence 0 l.from;
+  within : l.from ≤ l.planned.count;
+  narrow : AreNarrow (g.K.OutcomeKind.size l.planned.kind.now) l.planned.named.now.sentence 0 l.from;
 }
 
 abbrev pub decreases-loop-from : goal.decreases-loop-from
-decreases-loop-from g l = l.count - l.from
+decreases-loop-from g l = l.planned.count - l.from

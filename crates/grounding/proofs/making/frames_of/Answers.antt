@@ -2,7 +2,7 @@ use Rattle.std.proofs.Common.{rules, ◌<◌, arith}
 use Rattle.vocab.specs.declared.kinds.Sort.TheVariants.{Profile}
 use Rattle.vocab.specs.Size.{sort_count}
 use Rattle.grounding.proofs.FrameLemmas.{frames-more}
-use Rattle.grounding.proofs.making.push_frames.Goals as goal
+use Rattle.grounding.proofs.making.frames_of.Goals as goal
 
 pub loop-p-preserved : goal.loop-p-preserved
 loop-p-preserved g c =
