@@ -1,4 +1,3 @@
 pub mod PieceLemmas
 pub mod CheckLemmas
 pub mod BlockLemmas
-pub mod PlanLemmas

@@ -5,6 +5,7 @@ ghost use Rattle.std.specs.Prelude.{◌≡◌, ◌≤◌, ◌<◌, ◌+◌, IfOk
 ghost use Rattle.vocab.specs.Limits.{instance_count};
 ghost use Rattle.meaning.specs.Instances.{is_instance_true};
 ghost use Rattle.lanes.specs.Lanes.{IsPlan, IsToldFrom};
+ghost use Rattle.lanes.proofs.OnceLaws.{once};
 ghost use Rattle.rule_check.specs.Pieces.{IsLeastFalse};
 
 use crate::trials::{Round, Trial};
@@ -28,7 +29,8 @@ struct Block<'a, K: OutcomeKind> {
     word: u64,
     ghost few: { lanes ≤ 64 },
     ghost within: { from + lanes ≤ instance_count (K.size trial.now.kind.now) trial.now.named.now.sentence },
-    ghost planned: { ∥ IsPlan (K.size trial.now.kind.now) trial.now.named.now.sentence plan.now ∥₁ },
+    ghost planned: { IsPlan (K.size trial.now.kind.now) trial.now.named.now.sentence
+        plan.now } by { Prim.hlevel once },
     ghost told: { IsToldFrom (K.size trial.now.kind.now) trial.now.named.now.sentence from word },
 }
 

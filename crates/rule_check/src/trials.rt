@@ -5,6 +5,7 @@ ghost use Rattle.vocab.specs.Limits.{instance_count};
 ghost use Rattle.vocab.specs.Study.{is_sentence};
 ghost use Rattle.meaning.specs.Truth.{is_rule};
 ghost use Rattle.lanes.specs.Lanes.{IsPlan};
+ghost use Rattle.lanes.proofs.OnceLaws.{once};
 
 use lanes::Plan;
 use outcomes::OutcomeKind;
@@ -31,5 +32,6 @@ pub(crate) struct Round<'a, K: OutcomeKind> {
     pub(crate) to: u64,
     ghost rising: { from ≤ to },
     ghost within: { to ≤ instance_count (K.size trial.now.kind.now) trial.now.named.now.sentence },
-    ghost planned: { ∥ IfSome plan.now (IsPlan (K.size trial.now.kind.now) trial.now.named.now.sentence) ∥₁ },
+    ghost planned: { IfSome plan.now (IsPlan (K.size trial.now.kind.now)
+        trial.now.named.now.sentence) } by { Prim.hlevel once },
 }
