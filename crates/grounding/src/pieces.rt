@@ -1,4 +1,4 @@
-//! What is made of an axiom, and the rounds of pieces in which it is made.
+//! An axiom whose clauses are made, and its instances in rounds and pieces.
 
 ghost use Rattle.std.specs.Prelude.{◌≡◌, ◌+◌, ◌<◌, ◌≤◌, ◌^◌, IsTrue};
 ghost use Rattle.vocab.specs.Limits.{instance_count};
@@ -32,8 +32,8 @@ pub(crate) const MOST_CLAUSES: u64 = 4_000_000;
 /// The most literals of a round of several pieces, by their measures.
 pub(crate) const MOST_LITERALS: u64 = 60_000_000;
 
-/// An axiom with its place in a study, below 4,000,000, and the kind of its rules: a sentence of at most 40,000,000
-/// instances.
+/// An axiom that can be ground: a sentence of at most 40,000,000 instances, with its place in a study, below
+/// 4,000,000, and the kind of its rules.
 #[derive(Drop)]
 pub(crate) struct Groundable<'a, K: OutcomeKind> {
     pub(crate) kind: &'a K,
@@ -44,7 +44,7 @@ pub(crate) struct Groundable<'a, K: OutcomeKind> {
     pub(crate) ghost low: { place < 4000000 },
 }
 
-/// Such an axiom, the plan by which its instances are gone through, and how many they are.
+/// Such an axiom with the plan by which its instances are gone through, and how many they are.
 #[derive(Drop)]
 pub(crate) struct Planned<'a, K: OutcomeKind> {
     pub(crate) kind: &'a K,
@@ -58,7 +58,7 @@ pub(crate) struct Planned<'a, K: OutcomeKind> {
     pub(crate) ghost counted: { count ≡ instance_count (K.size kind.now) named.now.sentence },
 }
 
-/// A round of such an axiom: its instances from `from` up to `to`, at most 1,024 pieces.
+/// A round that is measured: the instances of such an axiom from `from` up to `to`, at most 1,024 pieces.
 #[derive(Drop)]
 pub(crate) struct Round<'a, K: OutcomeKind> {
     pub(crate) planned: &'a Planned<'a, K>,
@@ -69,8 +69,8 @@ pub(crate) struct Round<'a, K: OutcomeKind> {
     pub(crate) ghost short: { to ≤ from + 65536 },
 }
 
-/// An axiom that has a plan, and none of whose instances is too wide. The number of an instance is added to
-/// `base`, at most 2 ^ 60, so that it says the axiom too.
+/// An axiom with its plan, none of whose instances is too wide. The number of an instance is added to `base`, at
+/// most 2 ^ 60, so that it says the axiom too.
 #[derive(Drop)]
 pub(crate) struct Numbered<'a, K: OutcomeKind> {
     pub(crate) kind: &'a K,
@@ -87,7 +87,7 @@ pub(crate) struct Numbered<'a, K: OutcomeKind> {
     pub(crate) ghost small: { base ≤ 2 ^ 60 },
 }
 
-/// The instances of such an axiom from `from` up to `to`, at most 8,192 pieces.
+/// Instances whose clauses are made: those of such an axiom from `from` up to `to`, at most 8,192 pieces.
 #[derive(Drop)]
 pub(crate) struct Stretch<'a, K: OutcomeKind> {
     pub(crate) numbered: &'a Numbered<'a, K>,
@@ -98,7 +98,7 @@ pub(crate) struct Stretch<'a, K: OutcomeKind> {
     pub(crate) ghost short: { to ≤ from + 524288 },
 }
 
-/// A stretch, and what is known of its first 64 instances, as far as it has them.
+/// The instances of such an axiom from `from` up to `to`, and what is known of the 64 from `from` on.
 #[derive(Drop)]
 pub(crate) struct Piece<'a, K: OutcomeKind> {
     pub(crate) numbered: &'a Numbered<'a, K>,
