@@ -1,9 +1,8 @@
 //! Sets: an outcome is a set of alternatives that is not empty, and a profile has a variable for each alternative.
 
-ghost use Rattle.std.specs.Prelude.{◌≡◌, ◌<◌, Err, OnOk};
+ghost use Rattle.std.specs.Prelude.{◌≡◌, Err, OnOk};
 ghost use Rattle.vocab.specs.declared.kinds.Kind.TheVariants.{Sets};
-ghost use Rattle.vocab.specs.declared.kinds.Sort.TheVariants.{Profile};
-ghost use Rattle.vocab.specs.Size.{IsSize, sort_count};
+ghost use Rattle.vocab.specs.Size.{IsSize};
 ghost use Rattle.outcomes.specs.Frames.{with_clauses, IsFullForAll};
 ghost use Rattle.outcomes.specs.Rows.{set_rows};
 
@@ -31,18 +30,6 @@ impl SetsKind {
     {
         laws::spaces_have_sizes(&space);
         SetsKind { space }
-    }
-
-    /// A profile, with the alternatives of the size.
-    fn at(&self, p: u32) -> AtProfile
-        requires { p < sort_count self.now.space Profile }
-        ensures number { result.alternatives.number ≡ self.now.space.alternatives }
-        ensures profile { result.profile ≡ p }
-    {
-        AtProfile {
-            alternatives: self.space.alternatives(),
-            profile: p,
-        }
     }
 }
 
@@ -84,8 +71,8 @@ impl OutcomeKind for SetsKind {
 
     fn lit(&self, literal: &Literal) -> Lit {
         match *literal {
-            Literal::Wins(x, p) => winner_lit(self.at(p), true, x),
-            Literal::Loses(x, p) => winner_lit(self.at(p), false, x),
+            Literal::Wins(x, p) => winner_lit(AtProfile::new(&self.space, p), true, x),
+            Literal::Loses(x, p) => winner_lit(AtProfile::new(&self.space, p), false, x),
             Literal::Above(_, _, _) => unreachable!(),
         }
     }
@@ -95,7 +82,7 @@ impl OutcomeKind for SetsKind {
     }
 
     fn frame(&self, p: u32, out: &mut Clauses) -> Result<(), PushFault> {
-        push_frame(self.at(p), out)
+        push_frame(AtProfile::new(&self.space, p), out)
     }
 
     fn text(&self, outcome: u32) -> Name {

@@ -1,9 +1,8 @@
 //! Choices: an outcome is an alternative, and a profile has a variable for each.
 
-ghost use Rattle.std.specs.Prelude.{◌≡◌, ◌<◌};
+ghost use Rattle.std.specs.Prelude.{◌≡◌};
 ghost use Rattle.vocab.specs.declared.kinds.Kind.TheVariants.{Choice};
-ghost use Rattle.vocab.specs.declared.kinds.Sort.TheVariants.{Profile};
-ghost use Rattle.vocab.specs.Size.{IsSize, sort_count};
+ghost use Rattle.vocab.specs.Size.{IsSize};
 
 use crate::frames;
 use crate::kind::OutcomeKind;
@@ -28,18 +27,6 @@ impl ChoiceKind {
     {
         laws::spaces_have_sizes(&space);
         ChoiceKind { space }
-    }
-
-    /// A profile, with the alternatives of the size.
-    fn at(&self, p: u32) -> AtProfile
-        requires { p < sort_count self.now.space Profile }
-        ensures number { result.alternatives.number ≡ self.now.space.alternatives }
-        ensures profile { result.profile ≡ p }
-    {
-        AtProfile {
-            alternatives: self.space.alternatives(),
-            profile: p,
-        }
     }
 }
 
@@ -68,8 +55,8 @@ impl OutcomeKind for ChoiceKind {
 
     fn lit(&self, literal: &Literal) -> Lit {
         match *literal {
-            Literal::Wins(x, p) => winner_lit(self.at(p), true, x),
-            Literal::Loses(x, p) => winner_lit(self.at(p), false, x),
+            Literal::Wins(x, p) => winner_lit(AtProfile::new(&self.space, p), true, x),
+            Literal::Loses(x, p) => winner_lit(AtProfile::new(&self.space, p), false, x),
             Literal::Above(_, _, _) => unreachable!(),
         }
     }
@@ -79,7 +66,7 @@ impl OutcomeKind for ChoiceKind {
     }
 
     fn frame(&self, p: u32, out: &mut Clauses) -> Result<(), PushFault> {
-        frames::push_choice(self.at(p), out)
+        frames::push_choice(AtProfile::new(&self.space, p), out)
     }
 
     fn text(&self, outcome: u32) -> Name {

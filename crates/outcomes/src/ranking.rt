@@ -2,8 +2,7 @@
 
 ghost use Rattle.std.specs.Prelude.{◌≡◌, ◌<◌};
 ghost use Rattle.vocab.specs.declared.kinds.Kind.TheVariants as kinds;
-ghost use Rattle.vocab.specs.declared.kinds.Sort.TheVariants.{Profile};
-ghost use Rattle.vocab.specs.Size.{IsSize, factorial, sort_count};
+ghost use Rattle.vocab.specs.Size.{IsSize, factorial};
 
 use crate::kind::OutcomeKind;
 use crate::winners::AtProfile;
@@ -29,18 +28,6 @@ impl RankingKind {
     {
         laws::spaces_have_sizes(&space);
         RankingKind { space }
-    }
-
-    /// A profile, with the alternatives of the size.
-    fn at(&self, p: u32) -> AtProfile
-        requires { p < sort_count self.now.space Profile }
-        ensures number { result.alternatives.number ≡ self.now.space.alternatives }
-        ensures profile { result.profile ≡ p }
-    {
-        AtProfile {
-            alternatives: self.space.alternatives(),
-            profile: p,
-        }
     }
 
     /// The ranking that an outcome is.
@@ -84,9 +71,9 @@ impl OutcomeKind for RankingKind {
         match *literal {
             Literal::Above(x, y, p) => {
                 if x < y {
-                    frames::pair_lit(self.at(p), true, x, y)
+                    frames::pair_lit(AtProfile::new(&self.space, p), true, x, y)
                 } else {
-                    frames::pair_lit(self.at(p), false, y, x)
+                    frames::pair_lit(AtProfile::new(&self.space, p), false, y, x)
                 }
             }
             _ => unreachable!(),
@@ -107,7 +94,7 @@ impl OutcomeKind for RankingKind {
     }
 
     fn frame(&self, p: u32, out: &mut Clauses) -> Result<(), PushFault> {
-        frames::push_ranking(self.at(p), out)
+        frames::push_ranking(AtProfile::new(&self.space, p), out)
     }
 
     fn text(&self, outcome: u32) -> Name {
