@@ -49,7 +49,10 @@ fn is_same_or_above(at: &VoterAt, y: u8, x: u8) -> bool
     requires x { x < at.now.space.now.alternatives }
     ensures { result ≡ (y == x || prefers at.now.space.now at.now.voter y x at.now.profile) }
 {
-    y == x || at.space.prefers(at.voter, u32::from(y), u32::from(x), at.profile)
+    y == x
+        || at
+            .space
+            .prefers(at.voter, u32::from(y), u32::from(x), at.profile)
 }
 
 /// Whether an alternative is each element of a set, or stands above it in a voter's ballot at a profile.

@@ -8,7 +8,9 @@ ghost use Rattle.explain_answers.specs.Story.{bare_run};
 ghost use Rattle.explain_parts.specs.Replies.{HasReplyText, Replies, status_of, reply_text};
 
 use clause_form::GroundFault;
-use command_parts::{Answer, Opened, Stop, WholeSetting, WholeStudy, ground_all, open_study, over_whole};
+use command_parts::{
+    Answer, Opened, Stop, WholeSetting, WholeStudy, ground_all, open_study, over_whole,
+};
 use core_maps::map_axioms;
 use crew::Crew;
 use edge::{Gate, Shelf};

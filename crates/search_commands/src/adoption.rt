@@ -17,7 +17,10 @@ use crate::decide::impossible;
 use adopt::{AdoptFault, Adopted};
 use clause_form::{Ground, GroundFault};
 use cnf::Derivation;
-use command_parts::{Answer, GivenProof, Opened, Stop, WholeSetting, WholeStudy, ground_study, open_derivation, open_study, over_whole};
+use command_parts::{
+    Answer, GivenProof, Opened, Stop, WholeSetting, WholeStudy, ground_study, open_derivation,
+    open_study, over_whole,
+};
 use core_reduce::variables;
 use crew::Crew;
 use edge::{Gate, Shelf};
@@ -102,7 +105,11 @@ fn judge_proof<S: Shelf>(
         Rose (S.faults shelf.old proof.now) (S.faults shelf.new proof.now) }
     ensures others { OthersStay (S.left shelf.old) (S.left shelf.new) proof.now }
 {
-    over_whole!(whole, setting, judge_over(alloc, shelf, setting, clauses, proof))
+    over_whole!(
+        whole,
+        setting,
+        judge_over(alloc, shelf, setting, clauses, proof)
+    )
 }
 
 /// Reads the study and makes its clauses, and then reads a refutation of them, whoever found it: this becomes

@@ -12,7 +12,9 @@ ghost use Rattle.search_commands.specs.Found.{IsVerdict};
 
 use adopt::{Adopted, tell};
 use clause_form::GroundFault;
-use command_parts::{Answer, Opened, Stop, WholeSetting, WholeStudy, ground_all, open_study, over_whole};
+use command_parts::{
+    Answer, Opened, Stop, WholeSetting, WholeStudy, ground_all, open_study, over_whole,
+};
 use core_reduce::{Decision, Finding, Reduced};
 use crew::Crew;
 use edge::{Gate, Shelf};
