@@ -7,22 +7,23 @@ use Rattle.std.proofs.lemmas.List.Sums.{fold_more}
 use Rattle.vocab.specs.declared.literals.Literal.{Literal}
 use Rattle.vocab.specs.Literal.{has, opposite_of}
 use Rattle.vocab.specs.Size.{Extent}
+use Rattle.vocab.specs.Titled.{Titled}
 use Rattle.meaning.specs.Literals.{is_literal}
+use Rattle.meaning.specs.Stories.{refutes}
 use Rattle.meaning.specs.declared.stories.Lemma.{Lemma}
 use Rattle.meaning.specs.declared.stories.Reason.{Reason}
 use Rattle.meaning.specs.declared.stories.Reason.TheVariants.{Axiom as ByAxiom, Outcome as ByOutcome, Lemma as ByLemma}
 use Rattle.meaning.specs.declared.stories.StoryStep.{StoryStep}
 use Rattle.worlds.specs.Boards.{are_distinct, Known}
 use Rattle.worlds.proofs.BoardLemmas.{all_has}
-use Rattle.tellings.specs.Tellings.{are_said, facts_of, forced_facts, rests_of, stands_before, AllSay}
+use Rattle.tellings.specs.Tellings.{are_said, facts_of, forced_by, forced_facts, forced_with, is_forced, rests_of, stands_before, AllSay}
 use Rattle.tellings.specs.declared.tellings.Passage.{Passage}
 use Rattle.tellings.specs.declared.tellings.Placed.{Placed}
-use Rattle.needed_facts.specs.declared.basis.Basis.{Basis}
-use Rattle.needed_facts.specs.Rests.{are_there, refutes_by}
+use Rattle.needed_facts.specs.Rests.{are_there}
 use Rattle.premises.specs.declared.forced.Forced.{Forced}
 use Rattle.premises.specs.declared.forced.Gathered.{Gathered}
-use Rattle.premises.specs.Forcing.{is_forced_by, with_lemmas, with_step, with_steps, AreForced, AreGathered, AreStated}
-use Rattle.premises.specs.SoFar.{are_said_by, bare_steps, unforced, FollowsFrom, IsToldSoFar, Upholds}
+use Rattle.premises.specs.Forcing.{AreForced, AreGathered, AreStated}
+use Rattle.premises.specs.SoFar.{bare_steps, unforced, FollowsFrom, IsToldSoFar, Upholds}
 
 -- the facts that steps state
 pub facts_are : (ps : List Placed) → facts_of ps ≡ map (λ (step : StoryStep). step.literal) (bare_steps ps)
@@ -51,25 +52,25 @@ none_there (ByAxiom k values) = refl
 none_there (ByOutcome p) = refl
 none_there (ByLemma j) = refl
 
-module _ (size : Extent) (basis : Basis) where
+module _ (size : Extent) (axioms : List Titled) (core : List ℕ) (earlier : List Lemma) where
   -- a fact that its reason forces alone follows from none
-  pub follows_alone : (known : List Literal) (step : StoryStep) → refutes_by size basis (opposite_of step.literal ∷ []) step.reason ≡ true → FollowsFrom size basis known step []
+  pub follows_alone : (known : List Literal) (step : StoryStep) → refutes size axioms core earlier (opposite_of step.literal ∷ []) step.reason ≡ true → FollowsFrom size axioms core earlier known step []
   follows_alone known step h = record { rest = record { kept = refl; refuted = h }; there = none_there step.reason }
 
-  pub gathered_same : (old new : Gathered) → AreGathered size basis old → new.board.size ≡ old.board.size → new.board.literals ≡ old.board.literals → new.passage ≡ old.passage → AreGathered size basis new
+  pub gathered_same : (old new : Gathered) → AreGathered size axioms core earlier old → new.board.size ≡ old.board.size → new.board.literals ≡ old.board.literals → new.passage ≡ old.passage → AreGathered size axioms core earlier new
   gathered_same old new so_far sized literals passage = record {
     sized = sized ∙ so_far.sized;
     told =
-        subst (λ (ls : List Literal). IsToldSoFar size basis [] [] ls new.passage) (sym literals)
-        (subst (λ (p : Passage). IsToldSoFar size basis [] [] old.board.literals p) (sym passage) so_far.told);
+        subst (λ (ls : List Literal). IsToldSoFar size axioms core earlier [] [] ls new.passage) (sym literals)
+        (subst (λ (p : Passage). IsToldSoFar size axioms core earlier [] [] old.board.literals p) (sym passage) so_far.told);
     facts = ap (λ (p : Passage). facts_of p.steps) passage ∙ so_far.facts ∙ sym literals;
   }
 
-  pub gathered_more : (old new : Gathered) (step : StoryStep) → AreGathered size basis old → IsToldSoFar size basis [] [] (old.board.literals ++ step.literal ∷ []) new.passage →
-      bare_steps new.passage.steps ≡ bare_steps old.passage.steps ++ step ∷ [] → new.board.size ≡ old.board.size → new.board.literals ≡ old.board.literals ++ step.literal ∷ [] → AreGathered size basis new
+  pub gathered_more : (old new : Gathered) (step : StoryStep) → AreGathered size axioms core earlier old → IsToldSoFar size axioms core earlier [] [] (old.board.literals ++ step.literal ∷ []) new.passage →
+      bare_steps new.passage.steps ≡ bare_steps old.passage.steps ++ step ∷ [] → new.board.size ≡ old.board.size → new.board.literals ≡ old.board.literals ++ step.literal ∷ [] → AreGathered size axioms core earlier new
   gathered_more old new step so_far told bare same grown = record {
     sized = same ∙ so_far.sized;
-    told = subst (λ (ls : List Literal). IsToldSoFar size basis [] [] ls new.passage) (sym grown) told;
+    told = subst (λ (ls : List Literal). IsToldSoFar size axioms core earlier [] [] ls new.passage) (sym grown) told;
     facts =
         facts_are new.passage.steps
         ∙ ap (map (λ (s : StoryStep). s.literal)) bare
@@ -80,29 +81,29 @@ module _ (size : Extent) (basis : Basis) where
 
   -- ---- which facts these are
 
-  pub with_there : (facts : List Literal) (step : StoryStep) → has facts step.literal ≡ true → with_step size basis facts step ≡ facts
-  with_there facts step h = ap (λ (b : Bool). cond (not b && is_forced_by size basis facts step) (facts ++ step.literal ∷ []) facts) h
+  pub with_there : (facts : List Literal) (step : StoryStep) → has facts step.literal ≡ true → forced_with size axioms core earlier facts step ≡ facts
+  with_there facts step h = ap (λ (b : Bool). cond (not b && is_forced size axioms core earlier facts step) (facts ++ step.literal ∷ []) facts) h
 
-  pub with_new : (facts : List Literal) (step : StoryStep) → has facts step.literal ≡ false → is_forced_by size basis facts step ≡ true → with_step size basis facts step ≡ facts ++ step.literal ∷ []
+  pub with_new : (facts : List Literal) (step : StoryStep) → has facts step.literal ≡ false → is_forced size axioms core earlier facts step ≡ true → forced_with size axioms core earlier facts step ≡ facts ++ step.literal ∷ []
   with_new facts step h forced =
-      ap (λ (b : Bool). cond (not b && is_forced_by size basis facts step) (facts ++ step.literal ∷ []) facts) h ∙ ap (λ (b : Bool). cond b (facts ++ step.literal ∷ []) facts) forced
+      ap (λ (b : Bool). cond (not b && is_forced size axioms core earlier facts step) (facts ++ step.literal ∷ []) facts) h ∙ ap (λ (b : Bool). cond b (facts ++ step.literal ∷ []) facts) forced
 
-  pub with_other : (facts : List Literal) (step : StoryStep) → has facts step.literal ≡ false → is_forced_by size basis facts step ≡ false → with_step size basis facts step ≡ facts
+  pub with_other : (facts : List Literal) (step : StoryStep) → has facts step.literal ≡ false → is_forced size axioms core earlier facts step ≡ false → forced_with size axioms core earlier facts step ≡ facts
   with_other facts step h other =
-      ap (λ (b : Bool). cond (not b && is_forced_by size basis facts step) (facts ++ step.literal ∷ []) facts) h ∙ ap (λ (b : Bool). cond b (facts ++ step.literal ∷ []) facts) other
+      ap (λ (b : Bool). cond (not b && is_forced size axioms core earlier facts step) (facts ++ step.literal ∷ []) facts) h ∙ ap (λ (b : Bool). cond b (facts ++ step.literal ∷ []) facts) other
 
   pub steps_next : (facts : List Literal) (steps : List StoryStep) (i : ℕ) (d : StoryStep) → i < length steps →
-      with_steps size basis facts (take (i + 1) steps) ≡ with_step size basis (with_steps size basis facts (take i steps)) (get_or steps i d)
-  steps_next facts steps i d lt = fold_more (with_step size basis) facts steps i d lt
+      forced_by size axioms core earlier facts (take (i + 1) steps) ≡ forced_with size axioms core earlier (forced_by size axioms core earlier facts (take i steps)) (get_or steps i d)
+  steps_next facts steps i d lt = fold_more (forced_with size axioms core earlier) facts steps i d lt
 
-  pub lemmas_next : (facts : List Literal) (story : List Lemma) (i : ℕ) (d : Lemma) → i < length story →
-      with_lemmas size basis facts (take (i + 1) story) ≡ with_steps size basis (with_lemmas size basis facts (take i story)) (get_or story i d).steps
-  lemmas_next facts story i d lt = fold_more (λ (ls : List Literal) (lemma : Lemma). with_steps size basis ls lemma.steps) facts story i d lt
+  pub lemmas_next : (story : List Lemma) (i : ℕ) (d : Lemma) → i < length story →
+      forced_facts size axioms core earlier (take (i + 1) story) ≡ forced_by size axioms core earlier (forced_facts size axioms core earlier (take i story)) (get_or story i d).steps
+  lemmas_next story i d lt = fold_more (λ (ls : List Literal) (lemma : Lemma). forced_by size axioms core earlier ls lemma.steps) [] story i d lt
 
   -- ---- what is gathered is stated, where the facts on the board are of the size and stand once
 
-  pub stated_so : (gathered : Gathered) (forced : Forced) → AreGathered size basis gathered → list_all (is_literal gathered.board.size) gathered.board.literals ≡ true → are_distinct gathered.board.literals ≡ true →
-      forced.board ≡ gathered.board → forced.passage ≡ gathered.passage → AreStated size basis gathered.board.literals forced
+  pub stated_so : (gathered : Gathered) (forced : Forced) → AreGathered size axioms core earlier gathered → list_all (is_literal gathered.board.size) gathered.board.literals ≡ true → are_distinct gathered.board.literals ≡ true →
+      forced.board ≡ gathered.board → forced.passage ≡ gathered.passage → AreStated size axioms core earlier gathered.board.literals forced
   stated_so gathered forced so_far ours distinct board passage = record {
     sized = ap (λ (b : Known). b.size) board ∙ so_far.sized;
     on_board = ap (λ (b : Known). b.literals) board;
@@ -110,15 +111,15 @@ module _ (size : Extent) (basis : Basis) where
         ap (λ (p : Passage). facts_of p.steps) passage
         ∙ so_far.facts;
     ours = subst (λ (s : Extent). list_all (is_literal s) gathered.board.literals ≡ true) so_far.sized ours;
-    said = subst (λ (p : Passage). are_said_by size basis p ≡ true) (sym passage) so_far.told.said;
+    said = subst (λ (p : Passage). are_said size axioms core earlier p ≡ true) (sym passage) so_far.told.said;
     all_say = subst AllSay (sym passage) so_far.told.all_say;
     grounded = λ k. subst (λ (p : Passage). list_all (stands_before [] [] p.steps k) (rests_of (slice_get p.sentences k)) ≡ true) (sym passage) (so_far.told.grounded k);
     once = distinct;
   }
 
   -- and so it is in other sentences that uphold it
-  pub stated_shortly : (gathered : Gathered) (forced : Forced) → AreGathered size basis gathered → list_all (is_literal gathered.board.size) gathered.board.literals ≡ true → are_distinct gathered.board.literals ≡ true →
-      forced.board ≡ gathered.board → bare_steps forced.passage.steps ≡ unforced [] (bare_steps gathered.passage.steps) → AllSay forced.passage → Upholds size basis [] [] [] forced.passage → AreStated size basis gathered.board.literals forced
+  pub stated_shortly : (gathered : Gathered) (forced : Forced) → AreGathered size axioms core earlier gathered → list_all (is_literal gathered.board.size) gathered.board.literals ≡ true → are_distinct gathered.board.literals ≡ true →
+      forced.board ≡ gathered.board → bare_steps forced.passage.steps ≡ unforced [] (bare_steps gathered.passage.steps) → AllSay forced.passage → Upholds size axioms core earlier [] [] [] forced.passage → AreStated size axioms core earlier gathered.board.literals forced
   stated_shortly gathered forced so_far ours distinct board bare say upholds = record {
     sized = ap (λ (b : Known). b.size) board ∙ so_far.sized;
     on_board = ap (λ (b : Known). b.literals) board;
@@ -134,17 +135,17 @@ module _ (size : Extent) (basis : Basis) where
     once = distinct;
   }
 
-  pub forced_so : (story : List Lemma) (forced : Forced) → basis.earlier.now ≡ [] → AreStated size basis (with_lemmas size basis [] story) forced →
-      AreForced size basis.study.now.axioms basis.core.now story forced
+  pub forced_so : (story : List Lemma) (forced : Forced) → earlier ≡ [] → AreStated size axioms core earlier (forced_facts size axioms core earlier story) forced →
+      AreForced size axioms core story forced
   forced_so story forced first stated = record {
     sized = stated.sized;
     told = record {
       ours = subst (λ (ls : List Literal). list_all (is_literal size) ls ≡ true) (sym stated.stated) stated.ours;
-      said = subst (λ (ls : List Lemma). are_said size basis.study.now.axioms basis.core.now ls forced.passage ≡ true) first stated.said;
+      said = subst (λ (ls : List Lemma). are_said size axioms core ls forced.passage ≡ true) first stated.said;
       all_say = stated.all_say;
       grounded = stated.grounded;
       once = subst (λ (ls : List Literal). are_distinct ls ≡ true) (sym stated.stated) stated.once;
     };
     facts = stated.stated ∙ sym stated.on_board;
-    whole = stated.on_board ∙ ap (λ (ls : List Lemma). forced_facts size basis.study.now.axioms basis.core.now ls story) first;
+    whole = stated.on_board ∙ ap (λ (ls : List Lemma). forced_facts size axioms core ls story) first;
   }

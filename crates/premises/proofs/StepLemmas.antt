@@ -14,10 +14,8 @@ use Rattle.meaning.specs.declared.stories.Lemma.{Lemma}
 use Rattle.meaning.specs.declared.stories.Reason.{Reason}
 use Rattle.meaning.specs.declared.stories.StoryStep.{StoryStep}
 use Rattle.meaning.specs.Literals.{is_literal}
-use Rattle.meaning.specs.Stories.{are_forced, are_new, has_literals, is_decided, is_lemma, is_story_from}
-use Rattle.needed_facts.specs.declared.basis.Basis.{Basis}
-use Rattle.needed_facts.specs.Rests.{refutes_by}
-use Rattle.premises.specs.SoFar.{steps_follow, is_lemma_by, unforced}
+use Rattle.meaning.specs.Stories.{are_forced, are_new, has_literals, is_decided, is_lemma, is_story_from, refutes}
+use Rattle.premises.specs.SoFar.{unforced}
 
 -- what is new is not known
 is_fresh : (known : List Literal) (l : Literal) → not (is_decided known l) ≡ true → has known l ≡ false
@@ -34,21 +32,21 @@ next_new known literals i d lt h =
     let p = and_parts (not (is_decided known l)) (are_new (known ++ l ∷ []) (drop (i + 1) literals)) (subst (λ (ls : List Literal). are_new known ls ≡ true) (drop_more literals i d lt) h) in
     record { fresh = is_fresh known l p.0; others = p.1 }
 
-module _ (size : Extent) (basis : Basis) (last : Reason) where
+module _ (size : Extent) (axioms : List Titled) (core : List ℕ) (earlier : List Lemma) (last : Reason) where
   -- the next step is new and forced, and so are those after it
   pub record NextForced (known : List Literal) (step : StoryStep) (rest : List StoryStep) : Type 0 where
     pub fresh : has known step.literal ≡ false
-    pub refuted : refutes_by size basis (known ++ opposite_of step.literal ∷ []) step.reason ≡ true
-    pub others : steps_follow size basis last (known ++ step.literal ∷ []) rest ≡ true
+    pub refuted : refutes size axioms core earlier (known ++ opposite_of step.literal ∷ []) step.reason ≡ true
+    pub others : are_forced size axioms core earlier last (known ++ step.literal ∷ []) rest ≡ true
 
-  pub next_forced : (known : List Literal) (steps : List StoryStep) (i : ℕ) (d : StoryStep) → i < length steps → steps_follow size basis last known (drop i steps) ≡ true →
+  pub next_forced : (known : List Literal) (steps : List StoryStep) (i : ℕ) (d : StoryStep) → i < length steps → are_forced size axioms core earlier last known (drop i steps) ≡ true →
       NextForced known (get_or steps i d) (drop (i + 1) steps)
   next_forced known steps i d lt h =
       let step = get_or steps i d in
       let rest = drop (i + 1) steps in
-      let p = and_parts (not (is_decided known step.literal) && refutes_by size basis (known ++ opposite_of step.literal ∷ []) step.reason) (steps_follow size basis last (known ++ step.literal ∷ []) rest)
-      (subst (λ (ss : List StoryStep). steps_follow size basis last known ss ≡ true) (drop_more steps i d lt) h) in
-      let q = and_parts (not (is_decided known step.literal)) (refutes_by size basis (known ++ opposite_of step.literal ∷ []) step.reason) p.0 in
+      let p = and_parts (not (is_decided known step.literal) && refutes size axioms core earlier (known ++ opposite_of step.literal ∷ []) step.reason) (are_forced size axioms core earlier last (known ++ step.literal ∷ []) rest)
+      (subst (λ (ss : List StoryStep). are_forced size axioms core earlier last known ss ≡ true) (drop_more steps i d lt) h) in
+      let q = and_parts (not (is_decided known step.literal)) (refutes size axioms core earlier (known ++ opposite_of step.literal ∷ []) step.reason) p.0 in
       record { fresh = is_fresh known step.literal q.0; refuted = q.1; others = p.1 }
 
 -- ---- the lemmas of a story
@@ -84,15 +82,15 @@ module _ (size : Extent) (axioms : List Titled) (core : List ℕ) where
 
 -- ---- the parts of a lemma
 
-pub record Parts (size : Extent) (basis : Basis) (lemma : Lemma) : Type 0 where
+pub record Parts (size : Extent) (axioms : List Titled) (core : List ℕ) (earlier : List Lemma) (lemma : Lemma) : Type 0 where
   pub literals : has_literals size lemma ≡ true
   pub supposed : list_all (is_literal size) lemma.suppose ≡ true
   pub fresh : are_new [] lemma.suppose ≡ true
-  pub follows : steps_follow size basis lemma.last lemma.suppose lemma.steps ≡ true
+  pub follows : are_forced size axioms core earlier lemma.last lemma.suppose lemma.steps ≡ true
 
-pub parts_of : (size : Extent) (basis : Basis) (lemma : Lemma) → is_lemma_by size basis lemma ≡ true → Parts size basis lemma
-parts_of size basis lemma h =
-    let p = and_parts (has_literals size lemma && are_new [] lemma.suppose) (steps_follow size basis lemma.last lemma.suppose lemma.steps) h in
+pub parts_of : (size : Extent) (axioms : List Titled) (core : List ℕ) (earlier : List Lemma) (lemma : Lemma) → is_lemma size axioms core earlier lemma ≡ true → Parts size axioms core earlier lemma
+parts_of size axioms core earlier lemma h =
+    let p = and_parts (has_literals size lemma && are_new [] lemma.suppose) (are_forced size axioms core earlier lemma.last lemma.suppose lemma.steps) h in
     let q = and_parts (has_literals size lemma) (are_new [] lemma.suppose) p.0 in
     let r = and_parts (list_all (is_literal size) lemma.suppose) (list_all (λ (step : StoryStep). is_literal size step.literal) lemma.steps) q.0 in
     record { literals = q.0; supposed = r.0; fresh = q.1; follows = p.1 }

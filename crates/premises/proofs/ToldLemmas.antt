@@ -22,7 +22,6 @@ use Rattle.tellings.specs.declared.tellings.Passage.{Passage}
 use Rattle.tellings.specs.declared.tellings.Placed.{Placed}
 use Rattle.tellings.specs.declared.tellings.Sentence.{Sentence}
 use Rattle.meaning.proofs.LiteralLaws.{same_literal-refl}
-use Rattle.needed_facts.specs.declared.basis.Basis.{Basis}
 use Rattle.needed_facts.specs.Rests.{are_there, RestsOn}
 use Rattle.joined_sentences.specs.Joined.{IsJoined, IsSentenceBy}
 use Rattle.premises.specs.SoFar.{are_numbered, bare_steps, IsToldSoFar}
@@ -142,12 +141,12 @@ module _ (size : Extent) (axioms : List Titled) (core : List ℕ) (earlier : Lis
 
 -- ---- one step more
 
-module _ (size : Extent) (basis : Basis) where
-  module _ (forced suppose known rests : List Literal) (old new : Passage) (step : StoryStep) (number : ℕ) (so_far : IsToldSoFar size basis forced suppose known old)
-      (grounds : RestsOn size basis known (opposite_of step.literal ∷ []) step.reason rests) (there : are_there step.reason rests ≡ true) (joined : IsJoined old.sentences new.sentences (by_of step.reason) rests number) where
+module _ (size : Extent) (axioms : List Titled) (core : List ℕ) (earlier : List Lemma) where
+  module _ (forced suppose known rests : List Literal) (old new : Passage) (step : StoryStep) (number : ℕ) (so_far : IsToldSoFar size axioms core earlier forced suppose known old)
+      (grounds : RestsOn size axioms core earlier known (opposite_of step.literal ∷ []) step.reason rests) (there : are_there step.reason rests ≡ true) (joined : IsJoined old.sentences new.sentences (by_of step.reason) rests number) where
     -- the next step, with its number
     abbrev one : Placed
-    one = placed size basis.study.now.axioms basis.core.now basis.earlier.now old.sentences new.sentences old.steps step rests number joined
+    one = placed size axioms core earlier old.sentences new.sentences old.steps step rests number joined
 
     -- the steps with the next one
     abbrev more : List Placed
@@ -161,7 +160,7 @@ module _ (size : Extent) (basis : Basis) where
           | inr high ↦ elim (cases_lt k (length new.sentences)) [
             | inl within ↦
                 let same : rests_of (slice_get new.sentences k) ≡ rests =
-                ap (λ (i : ℕ). rests_of (slice_get new.sentences i)) (joined.fresh k high within).0 ∙ rests_there size basis.study.now.axioms basis.core.now basis.earlier.now old.sentences new.sentences old.steps step rests number joined in
+                ap (λ (i : ℕ). rests_of (slice_get new.sentences i)) (joined.fresh k high within).0 ∙ rests_there size axioms core earlier old.sentences new.sentences old.steps step rests number joined in
                 subst (λ (ls : List Literal). list_all (stands_before forced suppose more k) ls ≡ true) (sym same)
                 (all_stand_more forced suppose old.steps one (length old.sentences) k rests high
                 (all_among (stands_before forced suppose old.steps (length old.sentences)) known rests so_far.stands grounds.kept))
@@ -169,11 +168,11 @@ module _ (size : Extent) (basis : Basis) where
           ]
         ]
 
-    told_so : IsToldSoFar size basis forced suppose (known ++ step.literal ∷ []) (record { sentences = new.sentences; steps = more })
+    told_so : IsToldSoFar size axioms core earlier forced suppose (known ++ step.literal ∷ []) (record { sentences = new.sentences; steps = more })
     told_so = record {
-      numbered = numbered_more size basis.study.now.axioms basis.core.now basis.earlier.now old.sentences new.sentences old.steps step rests number joined so_far.numbered;
-      said = said_more size basis.study.now.axioms basis.core.now basis.earlier.now old.sentences new.sentences old.steps step rests number joined so_far.numbered so_far.said there grounds.refuted;
-      all_say = all_say_more size basis.study.now.axioms basis.core.now basis.earlier.now old.sentences new.sentences old.steps step rests number joined so_far.all_say;
+      numbered = numbered_more size axioms core earlier old.sentences new.sentences old.steps step rests number joined so_far.numbered;
+      said = said_more size axioms core earlier old.sentences new.sentences old.steps step rests number joined so_far.numbered so_far.said there grounds.refuted;
+      all_say = all_say_more size axioms core earlier old.sentences new.sentences old.steps step rests number joined so_far.all_say;
       grounded = grounded_at;
       stands =
           all_snoc (stands_before forced suppose more (length new.sentences)) known step.literal
@@ -181,16 +180,16 @@ module _ (size : Extent) (basis : Basis) where
           (stated_stands forced suppose old.steps one (length new.sentences) joined.within);
     }
 
-    pub told_more : new.steps ≡ more → IsToldSoFar size basis forced suppose (known ++ step.literal ∷ []) new
-    told_more is = subst (λ (ps : List Placed). IsToldSoFar size basis forced suppose (known ++ step.literal ∷ []) (record { sentences = new.sentences; steps = ps })) (sym is) told_so
+    pub told_more : new.steps ≡ more → IsToldSoFar size axioms core earlier forced suppose (known ++ step.literal ∷ []) new
+    told_more is = subst (λ (ps : List Placed). IsToldSoFar size axioms core earlier forced suppose (known ++ step.literal ∷ []) (record { sentences = new.sentences; steps = ps })) (sym is) told_so
 
   -- nothing is told yet
-  pub told_none : (forced suppose : List Literal) → IsToldSoFar size basis forced suppose suppose (record { sentences = []; steps = [] })
+  pub told_none : (forced suppose : List Literal) → IsToldSoFar size axioms core earlier forced suppose suppose (record { sentences = []; steps = [] })
   told_none forced suppose = record { numbered = refl; said = refl; all_say = λ k lt. absurd (omega (arith, lt)); grounded = λ k. refl; stands = supposed_stand forced suppose [] 0 }
 
   -- a step whose fact is forced need not be told
-  pub told_forced : (forced suppose known : List Literal) (passage : Passage) (l : Literal) → IsToldSoFar size basis forced suppose known passage → has forced l ≡ true →
-      IsToldSoFar size basis forced suppose (known ++ l ∷ []) passage
+  pub told_forced : (forced suppose known : List Literal) (passage : Passage) (l : Literal) → IsToldSoFar size axioms core earlier forced suppose known passage → has forced l ≡ true →
+      IsToldSoFar size axioms core earlier forced suppose (known ++ l ∷ []) passage
   told_forced forced suppose known passage l so_far h = record {
     numbered = so_far.numbered;
     said = so_far.said;

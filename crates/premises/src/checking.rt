@@ -4,8 +4,8 @@ ghost use Rattle.std.specs.Prelude.{◌≡◌, ◌<◌, ◌&&◌, ◌==◌, nat_
 ghost use Rattle.std.specs.List.{list_all, list_any};
 ghost use Rattle.vocab.specs.Literal.{has, same_literal};
 ghost use Rattle.meaning.specs.Literals.{is_literal};
-ghost use Rattle.tellings.specs.Tellings.{moved_to, rests_of, stand_there, stands_before, AllSay};
-ghost use Rattle.premises.specs.SoFar.{are_said_by, says_by, Upholds};
+ghost use Rattle.tellings.specs.Tellings.{are_said, moved_to, rests_of, says_step, stand_there, stands_before, AllSay};
+ghost use Rattle.premises.specs.SoFar.{Upholds};
 ghost use Rattle.premises.specs.Checking.{IsLoaded};
 
 use crate::teller::Teller;
@@ -100,7 +100,7 @@ fn all_moved<K: OutcomeKind>(facts: &Facts<K>, p: u32) -> bool
     ensures { IsTrue result → IsTrue
         (list_all (λ l. has facts.now.board.now.literals (moved_to p l)) facts.now.board.now.literals) }
 {
-    let size = facts.grounds.kind.space().size();
+    let size = facts.grounds.setting.kind.space().size();
     for literal in facts.board.as_slice() {
         let moved = moved_to(p, literal);
         if !is_literal(size, &moved) || !facts.board.has(&moved) {
@@ -124,15 +124,15 @@ fn stand_there<K: OutcomeKind>(facts: &Facts<K>, reason: &Reason) -> bool
 impl<K: OutcomeKind> Teller<'_, K> {
     /// Whether a sentence says a step. What it rests on is on the board.
     fn says(&self, tried: &mut Board, sentence: &Sentence, step: &StoryStep) -> bool
-        requires size { tried.old.size ≡ K.size self.now.grounds.kind.now }
+        requires size { tried.old.size ≡ K.size self.now.grounds.setting.now.kind.now }
         requires loaded { tried.old.literals ≡ sentence.now.rests }
         ensures size { tried.new.size ≡ tried.old.size }
         ensures same { tried.new.literals ≡ tried.old.literals }
-        ensures says { IsTrue result →
-            IsTrue (says_by (K.size self.now.grounds.kind.now) self.now.grounds.basis
-            (Some sentence.now) step.now) }
+        ensures says { IsTrue result → IsTrue (says_step (K.size self.now.grounds.setting.now.kind.now)
+            self.now.grounds.setting.now.study.now.axioms self.now.grounds.core.now
+            self.now.grounds.lemmas.now (Some sentence.now) step.now) }
     {
-        let size = self.grounds.kind.space().size();
+        let size = self.grounds.setting.kind.space().size();
         let other = step.literal.opposite();
         if !is_literal(size, &other) || tried.has(&other) {
             return false;
@@ -156,12 +156,13 @@ impl<K: OutcomeKind> Teller<'_, K> {
 
     /// Whether each step stands in a sentence that says it.
     fn are_said(&self, tried: &mut Board, passage: &Passage) -> bool
-        requires { tried.old.size ≡ K.size self.now.grounds.kind.now }
+        requires { tried.old.size ≡ K.size self.now.grounds.setting.now.kind.now }
         ensures size { tried.new.size ≡ tried.old.size }
-        ensures said { IsTrue result →
-            IsTrue (are_said_by (K.size self.now.grounds.kind.now) self.now.grounds.basis passage.now) }
+        ensures said { IsTrue result → IsTrue (are_said (K.size self.now.grounds.setting.now.kind.now)
+            self.now.grounds.setting.now.study.now.axioms self.now.grounds.core.now
+            self.now.grounds.lemmas.now passage.now) }
     {
-        let size = self.grounds.kind.space().size();
+        let size = self.grounds.setting.kind.space().size();
         let sentences = &passage.sentences;
         let mut loaded = sentences.len();
         for placed in passage.steps.as_slice() {
@@ -185,7 +186,7 @@ pub(crate) struct Checker<'a, K: OutcomeKind> {
     pub(crate) teller: &'a Teller<'a, K>,
     pub(crate) supposed: &'a Board,
     pub(crate) index: &'a StepIndex,
-    ghost size: { supposed.now.size ≡ K.size teller.now.grounds.kind.now },
+    ghost size: { supposed.now.size ≡ K.size teller.now.grounds.setting.now.kind.now },
 }
 
 impl<K: OutcomeKind> Checker<'_, K> {
@@ -195,7 +196,7 @@ impl<K: OutcomeKind> Checker<'_, K> {
             self.now.supposed.now.literals steps.now number literal.now) }
     {
         let teller = self.teller;
-        is_literal(teller.grounds.kind.space().size(), literal)
+        is_literal(teller.grounds.setting.kind.space().size(), literal)
             && (teller.forced.has(literal)
                 || self.supposed.has(literal)
                 || is_stated(self.index, steps, number, literal))
@@ -233,10 +234,11 @@ impl<K: OutcomeKind> Checker<'_, K> {
     /// Whether a passage, whose steps are in the index, tells a lemma right up to its end, which rests on
     /// these facts.
     pub(crate) fn upholds(&self, tried: &mut Board, passage: &Passage, end: &[Literal]) -> bool
-        requires { tried.old.size ≡ K.size self.now.teller.now.grounds.kind.now }
+        requires { tried.old.size ≡ K.size self.now.teller.now.grounds.setting.now.kind.now }
         ensures tried { tried.new.size ≡ tried.old.size }
-        ensures upholds { IsTrue result → Upholds (K.size self.now.teller.now.grounds.kind.now)
-            self.now.teller.now.grounds.basis self.now.teller.now.forced.now.literals
+        ensures upholds { IsTrue result → Upholds (K.size self.now.teller.now.grounds.setting.now.kind.now)
+            self.now.teller.now.grounds.setting.now.study.now.axioms self.now.teller.now.grounds.core.now
+            self.now.teller.now.grounds.lemmas.now self.now.teller.now.forced.now.literals
             self.now.supposed.now.literals end.now passage.now }
     {
         let number = passage.sentences.len();

@@ -1,16 +1,16 @@
 //! Facts that are forced where nothing is supposed.
 
-ghost use Rattle.std.specs.Prelude.{◌≡◌, ◌&&◌, not, is_some, [], ◌∷◌, ◌++◌, IsTrue, IsFalse, IfOk, IfSome, OnOk};
+ghost use Rattle.std.specs.Prelude.{◌≡◌, ◌&&◌, not, is_some, ℕ, List, [], ◌∷◌, ◌++◌, IsTrue, IsFalse, IfOk, IfSome, OnOk};
 ghost use Rattle.std.specs.List.{list_all};
 ghost use Rattle.vocab.specs.Literal.{has, opposite_of};
 ghost use Rattle.vocab.specs.Size.{Extent};
+ghost use Rattle.vocab.specs.Titled.{Titled};
 ghost use Rattle.meaning.specs.Literals.{is_literal};
-ghost use Rattle.meaning.specs.Stories.{has_literals};
+ghost use Rattle.meaning.specs.declared.stories.Lemma.{Lemma};
+ghost use Rattle.meaning.specs.Stories.{has_literals, refutes};
 ghost use Rattle.story.specs.Conditions.{IsClear};
-ghost use Rattle.tellings.specs.Tellings.{several};
-ghost use Rattle.needed_facts.specs.declared.basis.Basis.{Basis};
-ghost use Rattle.needed_facts.specs.Rests.{refutes_by};
-ghost use Rattle.premises.specs.Forcing.{is_forced_by, with_lemmas, with_step, with_steps, AreForced, AreGathered, AreStated};
+ghost use Rattle.tellings.specs.Tellings.{forced_by, forced_facts, forced_with, is_forced, several};
+ghost use Rattle.premises.specs.Forcing.{AreForced, AreGathered, AreStated};
 ghost use Rattle.premises.specs.SoFar.{bare_steps, FollowsFrom};
 
 use crate::accepted::AcceptedStory;
@@ -20,9 +20,10 @@ use crate::telling::say;
 use joined_sentences::{Chains, StepIndex, reshape};
 use lists::{Items, NoMemory};
 use meaning::{Lemma, Literals, StoryStep};
-use needed_facts::{Basis, Facts, Grounds};
+use needed_facts::Facts;
 use outcomes::OutcomeKind;
 use std::alloc::Global;
+use story::Grounds;
 use tellings::{Passage, Placed};
 use vocab::Sort;
 use worlds::Board;
@@ -45,7 +46,8 @@ pub(crate) struct Gathered {
 impl Gathered {
     /// No fact yet.
     fn new<K: OutcomeKind>(alloc: Global, kind: &K) -> Result<Gathered, NoMemory>
-        ensures so_far { (basis : Basis) → IfOk result (AreGathered (K.size kind.now) basis) }
+        ensures so_far { (axioms : List Titled) (core : List ℕ) (earlier : List Lemma) →
+            IfOk result (AreGathered (K.size kind.now) axioms core earlier) }
         ensures none { IfOk result (λ gathered. gathered.board.literals ≡ []) }
     {
         let keys = kind.space().size().sort_len(Sort::Profile) as usize;
@@ -63,9 +65,10 @@ impl Gathered {
     fn state(&mut self, step: &StoryStep, rests: Literals) -> Result<(), NoMemory>
         requires literal { IsTrue (is_literal self.old.board.size step.now.literal) }
         requires fresh { IsFalse (has self.old.board.literals step.now.literal) }
-        ensures so_far { (size : Extent) (basis : Basis) → AreGathered size basis self.old →
-            FollowsFrom size basis self.old.board.literals step.now rests →
-            OnOk result (AreGathered size basis self.new) }
+        ensures so_far { (size : Extent) (axioms : List Titled) (core : List ℕ) (earlier : List Lemma) →
+            AreGathered size axioms core earlier self.old →
+            FollowsFrom size axioms core earlier self.old.board.literals step.now rests →
+            OnOk result (AreGathered size axioms core earlier self.new) }
         ensures stated { OnOk result
             (self.new.board.literals ≡ self.old.board.literals ++ step.now.literal ∷ []) }
     {
@@ -82,14 +85,16 @@ impl Gathered {
         tried: &mut Board,
         step: &StoryStep,
     ) -> Result<(), NoMemory>
-        requires tried { tried.old.size ≡ K.size grounds.now.kind.now }
-        requires literal { IsTrue (is_literal (K.size grounds.now.kind.now) step.now.literal) }
-        requires so_far { AreGathered (K.size grounds.now.kind.now) grounds.now.basis self.old }
+        requires tried { tried.old.size ≡ K.size grounds.now.setting.now.kind.now }
+        requires literal { IsTrue (is_literal (K.size grounds.now.setting.now.kind.now) step.now.literal) }
+        requires so_far { AreGathered (K.size grounds.now.setting.now.kind.now)
+            grounds.now.setting.now.study.now.axioms grounds.now.core.now grounds.now.lemmas.now self.old }
         ensures tried { tried.new.size ≡ tried.old.size }
-        ensures so_far { OnOk result
-            (AreGathered (K.size grounds.now.kind.now) grounds.now.basis self.new) }
-        ensures facts { OnOk result (self.new.board.literals ≡
-            with_step (K.size grounds.now.kind.now) grounds.now.basis self.old.board.literals step.now) }
+        ensures so_far { OnOk result (AreGathered (K.size grounds.now.setting.now.kind.now)
+            grounds.now.setting.now.study.now.axioms grounds.now.core.now grounds.now.lemmas.now self.new) }
+        ensures facts { OnOk result (self.new.board.literals ≡ forced_with
+            (K.size grounds.now.setting.now.kind.now) grounds.now.setting.now.study.now.axioms
+            grounds.now.core.now grounds.now.lemmas.now self.old.board.literals step.now) }
     {
         if self.board.has(&step.literal) {
             return Ok(());
@@ -109,15 +114,17 @@ impl Gathered {
         tried: &mut Board,
         steps: &[StoryStep],
     ) -> Result<(), NoMemory>
-        requires tried { tried.old.size ≡ K.size grounds.now.kind.now }
+        requires tried { tried.old.size ≡ K.size grounds.now.setting.now.kind.now }
         requires literals { IsTrue
-            (list_all (λ step. is_literal (K.size grounds.now.kind.now) step.literal) steps.now) }
-        requires so_far { AreGathered (K.size grounds.now.kind.now) grounds.now.basis self.old }
+            (list_all (λ step. is_literal (K.size grounds.now.setting.now.kind.now) step.literal) steps.now) }
+        requires so_far { AreGathered (K.size grounds.now.setting.now.kind.now)
+            grounds.now.setting.now.study.now.axioms grounds.now.core.now grounds.now.lemmas.now self.old }
         ensures tried { tried.new.size ≡ tried.old.size }
-        ensures so_far { OnOk result
-            (AreGathered (K.size grounds.now.kind.now) grounds.now.basis self.new) }
-        ensures facts { OnOk result (self.new.board.literals ≡
-            with_steps (K.size grounds.now.kind.now) grounds.now.basis self.old.board.literals steps.now) }
+        ensures so_far { OnOk result (AreGathered (K.size grounds.now.setting.now.kind.now)
+            grounds.now.setting.now.study.now.axioms grounds.now.core.now grounds.now.lemmas.now self.new) }
+        ensures facts { OnOk result (self.new.board.literals ≡ forced_by
+            (K.size grounds.now.setting.now.kind.now) grounds.now.setting.now.study.now.axioms
+            grounds.now.core.now grounds.now.lemmas.now self.old.board.literals steps.now) }
     {
         for step in steps {
             self.take(alloc, grounds, tried, step)?;
@@ -132,11 +139,12 @@ fn is_forced_alone<K: OutcomeKind>(
     tried: &mut Board,
     step: &StoryStep,
 ) -> bool
-    requires tried { tried.old.size ≡ K.size grounds.now.kind.now }
-    requires literal { IsTrue (is_literal (K.size grounds.now.kind.now) step.now.literal) }
+    requires tried { tried.old.size ≡ K.size grounds.now.setting.now.kind.now }
+    requires literal { IsTrue (is_literal (K.size grounds.now.setting.now.kind.now) step.now.literal) }
     ensures tried { tried.new.size ≡ tried.old.size }
-    ensures refuted { result ≡ refutes_by (K.size grounds.now.kind.now) grounds.now.basis
-        (opposite_of step.now.literal ∷ []) step.now.reason }
+    ensures refuted { result ≡ refutes (K.size grounds.now.setting.now.kind.now)
+        grounds.now.setting.now.study.now.axioms grounds.now.core.now grounds.now.lemmas.now (opposite_of
+        step.now.literal ∷ []) step.now.reason }
 {
     let other = step.literal.opposite();
     tried.clear();
@@ -151,13 +159,14 @@ fn is_forced_alone<K: OutcomeKind>(
 /// Whether the reason of a step refutes the opposite of its fact together with facts that are forced, where
 /// that opposite is none of them. It stands among them meanwhile.
 fn is_forced_with<K: OutcomeKind>(grounds: &Grounds<K>, facts: &mut Board, step: &StoryStep) -> bool
-    requires facts { facts.old.size ≡ K.size grounds.now.kind.now }
-    requires literal { IsTrue (is_literal (K.size grounds.now.kind.now) step.now.literal) }
+    requires facts { facts.old.size ≡ K.size grounds.now.setting.now.kind.now }
+    requires literal { IsTrue (is_literal (K.size grounds.now.setting.now.kind.now) step.now.literal) }
     ensures size { facts.new.size ≡ facts.old.size }
     ensures same { facts.new.literals ≡ facts.old.literals }
-    ensures refuted { result ≡ (not (has facts.old.literals (opposite_of step.now.literal)) &&
-        refutes_by (K.size grounds.now.kind.now) grounds.now.basis
-        (facts.old.literals ++ opposite_of step.now.literal ∷ []) step.now.reason) }
+    ensures refuted { result ≡ (not (has facts.old.literals (opposite_of step.now.literal)) && refutes
+        (K.size grounds.now.setting.now.kind.now) grounds.now.setting.now.study.now.axioms
+        grounds.now.core.now grounds.now.lemmas.now (facts.old.literals ++ opposite_of step.now.literal ∷ [])
+        step.now.reason) }
 {
     let other = step.literal.opposite();
     if facts.has(&other) {
@@ -182,16 +191,18 @@ fn grounds_of<K: OutcomeKind>(
     tried: &mut Board,
     step: &StoryStep,
 ) -> Result<Option<Literals>, NoMemory>
-    requires facts { facts.old.size ≡ K.size grounds.now.kind.now }
-    requires tried { tried.old.size ≡ K.size grounds.now.kind.now }
-    requires literal { IsTrue (is_literal (K.size grounds.now.kind.now) step.now.literal) }
+    requires facts { facts.old.size ≡ K.size grounds.now.setting.now.kind.now }
+    requires tried { tried.old.size ≡ K.size grounds.now.setting.now.kind.now }
+    requires literal { IsTrue (is_literal (K.size grounds.now.setting.now.kind.now) step.now.literal) }
     ensures size { facts.new.size ≡ facts.old.size }
     ensures same { facts.new.literals ≡ facts.old.literals }
     ensures tried { tried.new.size ≡ tried.old.size }
-    ensures forced { IfOk result (λ found. is_some found ≡
-        is_forced_by (K.size grounds.now.kind.now) grounds.now.basis facts.old.literals step.now) }
-    ensures rests { IfOk result (λ found. IfSome found
-        (FollowsFrom (K.size grounds.now.kind.now) grounds.now.basis facts.old.literals step.now)) }
+    ensures forced { IfOk result (λ found. is_some found ≡ is_forced (K.size grounds.now.setting.now.kind.now)
+        grounds.now.setting.now.study.now.axioms grounds.now.core.now grounds.now.lemmas.now
+        facts.old.literals step.now) }
+    ensures rests { IfOk result (λ found. IfSome found (FollowsFrom (K.size grounds.now.setting.now.kind.now)
+        grounds.now.setting.now.study.now.axioms grounds.now.core.now grounds.now.lemmas.now
+        facts.old.literals step.now)) }
 {
     if is_forced_alone(grounds, tried, step) {
         return Ok(Some(Literals::new(alloc)));
@@ -216,14 +227,16 @@ fn gather<K: OutcomeKind>(
     tried: &mut Board,
     story: &[Lemma],
 ) -> Result<Gathered, NoMemory>
-    requires tried { tried.old.size ≡ K.size grounds.now.kind.now }
-    requires literals { IsTrue (list_all (has_literals (K.size grounds.now.kind.now)) story.now) }
+    requires tried { tried.old.size ≡ K.size grounds.now.setting.now.kind.now }
+    requires literals { IsTrue (list_all (has_literals (K.size grounds.now.setting.now.kind.now)) story.now) }
     ensures tried { tried.new.size ≡ tried.old.size }
-    ensures so_far { IfOk result (AreGathered (K.size grounds.now.kind.now) grounds.now.basis) }
-    ensures facts { IfOk result (λ gathered. gathered.board.literals ≡
-        with_lemmas (K.size grounds.now.kind.now) grounds.now.basis [] story.now) }
+    ensures so_far { IfOk result (AreGathered (K.size grounds.now.setting.now.kind.now)
+        grounds.now.setting.now.study.now.axioms grounds.now.core.now grounds.now.lemmas.now) }
+    ensures facts { IfOk result (λ gathered. gathered.board.literals ≡ forced_facts
+        (K.size grounds.now.setting.now.kind.now) grounds.now.setting.now.study.now.axioms
+        grounds.now.core.now grounds.now.lemmas.now story.now) }
 {
-    let mut gathered = Gathered::new(alloc, grounds.kind)?;
+    let mut gathered = Gathered::new(alloc, grounds.setting.kind)?;
     for place in 0..story.len() {
         let steps = story[place].steps.as_slice();
         gathered.take_all(alloc, grounds, tried, steps)?;
@@ -233,8 +246,9 @@ fn gather<K: OutcomeKind>(
 
 /// The facts that were gathered, in the sentences in which they were.
 fn as_gathered(gathered: Gathered) -> Forced
-    ensures { (size : Extent) (basis : Basis) → AreGathered size basis gathered →
-        AreStated size basis gathered.board.literals result }
+    ensures { (size : Extent) (axioms : List Titled) (core : List ℕ) (earlier : List Lemma) →
+        AreGathered size axioms core earlier gathered →
+        AreStated size axioms core earlier gathered.board.literals result }
 {
     let _facts = gathered.board.as_slice();
     let Gathered {
@@ -266,13 +280,16 @@ impl<K: OutcomeKind> Teller<'_, K> {
         gathered: Gathered,
     ) -> Result<Option<Forced>, NoMemory>
         requires none { self.now.forced.now.literals ≡ [] }
-        requires tried { tried.old.size ≡ K.size self.now.grounds.kind.now }
-        requires gathered { AreGathered (K.size self.now.grounds.kind.now) self.now.grounds.basis gathered }
+        requires tried { tried.old.size ≡ K.size self.now.grounds.setting.now.kind.now }
+        requires gathered { AreGathered (K.size self.now.grounds.setting.now.kind.now)
+            self.now.grounds.setting.now.study.now.axioms self.now.grounds.core.now
+            self.now.grounds.lemmas.now gathered }
         ensures tried { tried.new.size ≡ tried.old.size }
-        ensures stated { IfOk result (λ found. IfSome found
-            (AreStated (K.size self.now.grounds.kind.now) self.now.grounds.basis gathered.board.literals)) }
+        ensures stated { IfOk result (λ found. IfSome found (AreStated
+            (K.size self.now.grounds.setting.now.kind.now) self.now.grounds.setting.now.study.now.axioms
+            self.now.grounds.core.now self.now.grounds.lemmas.now gathered.board.literals)) }
     {
-        let size = self.grounds.kind.space().size();
+        let size = self.grounds.setting.kind.space().size();
         let _facts = gathered.board.as_slice();
         let Gathered {
             board,
@@ -303,11 +320,14 @@ impl<K: OutcomeKind> Teller<'_, K> {
     fn forced_in(&self, alloc: Global, story: &[Lemma]) -> Result<Forced, NoMemory>
         requires none { self.now.forced.now.literals ≡ [] }
         requires literals { IsTrue
-            (list_all (has_literals (K.size self.now.grounds.kind.now)) story.now) }
-        ensures { IfOk result (AreStated (K.size self.now.grounds.kind.now) self.now.grounds.basis
-            (with_lemmas (K.size self.now.grounds.kind.now) self.now.grounds.basis [] story.now)) }
+            (list_all (has_literals (K.size self.now.grounds.setting.now.kind.now)) story.now) }
+        ensures { IfOk result (AreStated (K.size self.now.grounds.setting.now.kind.now)
+            self.now.grounds.setting.now.study.now.axioms self.now.grounds.core.now
+            self.now.grounds.lemmas.now (forced_facts (K.size self.now.grounds.setting.now.kind.now)
+            self.now.grounds.setting.now.study.now.axioms self.now.grounds.core.now
+            self.now.grounds.lemmas.now story.now)) }
     {
-        let mut tried = Board::new(alloc, self.grounds.kind)?;
+        let mut tried = Board::new(alloc, self.grounds.setting.kind)?;
         let gathered = gather(alloc, &self.grounds, &mut tried, story)?;
         let shorter = self.shorten_forced(alloc, &mut tried, gathered)?;
         match shorter {
@@ -335,14 +355,10 @@ fn forced_over<'a, K: OutcomeKind>(
     ensures { IfOk result (AreForced (K.size accepted.now.setting.now.kind.now)
         accepted.now.setting.now.study.now.axioms accepted.now.core.now (several accepted.now.story.now)) }
 {
-    let setting = accepted.setting;
     let grounds = Grounds {
-        kind: setting.kind,
-        basis: Basis {
-            study: setting.study,
-            core: accepted.core,
-            earlier: &[],
-        },
+        setting: accepted.setting,
+        core: accepted.core,
+        lemmas: &[],
     };
     let teller = Teller {
         grounds,

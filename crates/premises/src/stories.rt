@@ -2,8 +2,8 @@
 
 ghost use Rattle.std.specs.Prelude.{◌≡◌, ℕ, [], take, length, slice_get, Some, IsTrue, IfOk, IfSome};
 ghost use Rattle.meaning.specs.declared.stories.Lemma.{Lemma};
-ghost use Rattle.tellings.specs.Tellings.{IsStoryTold};
-ghost use Rattle.premises.specs.SoFar.{is_lemma_by, IsLemmaToldBy};
+ghost use Rattle.meaning.specs.Stories.{is_lemma};
+ghost use Rattle.tellings.specs.Tellings.{IsStoryTold, IsTellingRight};
 ghost use Rattle.premises.specs.Told.{AreTold};
 
 use crate::accepted::AcceptedStory;
@@ -16,9 +16,9 @@ use crate::telling::suppose;
 use joined_sentences::reshape;
 use lists::{Items, NoMemory};
 use meaning::Lemma;
-use needed_facts::{Basis, Grounds};
 use outcomes::OutcomeKind;
 use std::alloc::Global;
+use story::Grounds;
 use tellings::{StoryTelling, Telling};
 use worlds::Board;
 
@@ -32,20 +32,21 @@ impl<K: OutcomeKind> Teller<'_, K> {
         lemma: &Lemma,
         telling: Telling,
     ) -> Result<Option<Telling>, NoMemory>
-        requires known { desk.old.known.size ≡ K.size self.now.grounds.kind.now }
-        requires tried { desk.old.tried.size ≡ K.size self.now.grounds.kind.now }
-        requires lemma { IsTrue (is_lemma_by (K.size self.now.grounds.kind.now) self.now.grounds.basis
-            lemma.now) }
-        requires told { IsLemmaToldBy (K.size self.now.grounds.kind.now) self.now.grounds.basis
-            self.now.forced.now.literals
-            lemma.now telling }
+        requires known { desk.old.known.size ≡ K.size self.now.grounds.setting.now.kind.now }
+        requires tried { desk.old.tried.size ≡ K.size self.now.grounds.setting.now.kind.now }
+        requires lemma { IsTrue (is_lemma (K.size self.now.grounds.setting.now.kind.now)
+            self.now.grounds.setting.now.study.now.axioms self.now.grounds.core.now
+            self.now.grounds.lemmas.now lemma.now) }
+        requires told { IsTellingRight (K.size self.now.grounds.setting.now.kind.now)
+            self.now.grounds.setting.now.study.now.axioms self.now.grounds.core.now
+            self.now.grounds.lemmas.now self.now.forced.now.literals lemma.now telling }
         ensures known { desk.new.known.size ≡ desk.old.known.size }
         ensures tried { desk.new.tried.size ≡ desk.old.tried.size }
-        ensures told { IfOk result (λ found. IfSome found
-            (IsLemmaToldBy (K.size self.now.grounds.kind.now) self.now.grounds.basis
-            self.now.forced.now.literals lemma.now)) }
+        ensures told { IfOk result (λ found. IfSome found (IsTellingRight
+            (K.size self.now.grounds.setting.now.kind.now) self.now.grounds.setting.now.study.now.axioms
+            self.now.grounds.core.now self.now.grounds.lemmas.now self.now.forced.now.literals lemma.now)) }
     {
-        let size = self.grounds.kind.space().size();
+        let size = self.grounds.setting.kind.space().size();
         let Telling { passage, end } = telling;
         desk.index.enter_all(passage.steps.as_slice());
         let reshaped = reshape(alloc, size, &mut desk.tried, &desk.index, passage)?;
@@ -75,15 +76,16 @@ impl<K: OutcomeKind> Teller<'_, K> {
         desk: &mut Desk,
         lemma: &Lemma,
     ) -> Result<Telling, NoMemory>
-        requires known { desk.old.known.size ≡ K.size self.now.grounds.kind.now }
-        requires tried { desk.old.tried.size ≡ K.size self.now.grounds.kind.now }
-        requires lemma { IsTrue (is_lemma_by (K.size self.now.grounds.kind.now) self.now.grounds.basis
-            lemma.now) }
+        requires known { desk.old.known.size ≡ K.size self.now.grounds.setting.now.kind.now }
+        requires tried { desk.old.tried.size ≡ K.size self.now.grounds.setting.now.kind.now }
+        requires lemma { IsTrue (is_lemma (K.size self.now.grounds.setting.now.kind.now)
+            self.now.grounds.setting.now.study.now.axioms self.now.grounds.core.now
+            self.now.grounds.lemmas.now lemma.now) }
         ensures known { desk.new.known.size ≡ desk.old.known.size }
         ensures tried { desk.new.tried.size ≡ desk.old.tried.size }
-        ensures told { IfOk result
-            (IsLemmaToldBy (K.size self.now.grounds.kind.now) self.now.grounds.basis
-            self.now.forced.now.literals lemma.now) }
+        ensures told { IfOk result (IsTellingRight (K.size self.now.grounds.setting.now.kind.now)
+            self.now.grounds.setting.now.study.now.axioms self.now.grounds.core.now
+            self.now.grounds.lemmas.now self.now.forced.now.literals lemma.now) }
     {
         let telling = self.tell(alloc, desk, lemma)?;
         let shorter = self.shorten(alloc, desk, lemma, telling)?;
@@ -106,18 +108,14 @@ fn tell_lemmas<'a, K: OutcomeKind>(
         accepted.now.setting.now.study.now.axioms accepted.now.core.now accepted.now.story.now
         forced.now.literals) }
 {
-    let setting = accepted.setting;
     let story = accepted.story;
-    let mut desk = Desk::new(alloc, setting.kind)?;
+    let mut desk = Desk::new(alloc, accepted.setting.kind)?;
     let mut tellings = Items::new(alloc);
     for place in 0..story.len() {
         let grounds = Grounds {
-            kind: setting.kind,
-            basis: Basis {
-                study: setting.study,
-                core: accepted.core,
-                earlier: &story.as_slice()[..place],
-            },
+            setting: accepted.setting,
+            core: accepted.core,
+            lemmas: &story.as_slice()[..place],
         };
         let teller = Teller { grounds, forced };
         let telling = teller.tell_shortly(alloc, &mut desk, story.get(place))?;

@@ -7,9 +7,10 @@ ghost use Rattle.premises.specs.SoFar.{bare_steps, unforced};
 use joined_sentences::Reshaped;
 use lists::{Items, NoMemory};
 use meaning::StoryStep;
-use needed_facts::{Grounds, is_literal};
+use needed_facts::is_literal;
 use outcomes::OutcomeKind;
 use std::alloc::Global;
+use story::Grounds;
 use tellings::{Passage, Placed};
 use vocab::Literal;
 use worlds::Board;
@@ -19,7 +20,7 @@ use worlds::Board;
 pub(crate) struct Teller<'a, K: OutcomeKind> {
     pub(crate) grounds: Grounds<'a, K>,
     pub(crate) forced: &'a Board,
-    ghost size: { forced.now.size ≡ K.size grounds.kind.now },
+    ghost size: { forced.now.size ≡ K.size grounds.setting.now.kind.now },
 }
 
 /// The number at a place; where there is none, 0.
@@ -37,7 +38,7 @@ impl<K: OutcomeKind> Teller<'_, K> {
         ensures { result ≡ has self.now.forced.now.literals literal.now }
     {
         let _facts = self.forced.as_slice();
-        if !is_literal(self.grounds.kind.space().size(), literal) {
+        if !is_literal(self.grounds.setting.kind.space().size(), literal) {
             return false;
         }
         self.forced.has(literal)

@@ -1,16 +1,17 @@
 //! Lemmas told by sentences, each of which says steps that rest on the very same facts.
 
-ghost use Rattle.std.specs.Prelude.{◌≡◌, ◌++◌, [], ◌∷◌, List, IsTrue, IsFalse, IfOk, OnOk};
+ghost use Rattle.std.specs.Prelude.{◌≡◌, ◌++◌, [], ◌∷◌, ℕ, List, IsTrue, IsFalse, IfOk, OnOk};
 ghost use Rattle.std.specs.List.{list_all};
 ghost use Rattle.vocab.specs.declared.literals.Literal.{Literal};
 ghost use Rattle.vocab.specs.Literal.{has, opposite_of};
 ghost use Rattle.vocab.specs.Size.{Extent};
+ghost use Rattle.vocab.specs.Titled.{Titled};
+ghost use Rattle.meaning.specs.declared.stories.Lemma.{Lemma};
 ghost use Rattle.meaning.specs.Literals.{is_literal};
-ghost use Rattle.meaning.specs.Stories.{are_new};
-ghost use Rattle.needed_facts.specs.declared.basis.Basis.{Basis};
-ghost use Rattle.needed_facts.specs.Rests.{refutes_by};
-ghost use Rattle.premises.specs.SoFar.{bare_steps, unforced, is_lemma_by};
-ghost use Rattle.premises.specs.SoFar.{FollowsFrom, IsLemmaToldBy, IsToldSoFar};
+ghost use Rattle.meaning.specs.Stories.{are_new, is_lemma, refutes};
+ghost use Rattle.tellings.specs.Tellings.{IsTellingRight};
+ghost use Rattle.premises.specs.SoFar.{bare_steps, unforced};
+ghost use Rattle.premises.specs.SoFar.{FollowsFrom, IsToldSoFar};
 
 use crate::desk::Desk;
 use crate::teller::Teller;
@@ -44,10 +45,12 @@ pub(crate) fn say(
     step: &StoryStep,
     rests: Literals,
 ) -> Result<(), NoMemory>
-    ensures told { (size : Extent) (basis : Basis) (forced suppose known : List Literal) →
-        IsToldSoFar size basis forced suppose known passage.old →
-        FollowsFrom size basis known step.now rests →
-        OnOk result (IsToldSoFar size basis forced suppose (known ++ step.now.literal ∷ []) passage.new) }
+    ensures told { (size : Extent) (axioms : List Titled) (core : List ℕ) (earlier : List Lemma)
+        (forced suppose known : List Literal) →
+        IsToldSoFar size axioms core earlier forced suppose known passage.old →
+        FollowsFrom size axioms core earlier known step.now rests →
+        OnOk result (IsToldSoFar size axioms core earlier forced suppose
+        (known ++ step.now.literal ∷ []) passage.new) }
     ensures steps { OnOk result
         (bare_steps passage.new.steps ≡ bare_steps passage.old.steps ++ step.now ∷ []) }
 {
@@ -72,18 +75,22 @@ impl<K: OutcomeKind> Teller<'_, K> {
         passage: &mut Passage,
         step: &StoryStep,
     ) -> Result<(), NoMemory>
-        requires known { known.now.size ≡ K.size self.now.grounds.kind.now }
-        requires tried { tried.old.size ≡ K.size self.now.grounds.kind.now }
-        requires refuted { IsTrue (refutes_by (K.size self.now.grounds.kind.now) self.now.grounds.basis
-            (known.now.literals ++ opposite_of step.now.literal ∷ []) step.now.reason) }
+        requires known { known.now.size ≡ K.size self.now.grounds.setting.now.kind.now }
+        requires tried { tried.old.size ≡ K.size self.now.grounds.setting.now.kind.now }
+        requires refuted { IsTrue (refutes (K.size self.now.grounds.setting.now.kind.now)
+            self.now.grounds.setting.now.study.now.axioms self.now.grounds.core.now
+            self.now.grounds.lemmas.now (known.now.literals ++ opposite_of step.now.literal ∷ [])
+            step.now.reason) }
         ensures tried { tried.new.size ≡ tried.old.size }
         ensures told { (suppose : List Literal) →
-            IsToldSoFar (K.size self.now.grounds.kind.now) self.now.grounds.basis
-            self.now.forced.now.literals suppose
+            IsToldSoFar (K.size self.now.grounds.setting.now.kind.now)
+            self.now.grounds.setting.now.study.now.axioms self.now.grounds.core.now
+            self.now.grounds.lemmas.now self.now.forced.now.literals suppose
             known.now.literals passage.old →
-            OnOk result (IsToldSoFar (K.size self.now.grounds.kind.now) self.now.grounds.basis
-            self.now.forced.now.literals
-            suppose (known.now.literals ++ step.now.literal ∷ []) passage.new) }
+            OnOk result (IsToldSoFar (K.size self.now.grounds.setting.now.kind.now)
+            self.now.grounds.setting.now.study.now.axioms self.now.grounds.core.now
+            self.now.grounds.lemmas.now self.now.forced.now.literals suppose
+            (known.now.literals ++ step.now.literal ∷ []) passage.new) }
         ensures steps { OnOk result (bare_steps passage.new.steps ≡
             bare_steps passage.old.steps ++ unforced self.now.forced.now.literals (step.now ∷ [])) }
     {
@@ -116,20 +123,22 @@ impl<K: OutcomeKind> Teller<'_, K> {
         chains: &mut Chains,
         lemma: &Lemma,
     ) -> Result<Passage, NoMemory>
-        requires known { known.old.size ≡ K.size self.now.grounds.kind.now }
-        requires tried { tried.old.size ≡ K.size self.now.grounds.kind.now }
+        requires known { known.old.size ≡ K.size self.now.grounds.setting.now.kind.now }
+        requires tried { tried.old.size ≡ K.size self.now.grounds.setting.now.kind.now }
         requires supposed { known.old.literals ≡ lemma.now.suppose }
-        requires lemma { IsTrue (is_lemma_by (K.size self.now.grounds.kind.now) self.now.grounds.basis
-            lemma.now) }
+        requires lemma { IsTrue (is_lemma (K.size self.now.grounds.setting.now.kind.now)
+            self.now.grounds.setting.now.study.now.axioms self.now.grounds.core.now
+            self.now.grounds.lemmas.now lemma.now) }
         ensures known { known.new.size ≡ known.old.size }
         ensures tried { tried.new.size ≡ tried.old.size }
-        ensures told { IfOk result (IsToldSoFar (K.size self.now.grounds.kind.now) self.now.grounds.basis
-            self.now.forced.now.literals lemma.now.suppose known.new.literals) }
+        ensures told { IfOk result (IsToldSoFar (K.size self.now.grounds.setting.now.kind.now)
+            self.now.grounds.setting.now.study.now.axioms self.now.grounds.core.now
+            self.now.grounds.lemmas.now self.now.forced.now.literals lemma.now.suppose known.new.literals) }
         ensures steps { IfOk result (λ passage.
             bare_steps passage.steps ≡ unforced self.now.forced.now.literals lemma.now.steps) }
-        ensures ended { OnOk result (IsTrue (refutes_by (K.size self.now.grounds.kind.now)
-            self.now.grounds.basis
-            known.new.literals lemma.now.last)) }
+        ensures ended { OnOk result (IsTrue (refutes (K.size self.now.grounds.setting.now.kind.now)
+            self.now.grounds.setting.now.study.now.axioms self.now.grounds.core.now
+            self.now.grounds.lemmas.now known.new.literals lemma.now.last)) }
     {
         let told = self.count_told(lemma.steps.as_slice());
         let mut passage = Passage {
@@ -150,15 +159,16 @@ impl<K: OutcomeKind> Teller<'_, K> {
         desk: &mut Desk,
         lemma: &Lemma,
     ) -> Result<Telling, NoMemory>
-        requires known { desk.old.known.size ≡ K.size self.now.grounds.kind.now }
-        requires tried { desk.old.tried.size ≡ K.size self.now.grounds.kind.now }
-        requires lemma { IsTrue (is_lemma_by (K.size self.now.grounds.kind.now) self.now.grounds.basis
-            lemma.now) }
+        requires known { desk.old.known.size ≡ K.size self.now.grounds.setting.now.kind.now }
+        requires tried { desk.old.tried.size ≡ K.size self.now.grounds.setting.now.kind.now }
+        requires lemma { IsTrue (is_lemma (K.size self.now.grounds.setting.now.kind.now)
+            self.now.grounds.setting.now.study.now.axioms self.now.grounds.core.now
+            self.now.grounds.lemmas.now lemma.now) }
         ensures known { desk.new.known.size ≡ desk.old.known.size }
         ensures tried { desk.new.tried.size ≡ desk.old.tried.size }
-        ensures told { IfOk result
-            (IsLemmaToldBy (K.size self.now.grounds.kind.now) self.now.grounds.basis
-            self.now.forced.now.literals lemma.now) }
+        ensures told { IfOk result (IsTellingRight (K.size self.now.grounds.setting.now.kind.now)
+            self.now.grounds.setting.now.study.now.axioms self.now.grounds.core.now
+            self.now.grounds.lemmas.now self.now.forced.now.literals lemma.now) }
     {
         desk.known.clear();
         suppose(&mut desk.known, lemma.suppose.as_slice());

@@ -9,7 +9,6 @@ pub invariant_of-grounds : goal.invariant_of-grounds
 invariant_of-grounds g c =
     let size = g.K.OutcomeKind.size c.args.accepted.now.setting.now.kind.now in
     record {
-      size = c.args.accepted.now.setting.now.same;
       places = c.args.accepted.now.places;
       literals = rw c.as_slice.ensures (all_first (has_literals size) c.args.accepted.now.story.now c.loop-place.place (story_literals size c.args.accepted.now.setting.now.study.now.axioms c.args.accepted.now.core.now [] c.args.accepted.now.story.now c.args.accepted.now.accepted));
     }

@@ -2,7 +2,7 @@ use Rattle.std.proofs.Common.{◌≡◌, true, take}
 use Rattle.std.specs.Prelude.{◌==◌}
 use Rattle.std.specs.List.{list_all}
 use Rattle.vocab.specs.Literal.{profile_of}
-use Rattle.needed_facts.proofs.grounds.are_at.Given as goal
+use Rattle.needed_facts.proofs.facts.are_at.Given as goal
 
 -- those so far are of the profile
 abbrev pub invariant-loop-literal : goal.invariant-loop-literal

@@ -1,5 +1,5 @@
 use Rattle.std.proofs.Common.{◌≡◌, ◌++◌, take}
-use Rattle.needed_facts.proofs.grounds.add_others.Given as goal
+use Rattle.needed_facts.proofs.facts.add_others.Given as goal
 
 -- the others so far were added
 abbrev pub invariant-loop-other : goal.invariant-loop-other

@@ -1,7 +1,7 @@
 use Rattle.std.proofs.Common.{◌≡◌, true}
 use Rattle.std.specs.List.{list_all}
 use Rattle.vocab.specs.Literal.{has}
-use Rattle.needed_facts.proofs.grounds.Facts.load.Given as goal
+use Rattle.needed_facts.proofs.facts.Facts.load.Given as goal
 
 -- what is on the board is known
 abbrev pub invariant-loop-place : goal.invariant-loop-place

@@ -6,20 +6,18 @@ ghost use Rattle.std.specs.List.{list_all};
 ghost use Rattle.vocab.specs.Limits.{bases_of};
 ghost use Rattle.vocab.specs.Literal.{has, profile_of};
 ghost use Rattle.vocab.specs.Titled.{Titled};
-ghost use Rattle.meaning.specs.Stories.{has_literals};
-ghost use Rattle.story.specs.Conditions.{has_places};
-ghost use Rattle.needed_facts.specs.Rests.{RestsOn, are_there, refutes_by};
+ghost use Rattle.meaning.specs.Stories.{refutes};
+ghost use Rattle.needed_facts.specs.Rests.{RestsOn, are_there};
 ghost use Rattle.tellings.specs.Laws.{facts_at};
 
-use crate::basis::Basis;
 use crate::literals::{is_literal, profile_of};
 use crate::spoken::literals_of;
 use lists::NoMemory;
 use meaning::{Literals, Reason};
+use outcomes::OutcomeKind;
 use outcomes::laws::kinds_have_sizes;
-use outcomes::{OutcomeKind, Setting};
 use std::alloc::Global;
-use story::KnownLiterals;
+use story::{Grounds, KnownLiterals};
 use vocab::{Env, Literal, Size};
 use worlds::Board;
 use worlds::laws::bodies_have_values;
@@ -27,23 +25,12 @@ use worlds::laws::bodies_have_values;
 /// How many facts are tried one by one whether they can be left out.
 const MOST_TRIED: usize = 30;
 
-/// What reasons may cite, with the kind of the study's rules: the study is one of the kind's size, the core
-/// has places of its axioms alone, and the earlier lemmas have literals of the size alone.
-#[derive(Drop)]
-pub struct Grounds<'a, K: OutcomeKind> {
-    pub kind: &'a K,
-    pub basis: Basis<'a>,
-    pub ghost size: { basis.study.now.size ≡ K.size kind.now },
-    pub ghost places: { IsTrue (has_places basis.study.now.axioms basis.core.now) },
-    pub ghost literals: { IsTrue (list_all (has_literals (K.size kind.now)) basis.earlier.now) },
-}
-
 /// Facts on a board of the size, and what reasons may cite beside them.
 #[derive(Drop)]
 pub struct Facts<'a, K: OutcomeKind> {
     pub grounds: &'a Grounds<'a, K>,
     pub board: &'a Board,
-    pub ghost size: { board.now.size ≡ K.size grounds.now.kind.now },
+    pub ghost size: { board.now.size ≡ K.size grounds.now.setting.now.kind.now },
 }
 
 /// Puts other literals on a board, whatever they are. False where one of them is no literal of the size or is
@@ -65,21 +52,12 @@ pub fn add_others(size: Size, tried: &mut Board, others: &[Literal]) -> bool
 impl<K: OutcomeKind> Facts<'_, K> {
     /// Whether a reason refutes the facts.
     pub fn refutes(&self, reason: &Reason) -> bool
-        ensures { result ≡ refutes_by (K.size self.now.grounds.now.kind.now) self.now.grounds.now.basis
-            self.now.board.now.literals reason.now }
+        ensures { result ≡ refutes (K.size self.now.grounds.now.setting.now.kind.now)
+            self.now.grounds.now.setting.now.study.now.axioms self.now.grounds.now.core.now
+            self.now.grounds.now.lemmas.now self.now.board.now.literals reason.now }
     {
-        let grounds = self.grounds;
-        let setting = Setting {
-            kind: grounds.kind,
-            study: grounds.basis.study,
-        };
-        let cited = story::Grounds {
-            setting: &setting,
-            core: grounds.basis.core,
-            lemmas: grounds.basis.earlier,
-        };
         let known = KnownLiterals {
-            grounds: &cited,
+            grounds: self.grounds,
             board: self.board,
         };
         match known.refutes(reason) {
@@ -90,12 +68,12 @@ impl<K: OutcomeKind> Facts<'_, K> {
 
     /// Puts a literal on a board, if it is one of the facts and not yet there.
     fn load_one(&self, tried: &mut Board, literal: &Literal)
-        requires tried { tried.old.size ≡ K.size self.now.grounds.now.kind.now }
+        requires tried { tried.old.size ≡ K.size self.now.grounds.now.setting.now.kind.now }
         requires all { IsTrue (list_all (has self.now.board.now.literals) tried.old.literals) }
         ensures size { tried.new.size ≡ tried.old.size }
         ensures all { IsTrue (list_all (has self.now.board.now.literals) tried.new.literals) }
     {
-        let size = self.grounds.kind.space().size();
+        let size = self.grounds.setting.kind.space().size();
         if is_literal(size, literal) && self.board.has(literal) && !tried.has(literal) {
             tried.add(literal);
         }
@@ -103,7 +81,7 @@ impl<K: OutcomeKind> Facts<'_, K> {
 
     /// Puts those of some literals on a board that are facts, but for the one at a place.
     fn load(&self, tried: &mut Board, literals: &[Literal], left_out: usize)
-        requires tried { tried.old.size ≡ K.size self.now.grounds.now.kind.now }
+        requires tried { tried.old.size ≡ K.size self.now.grounds.now.setting.now.kind.now }
         ensures size { tried.new.size ≡ tried.old.size }
         ensures all { IsTrue (list_all (has self.now.board.now.literals) tried.new.literals) }
     {
@@ -126,16 +104,17 @@ impl<K: OutcomeKind> Facts<'_, K> {
         others: &[Literal],
         reason: &Reason,
     ) -> Result<Option<Literals>, NoMemory>
-        requires tried { tried.old.size ≡ K.size self.now.grounds.now.kind.now }
+        requires tried { tried.old.size ≡ K.size self.now.grounds.now.setting.now.kind.now }
         ensures tried { tried.new.size ≡ tried.old.size }
-        ensures rests { IfOk result (λ found. IfSome found (λ rests.
-            RestsOn (K.size self.now.grounds.now.kind.now) self.now.grounds.now.basis
-            self.now.board.now.literals others.now reason.now rests)) }
+        ensures rests { IfOk result (λ found. IfSome found (λ rests. RestsOn
+            (K.size self.now.grounds.now.setting.now.kind.now)
+            self.now.grounds.now.setting.now.study.now.axioms self.now.grounds.now.core.now
+            self.now.grounds.now.lemmas.now self.now.board.now.literals others.now reason.now rests)) }
     {
         self.load(tried, literals, left_out);
         let mut rests = Literals::new(alloc);
         rests.append(tried.as_slice())?;
-        if !add_others(self.grounds.kind.space().size(), tried, others) {
+        if !add_others(self.grounds.setting.kind.space().size(), tried, others) {
             return Ok(None);
         }
         let tried = Facts {
@@ -159,13 +138,14 @@ impl<K: OutcomeKind> Facts<'_, K> {
         others: &[Literal],
         reason: &Reason,
     ) -> Result<Literals, NoMemory>
-        requires tried { tried.old.size ≡ K.size self.now.grounds.now.kind.now }
-        requires rests { RestsOn (K.size self.now.grounds.now.kind.now) self.now.grounds.now.basis
-            self.now.board.now.literals others.now reason.now rests }
+        requires tried { tried.old.size ≡ K.size self.now.grounds.now.setting.now.kind.now }
+        requires rests { RestsOn (K.size self.now.grounds.now.setting.now.kind.now)
+            self.now.grounds.now.setting.now.study.now.axioms self.now.grounds.now.core.now
+            self.now.grounds.now.lemmas.now self.now.board.now.literals others.now reason.now rests }
         ensures tried { tried.new.size ≡ tried.old.size }
-        ensures rests { IfOk result (λ rests.
-            RestsOn (K.size self.now.grounds.now.kind.now) self.now.grounds.now.basis
-            self.now.board.now.literals others.now reason.now rests) }
+        ensures rests { IfOk result (λ rests. RestsOn (K.size self.now.grounds.now.setting.now.kind.now)
+            self.now.grounds.now.setting.now.study.now.axioms self.now.grounds.now.core.now
+            self.now.grounds.now.lemmas.now self.now.board.now.literals others.now reason.now rests) }
     {
         let count = rests.len();
         if count > MOST_TRIED {
@@ -186,20 +166,20 @@ impl<K: OutcomeKind> Facts<'_, K> {
     /// The facts of which an instance of the axiom at a place of the core speaks.
     fn spoken_by(&self, alloc: Global, place: u32, values: &Env) -> Result<Literals, NoMemory>
         requires values { (a : Titled) →
-            slice_get self.now.grounds.now.basis.study.now.axioms place ≡ Some a →
+            slice_get self.now.grounds.now.setting.now.study.now.axioms place ≡ Some a →
             IsTrue (pointwise nat_lt values.now
-            (bases_of (K.size self.now.grounds.now.kind.now) a.sentence)) }
+            (bases_of (K.size self.now.grounds.now.setting.now.kind.now) a.sentence)) }
     {
         bodies_have_values();
         let grounds = self.grounds;
-        let axioms = grounds.basis.study.axioms();
+        let axioms = grounds.setting.study.axioms();
         if place as usize >= axioms.len() {
             return Ok(Literals::new(alloc));
         }
         let sentence = axioms.get(place as usize).sentence();
         literals_of(
             alloc,
-            grounds.kind.space(),
+            grounds.setting.kind.space(),
             self.board,
             sentence.body(),
             values,
@@ -209,14 +189,14 @@ impl<K: OutcomeKind> Facts<'_, K> {
     /// Literals that a reason may rest on; those that are no facts do not count.
     fn candidates(&self, alloc: Global, reason: &Reason) -> Result<Literals, NoMemory>
         requires values { (k : ℕ) (values : List ℕ) → reason.now ≡ Reason.Axiom k values → (a : Titled) →
-            slice_get self.now.grounds.now.basis.study.now.axioms k ≡ Some a →
-            IsTrue (pointwise nat_lt values (bases_of (K.size self.now.grounds.now.kind.now) a.sentence)) }
+            slice_get self.now.grounds.now.setting.now.study.now.axioms k ≡ Some a → IsTrue (pointwise nat_lt
+            values (bases_of (K.size self.now.grounds.now.setting.now.kind.now) a.sentence)) }
     {
         let grounds = self.grounds;
         match reason {
             Reason::Axiom(place, values) => self.spoken_by(alloc, *place, values),
             Reason::Outcome(p) => at_profile(alloc, self.board.as_slice(), *p),
-            Reason::Lemma(place) => match grounds.basis.earlier.get(*place as usize) {
+            Reason::Lemma(place) => match grounds.lemmas.get(*place as usize) {
                 Some(lemma) => all_of(alloc, lemma.suppose.as_slice()),
                 None => Ok(Literals::new(alloc)),
             },
@@ -231,11 +211,12 @@ impl<K: OutcomeKind> Facts<'_, K> {
         others: &[Literal],
         reason: &Reason,
     ) -> Result<Literals, NoMemory>
-        requires { IsTrue (refutes_by (K.size self.now.grounds.now.kind.now) self.now.grounds.now.basis
-            (self.now.board.now.literals ++ others.now) reason.now) }
-        ensures rests { IfOk result (λ rests.
-            RestsOn (K.size self.now.grounds.now.kind.now) self.now.grounds.now.basis
-            self.now.board.now.literals others.now reason.now rests) }
+        requires { IsTrue (refutes (K.size self.now.grounds.now.setting.now.kind.now)
+            self.now.grounds.now.setting.now.study.now.axioms self.now.grounds.now.core.now
+            self.now.grounds.now.lemmas.now (self.now.board.now.literals ++ others.now) reason.now) }
+        ensures rests { IfOk result (λ rests. RestsOn (K.size self.now.grounds.now.setting.now.kind.now)
+            self.now.grounds.now.setting.now.study.now.axioms self.now.grounds.now.core.now
+            self.now.grounds.now.lemmas.now self.now.board.now.literals others.now reason.now rests) }
         ensures there { IfOk result (λ rests. IsTrue (are_there reason.now rests)) }
     {
         match *reason {
@@ -253,14 +234,14 @@ impl<K: OutcomeKind> Facts<'_, K> {
         others: &[Literal],
         reason: &Reason,
     ) -> Result<Literals, NoMemory>
-        requires tried { tried.old.size ≡ K.size self.now.grounds.now.kind.now }
-        requires refuted { IsTrue (refutes_by
-            (K.size self.now.grounds.now.kind.now) self.now.grounds.now.basis
-            (self.now.board.now.literals ++ others.now) reason.now) }
+        requires tried { tried.old.size ≡ K.size self.now.grounds.now.setting.now.kind.now }
+        requires refuted { IsTrue (refutes (K.size self.now.grounds.now.setting.now.kind.now)
+            self.now.grounds.now.setting.now.study.now.axioms self.now.grounds.now.core.now
+            self.now.grounds.now.lemmas.now (self.now.board.now.literals ++ others.now) reason.now) }
         ensures tried { tried.new.size ≡ tried.old.size }
-        ensures rests { IfOk result (λ rests.
-            RestsOn (K.size self.now.grounds.now.kind.now) self.now.grounds.now.basis
-            self.now.board.now.literals others.now reason.now rests) }
+        ensures rests { IfOk result (λ rests. RestsOn (K.size self.now.grounds.now.setting.now.kind.now)
+            self.now.grounds.now.setting.now.study.now.axioms self.now.grounds.now.core.now
+            self.now.grounds.now.lemmas.now self.now.board.now.literals others.now reason.now rests) }
     {
         let candidates = self.candidates(alloc, reason)?;
         let all = candidates.len();
@@ -283,14 +264,14 @@ impl<K: OutcomeKind> Facts<'_, K> {
         others: &[Literal],
         reason: &Reason,
     ) -> Result<Literals, NoMemory>
-        requires tried { tried.old.size ≡ K.size self.now.grounds.now.kind.now }
-        requires refuted { IsTrue (refutes_by
-            (K.size self.now.grounds.now.kind.now) self.now.grounds.now.basis
-            (self.now.board.now.literals ++ others.now) reason.now) }
+        requires tried { tried.old.size ≡ K.size self.now.grounds.now.setting.now.kind.now }
+        requires refuted { IsTrue (refutes (K.size self.now.grounds.now.setting.now.kind.now)
+            self.now.grounds.now.setting.now.study.now.axioms self.now.grounds.now.core.now
+            self.now.grounds.now.lemmas.now (self.now.board.now.literals ++ others.now) reason.now) }
         ensures tried { tried.new.size ≡ tried.old.size }
-        ensures rests { IfOk result (λ rests.
-            RestsOn (K.size self.now.grounds.now.kind.now) self.now.grounds.now.basis
-            self.now.board.now.literals others.now reason.now rests) }
+        ensures rests { IfOk result (λ rests. RestsOn (K.size self.now.grounds.now.setting.now.kind.now)
+            self.now.grounds.now.setting.now.study.now.axioms self.now.grounds.now.core.now
+            self.now.grounds.now.lemmas.now self.now.board.now.literals others.now reason.now rests) }
         ensures there { IfOk result (λ rests. IsTrue (are_there reason.now rests)) }
     {
         let rests = self.few_facts(alloc, tried, others, reason)?;

@@ -1,8 +1,0 @@
-use Rattle.std.proofs.Common.{◌≡◌, ◌≤◌}
-use Rattle.needed_facts.specs.Rests.{RestsOn}
-use Rattle.needed_facts.proofs.grounds.Facts.least.Given as goal
-
--- the reason rests on what was kept so far, and no more tries failed than were made
-abbrev pub invariant-loop-turn : goal.invariant-loop-turn
-invariant-loop-turn g l =
-    (l.tried.size ≡ g.K.OutcomeKind.size l.self.grounds.now.kind.now) × RestsOn (g.K.OutcomeKind.size l.self.grounds.now.kind.now) l.self.grounds.now.basis l.self.board.now.literals l.others l.reason l.kept × (l.place ≤ l.turn)
