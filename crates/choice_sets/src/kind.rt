@@ -8,8 +8,8 @@ ghost use Rattle.outcomes.specs.Rows.{set_rows};
 
 use crate::elements::{is_element, set_count, set_of, set_text};
 use cnf::{Clauses, Lit, PushFault};
-use outcomes::OutcomeKind;
-use outcomes::winners::{AtProfile, push_some_wins, winner_lit, winner_of};
+use outcomes::winners::{push_some_wins, winner_lit, winner_of};
+use outcomes::{AtProfile, OutcomeKind};
 use profiles::{Space, laws};
 use vocab::{Literal, Name};
 

@@ -26,7 +26,7 @@ pub struct WholeSetting<'a, K: OutcomeKind> {
 }
 
 /// The value of an expression in which a name stands for the setting of a whole study, as `over_whole!(whole,
-/// setting, decide_over(alloc, crew, setting))`. It takes `kinds::over_kind` beside it.
+/// setting, decide_over(alloc, crew, setting))`. The caller imports `kinds::over_kind` as well.
 #[macro_export]
 macro_rules! over_whole {
     ($whole:ident, $setting:ident, $value:expr) => {

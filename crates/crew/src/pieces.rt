@@ -1,6 +1,6 @@
 //! Runs of consecutive pieces, cut among workers.
 
-ghost use Rattle.std.specs.Prelude.{◌≡◌, ℕ, ◌+◌, ◌-◌, ◌*◌, ◌/◌, ◌<◌, ◌≤◌, IfOk, IfSome, length, vec_len};
+ghost use Rattle.std.specs.Prelude.{◌≡◌, ℕ, ◌+◌, ◌-◌, ◌*◌, ◌/◌, ◌<◌, ◌≤◌, ◌⊎◌, IfOk, IfNone, IfSome, length, vec_len};
 ghost use Rattle.std.specs.Thread.{IsSync};
 ghost use Rattle.crew.specs.Right.{AreRight};
 
@@ -11,37 +11,39 @@ use lists::NoMemory;
 use std::alloc::Global;
 use std::thread::{Threads, join};
 
-/// A run of consecutive pieces, from `from` up to `to`, and the crew that works on them.
+/// Consecutive pieces, from `from` up to `to`, and the crew that works on them.
 #[derive(Drop)]
-struct Run<'a, R, G> {
+struct Stretch<'a, R, G> {
     crew: Crew<'a, R, G>,
     from: u32,
     to: u32,
     ghost rising: { from ≤ to },
 }
 
-/// A run in two, of which the first has half of the workers, rounded down, and as large a share of the
+/// A stretch in two, of which the first has half of the workers, rounded down, and as large a share of the
 /// pieces. None where there is one worker, or at most one piece.
-fn cut<'a, R, G>(run: &Run<'a, R, G>) -> Option<(Run<'a, R, G>, Run<'a, R, G>)>
-    ensures begins { IfSome result (λ runs. runs.0.from ≡ run.now.from) }
-    ensures share { IfSome result (λ runs. runs.0.to ≡ run.now.from
-        + (run.now.to - run.now.from) * (run.now.crew.workers / 2) / run.now.crew.workers) }
-    ensures meets { IfSome result (λ runs. runs.1.from ≡ runs.0.to) }
-    ensures ends { IfSome result (λ runs. runs.1.to ≡ run.now.to) }
-    ensures fewer { IfSome result (λ runs. runs.0.crew.workers ≡ run.now.crew.workers / 2) }
-    ensures others { IfSome result (λ runs. runs.1.crew.workers
-        ≡ run.now.crew.workers - run.now.crew.workers / 2) }
+fn cut<'a, R, G>(stretch: &Stretch<'a, R, G>) -> Option<(Stretch<'a, R, G>, Stretch<'a, R, G>)>
+    ensures whole { IfNone result
+        ((stretch.now.crew.workers ≤ 1) ⊎ (stretch.now.to - stretch.now.from ≤ 1)) }
+    ensures begins { IfSome result (λ halves. halves.0.from ≡ stretch.now.from) }
+    ensures share { IfSome result (λ halves. halves.0.to ≡ stretch.now.from
+        + (stretch.now.to - stretch.now.from) * (stretch.now.crew.workers / 2) / stretch.now.crew.workers) }
+    ensures meets { IfSome result (λ halves. halves.1.from ≡ halves.0.to) }
+    ensures ends { IfSome result (λ halves. halves.1.to ≡ stretch.now.to) }
+    ensures fewer { IfSome result (λ halves. halves.0.crew.workers ≡ stretch.now.crew.workers / 2) }
+    ensures others { IfSome result (λ halves. halves.1.crew.workers
+        ≡ stretch.now.crew.workers - stretch.now.crew.workers / 2) }
 {
-    let (from, to) = (run.from, run.to);
-    let workers = run.crew.workers;
+    let (from, to) = (stretch.from, stretch.to);
+    let workers = stretch.crew.workers;
     let fewer = workers / 2;
     if fewer == 0 || to - from <= 1 {
         return None;
     }
     let share = u64::from(to - from) * u64::from(fewer) / u64::from(workers);
     let middle = from + share as u32;
-    let (rt, gate) = (run.crew.rt, run.crew.gate);
-    let first = Run {
+    let (rt, gate) = (stretch.crew.rt, stretch.crew.gate);
+    let first = Stretch {
         crew: Crew {
             rt,
             gate,
@@ -50,7 +52,7 @@ fn cut<'a, R, G>(run: &Run<'a, R, G>) -> Option<(Run<'a, R, G>, Run<'a, R, G>)>
         from,
         to: middle,
     };
-    let second = Run {
+    let second = Stretch {
         crew: Crew {
             rt,
             gate,
@@ -62,27 +64,27 @@ fn cut<'a, R, G>(run: &Run<'a, R, G>) -> Option<(Run<'a, R, G>, Run<'a, R, G>)>
     Some((first, second))
 }
 
-/// The parts of a run: the workers are halved, and the pieces are cut as the workers are, until a run has one
-/// of either. The parts of such a run are made one after another.
+/// The parts of a stretch: the workers are halved, and the pieces are cut as the workers are, until a stretch
+/// has one of either. The parts of such a stretch are made one after another.
 fn among<R: Threads + Sync, J: Job, G: Gate>(
     alloc: Global,
     job: &J,
-    run: &Run<R, G>,
+    stretch: &Stretch<R, G>,
 ) -> Result<Vec<J::Part>, NoMemory>
-    requires has { (piece : ℕ) → piece < run.now.to → J.has job.now piece }
-    ensures len { IfOk result (λ parts. vec_len parts ≡ run.now.to - run.now.from) }
-    ensures right { IfOk result (λ parts. AreRight (J.is_right job.now) run.now.from parts.items) }
+    requires has { (piece : ℕ) → piece < stretch.now.to → J.has job.now piece }
+    ensures len { IfOk result (λ parts. vec_len parts ≡ stretch.now.to - stretch.now.from) }
+    ensures right { IfOk result (λ parts. AreRight (J.is_right job.now) stretch.now.from parts.items) }
 {
-    let Some((first, second)) = cut(run) else {
+    let Some((first, second)) = cut(stretch) else {
         let mut parts = Vec::new(alloc);
-        for piece in run.from..run.to {
-            run.crew.gate.enter(piece);
+        for piece in stretch.from..stretch.to {
+            stretch.crew.gate.enter(piece);
             parts.push(job.part(piece)?)?;
         }
         return Ok(parts);
     };
     let (left, right) = join(
-        run.crew.rt,
+        stretch.crew.rt,
         || -> Result<Vec<J::Part>, NoMemory>
             requires { IsSync R.row × ((piece : ℕ) → piece < first.to → J.has job.now piece) }
             ensures len { IfOk result (λ parts. vec_len parts ≡ first.entry.to - first.entry.from) }
@@ -115,7 +117,7 @@ pub fn map_pieces<R: Threads + Sync, J: Job, G: Gate>(
     ensures len { IfOk result (λ parts. length parts ≡ pieces) }
     ensures right { IfOk result (λ parts. AreRight (J.is_right job.now) 0 parts) }
 {
-    let run = Run {
+    let stretch = Stretch {
         crew: Crew {
             rt: crew.rt,
             gate: crew.gate,
@@ -124,6 +126,6 @@ pub fn map_pieces<R: Threads + Sync, J: Job, G: Gate>(
         from: 0,
         to: pieces,
     };
-    let parts = among(alloc, job, &run)?;
+    let parts = among(alloc, job, &stretch)?;
     Ok(Parts::from_vec(parts))
 }

@@ -106,8 +106,8 @@ fn has_small_rounds<K: OutcomeKind>(groundable: &Groundable<K>) -> bool
         && most.literals <= MOST_LITERALS / (PIECE * SMALL)
 }
 
-/// The first instance that is too wide, of round after round. Appends the sum of the measures of each piece, up
-/// to the round that has it.
+/// The first instance that is too wide, of round after round. Appends the sum of the measures of each
+/// piece, up to the round that has it.
 fn measure_rounds<R: Threads + Sync, K: OutcomeKind, G: Gate>(
     alloc: Global,
     crew: &Crew<R, G>,
@@ -133,9 +133,9 @@ fn measure_rounds<R: Threads + Sync, K: OutcomeKind, G: Gate>(
     Ok(None)
 }
 
-/// The first instance of an axiom that is too wide. Where the shape of the sentence tells that there is none and
-/// that all rounds are small, nothing is measured. Appends the sum of the measures of each piece, up to the round
-/// that has it.
+/// The first instance of an axiom that is too wide. Where the shape of the sentence tells that there is
+/// none and that all rounds are small, nothing is measured. Appends the sum of the measures of each piece,
+/// up to the round that has it.
 pub(crate) fn measure_axiom<R: Threads + Sync, K: OutcomeKind, G: Gate>(
     alloc: Global,
     crew: &Crew<R, G>,

@@ -130,9 +130,9 @@ fn make_parts<R: Threads + Sync, K: OutcomeKind, G: Gate>(
     Ok(parts)
 }
 
-/// Appends the clauses of the parts of a stretch, each unless an equal one of the axiom was kept, and makes the
-/// parts of the next one: beside it where there are several workers, so that none waits for the one who joins
-/// the parts.
+/// Appends the clauses of the parts of a stretch, each unless an equal one of the axiom was kept, and makes
+/// the parts of the next one: beside it where there are several workers, so that none waits for the one who
+/// joins the parts.
 fn keep_beside<R: Threads + Sync, K: OutcomeKind, G: Gate>(
     alloc: Global,
     crew: &Crew<R, G>,

@@ -50,8 +50,8 @@ fn is_told_at(word: u64, k: u64) -> bool
     k < 64 && is_told(word, k)
 }
 
-/// The measure of the k-th instance from a number on, from 0, where it may be told to be true whatever the rule:
-/// it then has none.
+/// The measure of the k-th instance from a number on, from 0, where it may be told to be true whatever the
+/// rule: it then has none.
 fn measure_at<K: OutcomeKind>(planned: &Planned<K>, known: u64, from: u64, k: u64) -> Counts
     requires within { from + k < planned.now.count }
     requires told { IsToldFrom (K.size planned.now.kind.now) planned.now.named.now.sentence from known }
@@ -118,7 +118,8 @@ fn untold_clauses<K: OutcomeKind>(
     Ok(())
 }
 
-/// Lists that are used again for each instance: the rows of instances, one after another, and those for sorting.
+/// Lists that are used again for each instance: the rows of instances, one after another, and those for
+/// sorting.
 #[derive(Drop)]
 struct Buffers {
     rows: ClauseList,
@@ -167,8 +168,8 @@ fn rest_of(formula: &Formula, premise: bool) -> &Formula
     }
 }
 
-/// Appends the clauses of the k-th instance of a piece, from 0, where it may be told to be true whatever the rule:
-/// it then has none. Its rows stand behind those of others.
+/// Appends the clauses of the k-th instance of a piece, from 0, where it may be told to be true whatever
+/// the rule: it then has none. Its rows stand behind those of others.
 fn push_instance<K: OutcomeKind>(
     alloc: Global,
     piece: &Piece<K>,

@@ -44,7 +44,7 @@ pub(crate) struct Groundable<'a, K: OutcomeKind> {
     pub(crate) ghost low: { place < 4000000 },
 }
 
-/// Such an axiom with the plan by which its instances are gone through, and how many they are.
+/// An axiom that can be ground, with the plan by which its instances are gone through, and how many they are.
 #[derive(Drop)]
 pub(crate) struct Planned<'a, K: OutcomeKind> {
     pub(crate) kind: &'a K,
@@ -58,7 +58,7 @@ pub(crate) struct Planned<'a, K: OutcomeKind> {
     pub(crate) ghost counted: { count ≡ instance_count (K.size kind.now) named.now.sentence },
 }
 
-/// A round that is measured: the instances of such an axiom from `from` up to `to`, at most 1,024 pieces.
+/// A round that is measured: the instances of a planned axiom from `from` up to `to`, at most 1,024 pieces.
 #[derive(Drop)]
 pub(crate) struct Round<'a, K: OutcomeKind> {
     pub(crate) planned: &'a Planned<'a, K>,
@@ -69,8 +69,8 @@ pub(crate) struct Round<'a, K: OutcomeKind> {
     pub(crate) ghost short: { to ≤ from + 65536 },
 }
 
-/// An axiom with its plan, none of whose instances is too wide. The number of an instance is added to `base`, at
-/// most 2 ^ 60, so that it says the axiom too.
+/// An axiom with its plan, none of whose instances is too wide. The number of an instance is added to
+/// `base`, at most 2 ^ 60, so that it says the axiom too.
 #[derive(Drop)]
 pub(crate) struct Numbered<'a, K: OutcomeKind> {
     pub(crate) kind: &'a K,
@@ -87,7 +87,8 @@ pub(crate) struct Numbered<'a, K: OutcomeKind> {
     pub(crate) ghost small: { base ≤ 2 ^ 60 },
 }
 
-/// Instances whose clauses are made: those of such an axiom from `from` up to `to`, at most 8,192 pieces.
+/// Instances whose clauses are made: those of a numbered axiom from `from` up to `to`, at most 8,192 pieces,
+/// all of a round, of a part or of a piece.
 #[derive(Drop)]
 pub(crate) struct Stretch<'a, K: OutcomeKind> {
     pub(crate) numbered: &'a Numbered<'a, K>,
@@ -98,7 +99,7 @@ pub(crate) struct Stretch<'a, K: OutcomeKind> {
     pub(crate) ghost short: { to ≤ from + 524288 },
 }
 
-/// The instances of such an axiom from `from` up to `to`, and what is known of the 64 from `from` on.
+/// The instances of a numbered axiom from `from` up to `to`, and what is known of the 64 from `from` on.
 #[derive(Drop)]
 pub(crate) struct Piece<'a, K: OutcomeKind> {
     pub(crate) numbered: &'a Numbered<'a, K>,

@@ -4,9 +4,10 @@ ghost use Rattle.std.specs.Prelude.{◌≡◌};
 ghost use Rattle.vocab.specs.declared.kinds.Kind.TheVariants.{Choice};
 ghost use Rattle.vocab.specs.Size.{IsSize};
 
+use crate::at_profile::AtProfile;
 use crate::frames;
 use crate::kind::OutcomeKind;
-use crate::winners::{AtProfile, winner_lit, winner_of};
+use crate::winners::{winner_lit, winner_of};
 use cnf::{Clauses, Lit, PushFault};
 use profiles::{Space, laws};
 use vocab::{Literal, Name};

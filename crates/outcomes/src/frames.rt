@@ -6,8 +6,9 @@ ghost use Rattle.outcomes.specs.Frames.{with_clauses, IsFullForAll};
 ghost use Rattle.outcomes.specs.Places.{pair_lit, pair_at, triple_at};
 ghost use Rattle.outcomes.specs.Rows.{some_wins, one_loses, no_round, choice_rows, ranking_rows};
 
+use crate::at_profile::AtProfile;
 use crate::places;
-use crate::winners::{AtProfile, push_some_wins, winner_lit};
+use crate::winners::{push_some_wins, winner_lit};
 use cnf::{Clauses, Lit, PushFault};
 
 /// The variable of a pair at a profile, with a sign.
@@ -24,9 +25,10 @@ pub(crate) fn pair_lit(at: AtProfile, positive: bool, x: u8, y: u8) -> Lit
 fn push_one_loses(at: AtProfile, place: u32, out: &mut Clauses) -> Result<(), PushFault>
     requires { place < length (pairs at.alternatives.number) }
     ensures ok { OnOk result (out.new ≡ with_clauses out.old
-        (one_loses at.alternatives.number at.profile (pair_at at.alternatives.number place) ∷ []) at.profile) }
-    ensures full { result ≡ Err PushFault.Full →
-        IsFullForAll out.old (one_loses at.alternatives.number at.profile (pair_at at.alternatives.number place) ∷ []) }
+        (one_loses at.alternatives.number at.profile
+        (pair_at at.alternatives.number place) ∷ []) at.profile) }
+    ensures full { result ≡ Err PushFault.Full → IsFullForAll out.old
+        (one_loses at.alternatives.number at.profile (pair_at at.alternatives.number place) ∷ []) }
 {
     let (x, y) = places::pair_at(at.alternatives, place);
     let loses = [winner_lit(at, false, x), winner_lit(at, false, y)];
@@ -35,8 +37,10 @@ fn push_one_loses(at: AtProfile, place: u32, out: &mut Clauses) -> Result<(), Pu
 
 /// Appends the frame of choices.
 pub(crate) fn push_choice(at: AtProfile, out: &mut Clauses) -> Result<(), PushFault>
-    ensures ok { OnOk result (out.new ≡ with_clauses out.old (choice_rows at.alternatives.number at.profile) at.profile) }
-    ensures full { result ≡ Err PushFault.Full → IsFullForAll out.old (choice_rows at.alternatives.number at.profile) }
+    ensures ok { OnOk result (out.new ≡ with_clauses out.old
+        (choice_rows at.alternatives.number at.profile) at.profile) }
+    ensures full { result ≡ Err PushFault.Full →
+        IsFullForAll out.old (choice_rows at.alternatives.number at.profile) }
     ensures fits { OnOk result (¬ IsFullForAll out.old (choice_rows at.alternatives.number at.profile)) }
 {
     push_some_wins(at, out)?;
@@ -52,8 +56,8 @@ fn push_no_round(at: AtProfile, place: u32, out: &mut Clauses) -> Result<(), Pus
     requires { place < length (triples at.alternatives.number) }
     ensures ok { OnOk result (out.new ≡ with_clauses out.old
         (no_round at.alternatives.number at.profile (triple_at at.alternatives.number place)) at.profile) }
-    ensures full { result ≡ Err PushFault.Full →
-        IsFullForAll out.old (no_round at.alternatives.number at.profile (triple_at at.alternatives.number place)) }
+    ensures full { result ≡ Err PushFault.Full → IsFullForAll out.old
+        (no_round at.alternatives.number at.profile (triple_at at.alternatives.number place)) }
 {
     let (x, y, z) = places::triple_at(at.alternatives, place);
     let not_up = [
@@ -72,8 +76,10 @@ fn push_no_round(at: AtProfile, place: u32, out: &mut Clauses) -> Result<(), Pus
 
 /// Appends the frame of rankings.
 pub(crate) fn push_ranking(at: AtProfile, out: &mut Clauses) -> Result<(), PushFault>
-    ensures ok { OnOk result (out.new ≡ with_clauses out.old (ranking_rows at.alternatives.number at.profile) at.profile) }
-    ensures full { result ≡ Err PushFault.Full → IsFullForAll out.old (ranking_rows at.alternatives.number at.profile) }
+    ensures ok { OnOk result (out.new ≡ with_clauses out.old
+        (ranking_rows at.alternatives.number at.profile) at.profile) }
+    ensures full { result ≡ Err PushFault.Full →
+        IsFullForAll out.old (ranking_rows at.alternatives.number at.profile) }
     ensures fits { OnOk result (¬ IsFullForAll out.old (ranking_rows at.alternatives.number at.profile)) }
 {
     for place in 0..places::triple_count(at.alternatives) {

@@ -1,6 +1,7 @@
 //! Kinds of outcomes: what holds of an outcome, the variables that stand for it, and its text.
 #![tactic(auto)]
 
+mod at_profile;
 mod choice;
 mod decode;
 mod frames;
@@ -11,6 +12,7 @@ mod ranking;
 mod setting;
 pub mod winners;
 
+pub use at_profile::AtProfile;
 pub use choice::ChoiceKind;
 pub use kind::OutcomeKind;
 pub use ranking::RankingKind;

@@ -44,7 +44,6 @@ pub(crate) fn pair_count(alternatives: Alternatives) -> u32
     ensures few { result ≤ 10 }
 {
     match alternatives.number {
-        0 => 0,
         1 => 0,
         2 => 1,
         3 => 3,
@@ -59,7 +58,6 @@ pub(crate) fn triple_count(alternatives: Alternatives) -> u32
     ensures few { result ≤ 10 }
 {
     match alternatives.number {
-        0 => 0,
         1 => 0,
         2 => 0,
         3 => 1,

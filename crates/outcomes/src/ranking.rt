@@ -4,8 +4,8 @@ ghost use Rattle.std.specs.Prelude.{◌≡◌, ◌<◌};
 ghost use Rattle.vocab.specs.declared.kinds.Kind.TheVariants as kinds;
 ghost use Rattle.vocab.specs.Size.{IsSize, factorial};
 
+use crate::at_profile::AtProfile;
 use crate::kind::OutcomeKind;
-use crate::winners::AtProfile;
 use crate::{frames, places};
 use cnf::{Clauses, Lit, PushFault};
 use profiles::{Ranking, Space, is_above, laws, place_of, ranking_count, ranking_text};

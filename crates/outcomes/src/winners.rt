@@ -1,40 +1,16 @@
 //! Variables of alternatives: a profile has one for each, which is true where the alternative wins. Every kind
 //! whose literals say which alternatives win has these.
 
-ghost use Rattle.std.specs.Prelude.{◌≡◌, ◌-◌, ◌<◌, ◌≤◌, [], ◌∷◌, true, Err, OnOk};
-ghost use Rattle.vocab.specs.Size.{sort_count};
-ghost use Rattle.vocab.specs.declared.kinds.Sort.TheVariants.{Profile};
+ghost use Rattle.std.specs.Prelude.{◌≡◌, ◌-◌, ◌≤◌, [], ◌∷◌, true, Err, OnOk};
 ghost use Rattle.meaning.specs.Variables.{winner_at};
 ghost use Rattle.outcomes.specs.Frames.{with_clauses, IsFullForAll};
 ghost use Rattle.outcomes.specs.Places.{winner_lit};
 ghost use Rattle.outcomes.specs.Rows.{some_wins};
 
+use crate::at_profile::AtProfile;
 use cnf::{Clauses, Lit, PushFault};
-use profiles::{Alternatives, Space, laws};
+use profiles::Alternatives;
 use vocab::Literal;
-
-/// A profile, by a number of at most 20000, of so many alternatives: the variables of its outcome stand together.
-#[derive(Clone, Copy)]
-pub struct AtProfile {
-    pub alternatives: Alternatives,
-    pub profile: u32,
-    pub ghost few: { profile ≤ 20000 },
-}
-
-impl AtProfile {
-    /// A profile of a space.
-    pub fn new(space: &Space, profile: u32) -> AtProfile
-        requires { profile < sort_count space.now Profile }
-        ensures number { result.alternatives.number ≡ space.now.alternatives }
-        ensures profile { result.profile ≡ profile }
-    {
-        laws::spaces_have_sizes(space);
-        AtProfile {
-            alternatives: space.alternatives(),
-            profile,
-        }
-    }
-}
 
 /// The variable of an alternative at a profile, with a sign.
 pub fn winner_lit(at: AtProfile, positive: bool, x: u8) -> Lit

@@ -99,7 +99,7 @@ impl Gathered {
         if self.board.has(&step.literal) {
             return Ok(());
         }
-        let found = grounds_of(alloc, grounds, &mut self.board, tried, step)?;
+        let found = rests_of_step(alloc, grounds, &mut self.board, tried, step)?;
         match found {
             Some(rests) => self.state(step, rests),
             None => Ok(()),
@@ -184,7 +184,7 @@ fn is_forced_with<K: OutcomeKind>(grounds: &Grounds<K>, facts: &mut Board, step:
 
 /// What the fact of a step rests on of facts that are forced, if they force it: nothing, where its reason
 /// does so alone.
-fn grounds_of<K: OutcomeKind>(
+fn rests_of_step<K: OutcomeKind>(
     alloc: Global,
     grounds: &Grounds<K>,
     facts: &mut Board,

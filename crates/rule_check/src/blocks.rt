@@ -8,7 +8,7 @@ ghost use Rattle.lanes.specs.Lanes.{IsPlan, IsToldFrom};
 ghost use Rattle.lanes.proofs.OnceLaws.{once};
 ghost use Rattle.rule_check.specs.Pieces.{IsLeastFalse};
 
-use crate::trials::{Round, Trial};
+use crate::trials::{Stretch, Trial};
 use lanes::{Plan, is_told, plan_of, told, values_at};
 use lists::NoMemory;
 use outcomes::OutcomeKind;
@@ -88,7 +88,7 @@ fn block_failure<K: OutcomeKind>(block: &Block<K>) -> Option<u64>
 }
 
 /// The least instance of a round that is false of the rule, block by block.
-fn told_failure<'a, K: OutcomeKind>(round: &Round<'a, K>, plan: &'a Plan) -> Option<u64>
+fn told_failure<'a, K: OutcomeKind>(round: &Stretch<'a, K>, plan: &'a Plan) -> Option<u64>
     requires plan { IsPlan (K.size round.now.trial.now.kind.now) round.now.trial.now.named.now.sentence
         plan.now }
     ensures { IsLeastFalse (K.size round.now.trial.now.kind.now) round.now.trial.now.table.now
@@ -115,7 +115,7 @@ fn told_failure<'a, K: OutcomeKind>(round: &Round<'a, K>, plan: &'a Plan) -> Opt
 }
 
 /// The least instance of a round that is false of the rule.
-pub(crate) fn least_false<K: OutcomeKind>(round: &Round<K>) -> Option<u64>
+pub(crate) fn least_false<K: OutcomeKind>(round: &Stretch<K>) -> Option<u64>
     ensures { IsLeastFalse (K.size round.now.trial.now.kind.now) round.now.trial.now.table.now
         round.now.trial.now.named.now round.now.from round.now.to result }
 {

@@ -9,7 +9,7 @@ ghost use Rattle.rule_check.specs.Pieces.{IsLeastFalse};
 
 use crate::blocks::plan_for;
 use crate::pieces::{ROUND, round_failure};
-use crate::trials::{Round, Trial};
+use crate::trials::{Stretch, Trial};
 use crew::Crew;
 use edge::Gate;
 use lists::NoMemory;
@@ -24,7 +24,7 @@ use worlds::instance_count;
 fn least_failure<R: Threads + Sync, K: OutcomeKind, G: Gate>(
     alloc: Global,
     crew: &Crew<R, G>,
-    all: &Round<K>,
+    all: &Stretch<K>,
 ) -> Result<Option<u64>, NoMemory>
     ensures { IfOk result (λ found. IsLeastFalse (K.size all.now.trial.now.kind.now)
         all.now.trial.now.table.now all.now.trial.now.named.now all.now.from all.now.to found) }
@@ -33,7 +33,7 @@ fn least_failure<R: Threads + Sync, K: OutcomeKind, G: Gate>(
     let mut from = all.from;
     while from < all.to {
         let to = from + (all.to - from).min(ROUND);
-        let round = Round {
+        let round = Stretch {
             trial,
             plan,
             from,
@@ -59,7 +59,7 @@ fn axiom_failure<R: Threads + Sync, K: OutcomeKind, G: Gate>(
 {
     let count = instance_count(trial.kind.space(), trial.named.sentence());
     let plan = plan_for(alloc, trial, count)?;
-    let all = Round {
+    let all = Stretch {
         trial,
         plan: &plan,
         from: 0,

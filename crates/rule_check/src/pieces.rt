@@ -5,7 +5,7 @@ ghost use Rattle.crew.specs.Right.{AreRight};
 ghost use Rattle.rule_check.specs.Pieces.{IsLeastFalse, IsLeastOfPiece, start_of_piece, end_of_piece};
 
 use crate::blocks::least_false;
-use crate::trials::Round;
+use crate::trials::Stretch;
 use crew::{Crew, Job, Parts, map_pieces};
 use edge::Gate;
 use lists::NoMemory;
@@ -45,7 +45,7 @@ impl<F: Fn(u64, u64) -> Option<u64> + Sync> Job for Pieces<'_, F> {
 }
 
 /// The first instance that was found, of the pieces of a round in order.
-fn first_found<K: OutcomeKind>(round: &Round<K>, parts: &Parts<Option<u64>>) -> Option<u64>
+fn first_found<K: OutcomeKind>(round: &Stretch<K>, parts: &Parts<Option<u64>>) -> Option<u64>
     requires right { AreRight (IsLeastOfPiece (K.size round.now.trial.now.kind.now)
         round.now.trial.now.table.now round.now.trial.now.named.now round.now.from round.now.to)
         0 parts.now }
@@ -66,7 +66,7 @@ fn first_found<K: OutcomeKind>(round: &Round<K>, parts: &Parts<Option<u64>>) -> 
 pub(crate) fn round_failure<R: Threads + Sync, K: OutcomeKind, G: Gate>(
     alloc: Global,
     crew: &Crew<R, G>,
-    round: &Round<K>,
+    round: &Stretch<K>,
 ) -> Result<Option<u64>, NoMemory>
     ensures { IfOk result (λ found. IsLeastFalse (K.size round.now.trial.now.kind.now)
         round.now.trial.now.table.now round.now.trial.now.named.now round.now.from round.now.to found) }
@@ -78,7 +78,7 @@ pub(crate) fn round_failure<R: Threads + Sync, K: OutcomeKind, G: Gate>(
             round.entry.now.trial.now.table.now round.entry.now.trial.now.named.now start end result }
     {
         let (trial, plan) = (round.trial, round.plan);
-        least_false(&Round {
+        least_false(&Stretch {
             trial,
             plan,
             from: start,

@@ -22,10 +22,10 @@ pub(crate) struct Trial<'a, K: OutcomeKind> {
     ghost few: { instance_count (K.size kind.now) named.now.sentence ≤ 40000000 },
 }
 
-/// A round: the instances of an axiom from `from` up to `to`, to be tried over a rule; with a plan of the axiom
-/// where that is worth its making.
+/// The instances of an axiom from `from` up to `to`, to be tried over a rule: all, those of a round or of a
+/// piece. With a plan of the axiom where that is worth its making.
 #[derive(Drop)]
-pub(crate) struct Round<'a, K: OutcomeKind> {
+pub(crate) struct Stretch<'a, K: OutcomeKind> {
     pub(crate) trial: &'a Trial<'a, K>,
     pub(crate) plan: &'a Option<Plan>,
     pub(crate) from: u64,

@@ -95,10 +95,11 @@ pub fn by_literals(
     Ok(None)
 }
 
-/// A refutation of the clauses in which each clause has at most one literal, by failed literals: those of the
-/// variables after the first ones are tried before these. No variable of a clause is above the number of
-/// variables. `budget` is how many entries propagation may make, and becomes how many are left; where it is
-/// spent, or no literal is left that fails, there is no refutation.
+/// A refutation of the clauses in which each clause has at most one literal, by failed literals: those of
+/// the variables after the first ones are tried before these, and where all are first ones, all in their
+/// order. No variable of a clause is above the number of variables. `budget` is how many entries
+/// propagation may make, and becomes how many are left; where it is spent, or no literal is left that
+/// fails, there is no refutation.
 pub fn by_failed_literals(
     alloc: Global,
     clauses: &Clauses,

@@ -47,7 +47,7 @@ fn mark_all(seen: &mut Vec<bool>, clause: &[Lit])
     }
 }
 
-/// Marks the variable of the literal of a clause that is true.
+/// Marks the variable of that literal of a clause which is true.
 fn mark_true(trail: &Trail, seen: &mut Vec<bool>, clause: &[Lit])
     requires { UsesUpTo (length seen.old.items) clause.now }
     ensures { length seen.new.items ≡ length seen.old.items }

@@ -10,8 +10,8 @@ use cnf::Lit;
 use lists::NoMemory;
 use std::alloc::Global;
 
-/// A search for clauses, each of at most so many literals, one or more: the derivation that adds those that are
-/// learned.
+/// A search for clauses, each of at most so many literals, one or more: the derivation that adds those that
+/// are learned.
 #[derive(Drop)]
 pub(crate) struct Search<'a> {
     pub(crate) draft: Draft<'a>,
@@ -48,11 +48,11 @@ impl Search<'_> {
         true
     }
 
-    /// Tries to learn a clause, or a part of it, where none of its variables has a value and the budget allows
-    /// it: the opposites of its literals are assumed, one after another, and where a clause is falsified, or
-    /// forces one of them, what is left of the given one is learned. Where clauses of two literals may be
-    /// learned, a conflict also takes as many off the budget as the trail has entries at level 0. The answer is
-    /// whether the clauses are refuted.
+    /// Tries to learn a clause, or a part of it, where none of its variables has a value and the budget
+    /// allows it: the opposites of its literals are assumed, one after another, and where a clause is
+    /// falsified, or forces one of them, what is left of the given one is learned. Where clauses of two
+    /// literals may be learned, a conflict also takes as many off the budget as the trail has entries at
+    /// level 0. The answer is whether the clauses are refuted.
     pub(crate) fn attempt(&mut self, alloc: Global, clause: &[Lit]) -> Result<bool, NoMemory>
         requires root { IsAtRoot self.old }
         requires short { length clause.now ≤ self.old.most }

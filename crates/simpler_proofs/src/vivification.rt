@@ -67,8 +67,8 @@ impl MarkedTrail {
         Ok(marked)
     }
 
-    /// What is left of a clause by the conflict to which the opposites of its literals lead; nothing where they
-    /// lead to none. Then the trail is at level 0 again.
+    /// What is left of a clause by the conflict to which the opposites of its literals lead; nothing where
+    /// they lead to none. Then the trail is at level 0 again.
     fn left_of(
         &mut self,
         alloc: Global,
@@ -123,7 +123,8 @@ impl Draft<'_> {
     }
 }
 
-/// Given lines, and a derivation each clause of which is empty or part of one of these, with no more literals.
+/// Given lines, and a derivation each clause of which is empty or part of one of these, with no more
+/// literals.
 #[derive(Drop)]
 struct Vivifying<'f, 'a> {
     given: &'f Given<'f, 'a>,

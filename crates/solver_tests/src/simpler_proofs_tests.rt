@@ -144,10 +144,11 @@ fn failed_literals_refute_one_at_a_time(rt: HostRuntime) -> Result<(), Fail> {
     let found = [
         failed(alloc, square(), 0, 100)?,
         failed(alloc, square(), 11, 100)?,
+        failed(alloc, square(), 13, 100)?,
         failed(alloc, &[1, 0, -1, 2, 0, -2, 0], 0, 100)?,
         failed(alloc, &[1, 0, 0], 0, 100)?,
     ];
-    assert!(rt; found == [110, 110, 10, 10]);
+    assert!(rt; found == [110, 110, 110, 10, 10]);
     Ok(())
 }
 
