@@ -16,7 +16,7 @@ use Rattle.propagate.proofs.Levels.{level_at}
 use Rattle.propagate.proofs.Holding.{All-entry_of}
 use Rattle.propagate.proofs.EntryLemmas.{value_from_entry}
 use Rattle.cdcl.specs.Analysis.{is_marked_variable, is_open_entry, IsBelow, RootHolds, RootLeads}
-use Rattle.cdcl.specs.Lesson.{Teaches}
+use Rattle.cdcl.specs.Asserting.{IsAsserting}
 use Rattle.cdcl.proofs.Found.{Failing, failing}
 use Rattle.cdcl.proofs.Leads.{Extends, leads_by, holds_among}
 use Rattle.cdcl.proofs.Steps.{stand_in, entry_here, Here}
@@ -128,18 +128,18 @@ opposites_fail f clause h = λ i x within.
     holds_among f (map opposite_lit clause) (opposite_lit n) (All-map (HoldsIn f) opposite_lit clause h) (h i x within) (contains_opposite clause n (Contains-get_or clause i x within))
 
 -- the literal of the current level is the last
-last_is_top : (t : TrailState) (lower : List Signed) (u : Signed) (hints : List ℕ) (h : Teaches t (lower ++ u ∷ []) hints) → All (IsBelow t) lower → h.u ≡ u
+last_is_top : (t : TrailState) (lower : List Signed) (u : Signed) (hints : List ℕ) (h : IsAsserting t (lower ++ u ∷ []) hints) → All (IsBelow t) lower → h.u ≡ u
 last_is_top t lower u hints h below =
     elim (All-contains (λ n. (n ≡ u) ⊎ IsBelow t n) (lower ++ u ∷ []) h.u (All-push (λ n. (n ≡ u) ⊎ IsBelow t n) lower u (All-weaker (IsBelow t) (λ n. (n ≡ u) ⊎ IsBelow t n) (λ n b. inr b) lower below) (inl refl)) h.member) [
       | inl same ↦ same
       | inr low ↦ absurd (let is : low.by ≡ h.top = (let p = low.entry in let q = h.entry in cc) in let at : low.by.level ≡ h.top.level = ap (λ (x : Entry). x.level) is in omega (arith, low.below, h.at_top))
     ]
 
--- what is kept teaches, once the rest is traced back
-pub Teaches-kept : (t : TrailState) (lower kept : List Signed) (u : Signed) (hints more : List ℕ) (seen next : List Bool) → Teaches t (lower ++ u ∷ []) (reverse hints) → All (IsBelow t) lower → All (IsBelow t) kept →
+-- what is kept is asserting, once the rest is traced back
+pub IsAsserting-kept : (t : TrailState) (lower kept : List Signed) (u : Signed) (hints more : List ℕ) (seen next : List Bool) → IsAsserting t (lower ++ u ∷ []) (reverse hints) → All (IsBelow t) lower → All (IsBelow t) kept →
     ((k : List Signed) → AllFail k kept → RootHolds k t (length t.entries) seen → AllFail k lower) →
-    ((clause : List Signed) → RootLeads t (length t.entries) seen clause hints → RootLeads t 0 next clause more) → Teaches t (kept ++ u ∷ []) (reverse more)
-Teaches-kept t lower kept u hints more seen next h below_lower below fails leads =
+    ((clause : List Signed) → RootLeads t (length t.entries) seen clause hints → RootLeads t 0 next clause more) → IsAsserting t (kept ++ u ∷ []) (reverse more)
+IsAsserting-kept t lower kept u hints more seen next h below_lower below fails leads =
     let clause : List Signed = kept ++ u ∷ [] in
     let same : h.u ≡ u = last_is_top t lower u (reverse hints) h below_lower in
     let start : RootLeads t (length t.entries) seen clause hints = λ k f r.

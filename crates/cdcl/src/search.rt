@@ -117,7 +117,7 @@ fn search_from(
     let mut restarts = Restarts::new();
     let mut lines = Items::new(alloc);
     for _ in 0..limit {
-        match solver.descend() {
+        match solver.propagate_and_decide() {
             None => return Ok(Search::Found(solver.values(alloc)?)),
             Some(conflict) => {
                 if solver.is_at_root() {

@@ -7,7 +7,7 @@ ghost use Rattle.propagate.specs.Values.{value_in, IsUnassigned};
 ghost use Rattle.propagate.specs.TrailState.{IsTrail, IsClosed, cut_to, known, clause_at};
 ghost use Rattle.cdcl.specs.Hints.{FollowsBy};
 ghost use Rattle.cdcl.specs.Order.{HasAll, IsFirstUnset, IsHeld, raised_by};
-ghost use Rattle.cdcl.specs.Search.{IsConflict, Restarted, KeepsSigns, Descends, IsComplete, IsSearching, AreNumbered};
+ghost use Rattle.cdcl.specs.Search.{IsConflict, Restarted, KeepsSigns, Decides, IsComplete, IsSearching, AreNumbered};
 
 use crate::analysis::analyze;
 use crate::lines::line;
@@ -80,15 +80,15 @@ impl Solver {
     }
 
     /// Decides and propagates, until a clause is falsified or every variable has a value.
-    pub fn descend(&mut self) -> Option<u32>
+    pub fn propagate_and_decide(&mut self) -> Option<u32>
         ensures activity { self.new.order.activity ≡ self.old.order.activity }
         ensures signs { self.new.order.phases ≡ self.old.order.phases }
-        ensures descends { Descends self.old.trail self.new.trail }
+        ensures decides { Decides self.old.trail self.new.trail }
         ensures conflict { IfSome result (IsConflict self.new.trail) }
         ensures closed { IfNone result (IsClosed self.new.trail) }
         ensures complete { IfNone result (IsComplete self.new.trail self.new.trail.variables) }
     {
-        'descending: loop {
+        'deciding: loop {
             match self.trail.propagate() {
                 Outcome::Conflict(k) => return Some(k),
                 Outcome::Closed => match choose(&self.trail, &mut self.order) {
@@ -162,12 +162,12 @@ impl Solver {
     {
         let number = lines.len() as u32 + 1;
         let id = clauses.len() as u64 + number as u64;
-        let lesson = analyze(alloc, &self.trail, &mut self.seen, conflict)?;
-        let learned = lesson.line(alloc, number, id)?;
-        self.order.raise_all(lesson.clause.as_slice());
-        self.go_back(lesson.level);
-        self.trail.learn(lesson.clause.as_slice())?;
-        lines.push(learned)?;
+        let learned = analyze(alloc, &self.trail, &mut self.seen, conflict)?;
+        let last = learned.line(alloc, number, id)?;
+        self.order.raise_all(learned.clause.as_slice());
+        self.go_back(learned.level);
+        self.trail.learn(learned.clause.as_slice())?;
+        lines.push(last)?;
         Ok(())
     }
 

@@ -24,7 +24,7 @@ pub struct Assignment {
     marks: Vec<Option<Entry>>,
     entries: Vec<Entry>,
     level: u32,
-    settled: bool,
+    propagated: bool,
 }
 
 impl Model for Assignment {
@@ -39,7 +39,7 @@ impl Model for Assignment {
           variables = length t.marks.items;
           entries = t.entries.items;
           level = t.level;
-          settled = t.settled;
+          propagated = t.propagated;
           watches = [];
         } };
 
@@ -48,7 +48,7 @@ impl Model for Assignment {
       variables = length t.marks.items;
       entries = t.entries.items;
       level = t.level;
-      settled = t.settled;
+      propagated = t.propagated;
       watches = [];
     }) };
 }
@@ -70,7 +70,7 @@ impl Assignment {
             marks,
             entries,
             level: 0,
-            settled: false,
+            propagated: false,
         })
     }
 
@@ -89,15 +89,15 @@ impl Assignment {
         read(clause);
         let k = self.clauses.len() as u32;
         self.clauses.push(clause)?;
-        self.settled = false;
+        self.propagated = false;
         Ok(k)
     }
 
-    /// Decides an unassigned literal, at the next level. The assignment is settled.
+    /// Decides an unassigned literal, at the next level. The assignment is propagated.
     pub fn decide(&mut self, lit: Lit)
         requires variable { lit.variable ≤ self.old.variables }
         requires unassigned { IsUnassigned (known self.old) lit }
-        requires settled { self.old.settled ≡ true }
+        requires propagated { self.old.propagated ≡ true }
         ensures form { IsTrail self.new }
         ensures state { self.new ≡ decided self.old lit }
     {
@@ -110,7 +110,7 @@ impl Assignment {
         };
         marks::put(&mut self.marks, &mut self.entries, e);
         self.level = level;
-        self.settled = false;
+        self.propagated = false;
     }
 
     /// Removes the entries above a level, which is not above the current one.
@@ -123,7 +123,7 @@ impl Assignment {
     {
         marks::cut_back(&mut self.marks, &mut self.entries, level);
         self.level = level;
-        self.settled = false;
+        self.propagated = false;
     }
 
     /// The number of entries.
@@ -204,12 +204,12 @@ impl Assignment {
         self.entries.as_slice()[place as usize].level
     }
 
-    /// Sets whether it is settled: closed under unit propagation.
-    pub fn settle(&mut self, settled: bool)
+    /// Sets whether it is propagated: closed under unit propagation.
+    pub fn mark_propagated(&mut self, propagated: bool)
         ensures form { IsTrail self.new }
-        ensures state { self.new ≡ record self.old { settled = settled } }
+        ensures state { self.new ≡ record self.old { propagated = propagated } }
     {
-        self.settled = settled;
+        self.propagated = propagated;
     }
 
     /// The number of clauses.
@@ -269,7 +269,7 @@ impl Assignment {
             reason: Some(k),
         };
         marks::put(&mut self.marks, &mut self.entries, e);
-        self.settled = false;
+        self.propagated = false;
     }
 }
 

@@ -20,8 +20,8 @@ pub stays_within : (n : ℕ) (clause : Clause) → is_over n clause ≡ true →
 stays_within n clause h i d lt = leb-true _ _ (and_parts _ _ (all_read (λ (l : Signed). nat_le 1 l.variable && nat_le l.variable n) clause i d lt h)).1
 
 -- what is added at level 0 is empty
-pub over_settled : (n m : ℕ) (lines more : List Line) → m ≡ n → AreOver n lines → ((test : Clause → Bool) → test [] ≡ true → EachPasses test lines → EachPasses test more) → AreOver m more
-over_settled n m lines more same over passes = subst (λ (v : ℕ). AreOver v more) (sym same) (passes (is_over n) refl over)
+pub over_propagated : (n m : ℕ) (lines more : List Line) → m ≡ n → AreOver n lines → ((test : Clause → Bool) → test [] ≡ true → EachPasses test lines → EachPasses test more) → AreOver m more
+over_propagated n m lines more same over passes = subst (λ (v : ℕ). AreOver v more) (sym same) (passes (is_over n) refl over)
 
 -- a test of each clause is one of the clause at a place
 pub each_at : (test : Clause → Bool) (lines : List Line) (i : ℕ) (d : Line) → EachPasses test lines → i < length lines → test (added_by (get_or lines i d).step) ≡ true

@@ -5,7 +5,7 @@ use Rattle.simpler_proofs.specs.declared.search.Search.{Search}
 -- nothing is assumed, and propagation gets nothing more
 pub record IsAtRoot (s : Search) : Type 0 where
   pub level : s.draft.marked.trail.level ≡ 0
-  pub closed : s.draft.marked.trail.settled ≡ true
+  pub closed : s.draft.marked.trail.propagated ≡ true
 
 -- two states of one search: over the same clauses and variables, for clauses with as many literals
 pub record IsSameSearch (old new : Search) : Type 0 where

@@ -49,7 +49,7 @@ fn rounds(alloc: Global, search: &mut Search, tried: &[Lit]) -> Result<bool, NoM
     requires room { length search.old.draft.lines.items < 1000000 }
     ensures same { OnOk result (IsSameSearch search.old search.new) }
 {
-    if search.close(alloc)? {
+    if search.propagate(alloc)? {
         return Ok(true);
     }
     for _ in 0..tried.len() {

@@ -118,11 +118,11 @@ impl Draft<'_> {
     }
 
     /// Propagates at level 0. Where a clause is falsified, the empty clause is added, and the answer is true.
-    pub(crate) fn settle(&mut self, alloc: Global) -> Result<bool, NoMemory>
+    pub(crate) fn propagate(&mut self, alloc: Global) -> Result<bool, NoMemory>
         requires room { length self.old.lines.items < 1000000 }
         ensures clauses { self.new.clauses ≡ self.old.clauses }
         ensures variables { self.new.marked.trail.variables ≡ self.old.marked.trail.variables }
-        ensures settled { IfOk result (λ ended. ended ≡ false → self.new.marked.trail.settled ≡ true) }
+        ensures propagated { IfOk result (λ ended. ended ≡ false → self.new.marked.trail.propagated ≡ true) }
         ensures same { IfOk result (λ ended. ended ≡ false → self.new.lines ≡ self.old.lines) }
         ensures passes { (test : Clause → Bool) → IsTrue (test []) →
             EachPasses test self.old.lines.items → EachPasses test self.new.lines.items }
@@ -143,12 +143,12 @@ impl Draft<'_> {
 pub fn assume(trail: &mut Trail, lit: Lit, budget: &mut u32) -> Option<u32>
     requires variable { lit.variable ≤ trail.old.variables }
     requires unassigned { IsUnassigned (known trail.old) lit }
-    requires settled { trail.old.settled ≡ true }
+    requires propagated { trail.old.propagated ≡ true }
     ensures form { IsTrail trail.new }
     ensures variables { trail.new.variables ≡ trail.old.variables }
     ensures clauses { trail.new.clauses ≡ trail.old.clauses }
     ensures some { IfSome result (λ k. k < length trail.new.clauses) }
-    ensures none { IfNone result (trail.new.settled ≡ true) }
+    ensures none { IfNone result (trail.new.propagated ≡ true) }
 {
     let before = trail.len();
     trail.decide(lit);

@@ -43,7 +43,7 @@ impl MarkedTrail {
         first: Lit,
         budget: &mut u32,
     ) -> Result<Lits, NoMemory>
-        requires settled { self.old.trail.settled ≡ true }
+        requires propagated { self.old.trail.propagated ≡ true }
         requires variable { first.variable ≤ self.old.trail.variables }
         requires unassigned { IsUnassigned (known self.old.trail) first }
         ensures level { self.new.trail.level ≡ 0 }
@@ -83,7 +83,7 @@ impl Search<'_> {
         let open = draft
             .marked
             .open_under(alloc, tried, first, &mut draft.budget)?;
-        if self.close(alloc)? {
+        if self.propagate(alloc)? {
             return Ok(true);
         }
         for second in open.as_slice() {

@@ -25,12 +25,12 @@ impl Search<'_> {
     ghost use Rattle.simpler_proofs.specs.Search.{IsAtRoot, IsSameSearch};
 
     /// Propagates at level 0. Where a clause is falsified, the empty clause is added, and the answer is true.
-    pub(crate) fn close(&mut self, alloc: Global) -> Result<bool, NoMemory>
+    pub(crate) fn propagate(&mut self, alloc: Global) -> Result<bool, NoMemory>
         requires room { length self.old.draft.lines.items < 1000000 }
         ensures root { IfOk result (λ ended. ended ≡ false → IsAtRoot self.new) }
         ensures same { OnOk result (IsSameSearch self.old self.new) }
     {
-        let ended = self.draft.settle(alloc)?;
+        let ended = self.draft.propagate(alloc)?;
         Ok(ended)
     }
 
@@ -67,7 +67,7 @@ impl Search<'_> {
             let entries = self.draft.marked.trail.len();
             self.draft.budget = self.draft.budget.saturating_sub(entries);
         }
-        let ended = self.close(alloc)?;
+        let ended = self.propagate(alloc)?;
         Ok(ended)
     }
 

@@ -27,7 +27,7 @@ impl MarkedTrail {
     /// Assumes the opposites of the literals one after another, until a clause is falsified or forces one of
     /// them. Gives the number of that clause.
     fn conflict_of(&mut self, clause: &[Lit], budget: &mut u32) -> Option<u32>
-        requires settled { self.old.trail.settled ≡ true }
+        requires propagated { self.old.trail.propagated ≡ true }
         requires variables { StaysWithin self.old.trail.variables clause.now }
         ensures variables { self.new.trail.variables ≡ self.old.trail.variables }
         ensures clauses { self.new.trail.clauses ≡ self.old.trail.clauses }
@@ -75,7 +75,7 @@ impl MarkedTrail {
         clause: &[Lit],
         budget: &mut u32,
     ) -> Result<Option<Left>, NoMemory>
-        requires settled { self.old.trail.settled ≡ true }
+        requires propagated { self.old.trail.propagated ≡ true }
         requires variables { StaysWithin self.old.trail.variables clause.now }
         ensures level { self.new.trail.level ≡ 0 }
         ensures variables { self.new.trail.variables ≡ self.old.trail.variables }
@@ -100,7 +100,7 @@ impl MarkedTrail {
 impl Draft<'_> {
     /// Adds what is left of a clause. The answer is whether a conflict was found.
     pub(crate) fn shorten(&mut self, alloc: Global, clause: &[Lit]) -> Result<bool, NoMemory>
-        requires settled { self.old.marked.trail.settled ≡ true }
+        requires propagated { self.old.marked.trail.propagated ≡ true }
         requires over { IsTrue (is_over self.old.marked.trail.variables clause.now) }
         requires room { length self.old.lines.items < 1000000 }
         ensures clauses { self.new.clauses ≡ self.old.clauses }
@@ -136,18 +136,18 @@ struct Vivifying<'f, 'a> {
 
 impl Vivifying<'_, '_> {
     /// Propagates at level 0. Where a clause is falsified, the empty clause is added, and the answer is true.
-    fn settle(&mut self, alloc: Global) -> Result<bool, NoMemory>
+    fn propagate(&mut self, alloc: Global) -> Result<bool, NoMemory>
         requires room { length self.old.draft.lines.items < 1000000 }
         ensures given { self.new.given ≡ self.old.given }
-        ensures settled { IfOk result (λ ended. ended ≡ false → self.new.draft.marked.trail.settled ≡ true) }
+        ensures propagated { IfOk result (λ ended. ended ≡ false → self.new.draft.marked.trail.propagated ≡ true) }
     {
-        let ended = self.draft.settle(alloc)?;
+        let ended = self.draft.propagate(alloc)?;
         Ok(ended)
     }
 
     /// Adds what is left of the clause of a line. The answer is whether a conflict was found.
     fn shorten_line(&mut self, alloc: Global, k: usize) -> Result<bool, NoMemory>
-        requires settled { self.old.draft.marked.trail.settled ≡ true }
+        requires propagated { self.old.draft.marked.trail.propagated ≡ true }
         requires place { k < length self.old.given.now.lines.now }
         ensures given { self.new.given ≡ self.old.given }
         ensures room { IfOk result (λ found. found ≡ true → length self.new.draft.lines.items < 1000000) }
@@ -169,14 +169,14 @@ impl Vivifying<'_, '_> {
         requires room { length self.old.draft.lines.items < 1000000 }
         ensures given { OnOk result (self.new.given ≡ self.old.given) }
     {
-        if self.settle(alloc)? {
+        if self.propagate(alloc)? {
             return Ok(true);
         }
         for k in 0..self.given.lines.len() {
             if !self.shorten_line(alloc, k)? {
                 return Ok(false);
             }
-            if self.settle(alloc)? {
+            if self.propagate(alloc)? {
                 return Ok(true);
             }
         }

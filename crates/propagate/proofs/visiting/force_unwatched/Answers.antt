@@ -17,7 +17,7 @@ loop-k-preserved c =
     let h : ForcingUnwatched c.args.assignment.now t c.args.watchers.now c.args.visited c.args.from k = c.loop-k.invariant.state in
     elim c.if-owner-eq0.branch [
       | then-owner-eq0+in-LastLeft w ↦
-          let next : TrailState = record t { entries = t.entries ++ forced t w.in-LastLeft.lit k ∷ []; settled = false } in
+          let next : TrailState = record t { entries = t.entries ++ forced t w.in-LastLeft.lit k ∷ []; propagated = false } in
           let is : c.if-owner-eq0.assignment ≡ next = w.assignment-is ∙ w.force.ensures.state in
           record {
             state = subst (λ (x : TrailState). ForcingUnwatched c.args.assignment.now x c.args.watchers.now c.args.visited c.args.from (k + 1)) (sym is)

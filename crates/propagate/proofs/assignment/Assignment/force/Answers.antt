@@ -12,7 +12,7 @@ put-requires-clause-unassigned c = no_entry_from_value c.self.inside.entries.ite
 
 pub invariant_of-self : goal.invariant_of-self
 invariant_of-self c =
-    let t : TrailState = record { clauses = c.self.inside.clauses; variables = length c.self.inside.marks.items; entries = c.self.inside.entries.items; level = c.self.inside.level; settled = c.self.inside.settled; watches = [] } in
+    let t : TrailState = record { clauses = c.self.inside.clauses; variables = length c.self.inside.marks.items; entries = c.self.inside.entries.items; level = c.self.inside.level; propagated = c.self.inside.propagated; watches = [] } in
     let within : c.args.k < length t.clauses = rw (← c.self.view_is) at c.requires.clause in
     let unit : IsLastLeft (known t) (clause_at t c.args.k) c.args.lit = rw (← c.self.view_is) at c.requires.unit in
     let e : Entry = forced t c.args.lit c.args.k in

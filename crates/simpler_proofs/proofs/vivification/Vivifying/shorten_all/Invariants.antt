@@ -3,7 +3,7 @@ use Rattle.simpler_proofs.proofs.vivification.Vivifying.shorten_all.Given as goa
 
 abbrev pub invariant-loop-k : goal.invariant-loop-k
 invariant-loop-k l = record {
-  settled : l.self.draft.marked.trail.settled ≡ true;
+  propagated : l.self.draft.marked.trail.propagated ≡ true;
   given : l.self.given ≡ l.fn.self.given;
   end : l.k-end ≡ length l.fn.self.given.now.lines.now;
 }
