@@ -259,10 +259,8 @@ fn root_hints(alloc: Global, trail: &Trail, conflict: u32) -> Result<Vec<u32>, N
 {
     let mut hints = Vec::new(alloc);
     for place in 0..trail.len() {
-        match trail.reason(trail.at(place).variable()) {
-            Some(k) => hints.push(k)?,
-            None => unreachable!(),
-        }
+        let k = trail.reason(trail.at(place).variable()).unwrap();
+        hints.push(k)?;
     }
     hints.push(conflict)?;
     Ok(hints)

@@ -1,24 +1,12 @@
 //! The names of instances that are axioms.
 
-ghost use Rattle.std.specs.Prelude.{◌≡◌, IfOk, IsTrue};
-ghost use Rattle.vocab.specs.Name.{is_name};
+ghost use Rattle.std.specs.Prelude.{◌≡◌, IfOk};
 ghost use Rattle.sharp_verdicts.specs.Derived.{instance_name};
 
 use itoa::Buffer;
 use lists::NoMemory;
 use std::alloc::Global;
 use vocab::Name;
-
-/// The name of this text.
-fn named(text: &[u8]) -> Name
-    requires { IsTrue (is_name text.now) }
-    ensures { result ≡ text.now }
-{
-    match Name::new(text) {
-        Some(name) => name,
-        None => unreachable!(),
-    }
-}
 
 /// The name of the axiom at a place: `i0`, `i1` and so on.
 pub fn name_of(alloc: Global, place: u32) -> Result<Name, NoMemory>
@@ -28,5 +16,5 @@ pub fn name_of(alloc: Global, place: u32) -> Result<Name, NoMemory>
     let mut text = Vec::new(alloc);
     text.push(b'i')?;
     text.extend_from_slice(buffer.format(place).as_bytes())?;
-    Ok(named(text.as_slice()))
+    Ok(Name::new(text.as_slice()).unwrap())
 }

@@ -44,7 +44,6 @@ pub(crate) fn counts_of_frames<R: Threads + Sync, K: OutcomeKind, G: Gate>(
             })
         }
         Err(GroundFault::NoMemory) => Err(NoMemory),
-        Err(GroundFault::Wide { .. }) => unreachable!(),
-        Err(GroundFault::Full { .. }) => unreachable!(),
+        Err(GroundFault::Wide { .. } | GroundFault::Full { .. }) => unreachable!(),
     }
 }

@@ -42,11 +42,11 @@ pub(crate) fn decode<K: OutcomeKind>(kind: &K, assignment: &Bits, p: u32) -> u32
     ensures in_range { result < outcome_count (K.size kind.now).kind (K.size kind.now).alternatives }
     ensures same { AreBitsAt (K.size kind.now) p result (value_of assignment.now) }
 {
+    laws::kinds_have_sizes(kind);
     laws::frames_say_one_outcome(kind);
-    for outcome in 0..kind.outcomes() {
-        if has_bits(kind, outcome, assignment, p) {
-            return outcome;
-        }
+    let mut outcome = 0;
+    'trying: while !has_bits(kind, outcome, assignment, p) {
+        outcome += 1;
     }
-    unreachable!()
+    outcome
 }

@@ -54,10 +54,7 @@ fn find(list: &Clauses, clause: &[Lit], from: u32) -> u32
 {
     match find_between(list, clause, from, list.len()) {
         Some(k) => k,
-        None => match find_between(list, clause, 0, from) {
-            Some(k) => k,
-            None => unreachable!(),
-        },
+        None => find_between(list, clause, 0, from).unwrap(),
     }
 }
 

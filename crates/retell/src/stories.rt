@@ -78,9 +78,7 @@ impl<K: OutcomeKind> Teller<'_, K> {
         let mut steps = Items::with_room(alloc, end)?;
         for i in 0..end {
             let cited = clause_of(self.clauses, earlier, hints[i]);
-            let Some(lit) = marks.first_unknown(cited) else {
-                unreachable!();
-            };
+            let lit = marks.first_unknown(cited).unwrap();
             marks.mark(lit);
             steps.push(StoryStep {
                 literal: self.kind.literal(lit),

@@ -145,10 +145,7 @@ fn letters_name(letters: &[u8]) -> Name
     requires few { length letters.now ≤ 8 }
     ensures { result ≡ letters.now }
 {
-    match Name::new(letters) {
-        Some(name) => name,
-        None => unreachable!(),
-    }
+    Name::new(letters).unwrap()
 }
 
 fn ballot(bytes: &[u8]) -> Option<(Lexeme, &[u8])>

@@ -139,10 +139,9 @@ fn place_of(literals: &[Literal], literal: &Literal) -> usize
     ensures within { result < length literals.now }
     ensures there { slice_get literals.now result ≡ Some literal.now }
 {
-    for place in (0..literals.len()).rev() {
-        if is_same(&literals[place], literal) {
-            return place;
-        }
+    let mut place = literals.len() - 1;
+    'going_back: while !is_same(&literals[place], literal) {
+        place -= 1;
     }
-    unreachable!()
+    place
 }

@@ -1,6 +1,6 @@
 use Rattle.std.proofs.Common.{arith, ◌≡◌, ◌+◌, ◌<◌, ◌∙◌, ◌/◌, ℕ, List, sym, subst, ap, get_or, set, map}
 use Rattle.std.specs.Prelude.{All}
-use Rattle.std.proofs.lemmas.Bool.{lt-ltb, le-ltb}
+use Rattle.std.proofs.lemmas.Bool.{le-ltb}
 use Rattle.std.proofs.lemmas.List.{get_or_default}
 use Rattle.cdcl.specs.Order.{risen}
 use Rattle.cdcl.proofs.OrderLemmas.{halved_low}

@@ -1,4 +1,4 @@
-use Rattle.std.proofs.Common.{◌≡◌, ◌<◌, ◌≤◌, ◌+◌, ◌*◌, ◌∷◌, [], ◌++◌, length, take, get_or, arith, refl, ℕ, List, sym, ◌∙◌, ap, ap₂, subst, true, Some}
+use Rattle.std.proofs.Common.{◌≡◌, ◌<◌, ◌+◌, ◌*◌, ◌∷◌, [], ◌++◌, length, take, get_or, arith, refl, ℕ, List, sym, ◌∙◌, ap, ap₂, subst, Some}
 use Rattle.std.specs.Prelude.{slice_get}
 use Rattle.std.proofs.lemmas.Option.{slice_get_read}
 use Rattle.vocab.specs.declared.kinds.Sort.TheVariants.{Profile}

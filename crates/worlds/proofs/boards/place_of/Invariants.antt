@@ -1,7 +1,10 @@
-use Rattle.std.proofs.Common.{◌≡◌, ◌≤◌, true, length, take}
+use Rattle.std.proofs.Common.{◌≡◌, ◌<◌, ◌+◌, true, length, take}
 use Rattle.vocab.specs.Literal.{has}
 use Rattle.worlds.proofs.boards.place_of.Given as goal
 
--- the literal stands before the place
-abbrev pub invariant-loop-place : goal.invariant-loop-place
-invariant-loop-place l = (l.place ≤ length l.literals) × (has (take l.place l.literals) l.literal ≡ true)
+-- the literal stands at the place, or before it
+abbrev pub invariant-going_back : goal.invariant-going_back
+invariant-going_back l = (l.place < length l.literals) × (has (take (l.place + 1) l.literals) l.literal ≡ true)
+
+abbrev pub decreases-going_back : goal.decreases-going_back
+decreases-going_back l = l.place

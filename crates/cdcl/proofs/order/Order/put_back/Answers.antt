@@ -1,7 +1,6 @@
-use Rattle.std.proofs.Common.{arith, ap, ◌≡◌, ◌≢◌, ◌<◌, ◌≤◌, ◌∙◌, ◌+◌, ◌-◌, ℕ, List, sym, subst, false, get_or, length, set}
-use Rattle.std.specs.Prelude.{Bool}
+use Rattle.std.proofs.Common.{arith, ap, ◌≡◌, ◌<◌, ◌≤◌, ◌∙◌, ◌+◌, ◌-◌, ℕ, List, sym, subst, false, get_or, length, set}
 use Rattle.std.proofs.lemmas.List.{get_or_default, get_or-set_same, length-set}
-use Rattle.cdcl.specs.Order.{OrderState, IsHeapFrom, IsHeld, IsIndex, IsRising, swapped}
+use Rattle.cdcl.specs.Order.{OrderState, IsHeapFrom, IsHeld}
 use Rattle.cdcl.proofs.HeapLemmas.{length-swapped, moved_not, moved_there, rising_at_end}
 use Rattle.cdcl.proofs.order.Order.put_back.Goals as goal
 

@@ -1,5 +1,4 @@
-use Rattle.std.proofs.Common.{arith, ap, ◌≡◌, ◌<◌, ◌≤◌, ◌∙◌, ◌+◌, ◌-◌, ℕ, List, sym, subst, false, get_or, length, set}
-use Rattle.std.specs.Prelude.{All}
+use Rattle.std.proofs.Common.{arith, ap, ◌≡◌, ◌<◌, ◌≤◌, ◌∙◌, ◌+◌, ◌-◌, ℕ, List, sym, subst, get_or, length}
 use Rattle.cdcl.specs.Order.{OrderState, IsHeapBut, IsHeapFrom, IsHeld, raised}
 use Rattle.cdcl.proofs.OrderLemmas.{but_raised, length-raised, order_restored}
 use Rattle.cdcl.proofs.order.Order.raise.Goals as goal

@@ -1,4 +1,4 @@
-use Rattle.std.proofs.Common.{arith, ◌≡◌, ◌∙◌, ◌-◌, ℕ, List, ap, sym}
+use Rattle.std.proofs.Common.{arith, ◌∙◌, ◌-◌, ℕ, List, ap, sym}
 use Rattle.std.proofs.lemmas.List.{take_all}
 use Rattle.cnf.specs.Signed.{Signed}
 use Rattle.cdcl.specs.Order.{raised, raised_by}

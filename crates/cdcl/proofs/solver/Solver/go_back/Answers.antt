@@ -1,4 +1,4 @@
-use Rattle.std.proofs.Common.{ap, sym, subst, ◌≡◌, ◌≤◌, ◌∙◌, ℕ}
+use Rattle.std.proofs.Common.{ap, sym, subst, ◌≤◌, ◌∙◌, ℕ}
 use Rattle.propagate.specs.TrailState.{TrailState, cut_to}
 use Rattle.cdcl.specs.Order.{HasAll}
 use Rattle.cdcl.specs.Search.{RestsBelow, KeepsSigns}

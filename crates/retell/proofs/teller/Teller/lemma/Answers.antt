@@ -1,4 +1,4 @@
-use Rattle.std.proofs.Common.{◌≡◌, ◌<◌, ◌≤◌, ◌+◌, ◌-◌, ◌∷◌, [], ◌++◌, length, map, take, get_or, arith, refl, ℕ, List, sym, ◌∙◌, ap, ap₂, subst}
+use Rattle.std.proofs.Common.{◌≡◌, ◌<◌, ◌≤◌, ◌+◌, ◌∷◌, [], ◌++◌, length, map, take, get_or, arith, refl, ℕ, List, sym, ◌∙◌, ap, ap₂, subst}
 use Rattle.std.proofs.lemmas.Option.{same_Some}
 use Rattle.vocab.specs.Size.{Extent}
 use Rattle.vocab.specs.declared.literals.Literal.{Literal}
@@ -78,21 +78,21 @@ first_unknown-requires g c =
     let room : variable_count (g.K.OutcomeKind.size c.args.self.now.kind.now) < length c.loop-i.marks.stamps.items = omega (arith, c.requires.blank.room, c.loop-i.invariant.room) in
     roomy (variable_count (g.K.OutcomeKind.size c.args.self.now.kind.now)) (length c.loop-i.marks.stamps.items) c.clause_of-cited.result.now room (n.over c.loop-i.invariant.line.cited_over c.clause_of-cited.result.now c.clause_of-cited.ensures)
 
-pub unreachable-requires : goal.unreachable-requires
-unreachable-requires g c =
+pub unwrap-lit-requires : goal.unwrap-lit-requires
+unwrap-lit-requires g c =
     let n = next_step c.loop-i.invariant.steps c.loop-i.invariant.some c.loop-i-test.true in
     let is = n.answer_is c.clause_of-cited.result.now c.clause_of-cited.ensures c.first_unknown.result
     (λ known l m e. c.first_unknown.ensures known l (subst (λ (s : ℕ). IsMarking s c.loop-i.marks.stamps.items known) (sym c.loop-i.invariant.stamp) m) e) in
-    c.in_default.not-Some n.literal is
+    rw is refl
 
 pub mark-requires : goal.mark-requires
 mark-requires g c =
     let n = next_step c.loop-i.invariant.steps c.loop-i.invariant.some c.loop-i-test.true in
     let is = n.answer_is c.clause_of-cited.result.now c.clause_of-cited.ensures c.first_unknown.result
     (λ known l m e. c.first_unknown.ensures known l (subst (λ (s : ℕ). IsMarking s c.loop-i.marks.stamps.items known) (sym c.loop-i.invariant.stamp) m) e) in
-    let same : c.in-Some.lit ≡ n.literal = same_Some c.in-Some.lit n.literal (sym c.in-Some.is ∙ is) in
+    let same : c.unwrap-lit.result ≡ n.literal = same_Some c.unwrap-lit.result n.literal (sym c.unwrap-lit.ensures ∙ is) in
     let range = n.in_range c.loop-i.invariant.line.cited_over in
-    let variable : c.in-Some.lit.variable ≡ n.literal.variable = ap (λ (l : Signed). l.variable) same in
+    let variable : c.unwrap-lit.result.variable ≡ n.literal.variable = ap (λ (l : Signed). l.variable) same in
     omega (arith, variable, range.1, c.requires.blank.room, c.loop-i.invariant.room)
 
 pub literal-requires-clause-high : goal.literal-requires-clause-high
@@ -100,9 +100,9 @@ literal-requires-clause-high g c =
     let n = next_step c.loop-i.invariant.steps c.loop-i.invariant.some c.loop-i-test.true in
     let is = n.answer_is c.clause_of-cited.result.now c.clause_of-cited.ensures c.first_unknown.result
     (λ known l m e. c.first_unknown.ensures known l (subst (λ (s : ℕ). IsMarking s c.loop-i.marks.stamps.items known) (sym c.loop-i.invariant.stamp) m) e) in
-    let same : c.in-Some.lit ≡ n.literal = same_Some c.in-Some.lit n.literal (sym c.in-Some.is ∙ is) in
+    let same : c.unwrap-lit.result ≡ n.literal = same_Some c.unwrap-lit.result n.literal (sym c.unwrap-lit.ensures ∙ is) in
     let range = n.in_range c.loop-i.invariant.line.cited_over in
-    let variable : c.in-Some.lit.variable ≡ n.literal.variable = ap (λ (l : Signed). l.variable) same in
+    let variable : c.unwrap-lit.result.variable ≡ n.literal.variable = ap (λ (l : Signed). l.variable) same in
     omega (arith, variable, range.1)
 
 pub reason-requires-clause-low : goal.reason-requires-clause-low
@@ -126,10 +126,10 @@ loop-i-preserved g c =
     let n = next_step c.loop-i.invariant.steps c.loop-i.invariant.some c.loop-i-test.true in
     let is = n.answer_is c.clause_of-cited.result.now c.clause_of-cited.ensures c.first_unknown.result
     (λ known l m e. c.first_unknown.ensures known l (subst (λ (s : ℕ). IsMarking s c.loop-i.marks.stamps.items known) (sym c.loop-i.invariant.stamp) m) e) in
-    let same : c.in-Some.lit ≡ n.literal = same_Some c.in-Some.lit n.literal (sym c.in-Some.is ∙ is) in
+    let same : c.unwrap-lit.result ≡ n.literal = same_Some c.unwrap-lit.result n.literal (sym c.unwrap-lit.ensures ∙ is) in
     let one_more : (known : List Signed) → IsMarking stamp before known → IsMarking stamp marked (n.literal ∷ known) =
     λ known m. subst (λ (l : Signed). IsMarking stamp marked (l ∷ known)) same
-    (subst (λ (s : ℕ). IsMarking s before known → IsMarking s marked (c.in-Some.lit ∷ known)) c.loop-i.invariant.stamp (c.mark.ensures.one_more known) m) in
+    (subst (λ (s : ℕ). IsMarking s before known → IsMarking s marked (c.unwrap-lit.result ∷ known)) c.loop-i.invariant.stamp (c.mark.ensures.one_more known) m) in
     let literal : c.literal.result ≡ literal_of size n.literal = c.literal.ensures ∙ ap (literal_of size) same in
     let reason : c.reason.result ≡ reason_of size axioms sources (get_or c.hints_in-hints.result.now c.loop-i.i 0) = c.reason.ensures in
     record {
