@@ -6,8 +6,9 @@
 # neither ballots nor absence. `measure/ground.sh PROGRAM` times an earlier bench beside them, with one worker and with four. All write the
 # clauses as text, into a file; the texts are compared, byte for byte. Each runs 3 times, and the shortest run counts. `writes` are the system
 # calls by which the text of the first study was written, where `strace` is installed: at most one for 4,096 bytes, and two.
-# The last lines are, of the first study, the speed-up by four workers; where an earlier program is given `before R` and `before of 4 R`, the
-# seconds of the bench with one worker and with four by that one's; and `ratio R`, those with one worker by those of `masks` with one.
+# The last lines are, of the first study, the speed-up by four workers, and beside it that of `masks`, so that what the machine allows is seen;
+# where an earlier program is given `before R` and `before of 4 R`, the seconds of the bench with one worker and with four by that one's; and
+# `ratio R`, those with one worker by those of `masks` with one.
 set -eu
 . "$(dirname -- "$(readlink -f -- "${BASH_SOURCE[0]}")")/setup.sh"
 build_program
@@ -71,7 +72,7 @@ if shutil.which("strace"):
     assert int(lines[0][3]) <= size // 4096 + 2
 else:
     print("writes are not counted: no strace")
-print("speed-up %.2f" % (first["1 worker"] / first["4 workers"]))
+print("speed-up %.2f, of masks %.2f" % (first["1 worker"] / first["4 workers"], first["masks"] / first["masks of 4"]))
 if before:
     print("before %.2f" % (first["1 worker"] / first["before"]))
     print("before of 4 %.2f" % (first["4 workers"] / first["before of 4"]))
