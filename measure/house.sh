@@ -52,7 +52,7 @@ def counts(root):
     defined, lemmas = collections.defaultdict(set), collections.defaultdict(set)
     for crate, text in texts(root, "specs", "antt"):
         specs += text.count("\n")
-        for name in re.findall(r"^(?:abbrev pub|pub record|pub data|pub abbrev|pub) (%s) (?:\(|:)" % NAME, without_comments(text, "--"), re.M):
+        for name in re.findall(r"^(?:pub| *(?:abbrev pub|pub record|pub data|pub abbrev)) (%s) (?:\(|:)" % NAME, without_comments(text, "--"), re.M):
             defined[name].add((crate, text[:200])) # (two files of one crate count as two)
     for crate, text in texts(root, "proofs", "antt"):
         proofs += text.count("\n")

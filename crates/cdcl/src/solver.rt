@@ -7,7 +7,7 @@ ghost use Rattle.propagate.specs.Values.{value_in, IsUnassigned};
 ghost use Rattle.propagate.specs.TrailState.{IsTrail, IsClosed, cut_to, known, clause_at};
 ghost use Rattle.cdcl.specs.Hints.{FollowsBy};
 ghost use Rattle.cdcl.specs.Order.{HasAll, IsFirstUnset, IsHeld, raised_by};
-ghost use Rattle.cdcl.specs.Search.{IsConflict, Restarted, KeepsSigns, Decides, IsComplete, IsSearching, AreNumbered};
+ghost use Rattle.cdcl.specs.Search.{IsConflict, Restarted, KeepsSigns, Assigns, IsComplete, IsSearching, AreNumbered};
 
 use crate::analysis::analyze;
 use crate::lines::line;
@@ -79,11 +79,11 @@ impl Solver {
         self.trail.level() == 0
     }
 
-    /// Decides and propagates, until a clause is falsified or every variable has a value.
+    /// Assigns and propagates, until a clause is falsified or every variable has a value.
     pub fn propagate_and_decide(&mut self) -> Option<u32>
         ensures activity { self.new.order.activity ≡ self.old.order.activity }
         ensures signs { self.new.order.phases ≡ self.old.order.phases }
-        ensures decides { Decides self.old.trail self.new.trail }
+        ensures assigns { Assigns self.old.trail self.new.trail }
         ensures conflict { IfSome result (IsConflict self.new.trail) }
         ensures closed { IfNone result (IsClosed self.new.trail) }
         ensures complete { IfNone result (IsComplete self.new.trail self.new.trail.variables) }

@@ -90,8 +90,8 @@ module _ (study : Question) where
     pub logs : AllByRecursion (IsSpentLog study) r.logs
 
 -- whatever holds of each place of a list holds of each place of its part
-abbrev pub IsPartOf : List ℕ → List ℕ → Type 0
-IsPartOf part places = (test : ℕ → Bool) → IsTrue (list_all test places) → IsTrue (list_all test part)
+abbrev pub AreAmong : List ℕ → List ℕ → Type 0
+AreAmong part places = (test : ℕ → Bool) → IsTrue (list_all test places) → IsTrue (list_all test part)
 
 -- how many axioms of the core have no witness yet
 abbrev pub unmarked : Reduction → ℕ
@@ -100,7 +100,7 @@ unmarked r = length r.core - length r.witnesses.items
 -- a reduction went on: it stands, its core is a part of the core before, and fewer axioms have no witness
 pub record IsNext (study : Question) (before after : Reduction) : Type 0 where
   pub reducing : IsReducing study after
-  pub part : IsPartOf after.core before.core
+  pub part : AreAmong after.core before.core
   pub fewer : unmarked after < unmarked before
 
 -- the core without one of its axioms, and the clauses of what is left

@@ -44,15 +44,15 @@ module _ (size : Extent) where
   is_given name p (Some o) = gives name p o
 
   -- a rule has this name: at every profile it gives what a rule of this name does
-  abbrev pub has_name : List ℕ → RuleName → Bool
-  has_name table name = list_all (λ p. is_given name p (slice_get table p)) (below (sort_count size Profile))
+  abbrev pub has_rule_name : List ℕ → RuleName → Bool
+  has_rule_name table name = list_all (λ p. is_given name p (slice_get table p)) (below (sort_count size Profile))
 
   -- the name of a rule, if it has one: always the same outcome; else the first voter who decides; else the first whose last wins
   abbrev pub constant_name : List ℕ → Option RuleName
-  constant_name table = if has_name table (Always (slice_index table 0)) then Some (Always (slice_index table 0)) else None
+  constant_name table = if has_rule_name table (Always (slice_index table 0)) then Some (Always (slice_index table 0)) else None
 
   abbrev pub voter_name : List ℕ → Role → Option RuleName
-  voter_name table role = option_map (Voter role) (find (λ i. has_name table (Voter role i)) (below size.voters))
+  voter_name table role = option_map (Voter role) (find (λ i. has_rule_name table (Voter role i)) (below size.voters))
 
   abbrev pub name_of : List ℕ → Option RuleName
   name_of table = option_or (constant_name table) (option_or (voter_name table Decides) (voter_name table LastWins))

@@ -3,7 +3,7 @@
 ghost use Rattle.std.specs.Prelude.{◌≡◌, ◌<◌, slice_get};
 ghost use Rattle.vocab.specs.declared.kinds.Sort.TheVariants.{Profile};
 ghost use Rattle.vocab.specs.Size.{sort_count, outcome_count};
-ghost use Rattle.rule_pages.specs.Names.{is_taken, is_by_ballot, is_by_voter, gives, is_given, has_name, constant_name, voter_name, name_of};
+ghost use Rattle.rule_pages.specs.Names.{is_taken, is_by_ballot, is_by_voter, gives, is_given, has_rule_name, constant_name, voter_name, name_of};
 
 use crate::reversed::{is_first, is_last, is_reversed};
 use outcomes::OutcomeKind;
@@ -106,8 +106,8 @@ fn is_given<K: OutcomeKind>(kind: &K, table: &Table, name: RuleName, p: u32) -> 
 }
 
 /// Whether a rule has a name.
-fn has_name<K: OutcomeKind>(kind: &K, table: &Table, name: RuleName) -> bool
-    ensures { result ≡ has_name (K.size kind.now) table.now name }
+fn has_rule_name<K: OutcomeKind>(kind: &K, table: &Table, name: RuleName) -> bool
+    ensures { result ≡ has_rule_name (K.size kind.now) table.now name }
 {
     let count = kind.space().count();
     for p in 0..count {
@@ -127,7 +127,7 @@ fn constant_name<K: OutcomeKind>(kind: &K, table: &Table) -> Option<RuleName>
         None => 0,
     };
     let name = RuleName::Always(first);
-    if has_name(kind, table, name) {
+    if has_rule_name(kind, table, name) {
         Some(name)
     } else {
         None
@@ -141,7 +141,7 @@ fn voter_name<K: OutcomeKind>(kind: &K, table: &Table, role: Role) -> Option<Rul
     let voters = kind.space().size().voters();
     for voter in 0..voters {
         let name = RuleName::Voter(role, voter);
-        if has_name(kind, table, name) {
+        if has_rule_name(kind, table, name) {
             return Some(name);
         }
     }

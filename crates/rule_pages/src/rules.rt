@@ -2,7 +2,7 @@
 
 ghost use Rattle.std.specs.Prelude.{◌≡◌, ◌++◌, OnOk};
 ghost use Rattle.rule_pages.specs.Entries.{ruled_html};
-ghost use Rattle.rule_pages.specs.Rules.{body_html, folded_html, rule_html};
+ghost use Rattle.rule_pages.specs.Rules.{shown_html, folded_html, rule_html};
 
 use crate::entries::put_list;
 use html::{Cells, Html, is_gridded, put_grid};
@@ -35,7 +35,7 @@ impl<K: OutcomeKind> Cells for RuleCells<'_, K> {
 
 /// Adds a table for two voters, and else a list.
 fn put_body<K: OutcomeKind>(out: &mut Html, kind: &K, table: &Table) -> Result<(), NoMemory>
-    ensures { OnOk result (out.new ≡ out.old ++ body_html (K.size kind.now) table.now) }
+    ensures { OnOk result (out.new ≡ out.old ++ shown_html (K.size kind.now) table.now) }
 {
     if is_gridded(kind.space(), 25) {
         return put_grid(out, kind.space(), &RuleCells { kind, table });

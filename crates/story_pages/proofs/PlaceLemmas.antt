@@ -18,7 +18,7 @@ use Rattle.tellings.specs.declared.tellings.StoryTelling.{StoryTelling}
 use Rattle.tellings.proofs.NamerLemmas.{IsNaming, is_lemma, only_names, only_stands, used_once}
 use Rattle.story_pages.specs.Ends.{end_html}
 use Rattle.story_pages.specs.Forced.{list_html, forced_html}
-use Rattle.story_pages.specs.Homes.{held_by, held_html, held_step, story_item, story_items, body_html, inner_html, inner_of, inner_at, outer_html, outer_at, lemma_at, story_html}
+use Rattle.story_pages.specs.Homes.{held_by, held_lemma_html, held_step, story_item, story_items, body_html, inner_html, inner_of, inner_at, outer_html, outer_at, lemma_at, story_html}
 use Rattle.story_pages.specs.Laws.{StandsIn, StandsWhereUsed, IsLemmaWritten, ForcedFactsStand, LemmasStand, LemmasStandWhereUsed}
 use Rattle.story_pages.specs.Lemmas.{claimed_html, title_html, suppose_html, columns_of, table_html}
 use Rattle.story_pages.specs.Sentences.{sentence_at, item_at, items_html}
@@ -103,7 +103,7 @@ module _ (size : Extent) (axioms : List Titled) (story : List Lemma) (told : Sto
     item = story_item size axioms told inner j telling
 
     abbrev held : List ℕ
-    held = held_html inner (held_by told.homes j lemma.last)
+    held = held_lemma_html inner (held_by told.homes j lemma.last)
 
     abbrev held_first : ℕ → List ℕ
     held_first k = flat_map (held_step told inner j k) telling.passage.steps
@@ -207,7 +207,7 @@ module _ (size : Extent) (axioms : List Titled) (story : List Lemma) (told : Sto
         here = rw (eq-eqb placed.sentence placed.sentence refl, held_is h j home placed.step.reason named) refl
 
     last_held : names_lemma j user.last ≡ true → held inner h user how ≡ inner j
-    last_held named = ap (held_html inner) (held_is h j home user.last named)
+    last_held named = ap (held_lemma_html inner) (held_is h j home user.last named)
 
   -- the text of the lemma at a place, one level less
   pub one_less : (n m place : ℕ) → n ≡ suc m → inner_at size axioms story told n place ≡ inner_of size axioms told (inner_at size axioms story told m) place (slice_get story place) (slice_get told.lemmas place)

@@ -22,8 +22,8 @@ use Rattle.tellings.specs.declared.tellings.Sentence.{Sentence}
 use Rattle.story_pages.specs.Claims.{said_html, facts_html, alone_claims_html, stated_facts_html}
 use Rattle.story_pages.specs.Ends.{is_by_outcome}
 use Rattle.story_pages.specs.Known.{grey_mark, grey_numbered_mark, supposed_mark, forced_mark, numbered_mark, stated_mark, known_html}
-use Rattle.story_pages.specs.Sentences.{axiom_html, facts_fold, is_left_at, is_there, says_there, there_html, many_html, facts_or_many_html, rests_html, grounds_html, since_html, given_html, given_by, by_axiom_html, by_outcome_html, by_html}
-use Rattle.story_pages.specs.Laws.{StandsIn, IsFactSaid, IsNamed, IsStated, NamesFacts, SentencesNameFacts, ClaimsStandThere, EndsNameFacts, SentencesStateFacts, CellsHaveFacts}
+use Rattle.story_pages.specs.Sentences.{axiom_html, facts_fold, is_left_at, is_left_there, says_there, there_html, many_html, facts_or_many_html, rests_html, grounds_html, since_html, given_html, given_by, by_axiom_html, by_outcome_html, by_html}
+use Rattle.story_pages.specs.Laws.{StandsIn, IsFactSaid, IsRestSaid, IsStated, NamesFacts, SentencesNameFacts, ClaimsStandThere, EndsNameFacts, SentencesStateFacts, CellsHaveFacts}
 use Rattle.story_pages.proofs.StandLemmas.{whole, in_front, behind, between, within, in_map, is_some}
 use Rattle.story_pages.proofs.SaidLemmas.{fact_said, claim_said, stated_said}
 
@@ -59,7 +59,7 @@ module _ (size : Extent) (rests : List Literal) where
       fact_named : StandsIn (facts_or_many_html size rests) text → IsFactSaid size l text
       fact_named s = said_in size l facts text (fact_said size rests k l at ours) (within facts (facts_or_many_html size rests) text facts_named s)
 
-      is_named : (there : Bool) → StandsIn (rests_html size there rests) text → IsNamed size there l text
+      is_named : (there : Bool) → StandsIn (rests_html size there rests) text → IsRestSaid size there l text
       is_named true s =
           within (said_html size l) (there_html size rests) text
           (in_front (said_html size l) (alone_claims_html size rests) (codes " there") (claim_said size rests k l at ours)) s
@@ -88,9 +88,9 @@ at_its_profile rests l (ByLemma j) left there = absurd (true≢false (sym left))
 its_profile : (by : By) (steps : List Placed) (k : ℕ) (placed : Placed) → slice_get steps k ≡ Some placed → says_there by steps placed.sentence ≡ true →
     is_left_at (profile_of placed.step.literal) placed.step.reason ≡ true
 its_profile (Axiom a) steps k placed at there = absurd (true≢false (sym there))
-its_profile Outcome steps k placed at there = sym here ∙ all_get (is_there placed.sentence) steps k placed there at
+its_profile Outcome steps k placed at there = sym here ∙ all_get (is_left_there placed.sentence) steps k placed there at
   where
-    here : is_there placed.sentence placed ≡ is_left_at (profile_of placed.step.literal) placed.step.reason
+    here : is_left_there placed.sentence placed ≡ is_left_at (profile_of placed.step.literal) placed.step.reason
     here = rw (eq-eqb placed.sentence placed.sentence refl) refl
 its_profile Earlier steps k placed at there = absurd (true≢false (sym there))
 

@@ -38,12 +38,12 @@ held_in homes home number placed = if placed.sentence == number then held_by hom
 -- ---- lemmas, where the text of those within them is this, by their places
 
 -- the lemma that stands within another, if there is one
-abbrev pub held_html : (ℕ → List ℕ) → Option ℕ → List ℕ
-held_html inner None = []
-held_html inner (Some place) = inner place
+abbrev pub held_lemma_html : (ℕ → List ℕ) → Option ℕ → List ℕ
+held_lemma_html inner None = []
+held_lemma_html inner (Some place) = inner place
 
 abbrev pub held_step : StoryTelling → (ℕ → List ℕ) → ℕ → ℕ → Placed → List ℕ
-held_step told inner home number placed = held_html inner (held_in told.homes home number placed)
+held_step told inner home number placed = held_lemma_html inner (held_in told.homes home number placed)
 
 module _ (size : Extent) (axioms : List Titled) (told : StoryTelling) (inner : ℕ → List ℕ) where
   -- a sentence, after the lemmas that stand within it
@@ -57,7 +57,7 @@ module _ (size : Extent) (axioms : List Titled) (told : StoryTelling) (inner : �
   -- the sentences of the lemma at a place, and its end
   abbrev pub body_html : ℕ → Lemma → Telling → List ℕ
   body_html place lemma telling =
-      codes "<ol>\n" ++ story_items place telling ++ codes "</ol>\n" ++ held_html inner (held_by told.homes place lemma.last) ++ codes "<div class=e>" ++ end_html size axioms lemma.last telling.end
+      codes "<ol>\n" ++ story_items place telling ++ codes "</ol>\n" ++ held_lemma_html inner (held_by told.homes place lemma.last) ++ codes "<div class=e>" ++ end_html size axioms lemma.last telling.end
 
   -- within another lemma: what it claims, and its body
   abbrev pub inner_html : ℕ → Lemma → Telling → List ℕ

@@ -38,9 +38,9 @@ pub record IsFactSaid (size : Extent) (fact : Literal) (text : List ℕ) : Type 
 
 module _ (size : Extent) where
   -- a fact that is rested on is said; its claim alone, where the claims are made "there"
-  abbrev pub IsNamed : Bool → Literal → List ℕ → Type 0
-  IsNamed true fact text = StandsIn (said_html size fact) text
-  IsNamed false fact text = IsFactSaid size fact text
+  abbrev pub IsRestSaid : Bool → Literal → List ℕ → Type 0
+  IsRestSaid true fact text = StandsIn (said_html size fact) text
+  IsRestSaid false fact text = IsFactSaid size fact text
 
   -- the fact of a step is said; by an earlier claim with the claim's number
   abbrev pub IsStated : By → Placed → List ℕ → Type 0
@@ -51,7 +51,7 @@ module _ (size : Extent) where
   -- what stands behind "since" names each fact that is rested on, however many these are
   abbrev pub NamesFacts : Bool → List Literal → Type 0
   NamesFacts there rests = (k : ℕ) (fact : Literal) → slice_get rests k ≡ Some fact →
-      IsTrue (is_literal size fact) → IsNamed there fact (since_html size there rests)
+      IsTrue (is_literal size fact) → IsRestSaid there fact (since_html size there rests)
 
 -- each sentence names in front what it rests on (`sentence_html` is `since_html`, and then `by_html`)
 abbrev pub SentencesNameFacts : Type 0

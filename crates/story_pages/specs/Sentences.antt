@@ -46,13 +46,13 @@ is_left_at p (ByOutcome q) = p == q
 is_left_at p (ByLemma j) = false
 
 -- what the sentence of a number states by this step is a fact of the profile at which the step's reason is what is left
-abbrev pub is_there : ℕ → Placed → Bool
-is_there number placed = if placed.sentence == number then is_left_at (profile_of placed.step.literal) placed.step.reason else true
+abbrev pub is_left_there : ℕ → Placed → Bool
+is_left_there number placed = if placed.sentence == number then is_left_at (profile_of placed.step.literal) placed.step.reason else true
 
 -- the sentence of a number rests on the same claims at each profile of what it states (`ClaimsStandThere` says why)
 abbrev pub says_there : By → List Placed → ℕ → Bool
 says_there (Axiom k) steps number = false
-says_there Outcome steps number = list_all (is_there number) steps
+says_there Outcome steps number = list_all (is_left_there number) steps
 says_there Earlier steps number = false
 
 module _ (size : Extent) where

@@ -4,7 +4,7 @@ ghost use Rattle.std.specs.Prelude.{◌≡◌, ◌++◌, ◌<◌, length, slice_
 ghost use Rattle.std.specs.List.{flat_map};
 ghost use Rattle.vocab.specs.Range.{below};
 ghost use Rattle.tellings.specs.Tellings.{home_of, stands_in};
-ghost use Rattle.story_pages.specs.Homes.{stands_alone, held_at, held_by, held_in, held_html, held_step, story_item, story_items, body_html, inner_html, inner_of, inner_at, outer_html, outer_of, outer_at, lemma_at, story_html};
+ghost use Rattle.story_pages.specs.Homes.{stands_alone, held_at, held_by, held_in, held_lemma_html, held_step, story_item, story_items, body_html, inner_html, inner_of, inner_at, outer_html, outer_of, outer_at, lemma_at, story_html};
 
 use crate::ends::put_end_of;
 use crate::forced::put_forced;
@@ -279,7 +279,7 @@ fn put_held(
     held: Option<u32>,
 ) -> Result<(), NoMemory>
     ensures { OnOk result (out.new ≡ out.old ++
-        held_html (inner_at space.now axioms.now story.now told.now depth) held) }
+        held_lemma_html (inner_at space.now axioms.now story.now told.now depth) held) }
 {
     match held {
         Some(place) => put_inner_at(out, space, axioms, story, told, depth, place),

@@ -2,7 +2,7 @@
 
 ghost use Rattle.std.specs.Prelude.{◌≡◌, ◌++◌, Some, OnOk};
 ghost use Rattle.std.specs.List.{flat_map, list_all};
-ghost use Rattle.story_pages.specs.Sentences.{axiom_name_html, axiom_html, facts_fold, claim_number_html, cited_html, is_left_at, is_there, says_there, there_html, many_html, facts_or_many_html, rests_html, grounds_html, since_html, given_html, given_by, by_axiom_html, by_outcome_html, by_html, sentence_html, sentence_at, item_at, items_html};
+ghost use Rattle.story_pages.specs.Sentences.{axiom_name_html, axiom_html, facts_fold, claim_number_html, cited_html, is_left_at, is_left_there, says_there, there_html, many_html, facts_or_many_html, rests_html, grounds_html, since_html, given_html, given_by, by_axiom_html, by_outcome_html, by_html, sentence_html, sentence_at, item_at, items_html};
 
 use crate::claims::{put_alone_claims, put_facts, put_stated_facts};
 use html::{Html, profile_of, put_fact, put_number, put_text};
@@ -124,8 +124,8 @@ fn is_left_at(p: u32, reason: &Reason) -> bool
 
 /// Whether the fact of a step, if the sentence of a number states it, is of the profile at which the reason
 /// is what is left.
-fn is_there(number: usize, placed: &Placed) -> bool
-    ensures { result ≡ is_there number placed.now }
+fn is_left_there(number: usize, placed: &Placed) -> bool
+    ensures { result ≡ is_left_there number placed.now }
 {
     if placed.sentence as usize != number {
         return true;
@@ -135,9 +135,9 @@ fn is_there(number: usize, placed: &Placed) -> bool
 
 /// Whether the facts that the sentence of a number states all are.
 fn are_there(steps: &[Placed], number: usize) -> bool
-    ensures { result ≡ list_all (is_there number) steps.now }
+    ensures { result ≡ list_all (is_left_there number) steps.now }
 {
-    steps.iter().all(|placed| is_there(number, placed))
+    steps.iter().all(|placed| is_left_there(number, placed))
 }
 
 /// Whether the sentence of a number rests on the same claims at each profile of what it states.

@@ -26,13 +26,13 @@ there_text [] = codes "the end"
 there_text (c ∷ cs) = quoted (first_bytes (c ∷ cs))
 
 -- one kind more
-abbrev pub more_text : LexemeKind → List ℕ
-more_text k = codes ", " ++ lexeme_kind_text k
+abbrev pub next_kind_text : LexemeKind → List ℕ
+next_kind_text k = codes ", " ++ lexeme_kind_text k
 
 -- what may stand there, one after the other
 abbrev pub kinds_text : List LexemeKind → List ℕ
 kinds_text [] = []
-kinds_text (k ∷ ks) = lexeme_kind_text k ++ flat_map more_text ks
+kinds_text (k ∷ ks) = lexeme_kind_text k ++ flat_map next_kind_text ks
 
 -- the lines of the place: its offset, what reads before it, what stands there, and what may
 abbrev pub offset_line : (name : List ℕ) → (offset : ℕ) → List ℕ

@@ -2,7 +2,7 @@
 
 ghost use Rattle.std.specs.Prelude.{◌≡◌, ◌≤◌, ◌++◌, decimal, drop, length, map, take, OnOk};
 ghost use Rattle.std.specs.List.{flat_map};
-ghost use Rattle.study_help.specs.Places.{before_line, first_bytes, kinds_line, kinds_text, last_bytes, more_text, offset_line, place_lines, quoted, shown_byte, there_line, there_text};
+ghost use Rattle.study_help.specs.Places.{before_line, first_bytes, kinds_line, kinds_text, last_bytes, next_kind_text, offset_line, place_lines, quoted, shown_byte, there_line, there_text};
 
 use edge::Bytes;
 use itoa::Buffer;
@@ -66,7 +66,7 @@ fn put_there(out: &mut Bytes, rest: &[u8]) -> Result<(), NoMemory>
 
 /// Adds one kind more.
 fn put_kind(out: &mut Bytes, kind: LexemeKind) -> Result<(), NoMemory>
-    ensures { OnOk result (out.new ≡ out.old ++ more_text kind) }
+    ensures { OnOk result (out.new ≡ out.old ++ next_kind_text kind) }
 {
     out.append(b", ")?;
     out.append(kind_text(kind))?;
@@ -75,7 +75,7 @@ fn put_kind(out: &mut Bytes, kind: LexemeKind) -> Result<(), NoMemory>
 
 /// Adds more kinds.
 fn put_more(out: &mut Bytes, kinds: &[LexemeKind]) -> Result<(), NoMemory>
-    ensures { OnOk result (out.new ≡ out.old ++ flat_map more_text kinds.now) }
+    ensures { OnOk result (out.new ≡ out.old ++ flat_map next_kind_text kinds.now) }
 {
     for kind in kinds {
         put_kind(out, *kind)?;

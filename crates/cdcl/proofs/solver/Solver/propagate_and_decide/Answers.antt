@@ -1,16 +1,16 @@
 use Rattle.std.proofs.Common.{arith, refl, ap, sym, subst, ◌≡◌, ◌∙◌, ◌+◌, ℕ, None}
 use Rattle.propagate.specs.TrailState.{TrailState}
 use Rattle.cdcl.specs.Order.{HasAll}
-use Rattle.cdcl.specs.Search.{Decides}
+use Rattle.cdcl.specs.Search.{Assigns}
 use Rattle.cdcl.specs.Solver.{SolverState}
 use Rattle.cdcl.proofs.Offers.{HasAll-propagate, HasAll-decide}
 use Rattle.cdcl.proofs.Whole.{IsSolver-propagate, IsSolver-complete}
-use Rattle.cdcl.proofs.Deciding.{Decides-propagate, Decides-decide}
+use Rattle.cdcl.proofs.Assigning.{Assigns-propagate, Assigns-decide}
 use Rattle.cdcl.proofs.solver.Solver.propagate_and_decide.Goals as goal
 
 pub deciding-init : goal.deciding-init
 deciding-init c = record {
-  decides = record {
+  assigns = record {
     form = c.self.invariant.form;
     rests = c.self.invariant.rests;
     clauses = ap (λ (s : SolverState). s.trail.clauses) c.self.view_is;
@@ -21,21 +21,21 @@ deciding-init c = record {
   signs = ap (λ (s : SolverState). s.order.phases) c.self.view_is;
 }
 
-pub returns-in-Conflict-clause-decides : goal.returns-in-Conflict-clause-decides
-returns-in-Conflict-clause-decides c = Decides-propagate c.args.self.now.trail c.deciding.self-inside.trail c.propagate.new.self c.deciding.invariant.decides c.propagate.ensures.form c.propagate.ensures.grows
+pub returns-in-Conflict-clause-assigns : goal.returns-in-Conflict-clause-assigns
+returns-in-Conflict-clause-assigns c = Assigns-propagate c.args.self.now.trail c.deciding.self-inside.trail c.propagate.new.self c.deciding.invariant.assigns c.propagate.ensures.form c.propagate.ensures.grows
 
-pub returns-in-None-clause-decides : goal.returns-in-None-clause-decides
-returns-in-None-clause-decides c = Decides-propagate c.args.self.now.trail c.deciding.self-inside.trail c.propagate.new.self c.deciding.invariant.decides c.propagate.ensures.form c.propagate.ensures.grows
+pub returns-in-None-clause-assigns : goal.returns-in-None-clause-assigns
+returns-in-None-clause-assigns c = Assigns-propagate c.args.self.now.trail c.deciding.self-inside.trail c.propagate.new.self c.deciding.invariant.assigns c.propagate.ensures.form c.propagate.ensures.grows
 
 pub deciding-preserved : goal.deciding-preserved
 deciding-preserved c =
     let over : c.propagate.new.self.variables ≡ c.deciding.self-inside.variables = c.propagate.ensures.grows.variables ∙ c.deciding.invariant.keeps.over in
-    let decided : Decides c.args.self.now.trail c.decide.new.self =
-    Decides-decide c.args.self.now.trail c.propagate.new.self c.decide.new.self _
-    (Decides-propagate c.args.self.now.trail c.deciding.self-inside.trail c.propagate.new.self c.deciding.invariant.decides c.propagate.ensures.form c.propagate.ensures.grows)
+    let decided : Assigns c.args.self.now.trail c.decide.new.self =
+    Assigns-decide c.args.self.now.trail c.propagate.new.self c.decide.new.self _
+    (Assigns-propagate c.args.self.now.trail c.deciding.self-inside.trail c.propagate.new.self c.deciding.invariant.assigns c.propagate.ensures.form c.propagate.ensures.grows)
     c.in-Closed.ensures.outcome.0 refl c.decide.ensures.form c.decide.ensures.state in
     record {
-      decides = decided;
+      assigns = decided;
       keeps = record {
         form = c.decide.ensures.form;
         rests = decided.rests;

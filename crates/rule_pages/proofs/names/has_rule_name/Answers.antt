@@ -4,7 +4,7 @@ use Rattle.vocab.specs.declared.kinds.Sort.TheVariants.{Profile}
 use Rattle.vocab.specs.Size.{Extent, sort_count}
 use Rattle.rule_pages.specs.Names.{is_given}
 use Rattle.rule_pages.proofs.RestLemmas.{all_passed}
-use Rattle.rule_pages.proofs.names.has_name.Goals as goal
+use Rattle.rule_pages.proofs.names.has_rule_name.Goals as goal
 
 pub loop-p-preserved : goal.loop-p-preserved
 loop-p-preserved g c =

@@ -4,7 +4,7 @@ use Rattle.vocab.specs.declared.kinds.Sort.TheVariants.{Profile}
 use Rattle.vocab.specs.Size.{sort_count}
 use Rattle.rule_pages.specs.Names.{is_given}
 use Rattle.rule_pages.proofs.RestLemmas.{all_from}
-use Rattle.rule_pages.proofs.names.has_name.Given as goal
+use Rattle.rule_pages.proofs.names.has_rule_name.Given as goal
 
 -- those from here on tell of all
 abbrev pub invariant-loop-p : goal.invariant-loop-p
