@@ -243,7 +243,7 @@ def literal_or_row(rng, text, _):
 
 def witness_opened(rng, text, _):
     """An open mark in place of a table."""
-    found = rng.choice(list(re.finditer(rb"^(without \w+|needs .*) rule \d+\n(?:.*\|?.* .*\n)*?(?=without|needs|end)", text, re.M)) or [None])
+    found = rng.choice(list(re.finditer(rb"^(without \w+|needs .*) rule \d+\n(?:[^ \n]* .*\n)*?(?=without|needs|end)", text, re.M)) or [None])
     if found is None:
         return text
     return text[: found.start()] + found[1] + b" open " + rng.choice([b"100000", b"1000", b"7"]) + b"\n" + text[found.end() :]
