@@ -79,7 +79,7 @@ impl Solver {
         self.trail.level() == 0
     }
 
-    /// Assigns and propagates, until a clause is falsified or every variable has a value.
+    /// Propagates and decides, until a clause is falsified or every variable has a value.
     pub fn propagate_and_decide(&mut self) -> Option<u32>
         ensures activity { self.new.order.activity ≡ self.old.order.activity }
         ensures signs { self.new.order.phases ≡ self.old.order.phases }

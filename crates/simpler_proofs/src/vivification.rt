@@ -139,7 +139,8 @@ impl Vivifying<'_, '_> {
     fn propagate(&mut self, alloc: Global) -> Result<bool, NoMemory>
         requires room { length self.old.draft.lines.items < 1000000 }
         ensures given { self.new.given ≡ self.old.given }
-        ensures propagated { IfOk result (λ ended. ended ≡ false → self.new.draft.marked.trail.propagated ≡ true) }
+        ensures propagated { IfOk result
+            (λ ended. ended ≡ false → self.new.draft.marked.trail.propagated ≡ true) }
     {
         let ended = self.draft.propagate(alloc)?;
         Ok(ended)
