@@ -1,10 +1,11 @@
 #!/usr/bin/env bash
 # How the house stands: `measure/house.sh [REVISION]` prints, over the crates that are no tests, how many conditions (`requires`) a
 # function has, the lines of sources, specs and proofs, names that several files of specs define, lemmas that two crates state in the
-# same words, places that go from a kind of rules to its outcomes, and how often `unreachable!()` stands. Of names it counts those that are
-# defined at the margin, so none within a `module _ ..`, and of lemmas the public ones. With a revision, as
-# `measure/house.sh HEAD~20`, each row has the count there, the count here, and the ratio of here by there. `measure/house.sh list` prints
-# the names and the lemmas that are counted, with the crates that have them.
+# same words, places that go from a kind of rules to its outcomes, and how often `unreachable!()` and `unwrap()` stand, both of which are
+# proved never to be met. Of names it counts those that are defined at the margin, and within a `module _ ..` records and what is
+# `abbrev pub`, since a plain `pub` may be a field there; of lemmas the public ones. With a revision, as `measure/house.sh HEAD~20`, each
+# row has the count there, the count here, and the ratio of here by there. `measure/house.sh list` prints the names and the lemmas that
+# are counted, with the crates that have them.
 set -eu
 root=$(dirname -- "$(dirname -- "$(readlink -f -- "${BASH_SOURCE[0]}")")")
 work=$(mktemp -d)
@@ -34,7 +35,7 @@ def renamed(statement): # a statement with its bound names numbered in the order
     words = re.findall(r"[\w'⁺-]+|[^\s\w]", statement)
     return " ".join(bound.get(word, word) for word in words)
 def counts(root):
-    functions = conditions = kinds = unreachable = lines = 0
+    functions = conditions = kinds = unreachable = unwrapped = lines = 0
     each = collections.Counter()
     of = collections.Counter()
     for crate, text in texts(root, "src", "rt"):
@@ -47,6 +48,7 @@ def counts(root):
         of[crate] += fns
         kinds += crate not in ("outcomes", "choice_sets", "kinds") and len(re.findall(r"RankingKind::new\(", code))
         unreachable += len(re.findall(r"\bunreachable!\(", code))
+        unwrapped += len(re.findall(r"\.unwrap\(\)", code))
     worst = max(((each[it] / of[it], it) for it in of if of[it] >= 3), default=(0, ""))
     specs = proofs = 0
     defined, lemmas = collections.defaultdict(set), collections.defaultdict(set)
@@ -72,7 +74,7 @@ def counts(root):
         ("names of specs with several meanings", sum(len(places) > 1 for places in defined.values())),
         ("lemmas stated in two crates", len(twice)),
         ("places that go from a kind to its outcomes", kinds),
-        ("unreachable!()", unreachable),
+        ("unreachable!()", unreachable), ("unwrap()", unwrapped),
     ]
     return rows
 here = counts(sys.argv[1])
