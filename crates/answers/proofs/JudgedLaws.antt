@@ -8,7 +8,8 @@ use Rattle.std.proofs.lemmas.Slice.Eq.{bytes_eq-Decides}
 use Rattle.vocab.specs.Study.{Question, HasFewAxioms}
 use Rattle.verdicts.specs.declared.refusals.Refusal.TheVariants.{Form}
 use Rattle.verdicts.specs.declared.verdicts.Verdict.{Verdict}
-use Rattle.verdicts.specs.Judge.{Refused, judge, pieces, front, Judgement, Confirmed, Faulty, TooLong, answer, beyond, answer_within}
+use Rattle.verdicts.specs.FirstFault.{Refused}
+use Rattle.verdicts.specs.Judge.{judge, pieces, front, Judgement, Confirmed, Faulty, TooLong, answer, beyond, answer_within}
 use Rattle.verdicts.specs.Laws.{IsReportable}
 use Rattle.verdicts.specs.Report.{IsReport}
 use Rattle.verdicts.proofs.WordLaws.{split_ended}

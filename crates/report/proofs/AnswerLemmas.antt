@@ -9,7 +9,9 @@ use Rattle.verdicts.specs.declared.verdicts.Verdict.{Verdict}
 use Rattle.verdicts.specs.declared.verdicts.Verdict.TheVariants.{Possible, Impossible, Undecided}
 use Rattle.verdicts.specs.Claims.{claim_of}
 use Rattle.verdicts.specs.Places.{Place, AtNothing, Standing}
-use Rattle.verdicts.specs.Judge.{Told, Good, Refused, judge, has_no_end, ended, Judgement, Confirmed as IsSomeReport, Faulty, TooLong, at_end, conclude, rule_of}
+use Rattle.verdicts.specs.declared.refusals.Refusal.{Refusal}
+use Rattle.verdicts.specs.FirstFault.{Told, Good, Refused}
+use Rattle.verdicts.specs.Judge.{judge, has_no_end, ended, Judgement, Confirmed as IsSomeReport, Faulty, TooLong, at_end, conclude, rule_of}
 use Rattle.verdicts.proofs.ClaimLaws.{right_claims}
 use Rattle.verdicts.proofs.JudgeLaws.{good_holds, concluded_sound}
 use Rattle.verdicts.proofs.LineEndLaws.{lines_complete}
@@ -62,7 +64,7 @@ module _ (study : Question) (lines : List (List ℕ)) where
       ((q : Place) → p.judging.place ≡ held_place q → q ≢ AtNothing Undecided → Concludes (at_end n rest q) result) → Concludes (conclude (length lines + 1) rest (judge study lines)) result
   ends p rest n result none number h go = by_told (judge study lines) refl h.1
     where
-      by_told : (told : Told) → judge study lines ≡ told → StandsAs study p.fault p.judging told → Concludes (conclude (length lines + 1) rest told) result
+      by_told : (told : Told Standing Refusal) → judge study lines ≡ told → StandsAs study p.fault p.judging told → Concludes (conclude (length lines + 1) rest told) result
       by_told (Good s) e k =
           let same : n ≡ length lines + 1 = number ∙ ap (λ m. m + 1) h.0 in
           subst (λ m. Concludes (at_end m rest s.place) result) same (go s.place k.1.place (claims_at s e))
@@ -101,7 +103,7 @@ module _ (study : Question) (lines : List (List ℕ)) where
   pub rule_told : (p : Progress) → p.fault ≡ None → StandsFor study p lines → cond (is_rule_end p.judging.place) (Some p.judging.rows) None ≡ rule_of (conclude (length lines + 1) [] (judge study lines))
   rule_told p none h = by_told (judge study lines) refl h.1
     where
-      by_told : (told : Told) → judge study lines ≡ told → StandsAs study p.fault p.judging told → cond (is_rule_end p.judging.place) (Some p.judging.rows) None ≡ rule_of (conclude (length lines + 1) [] told)
+      by_told : (told : Told Standing Refusal) → judge study lines ≡ told → StandsAs study p.fault p.judging told → cond (is_rule_end p.judging.place) (Some p.judging.rows) None ≡ rule_of (conclude (length lines + 1) [] told)
       by_told (Good s) e k =
           ap₂ (λ place rows. cond (is_rule_end place) (Some rows) None) k.1.place k.1.rows
           ∙ rule_at (length lines + 1) s.place s.rows (rows_at s.place s (good_holds study s lines e))
@@ -110,7 +112,7 @@ module _ (study : Question) (lines : List (List ℕ)) where
   pub no_rule_told : (p : Progress) (fault : ReportFault) → p.fault ≡ Some fault → StandsFor study p lines → None ≡ rule_of (conclude (length lines + 1) [] (judge study lines))
   no_rule_told p fault some h = by_told (judge study lines) h.1
     where
-      by_told : (told : Told) → StandsAs study p.fault p.judging told → None ≡ rule_of (conclude (length lines + 1) [] told)
+      by_told : (told : Told Standing Refusal) → StandsAs study p.fault p.judging told → None ≡ rule_of (conclude (length lines + 1) [] told)
       by_told (Good s) k = let wrong : None ≡ Some fault = sym k.0 ∙ some in absurd (cc)
       by_told (Refused line word) k = refl
 

@@ -10,8 +10,10 @@ use Rattle.verdicts.specs.declared.refusals.Refusal.TheVariants.{Form}
 use Rattle.verdicts.specs.Lines.{Line}
 use Rattle.verdicts.specs.Places.{Standing, start}
 use Rattle.verdicts.specs.Faults.{fault_of}
-use Rattle.verdicts.specs.Judge.{advance, read_line, Told, Good, Refused, settle_at, settle, judge}
-use Rattle.verdicts.proofs.StepLaws.{told_more, judge_snoc}
+use Rattle.verdicts.specs.FirstFault.{Told, Good, Refused}
+use Rattle.verdicts.specs.Judge.{read_line, line_fault, after, judge_from, judge}
+use Rattle.verdicts.proofs.FaultLaws.{past}
+use Rattle.verdicts.proofs.FirstFaultLaws.{stops, go_on, judge_append}
 use Rattle.report_lines.specs.declared.lines.Line.{Line as HeldLine}
 use Rattle.report_lines.specs.Held.{held_line}
 use Rattle.report.specs.declared.faults.ReportFault.{ReportFault}
@@ -70,46 +72,41 @@ module _ (study : Question) where
   refused_line s text w r word e h = ap (λ o. option_map_or (fault_of study s) o (Some Form)) e ∙ sym h.0
 
   -- what is held then
-  pub taken : (n : ℕ) (s : Standing) (text : List ℕ) (r : Judging) (line : HeldLine) → IsTaken study s text r (Ok line) → StandsAs study None r (settle study n s (read_line study s text) Good)
-  taken n s text r line h =
-      subst (λ o. StandsAs study None r (settle study n s o Good)) (sym h.1)
-      (subst (λ o. StandsAs study None r (settle_at study n s h.0 o Good)) (sym h.3) (refl, h.4))
+  pub taken : (n : ℕ) (s : Standing) (text : List ℕ) (r : Judging) (line : HeldLine) → IsTaken study s text r (Ok line) → StandsAs study None r (judge_from study n s (text ∷ []))
+  taken n s text r line h = subst (StandsAs study None r) (sym (past study n s text [] h.0 h.1 h.3)) (refl, h.4)
 
-  pub refused : (n : ℕ) (s : Standing) (text : List ℕ) (r : Judging) (word : Refusal) → IsTaken study s text r (Err word) → StandsAs study (Some (AtLine n word)) r (settle study n s (read_line study s text) Good)
-  refused n s text r word h = by_line (read_line study s text) h
-    where
-      by_fault : (w : Line) (o : Option Refusal) → o ≡ Some word → StandsAs study (Some (AtLine n word)) r (settle_at study n s w o Good)
-      by_fault w o e = subst (λ o. StandsAs study (Some (AtLine n word)) r (settle_at study n s w o Good)) (sym e) refl
-
-      by_line : (o : Option Line) → option_map_or (fault_of study s) o (Some Form) ≡ Some word → StandsAs study (Some (AtLine n word)) r (settle study n s o Good)
-      by_line None e = let same : Form ≡ word = cc in ap (λ w. Some (AtLine n w)) (sym same)
-      by_line (Some w) e = by_fault w (fault_of study s w) e
+  pub refused : (n : ℕ) (s : Standing) (text : List ℕ) (r : Judging) (word : Refusal) → IsTaken study s text r (Err word) → StandsAs study (Some (AtLine n word)) r (judge_from study n s (text ∷ []))
+  refused n s text r word h = subst (StandsAs study (Some (AtLine n word)) r) (sym (stops (line_fault study) (after study) n s text [] word h)) refl
 
   -- ---- after other lines
 
   longer : (n : ℕ) (lines : List (List ℕ)) (text : List ℕ) → n ≡ length lines → n + 1 ≡ length (lines ++ text ∷ [])
   longer n lines text e = omega (arith, e, length-append lines (text ∷ []))
 
-  told_next : (lines : List (List ℕ)) (text : List ℕ) → judge study (lines ++ text ∷ []) ≡ told_more study (1 + length lines) (judge study lines) text
-  told_next lines text = judge_snoc study 1 start lines text
+  -- one more line, of this number, after a result
+  abbrev more : ℕ → Told Standing Refusal → List ℕ → Told Standing Refusal
+  more n told text = go_on (line_fault study) (after study) n told (text ∷ [])
+
+  told_next : (lines : List (List ℕ)) (text : List ℕ) → judge study (lines ++ text ∷ []) ≡ more (1 + length lines) (judge study lines) text
+  told_next lines text = judge_append (line_fault study) (after study) 1 start lines (text ∷ [])
 
   -- after a faulty line nothing changes
   pub still : (n : ℕ) (fault : ReportFault) (r : Judging) (lines : List (List ℕ)) (text : List ℕ) → StandsFor study (at n (Some fault) r) lines → StandsFor study (at (n + 1) (Some fault) r) (lines ++ text ∷ [])
   still n fault r lines text h =
       (longer n lines text h.0, subst (StandsAs study (Some fault) r) (sym (told_next lines text)) (by_told (judge study lines) h.1))
     where
-      by_told : (told : Told) → StandsAs study (Some fault) r told → StandsAs study (Some fault) r (told_more study (1 + length lines) told text)
+      by_told : (told : Told Standing Refusal) → StandsAs study (Some fault) r told → StandsAs study (Some fault) r (more (1 + length lines) told text)
       by_told (Good s) k = let wrong : Some fault ≡ None = k.0 in absurd (cc)
       by_told (Refused line word) k = k
 
   -- the next line after lines without a fault
   pub step : (n : ℕ) (fault : Option ReportFault) (r after : Judging) (lines : List (List ℕ)) (text : List ℕ) → StandsFor study (at n None r) lines →
-      ((s : Standing) → Stands study r s → StandsAs study fault after (settle study (n + 1) s (read_line study s text) Good)) → StandsFor study (at (n + 1) fault after) (lines ++ text ∷ [])
+      ((s : Standing) → Stands study r s → StandsAs study fault after (judge_from study (n + 1) s (text ∷ []))) → StandsFor study (at (n + 1) fault after) (lines ++ text ∷ [])
   step n fault r after lines text h go =
       let number : n + 1 ≡ 1 + length lines = omega (arith, h.0) in
-      (longer n lines text h.0, subst (StandsAs study fault after) (sym (told_next lines text)) (subst (λ k. StandsAs study fault after (told_more study k (judge study lines) text)) number (by_told (judge study lines) h.1)))
+      (longer n lines text h.0, subst (StandsAs study fault after) (sym (told_next lines text)) (subst (λ k. StandsAs study fault after (more k (judge study lines) text)) number (by_told (judge study lines) h.1)))
     where
-      by_told : (told : Told) → StandsAs study None r told → StandsAs study fault after (told_more study (n + 1) told text)
+      by_told : (told : Told Standing Refusal) → StandsAs study None r told → StandsAs study fault after (more (n + 1) told text)
       by_told (Good s) k = go s k.1
       by_told (Refused line word) k = let wrong : None ≡ Some (AtLine line word) = k in absurd (cc)
 
@@ -120,7 +117,7 @@ module _ (study : Question) where
 
   -- the next line leaves a checker ready
   pub step_ready : (n : ℕ) (fault : Option ReportFault) (r after : Judging) (text : List ℕ) → StandsForSome study (at n None r) →
-      ((s : Standing) → Stands study r s → fault ≢ Some NoMemory → StandsAs study fault after (settle study (n + 1) s (read_line study s text) Good)) → StandsForSome study (at (n + 1) fault after)
+      ((s : Standing) → Stands study r s → fault ≢ Some NoMemory → StandsAs study fault after (judge_from study (n + 1) s (text ∷ []))) → StandsForSome study (at (n + 1) fault after)
   step_ready n fault r after text (inl e) go = absurd (cc)
   step_ready n fault r after text (inr (lines, h)) go = elim (is_wanting fault) [
     | inl e ↦ inl e
@@ -136,9 +133,9 @@ module _ (study : Question) where
   still_at n o fault r lines text e h = subst (λ x. StandsFor study (at (n + 1) x r) (lines ++ text ∷ [])) (sym e) (still n fault r lines text (subst (λ x. StandsFor study (at n x r) lines) e h))
 
   pub step_ready_at : (n : ℕ) (o fault : Option ReportFault) (r after : Judging) (text : List ℕ) → o ≡ None → StandsForSome study (at n o r) →
-      ((s : Standing) → Stands study r s → fault ≢ Some NoMemory → StandsAs study fault after (settle study (n + 1) s (read_line study s text) Good)) → StandsForSome study (at (n + 1) fault after)
+      ((s : Standing) → Stands study r s → fault ≢ Some NoMemory → StandsAs study fault after (judge_from study (n + 1) s (text ∷ []))) → StandsForSome study (at (n + 1) fault after)
   step_ready_at n o fault r after text e h go = step_ready n fault r after text (subst (λ x. StandsForSome study (at n x r)) e h) go
 
   pub step_at : (n : ℕ) (o fault : Option ReportFault) (r after : Judging) (lines : List (List ℕ)) (text : List ℕ) → o ≡ None → StandsFor study (at n o r) lines →
-      ((s : Standing) → Stands study r s → StandsAs study fault after (settle study (n + 1) s (read_line study s text) Good)) → StandsFor study (at (n + 1) fault after) (lines ++ text ∷ [])
+      ((s : Standing) → Stands study r s → StandsAs study fault after (judge_from study (n + 1) s (text ∷ []))) → StandsFor study (at (n + 1) fault after) (lines ++ text ∷ [])
   step_at n o fault r after lines text e h go = step n fault r after lines text (subst (λ x. StandsFor study (at n x r) lines) e h) go

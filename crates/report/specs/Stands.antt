@@ -4,9 +4,11 @@ use Rattle.std.specs.List.{list_all}
 use Rattle.vocab.specs.declared.literals.Literal.{Literal}
 use Rattle.vocab.specs.Study.{Question}
 use Rattle.meaning.specs.declared.stories.Lemma.{Lemma}
+use Rattle.verdicts.specs.declared.refusals.Refusal.{Refusal}
 use Rattle.verdicts.specs.Places.{Standing}
 use Rattle.verdicts.specs.Faults.{known_of}
-use Rattle.verdicts.specs.Judge.{Told, Good, Refused, judge}
+use Rattle.verdicts.specs.FirstFault.{Told, Good, Refused}
+use Rattle.verdicts.specs.Judge.{judge}
 use Rattle.report_lines.specs.Held.{held_count, held_place}
 use Rattle.report.specs.declared.faults.ReportFault.{ReportFault}
 use Rattle.report.specs.declared.faults.ReportFault.TheVariants.{Line as AtLine, NoMemory}
@@ -41,12 +43,12 @@ pub record IsRead (study : Question) (r : Judging) : Type 0 where
   pub stands : Stands study r standing
 
 -- what is held after lines of which none is faulty, and after the first faulty one
-abbrev pub StandsAs : Question → Option ReportFault → Judging → Told → Type 0
+abbrev pub StandsAs : Question → Option ReportFault → Judging → Told Standing Refusal → Type 0
 StandsAs study fault r (Good s) = (fault ≡ None) × Stands study r s
 StandsAs study fault r (Refused line word) = fault ≡ Some (AtLine line word)
 
 -- a checker that is so far has what is told of the lines
-abbrev pub StandsAt : Question → Progress → Told → Type 0
+abbrev pub StandsAt : Question → Progress → Told Standing Refusal → Type 0
 StandsAt study p told = StandsAs study p.fault p.judging told
 
 -- a checker that is so far stands for these lines

@@ -1,5 +1,5 @@
 -- Lines of a report: a faulty one stays the first faulty one, and of a line that is too long the front tells as much.
-use Rattle.std.proofs.Common.{◌≡◌, refl, sym, ap, ◌∙◌, subst, ℕ, suc, ◌+◌, inl, inr, true, false, true≢false, List, [], ◌∷◌, ◌++◌, length, arith, cond, Option, Some, None, lt-ltb}
+use Rattle.std.proofs.Common.{◌≡◌, refl, sym, ap, ◌∙◌, subst, ℕ, suc, ◌+◌, inl, inr, true, false, true≢false, List, [], ◌∷◌, ◌++◌, length, arith, cond, None, lt-ltb}
 use Rattle.std.proofs.lemmas.Bool.{cases_lt}
 use Rattle.std.proofs.lemmas.Slice.Eq.{bytes_eq-Decides}
 use Rattle.std.specs.Prelude.{◌==◌, nat_lt, codes}
@@ -7,11 +7,11 @@ use Rattle.vocab.specs.Study.{Question}
 use Rattle.verdicts.specs.declared.refusals.Refusal.{Refusal}
 use Rattle.verdicts.specs.declared.refusals.Refusal.TheVariants.{Form}
 use Rattle.verdicts.specs.Faults.{fault_of}
-use Rattle.verdicts.specs.Lines.{Line}
 use Rattle.verdicts.specs.Texts.{words_of}
 use Rattle.verdicts.specs.Places.{Place, Standing, start, wanted}
-use Rattle.verdicts.specs.Judge.{Told, Good, Refused, advance, read_line, settle_at, settle, judge_from, judge, pieces, front, final, Faulty, at_end, conclude, answer, rule_of}
-use Rattle.verdicts.proofs.StepLaws.{told_more, judge_snoc}
+use Rattle.verdicts.specs.FirstFault.{Told, Good, Refused}
+use Rattle.verdicts.specs.Judge.{advance, read_line, line_fault, after, judge, pieces, front, final, Faulty, at_end, conclude, answer, rule_of}
+use Rattle.verdicts.proofs.FirstFaultLaws.{after_refused, same_last}
 use Rattle.report.specs.declared.progress.Progress.{Progress}
 use Rattle.report.specs.Stands.{StandsAt, StandsFor}
 use Rattle.report_files.specs.Lines.{has_title}
@@ -32,12 +32,7 @@ head_read study s line = elim (cases_lt 4096 (length line)) [
 ]
 
 head_judge : (study : Question) (lines : List (List ℕ)) (line : List ℕ) → judge study (lines ++ head_of line ∷ []) ≡ judge study (lines ++ line ∷ [])
-head_judge study lines line =
-    judge_snoc study 1 start lines (head_of line) ∙ by_told (judge study lines) ∙ sym (judge_snoc study 1 start lines line)
-  where
-    by_told : (told : Told) → told_more study (1 + length lines) told (head_of line) ≡ told_more study (1 + length lines) told line
-    by_told (Good s) = ap (λ o. settle study (1 + length lines) s o Good) (head_read study s line)
-    by_told (Refused n word) = refl
+head_judge study lines line = same_last (read_line study) (fault_of study) Form (advance study) 1 start lines (head_of line) line (λ s. head_read study s line)
 
 pub same_length : (lines : List (List ℕ)) (x y : List ℕ) → length (lines ++ x ∷ []) ≡ length (lines ++ y ∷ [])
 same_length [] x y = refl
@@ -49,21 +44,9 @@ head_stands study p lines line h = (h.0 ∙ same_length lines (head_of line) lin
 
 -- ---- a fault stays
 
-judge_more : (study : Question) (n : ℕ) (s : Standing) (xs ys : List (List ℕ)) (m : ℕ) (word : Refusal) → judge_from study n s xs ≡ Refused m word → judge_from study n s (xs ++ ys) ≡ Refused m word
-judge_more study n s [] ys m word e = absurd (cc)
-judge_more study n s (x ∷ xs) ys m word e = by_line (read_line study s x) e (λ next h. judge_more study (n + 1) next xs ys m word h)
-  where
-    by_fault : (l : Line) (o : Option Refusal) → settle_at study n s l o (λ next. judge_from study (n + 1) next xs) ≡ Refused m word → ((next : Standing) → judge_from study (n + 1) next xs ≡ Refused m word → judge_from study (n + 1) next (xs ++ ys) ≡ Refused m word) → settle_at study n s l o (λ next. judge_from study (n + 1) next (xs ++ ys)) ≡ Refused m word
-    by_fault l None h later = later (advance study s l) h
-    by_fault l (Some w) h later = h
-
-    by_line : (o : Option Line) → settle study n s o (λ next. judge_from study (n + 1) next xs) ≡ Refused m word → ((next : Standing) → judge_from study (n + 1) next xs ≡ Refused m word → judge_from study (n + 1) next (xs ++ ys) ≡ Refused m word) → settle study n s o (λ next. judge_from study (n + 1) next (xs ++ ys)) ≡ Refused m word
-    by_line None h later = h
-    by_line (Some l) h later = by_fault l (fault_of study s l) h later
-
 -- whatever lines follow a faulty one
 pub refused_more : (study : Question) (lines more : List (List ℕ)) (m : ℕ) (word : Refusal) → judge study lines ≡ Refused m word → judge study (lines ++ more) ≡ Refused m word
-refused_more study lines more m word e = judge_more study 1 start lines more m word e
+refused_more study lines more m word e = after_refused (line_fault study) (after study) 1 start lines more m word e
 
 -- ---- the end of a text
 
@@ -88,7 +71,7 @@ head_concludes study text held e =
     by_rest n [] p = refl
     by_rest n (x ∷ rest) p = refl
 
-    by_told : (told : Told) → conclude (length (pieces text)) (head_of (final (pieces text))) told ≡ conclude (length (pieces text)) (final (pieces text)) told
+    by_told : (told : Told Standing Refusal) → conclude (length (pieces text)) (head_of (final (pieces text))) told ≡ conclude (length (pieces text)) (final (pieces text)) told
     by_told (Good s) = by_rest (length (pieces text)) (final (pieces text)) s.place
     by_told (Refused n word) = refl
 
@@ -96,7 +79,7 @@ head_concludes study text held e =
 pub no_rule_held : (study : Question) (text held : List ℕ) → (length held == 0) ≡ false → held ≡ head_of (final (pieces text)) → None ≡ rule_of (answer study text)
 no_rule_held study text held some e = by_told (judge study (front (pieces text))) held some ∙ ap rule_of (head_concludes study text held e)
   where
-    by_told : (told : Told) (rest : List ℕ) → (length rest == 0) ≡ false → None ≡ rule_of (conclude (length (front (pieces text)) + 1) rest told)
+    by_told : (told : Told Standing Refusal) (rest : List ℕ) → (length rest == 0) ≡ false → None ≡ rule_of (conclude (length (front (pieces text)) + 1) rest told)
     by_told (Refused n word) rest some = refl
     by_told (Good s) [] some = absurd (true≢false some)
     by_told (Good s) (x ∷ rest) some = refl

@@ -1,17 +1,20 @@
 -- Lines of a sharp text: a faulty one stays the first faulty one, and of a line that is too long the front tells as much.
-use Rattle.std.proofs.Common.{◌≡◌, refl, sym, ap, ◌∙◌, subst, ℕ, ◌+◌, inl, inr, true, false, List, [], ◌∷◌, ◌++◌, length, arith, cond, Option, Some, None, lt-ltb}
+use Rattle.std.proofs.Common.{◌≡◌, refl, sym, ap, ◌∙◌, subst, ℕ, ◌+◌, inl, inr, true, false, List, [], ◌∷◌, ◌++◌, length, arith, cond, Some, None, lt-ltb}
 use Rattle.std.proofs.lemmas.Bool.{cases_lt}
 use Rattle.std.specs.Prelude.{nat_lt}
+use Rattle.std.specs.Option.{option_map_or}
 use Rattle.vocab.specs.Study.{Question}
 use Rattle.verdicts.specs.Texts.{words_of}
 use Rattle.verdicts.specs.declared.refusals.Refusal.TheVariants.{Form}
+use Rattle.verdicts.specs.FirstFault.{Told, Good, Refused}
 use Rattle.verdicts.specs.Judge.{pieces, front, final}
+use Rattle.verdicts.proofs.FirstFaultLaws.{stops, after_refused, same_last}
 use Rattle.sharp_verdicts.specs.declared.refusals.SharpRefusal.{SharpRefusal}
 use Rattle.sharp_verdicts.specs.declared.refusals.SharpRefusal.TheVariants.{Report}
-use Rattle.sharp_verdicts.specs.SharpLines.{SharpLine, SharpTitle}
+use Rattle.sharp_verdicts.specs.SharpLines.{SharpTitle}
 use Rattle.sharp_verdicts.specs.SharpPlaces.{SharpPlace, AtSharp, AtReport, AtInstances, AtNeed, AtNeedRow, AtSharpEnd, AtSharpNothing, SharpStanding, sharp_start, not_possible, wanted_past, read_past, read_sharp_at, read_sharp_line}
 use Rattle.sharp_verdicts.specs.SharpFaults.{sharp_fault}
-use Rattle.sharp_verdicts.specs.SharpJudge.{advance_sharp, SharpTold, SharpGood, SharpRefused, sharp_settle_at, sharp_settle, sharp_judge_from, sharp_judge, SharpFaulty, at_sharp_end, sharp_conclude, sharp_answer}
+use Rattle.sharp_verdicts.specs.SharpJudge.{advance_sharp, sharp_line_fault, sharp_after, sharp_judge_from, sharp_judge, SharpFaulty, at_sharp_end, sharp_conclude, sharp_answer}
 use Rattle.sharp_report.specs.declared.progress.SharpProgress.{SharpProgress}
 use Rattle.sharp_report.specs.SharpStands.{SharpStandsAs, SharpStandsFor}
 use Rattle.report_files.specs.Lines.{has_title}
@@ -46,18 +49,7 @@ module _ (study : Question) where
       by_place AtSharpNothing = head_past AtSharpNothing line
 
   head_sharp_judge : (n : ℕ) (s : SharpStanding) (lines : List (List ℕ)) (line : List ℕ) → sharp_judge_from study n s (lines ++ head_of line ∷ []) ≡ sharp_judge_from study n s (lines ++ line ∷ [])
-  head_sharp_judge n s [] line = ap (λ o. sharp_settle study n s o (λ next. sharp_judge_from study (n + 1) next [])) (head_sharp_read s line)
-  head_sharp_judge n s (x ∷ xs) line = by_line (read_sharp_line study s x) (λ next. head_sharp_judge (n + 1) next xs line)
-    where
-      by_fault : (l : SharpLine) (o : Option SharpRefusal) → ((next : SharpStanding) → sharp_judge_from study (n + 1) next (xs ++ head_of line ∷ []) ≡ sharp_judge_from study (n + 1) next (xs ++ line ∷ []))
-          → sharp_settle_at study n s l o (λ next. sharp_judge_from study (n + 1) next (xs ++ head_of line ∷ [])) ≡ sharp_settle_at study n s l o (λ next. sharp_judge_from study (n + 1) next (xs ++ line ∷ []))
-      by_fault l None later = later (advance_sharp study s l)
-      by_fault l (Some w) later = refl
-
-      by_line : (o : Option SharpLine) → ((next : SharpStanding) → sharp_judge_from study (n + 1) next (xs ++ head_of line ∷ []) ≡ sharp_judge_from study (n + 1) next (xs ++ line ∷ []))
-          → sharp_settle study n s o (λ next. sharp_judge_from study (n + 1) next (xs ++ head_of line ∷ [])) ≡ sharp_settle study n s o (λ next. sharp_judge_from study (n + 1) next (xs ++ line ∷ []))
-      by_line None later = refl
-      by_line (Some l) later = by_fault l (sharp_fault study s l) later
+  head_sharp_judge n s lines line = same_last (read_sharp_line study) (sharp_fault study) (Report Form) (advance_sharp study) n s lines (head_of line) line (λ t. head_sharp_read t line)
 
   -- a checker that was given the front of a line stands for the line
   pub head_sharp_stands : (p : SharpProgress) (lines : List (List ℕ)) (line : List ℕ) → SharpStandsFor study p (lines ++ head_of line ∷ []) → SharpStandsFor study p (lines ++ line ∷ [])
@@ -70,25 +62,9 @@ module _ (study : Question) where
 
   -- ---- a fault stays
 
-  sharp_judge_more : (n : ℕ) (s : SharpStanding) (xs ys : List (List ℕ)) (m : ℕ) (word : SharpRefusal) → sharp_judge_from study n s xs ≡ SharpRefused m word → sharp_judge_from study n s (xs ++ ys) ≡ SharpRefused m word
-  sharp_judge_more n s [] ys m word e = absurd (cc)
-  sharp_judge_more n s (x ∷ xs) ys m word e = by_line (read_sharp_line study s x) e (λ next h. sharp_judge_more (n + 1) next xs ys m word h)
-    where
-      by_fault : (l : SharpLine) (o : Option SharpRefusal) → sharp_settle_at study n s l o (λ next. sharp_judge_from study (n + 1) next xs) ≡ SharpRefused m word
-          → ((next : SharpStanding) → sharp_judge_from study (n + 1) next xs ≡ SharpRefused m word → sharp_judge_from study (n + 1) next (xs ++ ys) ≡ SharpRefused m word)
-          → sharp_settle_at study n s l o (λ next. sharp_judge_from study (n + 1) next (xs ++ ys)) ≡ SharpRefused m word
-      by_fault l None h later = later (advance_sharp study s l) h
-      by_fault l (Some w) h later = h
-
-      by_line : (o : Option SharpLine) → sharp_settle study n s o (λ next. sharp_judge_from study (n + 1) next xs) ≡ SharpRefused m word
-          → ((next : SharpStanding) → sharp_judge_from study (n + 1) next xs ≡ SharpRefused m word → sharp_judge_from study (n + 1) next (xs ++ ys) ≡ SharpRefused m word)
-          → sharp_settle study n s o (λ next. sharp_judge_from study (n + 1) next (xs ++ ys)) ≡ SharpRefused m word
-      by_line None h later = h
-      by_line (Some l) h later = by_fault l (sharp_fault study s l) h later
-
   -- whatever lines follow a faulty one
-  pub sharp_refused_more : (lines more : List (List ℕ)) (m : ℕ) (word : SharpRefusal) → sharp_judge study lines ≡ SharpRefused m word → sharp_judge study (lines ++ more) ≡ SharpRefused m word
-  sharp_refused_more lines more m word e = sharp_judge_more 1 sharp_start lines more m word e
+  pub sharp_refused_more : (lines more : List (List ℕ)) (m : ℕ) (word : SharpRefusal) → sharp_judge study lines ≡ Refused m word → sharp_judge study (lines ++ more) ≡ Refused m word
+  sharp_refused_more lines more m word e = after_refused (sharp_line_fault study) (sharp_after study) 1 sharp_start lines more m word e
 
   -- ---- the end of a text
 
@@ -97,7 +73,9 @@ module _ (study : Question) where
   untitled_refused [] [] e = refl
   untitled_refused [] (x ∷ rest) e = refl
   untitled_refused (line ∷ lines) rest e =
-      ap (λ b. sharp_conclude study (length (line ∷ lines) + 1) rest (sharp_settle study 1 sharp_start (cond b (Some SharpTitle) None) (λ next. sharp_judge_from study 2 next lines))) e
+      let wrong : sharp_line_fault study sharp_start line ≡ Some (Report Form) =
+      ap (λ b. option_map_or (sharp_fault study sharp_start) (cond b (Some SharpTitle) None) (Some (Report Form))) e in
+      ap (sharp_conclude study (length (line ∷ lines) + 1) rest) (stops (sharp_line_fault study) (sharp_after study) 1 sharp_start line lines (Report Form) wrong)
 
   -- the end of a text is judged by the front of its last piece
   pub head_sharp_concludes : (text held : List ℕ) → held ≡ head_of (final (pieces text)) → sharp_conclude study (length (front (pieces text)) + 1) held (sharp_judge study (front (pieces text))) ≡ sharp_answer study text
@@ -110,6 +88,6 @@ module _ (study : Question) where
       by_rest n [] p s = refl
       by_rest n (x ∷ rest) p s = refl
 
-      by_told : (told : SharpTold) → sharp_conclude study (length (pieces text)) (head_of (final (pieces text))) told ≡ sharp_conclude study (length (pieces text)) (final (pieces text)) told
-      by_told (SharpGood s) = by_rest (length (pieces text)) (final (pieces text)) s.place s
-      by_told (SharpRefused n word) = refl
+      by_told : (told : Told SharpStanding SharpRefusal) → sharp_conclude study (length (pieces text)) (head_of (final (pieces text))) told ≡ sharp_conclude study (length (pieces text)) (final (pieces text)) told
+      by_told (Good s) = by_rest (length (pieces text)) (final (pieces text)) s.place s
+      by_told (Refused n word) = refl

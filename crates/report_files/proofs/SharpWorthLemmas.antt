@@ -7,7 +7,9 @@ use Rattle.vocab.specs.Study.{Question}
 use Rattle.verdicts.specs.Judge.{pieces, front}
 use Rattle.sharp_verdicts.specs.declared.refusals.SharpRefusal.{SharpRefusal}
 use Rattle.sharp_verdicts.specs.Right.{Pointed}
-use Rattle.sharp_verdicts.specs.SharpJudge.{SharpTold, SharpGood, SharpRefused, sharp_judge, SharpJudgement, SharpConfirmed, SharpFaulty, SharpTooLong, sharp_conclude, sharp_answer, sharp_beyond, sharp_answer_within}
+use Rattle.verdicts.specs.FirstFault.{Told, Good, Refused}
+use Rattle.sharp_verdicts.specs.SharpPlaces.{SharpStanding}
+use Rattle.sharp_verdicts.specs.SharpJudge.{sharp_judge, SharpJudgement, SharpConfirmed, SharpFaulty, SharpTooLong, sharp_conclude, sharp_answer, sharp_beyond, sharp_answer_within}
 use Rattle.sharp_laws.proofs.ClaimLaws.{confirmed_hold}
 use Rattle.sharp_laws.proofs.FaultLaws.{within_limit}
 use Rattle.sharp_laws.proofs.JudgeLaws.{judge_sound}
@@ -71,20 +73,20 @@ module _ (study : Question) where
       → ((a : SharpJudgement) → SharpConcludes a (Err fault) → IsSharpWorth a w) → IsSharpWorth (sharp_answer_within most_verdict_bytes study held) w
   sharp_faulty_worth p e known left faulty bytes held fault w f ended k stands worth_of = by_told (sharp_judge study (front (pieces bytes))) refl stands.1
     where
-      by_told : (told : SharpTold) → sharp_judge study (front (pieces bytes)) ≡ told → SharpStandsAs study (length (front (pieces bytes))) p.fault p.judging told → IsSharpWorth (sharp_answer_within most_verdict_bytes study held) w
-      by_told (SharpGood s) told h = let wrong : Some fault ≡ None = sym f ∙ h.0 in absurd (cc)
-      by_told (SharpRefused m word) told h =
+      by_told : (told : Told SharpStanding SharpRefusal) → sharp_judge study (front (pieces bytes)) ≡ told → SharpStandsAs study (length (front (pieces bytes))) p.fault p.judging told → IsSharpWorth (sharp_answer_within most_verdict_bytes study held) w
+      by_told (Good s) told h = let wrong : Some fault ≡ None = sym f ∙ h.0 in absurd (cc)
+      by_told (Refused m word) told h =
           let same : Some fault ≡ Some (AtLine m word) = sym f ∙ h in
           let fault_is : fault ≡ AtLine m word = cc in
           let answered : sharp_answer_within most_verdict_bytes study held ≡ SharpFaulty m word =
-          faulty_within (sharp_judge study) (sharp_conclude study) (sharp_beyond study) e known left faulty bytes held (SharpRefused m word) (SharpFaulty m word) ended k
+          faulty_within (sharp_judge study) (sharp_conclude study) (sharp_beyond study) e known left faulty bytes held (Refused m word) (SharpFaulty m word) ended k
           (λ more. sharp_refused_more study (front (pieces bytes)) more m word told) refl (λ n rest. refl) in
           subst (λ a. IsSharpWorth a w) (sym answered) (worth_of (SharpFaulty m word) (ap Err fault_is))
 
   -- the file goes on beyond the limit, and no line is faulty
-  faultless_is : (p : SharpProgress) (n : ℕ) (told : SharpTold) → p.fault ≡ None → SharpStandsAs study n p.fault p.judging told → sharp_beyond study told ≡ SharpTooLong
-  faultless_is p n (SharpGood s) e h = refl
-  faultless_is p n (SharpRefused m word) e h = absurd (cc)
+  faultless_is : (p : SharpProgress) (n : ℕ) (told : Told SharpStanding SharpRefusal) → p.fault ≡ None → SharpStandsAs study n p.fault p.judging told → sharp_beyond study told ≡ SharpTooLong
+  faultless_is p n (Good s) e h = refl
+  faultless_is p n (Refused m word) e h = absurd (cc)
 
   pub sharp_long_worth : (p : SharpProgress) (e : Ending) (known left : Option (List ℕ)) (faulty : Bool) (bytes held : List ℕ)
       → p.fault ≡ None → faulty ≡ false → e ≢ ending.Whole → IsEndedAt e known left faulty bytes → known ≡ Some held → SharpStandsFor study p (front (pieces bytes))

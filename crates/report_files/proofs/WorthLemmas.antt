@@ -8,7 +8,9 @@ use Rattle.verdicts.specs.declared.refusals.Refusal.{Refusal}
 use Rattle.verdicts.specs.declared.verdicts.Confirmed.{Confirmed}
 use Rattle.verdicts.specs.declared.verdicts.Verdict.{Verdict}
 use Rattle.verdicts.specs.Claims.{claim_of}
-use Rattle.verdicts.specs.Judge.{Told, Good, Refused, judge, pieces, front, Judgement, Confirmed as IsSomeReport, Faulty, TooLong, conclude, answer, beyond, answer_within}
+use Rattle.verdicts.specs.Places.{Standing}
+use Rattle.verdicts.specs.FirstFault.{Told, Good, Refused}
+use Rattle.verdicts.specs.Judge.{judge, pieces, front, Judgement, Confirmed as IsSomeReport, Faulty, TooLong, conclude, answer, beyond, answer_within}
 use Rattle.verdicts.proofs.ClaimLaws.{within_limit}
 use Rattle.verdicts.proofs.JudgeLaws.{judge_sound}
 use Rattle.report.specs.declared.faults.ReportFault.{ReportFault}
@@ -72,7 +74,7 @@ module _ (study : Question) where
       → ((a : Judgement) → Concludes a (Err fault) → IsWorth a w) → IsWorth (answer_within most_verdict_bytes study held) w
   faulty_worth p e known left faulty bytes held fault w f ended k stands worth_of = by_told (judge study (front (pieces bytes))) refl stands.1
     where
-      by_told : (told : Told) → judge study (front (pieces bytes)) ≡ told → StandsAt study p told → IsWorth (answer_within most_verdict_bytes study held) w
+      by_told : (told : Told Standing Refusal) → judge study (front (pieces bytes)) ≡ told → StandsAt study p told → IsWorth (answer_within most_verdict_bytes study held) w
       by_told (Good s) told h = let wrong : Some fault ≡ None = sym f ∙ h.0 in absurd (cc)
       by_told (Refused m word) told h =
           let same : Some fault ≡ Some (AtLine m word) = sym f ∙ h in
@@ -83,7 +85,7 @@ module _ (study : Question) where
           subst (λ a. IsWorth a w) (sym answered) (worth_of (Faulty m word) (ap Err fault_is))
 
   -- the file goes on beyond the limit, and no line is faulty
-  faultless_is : (p : Progress) (told : Told) → p.fault ≡ None → StandsAt study p told → beyond told ≡ TooLong
+  faultless_is : (p : Progress) (told : Told Standing Refusal) → p.fault ≡ None → StandsAt study p told → beyond told ≡ TooLong
   faultless_is p (Good s) e h = refl
   faultless_is p (Refused m word) e h = absurd (cc)
 

@@ -8,6 +8,7 @@ use Rattle.vocab.specs.Study.{Question, HasFewAxioms}
 use Rattle.meaning.proofs.SpaceLaws.{list_all-map_of}
 use Rattle.meaning.proofs.TestLaws.{list_all-both}
 use Rattle.verdicts.specs.declared.refusals.Refusal.TheVariants.{Form}
+use Rattle.verdicts.specs.FirstFault.{Good}
 use Rattle.verdicts.specs.Judge.{pieces, front, final}
 use Rattle.verdicts.specs.Laws.{IsReportable, HasShortLines}
 use Rattle.verdicts.specs.Places.{Standing}
@@ -18,7 +19,7 @@ use Rattle.sharp_verdicts.specs.declared.refusals.SharpRefusal.TheVariants.{Repo
 use Rattle.sharp_verdicts.specs.Right.{Pointed, IsSharpRight}
 use Rattle.sharp_verdicts.specs.SharpLines.{SharpLine, SharpTitle, Plain, sharp_line_text, sharp_lines, sharp_text}
 use Rattle.sharp_verdicts.specs.SharpPlaces.{SharpPlace, AtSharp, AtReport, AtInstances, AtNeed, AtNeedRow, AtSharpEnd, AtSharpNothing, SharpStanding, sharp_start, wanted_past, read_sharp_line}
-use Rattle.sharp_verdicts.specs.SharpJudge.{advance_sharp, SharpGood, sharp_judge_from, sharp_judge, pointed_of, SharpConfirmed, SharpFaulty, at_sharp_end, sharp_conclude, sharp_answer, sharp_answer_within}
+use Rattle.sharp_verdicts.specs.SharpJudge.{advance_sharp, sharp_judge_from, sharp_judge, pointed_of, SharpConfirmed, SharpFaulty, at_sharp_end, sharp_conclude, sharp_answer, sharp_answer_within}
 use Rattle.sharp_laws.specs.Laws.{IsSharpText}
 use Rattle.sharp_laws.proofs.FitLaws.{SharpFits}
 use Rattle.sharp_laws.proofs.JudgeLaws.{ended_map, judge_sound}
@@ -176,7 +177,7 @@ module _ (study : Question) (is : IsReportable study) where
   -- the judge goes along some lines of a sharp text, and wants another
   stops_before : (n : ℕ) (s t : SharpStanding) (ls : List SharpLine) (before : List (List ℕ)) (line : List ℕ) (more : List (List ℕ)) → Runs s ls t
       → list_all short (map (sharp_line_text study) ls) ≡ true → map (sharp_line_text study) ls ≡ before ++ line ∷ more
-      → (u : SharpStanding) × (sharp_judge_from study n s before ≡ SharpGood u) × (u.place ≡ AtSharpNothing → ⊥)
+      → (u : SharpStanding) × (sharp_judge_from study n s before ≡ Good u) × (u.place ≡ AtSharpNothing → ⊥)
   stops_before n s t [] [] line more r h e = absurd (cc)
   stops_before n s t [] (b ∷ before) line more r h e = absurd (cc)
   stops_before n s t (l ∷ ls) [] line more r h e = (s, refl, λ p. nothing_fits s.place s.told l p r.0)

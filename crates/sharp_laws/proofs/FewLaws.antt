@@ -1,5 +1,5 @@
 -- Each line gives at most one lemma, and a sharp text has at least as many bytes as lemmas.
-use Rattle.std.proofs.Common.{◌≡◌, refl, ap, ℕ, suc, ◌+◌, ◌≤◌, Bool, true, false, List, [], ◌∷◌, ◌++◌, map, length, Option, Some, None, arith, cond, length-append}
+use Rattle.std.proofs.Common.{◌≡◌, refl, ap, ℕ, suc, ◌+◌, ◌≤◌, Bool, true, false, List, [], ◌∷◌, ◌++◌, map, length, arith, cond, length-append}
 use Rattle.std.specs.Prelude.{◌==◌}
 use Rattle.std.specs.List.{flat_map}
 use Rattle.std.proofs.lemmas.List.{length-map}
@@ -7,18 +7,20 @@ use Rattle.vocab.specs.declared.kinds.Sort.TheVariants.{Profile}
 use Rattle.vocab.specs.Size.{sort_count}
 use Rattle.vocab.specs.Study.{Question}
 use Rattle.meaning.specs.declared.cores.Witness.TheVariants.{Rule}
+use Rattle.verdicts.specs.declared.refusals.Refusal.TheVariants.{Form}
+use Rattle.verdicts.specs.FirstFault.{Good}
 use Rattle.verdicts.specs.Lines.{Line, Title, Row, End}
 use Rattle.verdicts.specs.Report.{story_lines, head_lines, all_witness_lines, own_version}
 use Rattle.verdicts.proofs.CompleteLaws.{told_lines}
 use Rattle.verdicts.proofs.FewLaws.{one_lemma}
+use Rattle.verdicts.proofs.FirstFaultLaws.{all_read}
 use Rattle.verdicts.proofs.LineEndLaws.{story_fits}
-use Rattle.sharp_verdicts.specs.declared.refusals.SharpRefusal.{SharpRefusal}
+use Rattle.sharp_verdicts.specs.declared.refusals.SharpRefusal.TheVariants.{Report}
 use Rattle.sharp_verdicts.specs.Right.{Pointed}
 use Rattle.sharp_verdicts.specs.SharpLines.{SharpLine, SharpTitle, Plain, InstancesAre, NeedsRule, NeedsOpen, after_first, sharp_line_text, all_mark_lines, story_part, sharp_lines, sharp_text}
 use Rattle.sharp_verdicts.specs.SharpPlaces.{SharpPlace, AtNeedRow, AtSharpEnd, SharpStanding, sharp_start, read_sharp_line}
 use Rattle.sharp_verdicts.specs.SharpFaults.{sharp_fault}
-use Rattle.sharp_verdicts.specs.SharpJudge.{after_mark, advance_plain, advance_sharp, SharpGood, sharp_settle_at, sharp_settle, sharp_judge_from, sharp_judge}
-use Rattle.sharp_laws.proofs.JudgeLaws.{same_good}
+use Rattle.sharp_verdicts.specs.SharpJudge.{after_mark, advance_plain, advance_sharp, sharp_judge}
 
 -- ---- line by line
 
@@ -45,28 +47,16 @@ module _ (study : Question) where
   one_more s (NeedsRule r n) = same_fits _ _ refl
   one_more s (NeedsOpen r n) = same_fits _ _ refl
 
-  grown : (n : ℕ) (s t : SharpStanding) (texts : List (List ℕ)) → sharp_judge_from study n s texts ≡ SharpGood t → lemmas_of t ≤ lemmas_of s + length texts
-  grown n s t [] e = let same : lemmas_of s ≡ lemmas_of t = ap lemmas_of (same_good s t e) in omega (arith, same)
-  grown n s t (text ∷ texts) e = by_line (read_sharp_line study s text) e (λ l. grown (n + 1) (advance_sharp study s l) t texts)
-    where
-      Later : SharpLine → Type 0
-      Later l = sharp_judge_from study (n + 1) (advance_sharp study s l) texts ≡ SharpGood t → lemmas_of t ≤ lemmas_of (advance_sharp study s l) + length texts
+  -- a reader whose lemmas are no more than the lines
+  abbrev AreFew : SharpStanding → List (List ℕ) → Type 0
+  AreFew s lines = lemmas_of s ≤ length lines
 
-      by_fault : (l : SharpLine) (o : Option SharpRefusal) → sharp_settle_at study n s l o (λ next. sharp_judge_from study (n + 1) next texts) ≡ SharpGood t
-          → Later l → lemmas_of t ≤ lemmas_of s + length (text ∷ texts)
-      by_fault l None e go =
-          let later : lemmas_of t ≤ lemmas_of (advance_sharp study s l) + length texts = go e in
-          let one : lemmas_of (advance_sharp study s l) ≤ lemmas_of s + 1 = one_more s l in
-          omega (arith, later, one)
-      by_fault l (Some word) e go = absurd (cc)
+  few_next : (s : SharpStanding) (before : List (List ℕ)) (text : List ℕ) (l : SharpLine) → AreFew s before → AreFew (advance_sharp study s l) (before ++ text ∷ [])
+  few_next s before text l h = omega (arith, h, one_more s l, length-append before (text ∷ []))
 
-      by_line : (o : Option SharpLine) → sharp_settle study n s o (λ next. sharp_judge_from study (n + 1) next texts) ≡ SharpGood t
-          → ((l : SharpLine) → Later l) → lemmas_of t ≤ lemmas_of s + length (text ∷ texts)
-      by_line None e go = absurd (cc)
-      by_line (Some l) e go = by_fault l (sharp_fault study s l) e (go l)
-
-  pub lemmas_few : (lines : List (List ℕ)) (s : SharpStanding) → sharp_judge study lines ≡ SharpGood s → length s.told.earlier ≤ length lines
-  lemmas_few lines s e = let all : lemmas_of s ≤ 0 + length lines = grown 1 sharp_start s lines e in omega (arith, all)
+  pub lemmas_few : (lines : List (List ℕ)) (s : SharpStanding) → sharp_judge study lines ≡ Good s → length s.told.earlier ≤ length lines
+  lemmas_few lines s e =
+      all_read (read_sharp_line study) (sharp_fault study) (Report Form) (advance_sharp study) AreFew (λ s before text l h r f. few_next s before text l h) 1 sharp_start s [] lines (omega arith) e
 
   -- ---- in a text
 

@@ -9,6 +9,7 @@ use Rattle.verdicts.specs.Claims.{HasNoRule}
 use Rattle.verdicts.specs.declared.refusals.Refusal.TheVariants.{Form, Fails}
 use Rattle.verdicts.specs.declared.verdicts.Verdict.{Verdict}
 use Rattle.verdicts.specs.Lines.{name_at}
+use Rattle.verdicts.specs.FirstFault.{Good, Refused}
 use Rattle.verdicts.specs.Judge.{has_no_end, ended, pieces, Confirmed, Faulty, answer}
 use Rattle.verdicts.specs.Laws.{IsReportable, HasShortLines, is_rule_given}
 use Rattle.sharp_verdicts.specs.declared.instances.Cited.{Cited}
@@ -19,7 +20,7 @@ use Rattle.sharp_verdicts.specs.Right.{Pointed, satisfies_instances, IsSharpRigh
 use Rattle.sharp_verdicts.specs.SharpLines.{sharp_text}
 use Rattle.sharp_verdicts.specs.SharpPlaces.{SharpStanding}
 use Rattle.sharp_verdicts.specs.SharpFaults.{instances_fault}
-use Rattle.sharp_verdicts.specs.SharpJudge.{SharpGood, SharpRefused, sharp_line_fault, sharp_judge, SharpConfirmed, SharpFaulty, sharp_conclude, sharp_answer, sharp_answer_within}
+use Rattle.sharp_verdicts.specs.SharpJudge.{sharp_line_fault, sharp_judge, SharpConfirmed, SharpFaulty, sharp_conclude, sharp_answer, sharp_answer_within}
 
 -- the text is that of this sharp verdict, which is right
 pub record IsSharpText (study : Question) (v : Pointed) (text : List ℕ) : Type 0 where
@@ -77,7 +78,7 @@ SharpConfirmedWithinLimit =
 
 -- lines without a fault have given at most as many lemmas as they are
 abbrev pub SharpLemmasAreFew : Type 0
-SharpLemmasAreFew = (study : Question) (lines : List (List ℕ)) (s : SharpStanding) → sharp_judge study lines ≡ SharpGood s → length s.told.earlier ≤ length lines
+SharpLemmasAreFew = (study : Question) (lines : List (List ℕ)) (s : SharpStanding) → sharp_judge study lines ≡ Good s → length s.told.earlier ≤ length lines
 
 -- the text of a sharp verdict has at least as many bytes as its story has lemmas
 abbrev pub SharpLemmasFit : Type 0
@@ -135,14 +136,14 @@ pub record IsFirstSharpFault (study : Question) (lines : List (List ℕ)) (n : �
   pub standing : SharpStanding
   pub split : lines ≡ before ++ line ∷ more
   pub number : n ≡ length before + 1
-  pub faultless : sharp_judge study before ≡ SharpGood standing
+  pub faultless : sharp_judge study before ≡ Good standing
   pub fault : sharp_line_fault study standing line ≡ Some word
 
 -- the judge names the first faulty line, and no line after it plays a part
 abbrev pub SharpFaultsAreFirst : Type 0
 SharpFaultsAreFirst =
     (study : Question) (lines : List (List ℕ)) (n : ℕ) (word : SharpRefusal)
-    → (sharp_judge study lines ≡ SharpRefused n word) ↔ IsFirstSharpFault study lines n word
+    → (sharp_judge study lines ≡ Refused n word) ↔ IsFirstSharpFault study lines n word
 
 -- the first of some instances whose body is false of a table: the word has the name of its axiom, and its number
 pub record IsFirstFalse (study : Question) (table : List ℕ) (instances : List Cited) (word : SharpRefusal) : Type 0 where

@@ -1,15 +1,15 @@
 -- One more line.
-use Rattle.std.proofs.Common.{◌≡◌, ◌≢◌, refl, sym, ap, ◌∙◌, subst, ℕ, ◌+◌, ◌<◌, ◌⊎◌, inl, inr, List, [], ◌∷◌, ◌++◌, length, Option, Some, None, Result, Ok, Err, arith, length-append}
+use Rattle.std.proofs.Common.{◌≡◌, ◌≢◌, refl, sym, ◌∙◌, subst, ℕ, ◌+◌, ◌<◌, ◌⊎◌, inl, inr, List, [], ◌∷◌, ◌++◌, length, Option, Some, None, Result, Ok, Err, arith, length-append}
 use Rattle.std.specs.Prelude.{MatchResult, OnOk}
-use Rattle.std.specs.Option.{option_map_or}
 use Rattle.lists.specs.declared.memory.NoMemory.{NoMemory as Wanting}
 use Rattle.vocab.specs.Study.{Question}
+use Rattle.verdicts.specs.FirstFault.{Told, Good, Refused}
+use Rattle.verdicts.proofs.FirstFaultLaws.{past, stops, go_on, judge_append}
 use Rattle.verdicts.specs.declared.refusals.Refusal.TheVariants.{Form}
 use Rattle.sharp_verdicts.specs.declared.refusals.SharpRefusal.{SharpRefusal}
 use Rattle.sharp_verdicts.specs.declared.refusals.SharpRefusal.TheVariants.{Report}
 use Rattle.sharp_verdicts.specs.SharpFaults.{sharp_fault}
-use Rattle.sharp_verdicts.specs.SharpJudge.{advance_sharp, SharpTold, SharpGood, SharpRefused, sharp_settle_at, sharp_settle, sharp_judge_from, sharp_judge}
-use Rattle.sharp_verdicts.specs.SharpLines.{SharpLine}
+use Rattle.sharp_verdicts.specs.SharpJudge.{advance_sharp, sharp_line_fault, sharp_after, sharp_judge_from, sharp_judge}
 use Rattle.sharp_verdicts.specs.SharpPlaces.{SharpStanding, sharp_start, read_sharp_line}
 use Rattle.sharp_report.specs.declared.faults.SharpFault.{SharpFault}
 use Rattle.sharp_report.specs.declared.faults.SharpFault.TheVariants.{Line as AtLine, NoMemory}
@@ -35,77 +35,50 @@ at n fault r = record { judging = r; lines = n; fault = fault }
 
 module _ (study : Question) where
   -- a line that is taken
-  pub taken : (n count : ℕ) (s : SharpStanding) (text : List ℕ) (r : SharpJudging) (said : HeldLine) → IsReadWithin study count s → IsSharpTaken study s text r (Ok said) → SharpStandsAs study (count + 1) None r (sharp_settle study n s (read_sharp_line study s text) SharpGood)
-  taken n count s text r said i h =
-      subst (λ o. SharpStandsAs study (count + 1) None r (sharp_settle study n s o SharpGood)) (sym h.1)
-      (subst (λ o. SharpStandsAs study (count + 1) None r (sharp_settle_at study n s h.0 o SharpGood)) (sym h.3) (refl, h.4, h.5 count i))
+  pub taken : (n count : ℕ) (s : SharpStanding) (text : List ℕ) (r : SharpJudging) (said : HeldLine) → IsReadWithin study count s → IsSharpTaken study s text r (Ok said) → SharpStandsAs study (count + 1) None r (sharp_judge_from study n s (text ∷ []))
+  taken n count s text r said i h = subst (SharpStandsAs study (count + 1) None r) (sym (past (read_sharp_line study) (sharp_fault study) (Report Form) (advance_sharp study) n s text [] h.0 h.1 h.3)) (refl, h.4, h.5 count i)
 
   -- a line that is refused
-  pub refused : (n count : ℕ) (s : SharpStanding) (text : List ℕ) (r : SharpJudging) (word : SharpRefusal) → IsSharpTaken study s text r (Err word) → SharpStandsAs study (count + 1) (Some (AtLine n word)) r (sharp_settle study n s (read_sharp_line study s text) SharpGood)
-  refused n count s text r word h = by_line (read_sharp_line study s text) h
-    where
-      by_fault : (line : SharpLine) (o : Option SharpRefusal) → o ≡ Some word → SharpStandsAs study (count + 1) (Some (AtLine n word)) r (sharp_settle_at study n s line o SharpGood)
-      by_fault line o e = subst (λ o. SharpStandsAs study (count + 1) (Some (AtLine n word)) r (sharp_settle_at study n s line o SharpGood)) (sym e) refl
-
-      by_line : (o : Option SharpLine) → option_map_or (sharp_fault study s) o (Some (Report Form)) ≡ Some word → SharpStandsAs study (count + 1) (Some (AtLine n word)) r (sharp_settle study n s o SharpGood)
-      by_line None e = let same : Report Form ≡ word = cc in ap (λ w. Some (AtLine n w)) (sym same)
-      by_line (Some line) e = by_fault line (sharp_fault study s line) e
+  pub refused : (n count : ℕ) (s : SharpStanding) (text : List ℕ) (r : SharpJudging) (word : SharpRefusal) → IsSharpTaken study s text r (Err word) → SharpStandsAs study (count + 1) (Some (AtLine n word)) r (sharp_judge_from study n s (text ∷ []))
+  refused n count s text r word h =
+      subst (SharpStandsAs study (count + 1) (Some (AtLine n word)) r) (sym (stops (sharp_line_fault study) (sharp_after study) n s text [] word h)) refl
 
   -- ---- after other lines
-
-  -- one more line, after a result
-  abbrev pub told_more : ℕ → SharpTold → List ℕ → SharpTold
-  told_more n (SharpGood s) text = sharp_settle study n s (read_sharp_line study s text) SharpGood
-  told_more n (SharpRefused line word) text = SharpRefused line word
-
-  judge_snoc : (n : ℕ) (s : SharpStanding) (texts : List (List ℕ)) (text : List ℕ) → sharp_judge_from study n s (texts ++ text ∷ []) ≡ told_more (n + length texts) (sharp_judge_from study n s texts) text
-  judge_snoc n s [] text = ap (λ k. sharp_settle study k s (read_sharp_line study s text) SharpGood) (zero_more n)
-    where
-      zero_more : (n : ℕ) → n ≡ n + 0
-      zero_more n = omega arith
-  judge_snoc n s (t ∷ texts) text = by_line (read_sharp_line study s t) (λ next. judge_snoc (n + 1) next texts text)
-    where
-      count : n + 1 + length texts ≡ n + length (t ∷ texts)
-      count = omega arith
-
-      by_fault : (l : SharpLine) (o : Option SharpRefusal) → ((next : SharpStanding) → sharp_judge_from study (n + 1) next (texts ++ text ∷ []) ≡ told_more (n + 1 + length texts) (sharp_judge_from study (n + 1) next texts) text) → sharp_settle_at study n s l o (λ next. sharp_judge_from study (n + 1) next (texts ++ text ∷ [])) ≡ told_more (n + length (t ∷ texts)) (sharp_settle_at study n s l o (λ next. sharp_judge_from study (n + 1) next texts)) text
-      by_fault l None later = later (advance_sharp study s l) ∙ ap (λ k. told_more k (sharp_judge_from study (n + 1) (advance_sharp study s l) texts) text) count
-      by_fault l (Some w) later = refl
-
-      by_line : (o : Option SharpLine) → ((next : SharpStanding) → sharp_judge_from study (n + 1) next (texts ++ text ∷ []) ≡ told_more (n + 1 + length texts) (sharp_judge_from study (n + 1) next texts) text) → sharp_settle study n s o (λ next. sharp_judge_from study (n + 1) next (texts ++ text ∷ [])) ≡ told_more (n + length (t ∷ texts)) (sharp_settle study n s o (λ next. sharp_judge_from study (n + 1) next texts)) text
-      by_line None later = refl
-      by_line (Some l) later = by_fault l (sharp_fault study s l) later
 
   longer : (n : ℕ) (lines : List (List ℕ)) (text : List ℕ) → n ≡ length lines → n + 1 ≡ length (lines ++ text ∷ [])
   longer n lines text e = omega (arith, e, length-append lines (text ∷ []))
 
-  pub told_next : (lines : List (List ℕ)) (text : List ℕ) → sharp_judge study (lines ++ text ∷ []) ≡ told_more (1 + length lines) (sharp_judge study lines) text
-  told_next lines text = judge_snoc 1 sharp_start lines text
+  -- one more line, of this number, after a result
+  abbrev more : ℕ → Told SharpStanding SharpRefusal → List ℕ → Told SharpStanding SharpRefusal
+  more n told text = go_on (sharp_line_fault study) (sharp_after study) n told (text ∷ [])
+
+  told_next : (lines : List (List ℕ)) (text : List ℕ) → sharp_judge study (lines ++ text ∷ []) ≡ more (1 + length lines) (sharp_judge study lines) text
+  told_next lines text = judge_append (sharp_line_fault study) (sharp_after study) 1 sharp_start lines (text ∷ [])
 
   -- after a faulty line nothing changes
   still : (n : ℕ) (fault : SharpFault) (r : SharpJudging) (lines : List (List ℕ)) (text : List ℕ) → SharpStandsFor study (at n (Some fault) r) lines → SharpStandsFor study (at (n + 1) (Some fault) r) (lines ++ text ∷ [])
   still n fault r lines text h =
       (longer n lines text h.0, subst (SharpStandsAs study (length (lines ++ text ∷ [])) (Some fault) r) (sym (told_next lines text)) (by_told (sharp_judge study lines) h.1))
     where
-      by_told : (told : SharpTold) → SharpStandsAs study (length lines) (Some fault) r told → SharpStandsAs study (length (lines ++ text ∷ [])) (Some fault) r (told_more (1 + length lines) told text)
-      by_told (SharpGood s) k = let wrong : Some fault ≡ None = k.0 in absurd (cc)
-      by_told (SharpRefused line word) k = k
+      by_told : (told : Told SharpStanding SharpRefusal) → SharpStandsAs study (length lines) (Some fault) r told → SharpStandsAs study (length (lines ++ text ∷ [])) (Some fault) r (more (1 + length lines) told text)
+      by_told (Good s) k = let wrong : Some fault ≡ None = k.0 in absurd (cc)
+      by_told (Refused line word) k = k
 
   -- the next line after lines without a fault
   step : (n : ℕ) (fault : Option SharpFault) (r after : SharpJudging) (lines : List (List ℕ)) (text : List ℕ) → SharpStandsFor study (at n None r) lines →
-      ((s : SharpStanding) (count : ℕ) → SharpStands study r s → IsReadWithin study count s → SharpStandsAs study (count + 1) fault after (sharp_settle study (n + 1) s (read_sharp_line study s text) SharpGood)) → SharpStandsFor study (at (n + 1) fault after) (lines ++ text ∷ [])
+      ((s : SharpStanding) (count : ℕ) → SharpStands study r s → IsReadWithin study count s → SharpStandsAs study (count + 1) fault after (sharp_judge_from study (n + 1) s (text ∷ []))) → SharpStandsFor study (at (n + 1) fault after) (lines ++ text ∷ [])
   step n fault r after lines text h go =
       let number : n + 1 ≡ 1 + length lines = omega (arith, h.0) in
       let one : length lines + 1 ≡ length (lines ++ text ∷ []) = omega (arith, length-append lines (text ∷ [])) in (
         longer n lines text h.0,
         subst (SharpStandsAs study (length (lines ++ text ∷ [])) fault after) (sym (told_next lines text))
-            (subst (λ k. SharpStandsAs study k fault after (told_more (1 + length lines) (sharp_judge study lines) text)) one
-            (subst (λ k. SharpStandsAs study (length lines + 1) fault after (told_more k (sharp_judge study lines) text)) number (by_told (sharp_judge study lines) h.1))),
+            (subst (λ k. SharpStandsAs study k fault after (more (1 + length lines) (sharp_judge study lines) text)) one
+            (subst (λ k. SharpStandsAs study (length lines + 1) fault after (more k (sharp_judge study lines) text)) number (by_told (sharp_judge study lines) h.1))),
       )
     where
-      by_told : (told : SharpTold) → SharpStandsAs study (length lines) None r told → SharpStandsAs study (length lines + 1) fault after (told_more (n + 1) told text)
-      by_told (SharpGood s) k = go s (length lines) k.1 k.2
-      by_told (SharpRefused line word) k = let wrong : None ≡ Some (AtLine line word) = k in absurd (cc)
+      by_told : (told : Told SharpStanding SharpRefusal) → SharpStandsAs study (length lines) None r told → SharpStandsAs study (length lines + 1) fault after (more (n + 1) told text)
+      by_told (Good s) k = go s (length lines) k.1 k.2
+      by_told (Refused line word) k = let wrong : None ≡ Some (AtLine line word) = k in absurd (cc)
 
   -- ---- at what a checker holds
 
@@ -117,7 +90,7 @@ module _ (study : Question) where
   still_at n o fault r lines text e h = subst (λ x. SharpStandsFor study (at (n + 1) x r) (lines ++ text ∷ [])) (sym e) (still n fault r lines text (subst (λ x. SharpStandsFor study (at n x r) lines) e h))
 
   abbrev pub Goes : ℕ → Option SharpFault → SharpJudging → SharpJudging → List ℕ → Type 0
-  Goes n fault r after text = (s : SharpStanding) (count : ℕ) → SharpStands study r s → IsReadWithin study count s → fault ≢ Some NoMemory → SharpStandsAs study (count + 1) fault after (sharp_settle study (n + 1) s (read_sharp_line study s text) SharpGood)
+  Goes n fault r after text = (s : SharpStanding) (count : ℕ) → SharpStands study r s → IsReadWithin study count s → fault ≢ Some NoMemory → SharpStandsAs study (count + 1) fault after (sharp_judge_from study (n + 1) s (text ∷ []))
 
   pub step_at : (n : ℕ) (o fault : Option SharpFault) (r after : SharpJudging) (lines : List (List ℕ)) (text : List ℕ) → o ≡ None → SharpStandsFor study (at n o r) lines → Goes n fault r after text → fault ≢ Some NoMemory → SharpStandsFor study (at (n + 1) fault after) (lines ++ text ∷ [])
   step_at n o fault r after lines text e h go other = step n fault r after lines text (subst (λ x. SharpStandsFor study (at n x r) lines) e h) (λ s count k i. go s count k i other)
@@ -134,6 +107,6 @@ module _ (study : Question) where
   read_so_far n o r room e (inl w) = let wrong : Some NoMemory ≡ None = sym w ∙ e in absurd (cc)
   read_so_far n o r room e (inr (lines, h)) = by_told (sharp_judge study lines) h.1
     where
-      by_told : (told : SharpTold) → SharpStandsAs study (length lines) o r told → IsSharpRead study r
-      by_told (SharpGood s) k = record { count = length lines; few = (let a = h.0 in omega (arith, a, room)); standing = s; stands = k.1; read = k.2 }
-      by_told (SharpRefused line word) k = let wrong : None ≡ Some (AtLine line word) = sym e ∙ k in absurd (cc)
+      by_told : (told : Told SharpStanding SharpRefusal) → SharpStandsAs study (length lines) o r told → IsSharpRead study r
+      by_told (Good s) k = record { count = length lines; few = (let a = h.0 in omega (arith, a, room)); standing = s; stands = k.1; read = k.2 }
+      by_told (Refused line word) k = let wrong : None ≡ Some (AtLine line word) = sym e ∙ k in absurd (cc)

@@ -11,13 +11,14 @@ use Rattle.verdicts.specs.Texts.{words_of}
 use Rattle.verdicts.specs.Lines.{Line, Title, SaysPossible}
 use Rattle.verdicts.specs.Places.{Standing, start, wanted}
 use Rattle.verdicts.specs.Faults.{unless_so, fault_of}
-use Rattle.verdicts.specs.Judge.{advance, read_line, line_fault, Good, judge}
+use Rattle.verdicts.specs.FirstFault.{Good}
+use Rattle.verdicts.specs.Judge.{advance, read_line, line_fault, after, judge}
 use Rattle.verdicts.specs.Report.{own_version}
 use Rattle.verdicts.proofs.FitLaws.{Fits, wanted_fits}
 use Rattle.verdicts.proofs.JudgeLaws.{not_long}
 use Rattle.verdicts.proofs.ReportLaws.{own_allowed}
 use Rattle.verdicts.proofs.FaultLaws.{past}
-use Rattle.verdicts.proofs.StepLaws.{told_more, judge_snoc}
+use Rattle.verdicts.proofs.FirstFaultLaws.{after_good}
 use Rattle.report_lines.specs.declared.lines.Line.{Line as HeldLine}
 use Rattle.report_lines.specs.Held.{held_line}
 use Rattle.report.specs.declared.judging.Judging.{Judging}
@@ -122,7 +123,7 @@ module _ (study : Question) where
   read_more : (n : ℕ) (s t : SharpStanding) (text : List ℕ) (w : Line) → read_line study s.told text ≡ Some w → fault_of study s.told w ≡ None → t.told ≡ advance study s.told w → IsReadWithin study n s → IsReadWithin study (n + 1) t
   read_more n s t text w e f same i =
       let more : judge study (i.lines ++ text ∷ []) ≡ Good (advance study s.told w) =
-      judge_snoc study 1 start i.lines text ∙ ap (λ o. told_more study (1 + length i.lines) o text) i.good
+      after_good (line_fault study) (after study) 1 start s.told i.lines (text ∷ []) i.good
       ∙ past study (1 + length i.lines) s.told text [] w e f in
       record {
         lines = i.lines ++ text ∷ [];

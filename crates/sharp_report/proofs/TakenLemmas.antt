@@ -2,7 +2,7 @@
 use Rattle.std.proofs.Common.{◌≡◌, refl, sym, ap, ◌∙◌, ℕ, ◌+◌, List, Option, Some, None, Err, arith}
 use Rattle.std.specs.Option.{option_map_or}
 use Rattle.vocab.specs.Study.{Question}
-use Rattle.verdicts.specs.Judge.{Good}
+use Rattle.verdicts.specs.FirstFault.{Good}
 use Rattle.sharp_verdicts.specs.declared.refusals.SharpRefusal.{SharpRefusal}
 use Rattle.sharp_verdicts.specs.declared.refusals.SharpRefusal.TheVariants.{Report}
 use Rattle.verdicts.specs.declared.refusals.Refusal.TheVariants.{Form}

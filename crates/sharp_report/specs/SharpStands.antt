@@ -5,13 +5,14 @@ use Rattle.vocab.specs.Size.{is_full, sort_count}
 use Rattle.vocab.specs.Study.{Question}
 use Rattle.meaning.specs.Truth.{is_rule}
 use Rattle.verdicts.specs.Places.{Place, AtKind, AtVoters, AtAlternatives, AtBallots, AtAbsent, AtAxioms, AtVerdict, AtCore, AtLemmas, AtLemma, AtSuppose, AtStep, start}
-use Rattle.verdicts.specs.Judge.{Good, judge}
+use Rattle.verdicts.specs.FirstFault.{Told, Good, Refused}
+use Rattle.verdicts.specs.Judge.{judge}
 use Rattle.report_lines.specs.Held.{held_line}
 use Rattle.report.specs.Stands.{Stands}
 use Rattle.report.specs.Taken.{AreOutcomes}
 use Rattle.sharp_verdicts.specs.declared.refusals.SharpRefusal.{SharpRefusal}
 use Rattle.sharp_verdicts.specs.SharpFaults.{listed_instances, sharp_fault, instances_fault, others_asked}
-use Rattle.sharp_verdicts.specs.SharpJudge.{after_mark_row, advance_sharp, sharp_line_fault, SharpTold, SharpGood, SharpRefused, sharp_judge}
+use Rattle.sharp_verdicts.specs.SharpJudge.{after_mark_row, advance_sharp, sharp_line_fault, sharp_judge}
 use Rattle.sharp_verdicts.specs.SharpLines.{SharpLine, SharpTitle, Plain, InstancesAre, NeedsRule, NeedsOpen}
 use Rattle.sharp_verdicts.specs.SharpPlaces.{SharpPlace, AtSharp, AtReport, AtInstances, AtNeed, AtNeedRow, AtSharpEnd, AtSharpNothing, SharpStanding, read_sharp_line}
 use Rattle.sharp_report.specs.declared.faults.SharpFault.{SharpFault}
@@ -129,9 +130,9 @@ module _ (study : Question) where
   IsSharpTaken s text r (Err word) = sharp_line_fault study s text ≡ Some word
 
   -- what is held after so many lines of which none is faulty, and after the first faulty one
-  abbrev pub SharpStandsAs : ℕ → Option SharpFault → SharpJudging → SharpTold → Type 0
-  SharpStandsAs count fault r (SharpGood s) = (fault ≡ None) × SharpStands r s × IsReadWithin count s
-  SharpStandsAs count fault r (SharpRefused line word) = fault ≡ Some (AtLine line word)
+  abbrev pub SharpStandsAs : ℕ → Option SharpFault → SharpJudging → Told SharpStanding SharpRefusal → Type 0
+  SharpStandsAs count fault r (Good s) = (fault ≡ None) × SharpStands r s × IsReadWithin count s
+  SharpStandsAs count fault r (Refused line word) = fault ≡ Some (AtLine line word)
 
   -- a checker that is so far stands for these lines
   abbrev pub SharpStandsFor : SharpProgress → List (List ℕ) → Type 0

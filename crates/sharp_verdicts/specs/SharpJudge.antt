@@ -1,5 +1,5 @@
 -- The first faulty line of a sharp text, or the sharp verdict that is confirmed.
-use Rattle.std.specs.Prelude.{ℕ, ◌+◌, ◌==◌, nat_lt, List, [], ◌∷◌, ◌++◌, length, take, Option, Some, None, if◌then◌else◌}
+use Rattle.std.specs.Prelude.{ℕ, ◌==◌, nat_lt, List, [], ◌∷◌, ◌++◌, length, take, Option, Some, if◌then◌else◌}
 use Rattle.std.specs.Option.{option_map_or}
 use Rattle.vocab.specs.declared.kinds.Sort.TheVariants.{Profile}
 use Rattle.vocab.specs.Size.{sort_count}
@@ -7,6 +7,7 @@ use Rattle.vocab.specs.Study.{Question}
 use Rattle.meaning.specs.declared.cores.Witness.TheVariants.{Rule, Open}
 use Rattle.verdicts.specs.declared.refusals.Refusal.TheVariants as refusal
 use Rattle.verdicts.specs.Lines.{Line, Title, Row, End}
+use Rattle.verdicts.specs.FirstFault.{Told, Good, Refused, judge_lines}
 use Rattle.verdicts.specs.Judge.{advance, pieces, front, final}
 use Rattle.verdicts.specs.Report.{own_version}
 use Rattle.sharp_verdicts.specs.declared.refusals.SharpRefusal.{SharpRefusal}
@@ -47,33 +48,21 @@ module _ (study : Question) where
 
 -- ---- line by line
 
--- how far lines are read: to where the reader stands, or to the first faulty one, with its refusal; lines are numbered from 1
-pub data SharpTold : Type 0 where
-  SharpGood : SharpStanding → SharpTold
-  SharpRefused : (line : ℕ) → SharpRefusal → SharpTold
-
 module _ (study : Question) where
   -- the refusal of a line, if it has one
   abbrev pub sharp_line_fault : SharpStanding → List ℕ → Option SharpRefusal
   sharp_line_fault s text = option_map_or (sharp_fault study s) (read_sharp_line study s text) (Some (Report refusal.Form))
 
-  -- past a line without a fault
-  abbrev pub sharp_settle_at : ℕ → SharpStanding → SharpLine → Option SharpRefusal → (SharpStanding → SharpTold) → SharpTold
-  sharp_settle_at n s line None go = go (advance_sharp study s line)
-  sharp_settle_at n s line (Some word) go = SharpRefused n word
+  -- where the reader stands after a line: at the same place where it says nothing
+  abbrev pub sharp_after : SharpStanding → List ℕ → SharpStanding
+  sharp_after s text = option_map_or (advance_sharp study s) (read_sharp_line study s text) s
 
-  -- past a line that is read
-  abbrev pub sharp_settle : ℕ → SharpStanding → Option SharpLine → (SharpStanding → SharpTold) → SharpTold
-  sharp_settle n s None go = SharpRefused n (Report refusal.Form)
-  sharp_settle n s (Some line) go = sharp_settle_at n s line (sharp_fault study s line) go
-
-  -- line after line, the first of this number
-  abbrev pub sharp_judge_from : ℕ → SharpStanding → List (List ℕ) → SharpTold
-  sharp_judge_from n s [] = SharpGood s
-  sharp_judge_from n s (text ∷ texts) = sharp_settle n s (read_sharp_line study s text) (λ next. sharp_judge_from (n + 1) next texts)
+  -- lines from where the reader stands, the first of this number
+  abbrev pub sharp_judge_from : ℕ → SharpStanding → List (List ℕ) → Told SharpStanding SharpRefusal
+  sharp_judge_from = judge_lines sharp_line_fault sharp_after
 
   -- all lines
-  abbrev pub sharp_judge : List (List ℕ) → SharpTold
+  abbrev pub sharp_judge : List (List ℕ) → Told SharpStanding SharpRefusal
   sharp_judge texts = sharp_judge_from 1 sharp_start texts
 
   -- what is confirmed where all is read
@@ -95,18 +84,18 @@ module _ (study : Question) where
   at_sharp_end n rest place s = SharpFaulty n (Report refusal.Form)
 
   -- with the number of the last piece, and the piece
-  abbrev pub sharp_conclude : ℕ → List ℕ → SharpTold → SharpJudgement
-  sharp_conclude n rest (SharpRefused line word) = SharpFaulty line word
-  sharp_conclude n rest (SharpGood s) = at_sharp_end n rest s.place s
+  abbrev pub sharp_conclude : ℕ → List ℕ → Told SharpStanding SharpRefusal → SharpJudgement
+  sharp_conclude n rest (Refused line word) = SharpFaulty line word
+  sharp_conclude n rest (Good s) = at_sharp_end n rest s.place s
 
   -- the answer to a text
   abbrev pub sharp_answer : List ℕ → SharpJudgement
   sharp_answer text = sharp_conclude (length (pieces text)) (final (pieces text)) (sharp_judge study (front (pieces text)))
 
   -- where no line that ends within the limit is faulty
-  abbrev pub sharp_beyond : SharpTold → SharpJudgement
-  sharp_beyond (SharpRefused line word) = SharpFaulty line word
-  sharp_beyond (SharpGood s) = SharpTooLong
+  abbrev pub sharp_beyond : Told SharpStanding SharpRefusal → SharpJudgement
+  sharp_beyond (Refused line word) = SharpFaulty line word
+  sharp_beyond (Good s) = SharpTooLong
 
 -- the answer to a text of which so many bytes are read: of a longer one the lines are judged that end within them
 abbrev pub sharp_answer_within : ℕ → Question → List ℕ → SharpJudgement

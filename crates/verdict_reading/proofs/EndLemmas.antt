@@ -11,14 +11,15 @@ use Rattle.verdicts.specs.declared.verdicts.Confirmed.TheVariants as claim
 use Rattle.verdicts.specs.declared.verdicts.Verdict.{Verdict}
 use Rattle.verdicts.specs.declared.verdicts.Verdict.TheVariants.{Possible, Impossible, Undecided}
 use Rattle.verdicts.specs.Places.{Place, Standing, AtNothing}
-use Rattle.verdicts.specs.Judge.{Told as ToldOfReport, Good, at_end, conclude, beyond}
+use Rattle.verdicts.specs.FirstFault.{Told, Good}
+use Rattle.verdicts.specs.Judge.{at_end, conclude, beyond}
 use Rattle.report_lines.specs.Held.{held_place}
 use Rattle.sharp_verdicts.specs.declared.instances.Cited.{Cited}
 use Rattle.sharp_verdicts.specs.declared.refusals.SharpRefusal.{SharpRefusal}
 use Rattle.sharp_verdicts.specs.declared.refusals.SharpRefusal.TheVariants.{Report}
 use Rattle.sharp_verdicts.specs.Judged.{AsReport, AsSharp}
 use Rattle.sharp_verdicts.specs.SharpFaults.{listed_instances}
-use Rattle.sharp_verdicts.specs.SharpJudge.{SharpTold, SharpGood, pointed_of, at_sharp_end, sharp_conclude, sharp_beyond}
+use Rattle.sharp_verdicts.specs.SharpJudge.{pointed_of, at_sharp_end, sharp_conclude, sharp_beyond}
 use Rattle.sharp_verdicts.specs.SharpPlaces.{SharpPlace, AtSharpNothing, SharpStanding}
 use Rattle.sharp_report.specs.SharpStands.{held_sharp_place}
 use Rattle.verdict_reading.specs.declared.collector.Collector.{Collector}
@@ -97,7 +98,7 @@ abbrev report_end : (whole : Bool) → ℕ → List ℕ → Standing → Reading
 report_end whole n rest s = reading_of (AsReport (judged_end whole n rest (Good s)))
 
 abbrev sharp_end : Question → (whole : Bool) → ℕ → List ℕ → SharpStanding → Reading
-sharp_end study whole n rest s = reading_of (AsSharp (sharp_judged_end study whole n rest (SharpGood s)))
+sharp_end study whole n rest s = reading_of (AsSharp (sharp_judged_end study whole n rest (Good s)))
 
 -- it is cut off
 pub cut_off : (whole : Bool) (n : ℕ) (rest : List ℕ) (s : Standing) → whole ≡ false → reading.TooLong ≡ report_end whole n rest s
@@ -173,7 +174,7 @@ module _ (study : Question) (lines : List (List ℕ)) (rest : List ℕ) where
       → IfOk result (λ r. r ≡ reading_of (judged_lines study sharp whole lines rest))
   report_ends true whole ended c line result h e go = absurd h
   report_ends false whole ended c line result h e go =
-      subst (λ (t : ToldOfReport). IfOk result (λ r. r ≡ reading_of (AsReport (judged_end whole (length lines + 1) rest t)))) (sym h.1)
+      subst (λ (t : Told Standing Refusal). IfOk result (λ r. r ≡ reading_of (AsReport (judged_end whole (length lines + 1) rest t)))) (sym h.1)
       (subst (λ n. IfOk result (λ r. r ≡ report_end whole n rest h.0)) e (go h.0 h.2))
 
   -- of a sharp text
@@ -182,18 +183,18 @@ module _ (study : Question) (lines : List (List ℕ)) (rest : List ℕ) where
       → IfOk result (λ r. r ≡ reading_of (judged_lines study sharp whole lines rest))
   sharp_ends false whole ended c line result h e go = absurd h
   sharp_ends true whole ended c line result h e go =
-      subst (λ (t : SharpTold). IfOk result (λ r. r ≡ reading_of (AsSharp (sharp_judged_end study whole (length lines + 1) rest t)))) (sym h.1)
+      subst (λ (t : Told SharpStanding SharpRefusal). IfOk result (λ r. r ≡ reading_of (AsSharp (sharp_judged_end study whole (length lines + 1) rest t)))) (sym h.1)
       (subst (λ n. IfOk result (λ r. r ≡ sharp_end study whole n rest h.0)) e (go h.0 h.2))
 
   -- a line is faulty
   pub report_refused : (sharp whole : Bool) (line : ℕ) (word : Refusal) → IsFirstFaulty study sharp lines line (refusal.Report word)
       → reading.Faulty line word ≡ reading_of (judged_lines study sharp whole lines rest)
   report_refused true whole line word h = absurd h
-  report_refused false true line word h = sym (ap (λ (t : ToldOfReport). reading_of (AsReport (conclude (length lines + 1) rest t))) h)
-  report_refused false false line word h = sym (ap (λ (t : ToldOfReport). reading_of (AsReport (beyond t))) h)
+  report_refused false true line word h = sym (ap (λ (t : Told Standing Refusal). reading_of (AsReport (conclude (length lines + 1) rest t))) h)
+  report_refused false false line word h = sym (ap (λ (t : Told Standing Refusal). reading_of (AsReport (beyond t))) h)
 
   pub sharp_text_refused : (sharp whole : Bool) (line : ℕ) (word : SharpRefusal) → IsFirstFaulty study sharp lines line (refusal.Sharp word)
       → reading.SharpFaulty line word ≡ reading_of (judged_lines study sharp whole lines rest)
   sharp_text_refused false whole line word h = absurd h
-  sharp_text_refused true true line word h = sym (ap (λ (t : SharpTold). reading_of (AsSharp (sharp_conclude study (length lines + 1) rest t))) h)
-  sharp_text_refused true false line word h = sym (ap (λ (t : SharpTold). reading_of (AsSharp (sharp_beyond study t))) h)
+  sharp_text_refused true true line word h = sym (ap (λ (t : Told SharpStanding SharpRefusal). reading_of (AsSharp (sharp_conclude study (length lines + 1) rest t))) h)
+  sharp_text_refused true false line word h = sym (ap (λ (t : Told SharpStanding SharpRefusal). reading_of (AsSharp (sharp_beyond study t))) h)

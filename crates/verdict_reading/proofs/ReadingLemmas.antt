@@ -4,12 +4,17 @@ use Rattle.std.specs.Prelude.{IfSome, IsSome}
 use Rattle.edge.specs.Shelf.{Files}
 use Rattle.vocab.specs.Study.{Question}
 use Rattle.verdicts.specs.declared.verdicts.Verdict.{Verdict}
-use Rattle.verdicts.specs.Judge.{Judgement, Confirmed, Faulty, TooLong, Told, Good, Refused, judge, conclude, beyond, answer, answer_within, pieces, front, final}
+use Rattle.verdicts.specs.declared.refusals.Refusal.{Refusal}
+use Rattle.verdicts.specs.Places.{Standing}
+use Rattle.verdicts.specs.FirstFault.{Told, Good, Refused}
+use Rattle.verdicts.specs.Judge.{Judgement, Confirmed, Faulty, TooLong, judge, conclude, beyond, answer, answer_within, pieces, front, final}
 use Rattle.verdicts.proofs.ClaimLaws.{within_limit}
 use Rattle.verdicts.proofs.JudgeLaws.{judge_sound}
 use Rattle.sharp_verdicts.specs.Judged.{Judged, AsReport, AsSharp, has_sharp_title, judged_within}
 use Rattle.sharp_verdicts.specs.Right.{Pointed}
-use Rattle.sharp_verdicts.specs.SharpJudge.{SharpJudgement, SharpConfirmed, SharpFaulty, SharpTooLong, SharpTold, SharpGood, SharpRefused, sharp_judge, sharp_conclude, sharp_beyond, sharp_answer, sharp_answer_within}
+use Rattle.sharp_verdicts.specs.declared.refusals.SharpRefusal.{SharpRefusal}
+use Rattle.sharp_verdicts.specs.SharpPlaces.{SharpStanding}
+use Rattle.sharp_verdicts.specs.SharpJudge.{SharpJudgement, SharpConfirmed, SharpFaulty, SharpTooLong, sharp_judge, sharp_conclude, sharp_beyond, sharp_answer, sharp_answer_within}
 use Rattle.sharp_laws.proofs.FaultLaws.{within_limit as sharp_within_limit}
 use Rattle.sharp_laws.proofs.JudgeLaws.{judge_sound as sharp_judge_sound}
 use Rattle.report_files.specs.Files.{most_verdict_bytes}
@@ -81,13 +86,13 @@ module _ (study : Question) (text : List ℕ) where
     sharp = λ v is. absurd (not_sharp_beyond (sharp_judge study (front (pieces text))) (as_said v) (by_sharp (has_sharp_title text) (sharp_beyond study (sharp_judge study (front (pieces text)))) (SharpConfirmed (as_said v)) (beyond (judge study (front (pieces text)))) (sharp_is (judged_front study false text) v (sym e ∙ is))));
   }
     where
-      not_beyond : (judged : Told) (v : Verdict) → beyond judged ≡ Confirmed v → ⊥
+      not_beyond : (judged : Told Standing Refusal) (v : Verdict) → beyond judged ≡ Confirmed v → ⊥
       not_beyond (Good s) v e = cc
       not_beyond (Refused n word) v e = cc
 
-      not_sharp_beyond : (judged : SharpTold) (v : Pointed) → sharp_beyond study judged ≡ SharpConfirmed v → ⊥
-      not_sharp_beyond (SharpGood s) v e = cc
-      not_sharp_beyond (SharpRefused n word) v e = cc
+      not_sharp_beyond : (judged : Told SharpStanding SharpRefusal) (v : Pointed) → sharp_beyond study judged ≡ SharpConfirmed v → ⊥
+      not_sharp_beyond (Good s) v e = cc
+      not_sharp_beyond (Refused n word) v e = cc
 
 -- ---- files
 

@@ -1,22 +1,18 @@
 -- One more line of a text, which may be a report or a sharp text.
 use Rattle.std.proofs.Common.{◌≡◌, refl, sym, ap, ◌∙◌, subst, ℕ, ◌+◌, Bool, true, false, List, [], ◌∷◌, ◌++◌, length, Option, Some, None, option_map, arith, length-append}
-use Rattle.std.specs.Option.{option_map_or}
 use Rattle.vocab.specs.Study.{Question}
 use Rattle.verdicts.specs.declared.refusals.Refusal.{Refusal}
-use Rattle.verdicts.specs.declared.refusals.Refusal.TheVariants.{Form}
 use Rattle.verdicts.specs.Places.{Standing, start}
-use Rattle.verdicts.specs.Judge.{Told, Good, Refused, advance, judge}
-use Rattle.verdicts.proofs.FaultLaws.{past, stops}
-use Rattle.verdicts.proofs.StepLaws.{told_more, judge_snoc}
+use Rattle.verdicts.specs.FirstFault.{Good, Refused}
+use Rattle.verdicts.specs.Judge.{advance, line_fault, after, judge_from, judge}
+use Rattle.verdicts.proofs.FaultLaws.{past}
+use Rattle.verdicts.proofs.FirstFaultLaws.{stops, after_good}
 use Rattle.sharp_verdicts.specs.declared.refusals.SharpRefusal.{SharpRefusal}
-use Rattle.sharp_verdicts.specs.declared.refusals.SharpRefusal.TheVariants.{Report}
-use Rattle.sharp_verdicts.specs.SharpFaults.{sharp_fault}
-use Rattle.sharp_verdicts.specs.SharpJudge.{SharpTold, SharpGood, SharpRefused, advance_sharp, sharp_line_fault, sharp_settle_at, sharp_settle, sharp_judge}
-use Rattle.sharp_verdicts.specs.SharpLines.{SharpLine}
-use Rattle.sharp_verdicts.specs.SharpPlaces.{SharpStanding, sharp_start, read_sharp_line}
+use Rattle.sharp_laws.proofs.FaultLaws.{past as sharp_past}
+use Rattle.sharp_verdicts.specs.SharpJudge.{advance_sharp, sharp_line_fault, sharp_after, sharp_judge_from, sharp_judge}
+use Rattle.sharp_verdicts.specs.SharpPlaces.{SharpStanding, sharp_start}
 use Rattle.report.specs.Stands.{IsRead}
 use Rattle.sharp_report.specs.SharpStands.{IsReadWithin, IsSharpRead}
-use Rattle.sharp_report.proofs.SharpCheckerLemmas.{told_more as sharp_told_more, told_next}
 use Rattle.report_files.proofs.LineLemmas.{refused_more}
 use Rattle.report_files.proofs.SharpLineLemmas.{sharp_refused_more}
 use Rattle.verdict_reading.specs.declared.collector.Collector.{Collector}
@@ -63,13 +59,13 @@ module _ (study : Question) (lines : List (List ℕ)) (text : List ℕ) where
   number = omega arith
 
   -- of a report
-  report_told : (s : Standing) → judge study lines ≡ Good s → judge study (lines ++ text ∷ []) ≡ told_more study n (Good s) text
-  report_told s e = judge_snoc study 1 start lines text ∙ ap (λ (t : Told). told_more study n t text) e
+  report_told : (s : Standing) → judge study lines ≡ Good s → judge study (lines ++ text ∷ []) ≡ judge_from study n s (text ∷ [])
+  report_told s e = after_good (line_fault study) (after study) 1 start s lines (text ∷ []) e
 
-  report_next : (s : Standing) (after : Collector) (fault : Option Refusal) → judge study lines ≡ Good s → IsCollected study s text after fault
-      → IsLineCollected study false lines text (collector.Report after) (option_map refusal.Report fault)
-  report_next s after None e t = (advance study s t.0, report_told s e ∙ past study n s text [] t.0 t.1 t.2, t.3)
-  report_next s after (Some word) e t = report_told s e ∙ stops study n s text [] word t ∙ ap (λ m. Refused m word) number
+  report_next : (s : Standing) (c : Collector) (fault : Option Refusal) → judge study lines ≡ Good s → IsCollected study s text c fault
+      → IsLineCollected study false lines text (collector.Report c) (option_map refusal.Report fault)
+  report_next s c None e t = (advance study s t.0, report_told s e ∙ past study n s text [] t.0 t.1 t.2, t.3)
+  report_next s c (Some word) e t = report_told s e ∙ stops (line_fault study) (after study) n s text [] word t ∙ ap (λ m. Refused m word) number
 
   pub report_taken : (sharp : Bool) (c after : Collector) (fault : Option Refusal) → HasCollected study sharp (collector.Report c) lines
       → ((s : Standing) → Collects study c s → IsCollected study s text after fault)
@@ -78,29 +74,19 @@ module _ (study : Question) (lines : List (List ℕ)) (text : List ℕ) where
   report_taken true c after fault h go = absurd h
 
   -- of a sharp text
-  sharp_told : (s : SharpStanding) → sharp_judge study lines ≡ SharpGood s → sharp_judge study (lines ++ text ∷ []) ≡ sharp_settle study n s (read_sharp_line study s text) SharpGood
-  sharp_told s e = told_next study lines text ∙ ap (λ (t : SharpTold). sharp_told_more study n t text) e
+  sharp_told : (s : SharpStanding) → sharp_judge study lines ≡ Good s → sharp_judge study (lines ++ text ∷ []) ≡ sharp_judge_from study n s (text ∷ [])
+  sharp_told s e = after_good (sharp_line_fault study) (sharp_after study) 1 sharp_start s lines (text ∷ []) e
 
-  settled : (s : SharpStanding) (l : SharpLine) → read_sharp_line study s text ≡ Some l → sharp_fault study s l ≡ None
-      → sharp_settle study n s (read_sharp_line study s text) SharpGood ≡ SharpGood (advance_sharp study s l)
-  settled s l e f = ap (λ o. sharp_settle study n s o SharpGood) e ∙ ap (λ o. sharp_settle_at study n s l o SharpGood) f
-
-  stopped : (s : SharpStanding) (word : SharpRefusal) → sharp_line_fault study s text ≡ Some word → sharp_settle study n s (read_sharp_line study s text) SharpGood ≡ SharpRefused n word
-  stopped s word e = by_line (read_sharp_line study s text) e
-    where
-      by_line : (o : Option SharpLine) → option_map_or (sharp_fault study s) o (Some (Report Form)) ≡ Some word → sharp_settle study n s o SharpGood ≡ SharpRefused n word
-      by_line None f = let same : Report Form ≡ word = cc in ap (SharpRefused n) same
-      by_line (Some l) f = ap (λ o. sharp_settle_at study n s l o SharpGood) f
-
-  sharp_next : (s : SharpStanding) (after : SharpCollector) (fault : Option SharpRefusal) → sharp_judge study lines ≡ SharpGood s → IsReadWithin study (length lines) s
-      → IsSharpCollected study s text after fault → IsLineCollected study true lines text (collector.Sharp after) (option_map refusal.Sharp fault)
-  sharp_next s after None e i t = (
+  sharp_next : (s : SharpStanding) (c : SharpCollector) (fault : Option SharpRefusal) → sharp_judge study lines ≡ Good s → IsReadWithin study (length lines) s
+      → IsSharpCollected study s text c fault → IsLineCollected study true lines text (collector.Sharp c) (option_map refusal.Sharp fault)
+  sharp_next s c None e i t = (
     advance_sharp study s t.0,
-    sharp_told s e ∙ settled s t.0 t.1 t.2,
+    sharp_told s e ∙ sharp_past study n s text [] t.0 t.1 t.2,
     t.3,
     subst (λ m. IsReadWithin study m (advance_sharp study s t.0)) (sym (length-append lines (text ∷ []))) (t.4 (length lines) i),
   )
-  sharp_next s after (Some word) e i t = sharp_told s e ∙ stopped s word t ∙ ap (λ m. SharpRefused m word) number
+  sharp_next s c (Some word) e i t =
+      sharp_told s e ∙ stops (sharp_line_fault study) (sharp_after study) n s text [] word t ∙ ap (λ m. Refused m word) number
 
   pub sharp_taken : (sharp : Bool) (c after : SharpCollector) (fault : Option SharpRefusal) → HasCollected study sharp (collector.Sharp c) lines
       → ((s : SharpStanding) → SharpCollects study c s → IsSharpCollected study s text after fault)

@@ -4,10 +4,15 @@ use Rattle.std.specs.Io.KnownBytes.{Consumes, IsAtEnd}
 use Rattle.edge.specs.Shelf.{Files}
 use Rattle.vocab.specs.Study.{Question}
 use Rattle.verdicts.specs.declared.verdicts.Verdict.{Verdict}
-use Rattle.verdicts.specs.Judge.{Judgement, Told, Confirmed, Faulty, TooLong, judge, answer, beyond, conclude, pieces, front, final}
+use Rattle.verdicts.specs.declared.refusals.Refusal.{Refusal}
+use Rattle.verdicts.specs.Places.{Standing}
+use Rattle.verdicts.specs.FirstFault.{Told}
+use Rattle.verdicts.specs.Judge.{Judgement, Confirmed, Faulty, TooLong, judge, answer, beyond, conclude, pieces, front, final}
 use Rattle.verdicts.specs.Report.{IsReport}
 use Rattle.sharp_verdicts.specs.Judged.{Judged, AsReport, AsSharp, has_sharp_title, judged_within}
-use Rattle.sharp_verdicts.specs.SharpJudge.{SharpJudgement, SharpConfirmed, SharpFaulty, SharpTooLong, SharpTold, sharp_judge, sharp_answer, sharp_beyond, sharp_conclude}
+use Rattle.sharp_verdicts.specs.declared.refusals.SharpRefusal.{SharpRefusal}
+use Rattle.sharp_verdicts.specs.SharpPlaces.{SharpStanding}
+use Rattle.sharp_verdicts.specs.SharpJudge.{SharpJudgement, SharpConfirmed, SharpFaulty, SharpTooLong, sharp_judge, sharp_answer, sharp_beyond, sharp_conclude}
 use Rattle.sharp_laws.specs.Laws.{IsSharpText}
 use Rattle.report_files.specs.Files.{most_verdict_bytes}
 use Rattle.verdict_reading.specs.declared.reading.Reading.{Reading}
@@ -29,11 +34,11 @@ abbrev pub judged_whole : Question → List ℕ → Judged
 judged_whole study text = if has_sharp_title text then AsSharp (sharp_answer study text) else AsReport (answer study text)
 
 -- what the judge of reports answers of lines that have been judged, and of what follows the last line end with its number: of a text that is whole, or of the front of a longer one
-abbrev pub judged_end : (whole : Bool) → ℕ → List ℕ → Told → Judgement
+abbrev pub judged_end : (whole : Bool) → ℕ → List ℕ → Told Standing Refusal → Judgement
 judged_end whole n rest told = if whole then conclude n rest told else beyond told
 
 -- the same of the judge of sharp texts
-abbrev pub sharp_judged_end : Question → (whole : Bool) → ℕ → List ℕ → SharpTold → SharpJudgement
+abbrev pub sharp_judged_end : Question → (whole : Bool) → ℕ → List ℕ → Told SharpStanding SharpRefusal → SharpJudgement
 sharp_judged_end study whole n rest told = if whole then sharp_conclude study n rest told else sharp_beyond study told
 
 -- the same of some lines, of a sharp text or of a report, and of what follows them

@@ -2,9 +2,10 @@
 use Rattle.std.specs.Prelude.{◌≡◌, ℕ, ◌+◌, ◌<◌, ◌==◌, Bool, true, false, List, [], ◌∷◌, ◌++◌, length, Option, Some, None}
 use Rattle.vocab.specs.Study.{Question}
 use Rattle.verdicts.specs.Places.{Standing}
-use Rattle.verdicts.specs.Judge.{Good, Refused, judge, pieces, front, final}
+use Rattle.verdicts.specs.FirstFault.{Good, Refused}
+use Rattle.verdicts.specs.Judge.{judge, pieces, front, final}
 use Rattle.sharp_verdicts.specs.Judged.{has_sharp_title}
-use Rattle.sharp_verdicts.specs.SharpJudge.{SharpGood, SharpRefused, sharp_judge}
+use Rattle.sharp_verdicts.specs.SharpJudge.{sharp_judge}
 use Rattle.sharp_verdicts.specs.SharpPlaces.{SharpStanding}
 use Rattle.sharp_report.specs.SharpStands.{IsReadWithin}
 use Rattle.verdict_reading.specs.declared.lines.Told.{Told}
@@ -21,13 +22,13 @@ abbrev pub HasCollected : Question → (sharp : Bool) → TextCollector → List
 HasCollected study false (collector.Report c) lines =
     (s : Standing) × (judge study lines ≡ Good s) × Collects study c s
 HasCollected study true (collector.Sharp c) lines =
-    (s : SharpStanding) × (sharp_judge study lines ≡ SharpGood s) × SharpCollects study c s × IsReadWithin study (length lines) s
+    (s : SharpStanding) × (sharp_judge study lines ≡ Good s) × SharpCollects study c s × IsReadWithin study (length lines) s
 HasCollected study sharp c lines = ⊥
 
 -- the line of this number is the first faulty one
 abbrev pub IsFirstFaulty : Question → (sharp : Bool) → List (List ℕ) → (line : ℕ) → TextRefusal → Type 0
 IsFirstFaulty study false lines n (refusal.Report word) = judge study lines ≡ Refused n word
-IsFirstFaulty study true lines n (refusal.Sharp word) = sharp_judge study lines ≡ SharpRefused n word
+IsFirstFaulty study true lines n (refusal.Sharp word) = sharp_judge study lines ≡ Refused n word
 IsFirstFaulty study sharp lines n word = ⊥
 
 -- what some lines have given is held, and one more line has a number

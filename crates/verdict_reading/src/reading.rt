@@ -2,10 +2,9 @@
 
 ghost use Rattle.std.specs.Prelude.{◌≡◌, ◌+◌, ◌<◌, ◌==◌, ℕ, Bool, List, length, IfOk};
 ghost use Rattle.vocab.specs.Study.{Question};
-ghost use Rattle.verdicts.specs.Judge.{Good};
+ghost use Rattle.verdicts.specs.FirstFault.{Good};
 ghost use Rattle.verdicts.specs.Places.{Standing};
 ghost use Rattle.sharp_verdicts.specs.Judged.{AsReport, AsSharp};
-ghost use Rattle.sharp_verdicts.specs.SharpJudge.{SharpGood};
 ghost use Rattle.sharp_verdicts.specs.SharpPlaces.{SharpStanding};
 ghost use Rattle.verdict_reading.specs.Collected.{Collects};
 ghost use Rattle.verdict_reading.specs.SharpCollected.{SharpCollects};
@@ -83,7 +82,7 @@ fn end_of_sharp(
     ensures { (study : Question) (s : SharpStanding) (rest : List ℕ) → SharpCollects study collector s →
         ended ≡ (length rest == 0) →
         IfOk result (λ reading.
-        reading ≡ reading_of (AsSharp (sharp_judged_end study whole line rest (SharpGood s)))) }
+        reading ≡ reading_of (AsSharp (sharp_judged_end study whole line rest (Good s)))) }
 {
     if !whole {
         return Ok(Reading::SharpTooLong);

@@ -21,7 +21,10 @@ use Rattle.verdicts.specs.declared.verdicts.Verdict.TheVariants.{Possible, Impos
 use Rattle.verdicts.specs.Report.{is_right}
 use Rattle.verdicts.specs.Claims.{HasNoRule, claim_of, IsClaimed, IsImpossible, ClaimHolds}
 use Rattle.verdicts.specs.declared.verdicts.Verdict.{Verdict}
-use Rattle.verdicts.specs.Judge.{Told, Good, Refused, judge, pieces, front, Confirmed, answer, beyond, answer_within}
+use Rattle.verdicts.specs.declared.refusals.Refusal.{Refusal}
+use Rattle.verdicts.specs.Places.{Standing}
+use Rattle.verdicts.specs.FirstFault.{Told, Good, Refused}
+use Rattle.verdicts.specs.Judge.{judge, pieces, front, Confirmed, answer, beyond, answer_within}
 use Rattle.verdicts.specs.Laws.{is_rule_given, IsRuleConfirmed, IsImpossibilityConfirmed, IsCoreConfirmed}
 use Rattle.verdicts.proofs.JudgeLaws.{judge_sound}
 
@@ -84,7 +87,7 @@ within_limit limit study text verdict = (
     chosen : (b : Bool) → nat_lt limit (length text) ≡ b → answer_within limit study text ≡ cond b (beyond (judge study (front (pieces (take limit text))))) (answer study text)
     chosen b e = ap (λ c. cond c (beyond (judge study (front (pieces (take limit text))))) (answer study text)) e
 
-    not_beyond : (told : Told) → beyond told ≡ Confirmed verdict → ⊥
+    not_beyond : (told : Told Standing Refusal) → beyond told ≡ Confirmed verdict → ⊥
     not_beyond (Good s) e = cc
     not_beyond (Refused n word) e = cc
 

@@ -1,18 +1,19 @@
 -- Each line gives at most one lemma.
-use Rattle.std.proofs.Common.{◌≡◌, refl, ap, ℕ, ◌+◌, ◌≤◌, Bool, true, false, List, [], ◌∷◌, ◌++◌, length, Option, Some, None, arith, cond, length-append}
+use Rattle.std.proofs.Common.{◌≡◌, refl, ap, ℕ, ◌+◌, ◌≤◌, Bool, true, false, List, [], ◌∷◌, ◌++◌, length, arith, cond, length-append}
 use Rattle.std.specs.Prelude.{◌==◌}
 use Rattle.vocab.specs.declared.kinds.Sort.TheVariants.{Profile}
 use Rattle.vocab.specs.Size.{sort_count}
 use Rattle.vocab.specs.Study.{Question}
 use Rattle.meaning.specs.declared.cores.Witness.TheVariants.{Rule}
 use Rattle.meaning.specs.declared.stories.Lemma.{Lemma}
-use Rattle.verdicts.specs.declared.refusals.Refusal.{Refusal}
+use Rattle.verdicts.specs.declared.refusals.Refusal.TheVariants.{Form}
 use Rattle.verdicts.specs.declared.verdicts.Verdict.TheVariants.{Possible}
 use Rattle.verdicts.specs.Lines.{Line, Row, Clash}
 use Rattle.verdicts.specs.Places.{Place, AtLemma, AtWitnessRow, AtEnd, Standing, start}
 use Rattle.verdicts.specs.Faults.{fault_of}
-use Rattle.verdicts.specs.Judge.{after_witness, after_lemma, after_row, advance, read_line, Good, settle_at, settle, judge_from, judge}
-use Rattle.verdicts.proofs.FaultLaws.{same_good}
+use Rattle.verdicts.specs.FirstFault.{Good}
+use Rattle.verdicts.specs.Judge.{after_witness, after_lemma, after_row, advance, read_line, judge}
+use Rattle.verdicts.proofs.FirstFaultLaws.{all_read}
 
 after_lemma_same : (s : Standing) → (after_lemma s).earlier ≡ s.earlier
 after_lemma_same s = by_test (length s.earlier == s.count)
@@ -46,22 +47,13 @@ module _ (study : Question) where
   one_lemma s (Row p o) = same_fits _ _ (ap length (after_row_same s.place (record s { rows = s.rows ++ o ∷ [] })))
   one_lemma s l = same_fits _ _ refl
 
-  grown : (n : ℕ) (s t : Standing) (texts : List (List ℕ)) → judge_from study n s texts ≡ Good t → length t.earlier ≤ length s.earlier + length texts
-  grown n s t [] e = let same : length s.earlier ≡ length t.earlier = ap (λ (u : Standing). length u.earlier) (same_good s t e) in omega (arith, same)
-  grown n s t (text ∷ texts) e = by_line (read_line study s text) e (λ l. grown (n + 1) (advance study s l) t texts)
-    where
-      by_fault : (l : Line) (o : Option Refusal) → settle_at study n s l o (λ next. judge_from study (n + 1) next texts) ≡ Good t →
-          (judge_from study (n + 1) (advance study s l) texts ≡ Good t → length t.earlier ≤ length (advance study s l).earlier + length texts) → length t.earlier ≤ length s.earlier + length (text ∷ texts)
-      by_fault l None e go =
-          let later : length t.earlier ≤ length (advance study s l).earlier + length texts = go e in
-          let one : length (advance study s l).earlier ≤ length s.earlier + 1 = one_lemma s l in
-          omega (arith, later, one)
-      by_fault l (Some word) e go = absurd (cc)
+  -- a reader whose lemmas are no more than the lines
+  abbrev AreFew : Standing → List (List ℕ) → Type 0
+  AreFew s lines = length s.earlier ≤ length lines
 
-      by_line : (o : Option Line) → settle study n s o (λ next. judge_from study (n + 1) next texts) ≡ Good t →
-          ((l : Line) → judge_from study (n + 1) (advance study s l) texts ≡ Good t → length t.earlier ≤ length (advance study s l).earlier + length texts) → length t.earlier ≤ length s.earlier + length (text ∷ texts)
-      by_line None e go = absurd (cc)
-      by_line (Some l) e go = by_fault l (fault_of study s l) e (go l)
+  few_next : (s : Standing) (before : List (List ℕ)) (text : List ℕ) (l : Line) → AreFew s before → AreFew (advance study s l) (before ++ text ∷ [])
+  few_next s before text l h = omega (arith, h, one_lemma s l, length-append before (text ∷ []))
 
   pub lemmas_few : (lines : List (List ℕ)) (s : Standing) → judge study lines ≡ Good s → length s.earlier ≤ length lines
-  lemmas_few lines s e = let all : length s.earlier ≤ 0 + length lines = grown 1 start s lines e in omega (arith, all)
+  lemmas_few lines s e =
+      all_read (read_line study) (fault_of study) Form (advance study) AreFew (λ s before text l h r f. few_next s before text l h) 1 start s [] lines (omega arith) e

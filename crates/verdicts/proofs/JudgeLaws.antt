@@ -1,8 +1,8 @@
 -- A judge that reaches the end has read the report of a right verdict.
-use Rattle.verdicts.proofs.FaultLaws.{same_good}
 use Rattle.std.proofs.Common.{◌≡◌, refl, sym, ap, ◌∙◌, subst, ℕ, ◌+◌, ◌<◌, Bool, true, false, List, [], ◌∷◌, ◌++◌, map, length, Option, Some, None, arith, cond, append_assoc, append-nil}
 use Rattle.std.specs.Prelude.{◌==◌, nat_lt}
 use Rattle.std.specs.List.{flat_map, join_with_byte}
+use Rattle.std.proofs.lemmas.List.{map-append}
 use Rattle.std.proofs.lemmas.List.Splits.{join_with_byte-slice_split, length-slice_split}
 use Rattle.vocab.specs.Study.{Question}
 use Rattle.verdicts.specs.Texts.{words_of, joined_words}
@@ -11,8 +11,11 @@ use Rattle.verdicts.specs.declared.verdicts.Verdict.{Verdict}
 use Rattle.verdicts.specs.Report.{IsReport}
 use Rattle.verdicts.specs.Places.{Place, AtNothing, Standing, start, wanted}
 use Rattle.verdicts.specs.declared.refusals.Refusal.{Refusal}
+use Rattle.verdicts.specs.declared.refusals.Refusal.TheVariants.{Form}
 use Rattle.verdicts.specs.Faults.{fault_of}
-use Rattle.verdicts.specs.Judge.{advance, read_line, Told, Good, Refused, settle_at, settle, judge_from, judge, ended, pieces, front, final, Confirmed, at_end, conclude, answer}
+use Rattle.verdicts.specs.FirstFault.{Told, Good, Refused}
+use Rattle.verdicts.specs.Judge.{advance, read_line, judge_from, judge, ended, pieces, front, final, Confirmed, at_end, conclude, answer}
+use Rattle.verdicts.proofs.FirstFaultLaws.{all_read}
 use Rattle.verdicts.proofs.LineLaws.{wanted_read}
 use Rattle.verdicts.proofs.FitLaws.{Fits, wanted_fits}
 use Rattle.verdicts.proofs.SoundLaws.{Holds, printed, IsIdle, HasRead, step_read_so}
@@ -27,49 +30,38 @@ module _ (study : Question) where
   abbrev Reached : Standing → List Line → Type 0
   Reached s lines = HasRead study s lines × IsAllowed study s.place s
 
-  -- the lines that are read, and what the reader knows then
-  abbrev Ran : Standing → List Line → List (List ℕ) → Type 0
-  Ran t before texts = (ls : List Line) × Reached t (before ++ ls) × (texts ≡ map (line_text study) ls)
+  -- a reader that has read these texts, each a line of such lines
+  abbrev Ran : Standing → List (List ℕ) → Type 0
+  Ran s texts = (lines : List Line) × Reached s lines × (texts ≡ map (line_text study) lines)
 
   pub read_is : (s : Standing) (text : List ℕ) (l : Line) → read_line study s text ≡ Some l → text ≡ line_text study l
   read_is s text l e =
       let w = not_long (nat_lt 4096 (length text)) (wanted study s.place (length s.earlier + 1) (words_of text)) l e in
       sym (join_with_byte-slice_split 32 text) ∙ ap joined_words (wanted_read study s.place (length s.earlier + 1) (words_of text) l w)
 
-  ran_more : (t : Standing) (before : List Line) (l : Line) (text : List ℕ) (texts : List (List ℕ)) → text ≡ line_text study l → Ran t (before ++ l ∷ []) texts → Ran t before (text ∷ texts)
-  ran_more t before l text texts e r =
-      let read = subst (λ ls. Reached t ls) (append_assoc before (l ∷ []) r.0) r.1 in
-      (l ∷ r.0, read, ap (λ x. x ∷ texts) e ∙ ap (λ xs. line_text study l ∷ xs) r.2)
-
   reached_next : (s : Standing) (before : List Line) (l : Line) → Reached s before
       → Fits study s.place (length s.earlier + 1) l → fault_of study s l ≡ None
       → Reached (advance study s l) (before ++ l ∷ [])
   reached_next s before l h g f = (step_read_so study s l before h.0 g f, allowed_next study s l h.1 g f)
 
-  ran : (n : ℕ) (s t : Standing) (texts : List (List ℕ)) (before : List Line) → Reached s before
-      → judge_from study n s texts ≡ Good t → Ran t before texts
-  ran n s t [] before h e =
-      let here = subst (λ (u : Standing). Reached u before) (same_good s t e) h in
-      ([], subst (λ ls. Reached t ls) (sym (append-nil before)) here, refl)
-  ran n s t (text ∷ texts) before h e =
-      by_line (read_line study s text) refl e
-      (λ l g f r. ran (n + 1) (advance study s l) t texts (before ++ l ∷ []) (reached_next s before l h g f) r)
-    where
-      by_fault : (l : Line) → read_line study s text ≡ Some l → (o : Option Refusal) → fault_of study s l ≡ o → settle_at study n s l o (λ next. judge_from study (n + 1) next texts) ≡ Good t → (fault_of study s l ≡ None → judge_from study (n + 1) (advance study s l) texts ≡ Good t → Ran t (before ++ l ∷ []) texts) → Ran t before (text ∷ texts)
-      by_fault l d None f g later = ran_more t before l text texts (read_is s text l d) (later f g)
-      by_fault l d (Some w) f g later = absurd (cc)
+  -- a line that is read is one that fits there
+  pub read_fits : (s : Standing) (text : List ℕ) (l : Line) → read_line study s text ≡ Some l → Fits study s.place (length s.earlier + 1) l
+  read_fits s text l e =
+      let w = not_long (nat_lt 4096 (length text)) (wanted study s.place (length s.earlier + 1) (words_of text)) l e in
+      wanted_fits study s.place (length s.earlier + 1) (words_of text) l w
 
-      by_line : (o : Option Line) → read_line study s text ≡ o → settle study n s o (λ next. judge_from study (n + 1) next texts) ≡ Good t → ((l : Line) → Fits study s.place (length s.earlier + 1) l → fault_of study s l ≡ None → judge_from study (n + 1) (advance study s l) texts ≡ Good t → Ran t (before ++ l ∷ []) texts) → Ran t before (text ∷ texts)
-      by_line None d g later = absurd (cc)
-      by_line (Some l) d g later =
-          let w = not_long (nat_lt 4096 (length text)) (wanted study s.place (length s.earlier + 1) (words_of text)) l d in
-          by_fault l d (fault_of study s l) refl g (later l (wanted_fits study s.place (length s.earlier + 1) (words_of text) l w))
+  ran_next : (s : Standing) (before : List (List ℕ)) (text : List ℕ) (l : Line) → Ran s before → read_line study s text ≡ Some l → fault_of study s l ≡ None → Ran (advance study s l) (before ++ text ∷ [])
+  ran_next s before text l r e f =
+      (r.0 ++ l ∷ [], reached_next s r.0 l r.1 (read_fits s text l e) f, ap (λ ts. ts ++ text ∷ []) r.2 ∙ ap (λ x. map (line_text study) r.0 ++ x ∷ []) (read_is s text l e) ∙ sym (map-append (line_text study) r.0 (l ∷ [])))
+
+  ran : (s t : Standing) (texts : List (List ℕ)) → Reached s [] → judge_from study 1 s texts ≡ Good t → Ran t texts
+  ran s t texts h e = all_read (read_line study) (fault_of study) Form (advance study) Ran ran_next 1 s t [] texts ([], h, refl) e
 
 at_end_is : (n : ℕ) (rest : List ℕ) (p : Place) (v : Verdict) → at_end n rest p ≡ Confirmed v → (rest ≡ []) × (p ≡ AtNothing v)
 at_end_is n [] (AtNothing u) v e = let same : u ≡ v = cc in (refl, ap AtNothing same)
 at_end_is n rest p v e = absurd (cc)
 
-pub conclude_is : (n : ℕ) (rest : List ℕ) (told : Told) (v : Verdict) → conclude n rest told ≡ Confirmed v → (s : Standing) × (told ≡ Good s) × (rest ≡ []) × (s.place ≡ AtNothing v)
+pub conclude_is : (n : ℕ) (rest : List ℕ) (told : Told Standing Refusal) (v : Verdict) → conclude n rest told ≡ Confirmed v → (s : Standing) × (told ≡ Good s) × (rest ≡ []) × (s.place ≡ AtNothing v)
 conclude_is n rest (Refused line word) v e = absurd (cc)
 conclude_is n rest (Good s) v e = let r = at_end_is n rest s.place v e in (s, refl, r.0, r.1)
 
@@ -95,7 +87,7 @@ module _ (study : Question) where
   -- lines that the judge reads to their end are those of the report of a right verdict
   pub lines_sound : (lines : List (List ℕ)) (s : Standing) (v : Verdict) → judge study lines ≡ Good s → s.place ≡ AtNothing v → IsReport study v (ended lines)
   lines_sound lines s v e place =
-      let r = ran study 1 start s lines [] ((idle, refl), tt) e in
+      let r = ran study start s lines ((idle, refl), tt) e in
       let read = subst (λ p. Holds study p s × (printed study p s ≡ r.0)) place r.1.0 in
       let right = read.0 in
       record {
@@ -121,4 +113,4 @@ judge_sound study text v e =
 -- what holds of the parts after lines without a fault
 pub good_holds : (study : Question) (s : Standing) (texts : List (List ℕ)) → judge study texts ≡ Good s → Holds study s.place s
 good_holds study s texts e =
-    (ran study 1 start s texts [] ((idle study, refl), tt) e).1.0.0
+    (ran study start s texts ((idle study, refl), tt) e).1.0.0

@@ -8,6 +8,7 @@ pub mod LineLaws
 pub mod FitLaws
 pub mod ReadLaws
 pub mod TableLaws
+pub mod FirstFaultLaws
 pub mod FaultLaws
 pub mod SoundLaws
 pub mod VersionLaws

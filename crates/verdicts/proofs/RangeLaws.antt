@@ -1,5 +1,5 @@
 -- What the lines so far have given is in range, at each place.
-use Rattle.std.proofs.Common.{◌≡◌, refl, subst, ℕ, ◌+◌, ◌-◌, ◌≤◌, Bool, true, false, not, ◌&&◌, List, [], ◌∷◌, ◌++◌, length, Option, Some, None, cond, true≢false, sym, arith, ltb-true, ltb-false}
+use Rattle.std.proofs.Common.{◌≡◌, refl, ℕ, ◌+◌, ◌-◌, ◌≤◌, Bool, true, false, not, ◌&&◌, List, [], ◌∷◌, ◌++◌, length, Option, Some, None, cond, true≢false, sym, arith, ltb-true, ltb-false}
 use Rattle.std.specs.Prelude.{◌==◌, nat_lt}
 use Rattle.std.specs.List.{list_all}
 use Rattle.std.specs.Option.{unwrap_or}
@@ -14,16 +14,15 @@ use Rattle.meaning.specs.declared.stories.Lemma.{Lemma}
 use Rattle.meaning.specs.declared.cores.Witness.TheVariants.{Open}
 use Rattle.meaning.specs.Literals.{is_literal}
 use Rattle.meaning.proofs.CoreLaws.{core_in_range}
-use Rattle.verdicts.specs.declared.refusals.Refusal.{Refusal}
-use Rattle.verdicts.specs.declared.refusals.Refusal.TheVariants.{Core}
+use Rattle.verdicts.specs.declared.refusals.Refusal.TheVariants.{Core, Form}
 use Rattle.verdicts.specs.Lines.{Line, Row, CoreIs, Suppose, Clash, WithOpen}
-use Rattle.verdicts.specs.Places.{Place, AtSuppose, AtLemmas, AtWitnessRow, Standing, start, wanted}
-use Rattle.verdicts.specs.Texts.{words_of}
+use Rattle.verdicts.specs.Places.{Place, AtSuppose, AtLemmas, AtWitnessRow, Standing, start}
 use Rattle.verdicts.specs.Faults.{named_places, is_core, fault_of}
-use Rattle.verdicts.specs.Judge.{after_witness, after_lemma, after_row, advance, read_line, Good, settle_at, settle, judge_from, judge}
-use Rattle.verdicts.proofs.FaultLaws.{same_good}
-use Rattle.verdicts.proofs.FitLaws.{Fits, wanted_fits}
-use Rattle.verdicts.proofs.JudgeLaws.{not_long}
+use Rattle.verdicts.specs.FirstFault.{Good}
+use Rattle.verdicts.specs.Judge.{after_witness, after_lemma, after_row, advance, read_line, judge}
+use Rattle.verdicts.proofs.FirstFaultLaws.{all_read}
+use Rattle.verdicts.proofs.FitLaws.{Fits}
+use Rattle.verdicts.proofs.JudgeLaws.{read_fits}
 use Rattle.verdicts.proofs.SoundLaws.{none_unless}
 
 -- a core has no more places than there are axioms
@@ -89,20 +88,9 @@ module _ (study : Question) where
 
   -- ---- line by line
 
-  range_from : (n : ℕ) (s t : Standing) (texts : List (List ℕ)) → IsInRange s → judge_from study n s texts ≡ Good t → IsInRange t
-  range_from n s t [] h e = subst IsInRange (same_good s t e) h
-  range_from n s t (text ∷ texts) h e = by_line (read_line study s text) refl e (λ l g f r. range_from (n + 1) (advance study s l) t texts (step_in s.place (length s.earlier + 1) s l h g f) r)
-    where
-      by_fault : (l : Line) → (o : Option Refusal) → fault_of study s l ≡ o → settle_at study n s l o (λ next. judge_from study (n + 1) next texts) ≡ Good t → (fault_of study s l ≡ None → judge_from study (n + 1) (advance study s l) texts ≡ Good t → IsInRange t) → IsInRange t
-      by_fault l None f g later = later f g
-      by_fault l (Some w) f g later = absurd (cc)
-
-      by_line : (o : Option Line) → read_line study s text ≡ o → settle study n s o (λ next. judge_from study (n + 1) next texts) ≡ Good t → ((l : Line) → Fits study s.place (length s.earlier + 1) l → fault_of study s l ≡ None → judge_from study (n + 1) (advance study s l) texts ≡ Good t → IsInRange t) → IsInRange t
-      by_line None d g later = absurd (cc)
-      by_line (Some l) d g later =
-          let w = not_long (nat_lt 4096 (length text)) (wanted study s.place (length s.earlier + 1) (words_of text)) l d in
-          by_fault l (fault_of study s l) refl g (later l (wanted_fits study s.place (length s.earlier + 1) (words_of text) l w))
-
   -- after lines without a fault
   pub good_in_range : (s : Standing) (texts : List (List ℕ)) → judge study texts ≡ Good s → IsInRange s
-  good_in_range s texts e = range_from 1 start s texts (record { core = refl; few = omega arith; earlier = refl; suppose = refl }) e
+  good_in_range s texts e =
+      all_read (read_line study) (fault_of study) Form (advance study) (λ s before. IsInRange s)
+      (λ s before text l h r f. step_in s.place (length s.earlier + 1) s l h (read_fits study s text l r) f)
+      1 start s [] texts (record { core = refl; few = omega arith; earlier = refl; suppose = refl }) e

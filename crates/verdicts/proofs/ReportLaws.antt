@@ -12,7 +12,8 @@ use Rattle.verdicts.specs.declared.verdicts.Verdict.{Verdict}
 use Rattle.verdicts.specs.declared.refusals.Refusal.TheVariants.{Form}
 use Rattle.verdicts.specs.Report.{lemma_count, report_lines, report_text_in, own_version, report_text, has_text, is_right, is_claim, IsReport, IsSomeReport}
 use Rattle.verdicts.specs.Places.{Place, AtTitle, AtKind, AtVoters, AtAlternatives, AtBallots, AtAbsent, AtAxioms, AtVerdict, AtLimit, AtRule, AtRow, AtCore, AtLemmas, AtLemma, AtSuppose, AtStep, AtWitness, AtWitnessRow, AtEnd, AtNothing, Standing, start, wanted}
-use Rattle.verdicts.specs.Judge.{advance, Good, read_line, judge_from, judge, ended, pieces, front, final, Confirmed, Faulty, at_end, conclude, answer}
+use Rattle.verdicts.specs.FirstFault.{Good}
+use Rattle.verdicts.specs.Judge.{advance, read_line, judge_from, judge, ended, pieces, front, final, Confirmed, Faulty, at_end, conclude, answer}
 use Rattle.verdicts.specs.Laws.{IsReportable, IsVersion, HasShortLines}
 use Rattle.verdicts.proofs.RightLaws.{right_has_text}
 use Rattle.verdicts.proofs.WordLaws.{IsIn, lacks, split_ended}

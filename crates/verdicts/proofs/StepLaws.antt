@@ -1,5 +1,5 @@
 -- What a checker that takes one line at a time needs.
-use Rattle.std.proofs.Common.{◌≡◌, refl, ap, ◌∙◌, ℕ, zero, suc, ◌+◌, List, [], ◌∷◌, ◌++◌, map, length, Option, Some, None, arith}
+use Rattle.std.proofs.Common.{◌≡◌, refl, ap, ◌∙◌, ℕ, zero, suc, List, [], ◌∷◌, map, length, Some}
 use Rattle.std.specs.Prelude.{slice_get, nat_lt}
 use Rattle.vocab.specs.declared.literals.Literal.{Literal}
 use Rattle.vocab.specs.Study.{Question}
@@ -10,36 +10,8 @@ use Rattle.meaning.specs.declared.stories.Lemma.{Lemma}
 use Rattle.meaning.specs.Stories.{is_claim_false}
 use Rattle.std.specs.Option.{option_or}
 use Rattle.meaning.specs.StoryFaults.{unless, reason_fault}
-use Rattle.verdicts.specs.Lines.{Line}
-use Rattle.verdicts.specs.Places.{Standing}
-use Rattle.verdicts.specs.declared.refusals.Refusal.{Refusal}
-use Rattle.verdicts.specs.Faults.{fault_of}
-use Rattle.verdicts.specs.Judge.{advance, read_line, Told, Good, Refused, settle_at, settle, judge_from}
 
 module _ (study : Question) where
-  -- one more line, after a result
-  abbrev pub told_more : ℕ → Told → List ℕ → Told
-  told_more n (Good s) text = settle study n s (read_line study s text) Good
-  told_more n (Refused line word) text = Refused line word
-
-  pub judge_snoc : (n : ℕ) (s : Standing) (texts : List (List ℕ)) (text : List ℕ) → judge_from study n s (texts ++ text ∷ []) ≡ told_more (n + length texts) (judge_from study n s texts) text
-  judge_snoc n s [] text = ap (λ k. settle study k s (read_line study s text) Good) (zero_more n)
-    where
-      zero_more : (n : ℕ) → n ≡ n + 0
-      zero_more n = omega arith
-  judge_snoc n s (t ∷ texts) text = by_line (read_line study s t) (λ next. judge_snoc (n + 1) next texts text)
-    where
-      count : n + 1 + length texts ≡ n + length (t ∷ texts)
-      count = omega arith
-
-      by_fault : (l : Line) (o : Option Refusal) → ((next : Standing) → judge_from study (n + 1) next (texts ++ text ∷ []) ≡ told_more (n + 1 + length texts) (judge_from study (n + 1) next texts) text) → settle_at study n s l o (λ next. judge_from study (n + 1) next (texts ++ text ∷ [])) ≡ told_more (n + length (t ∷ texts)) (settle_at study n s l o (λ next. judge_from study (n + 1) next texts)) text
-      by_fault l None later = later (advance study s l) ∙ ap (λ k. told_more k (judge_from study (n + 1) (advance study s l) texts) text) count
-      by_fault l (Some w) later = refl
-
-      by_line : (o : Option Line) → ((next : Standing) → judge_from study (n + 1) next (texts ++ text ∷ []) ≡ told_more (n + 1 + length texts) (judge_from study (n + 1) next texts) text) → settle study n s o (λ next. judge_from study (n + 1) next (texts ++ text ∷ [])) ≡ told_more (n + length (t ∷ texts)) (settle study n s o (λ next. judge_from study (n + 1) next texts)) text
-      by_line None later = refl
-      by_line (Some l) later = by_fault l (fault_of study s l) later
-
   -- of the earlier lemmas a reason sees the suppositions alone
   abbrev pub supposed : List Lemma → List (List Literal)
   supposed ls = map (λ l. l.suppose) ls

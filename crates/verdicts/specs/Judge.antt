@@ -14,6 +14,7 @@ use Rattle.verdicts.specs.Texts.{words_of}
 use Rattle.verdicts.specs.Lines.{Line, Title, KindIs, VotersAre, AlternativesAre, BallotsAre, AbsentIs, AxiomsAre, SaysPossible, SaysImpossible, SaysUndecided, LimitIs, RuleOf, Row, CoreIs, LemmasAre, Heading, Suppose, So, Clash, WithRule, WithOpen, End}
 use Rattle.verdicts.specs.Places.{Place, AtKind, AtVoters, AtAlternatives, AtBallots, AtAbsent, AtAxioms, AtVerdict, AtLimit, AtRule, AtRow, AtCore, AtLemmas, AtLemma, AtSuppose, AtStep, AtWitness, AtWitnessRow, AtEnd, AtNothing, Standing, start, wanted}
 use Rattle.verdicts.specs.Faults.{named_places, next_core, fault_of}
+use Rattle.verdicts.specs.FirstFault.{Told, Good, Refused, judge_lines}
 
 -- ---- where the reader stands after a line
 
@@ -68,11 +69,6 @@ module _ (study : Question) where
 
 -- ---- line by line
 
--- how far lines are read: to where the reader stands, or to the first faulty one, with its refusal; lines are numbered from 1
-pub data Told : Type 0 where
-  Good : Standing → Told
-  Refused : (line : ℕ) → Refusal → Told
-
 module _ (study : Question) where
   -- what a line says, if it has at most 4,096 bytes and is the one that is wanted
   abbrev pub read_line : Standing → List ℕ → Option Line
@@ -82,23 +78,16 @@ module _ (study : Question) where
   abbrev pub line_fault : Standing → List ℕ → Option Refusal
   line_fault s text = option_map_or (fault_of study s) (read_line s text) (Some refusal.Form)
 
-  -- past a line without a fault
-  abbrev pub settle_at : ℕ → Standing → Line → Option Refusal → (Standing → Told) → Told
-  settle_at n s line None go = go (advance study s line)
-  settle_at n s line (Some word) go = Refused n word
+  -- where the reader stands after a line: at the same place where it says nothing
+  abbrev pub after : Standing → List ℕ → Standing
+  after s text = option_map_or (advance study s) (read_line s text) s
 
-  -- past a line that is read
-  abbrev pub settle : ℕ → Standing → Option Line → (Standing → Told) → Told
-  settle n s None go = Refused n refusal.Form
-  settle n s (Some line) go = settle_at n s line (fault_of study s line) go
-
-  -- line after line, the first of this number
-  abbrev pub judge_from : ℕ → Standing → List (List ℕ) → Told
-  judge_from n s [] = Good s
-  judge_from n s (text ∷ texts) = settle n s (read_line s text) (λ next. judge_from (n + 1) next texts)
+  -- lines from where the reader stands, the first of this number
+  abbrev pub judge_from : ℕ → Standing → List (List ℕ) → Told Standing Refusal
+  judge_from = judge_lines line_fault after
 
   -- all lines
-  abbrev pub judge : List (List ℕ) → Told
+  abbrev pub judge : List (List ℕ) → Told Standing Refusal
   judge texts = judge_from 1 start texts
 
 -- ---- a whole text
@@ -139,7 +128,7 @@ at_end n [] (AtNothing verdict) = Confirmed verdict
 at_end n rest place = Faulty n refusal.Form
 
 -- with the number of the last piece, and the piece
-abbrev pub conclude : ℕ → List ℕ → Told → Judgement
+abbrev pub conclude : ℕ → List ℕ → Told Standing Refusal → Judgement
 conclude n rest (Refused line word) = Faulty line word
 conclude n rest (Good s) = at_end n rest s.place
 
@@ -148,7 +137,7 @@ abbrev pub answer : Question → List ℕ → Judgement
 answer study text = conclude (length (pieces text)) (final (pieces text)) (judge study (front (pieces text)))
 
 -- where no line that ends within the limit is faulty
-abbrev pub beyond : Told → Judgement
+abbrev pub beyond : Told Standing Refusal → Judgement
 beyond (Refused line word) = Faulty line word
 beyond (Good s) = TooLong
 

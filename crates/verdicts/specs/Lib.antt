@@ -7,6 +7,7 @@ pub mod Claims
 pub mod Reading
 pub mod Places
 pub mod Faults
+pub mod FirstFault
 pub mod Judge
 pub mod Words
 pub mod Laws

@@ -1,9 +1,9 @@
 //! Reads a line, and takes it.
 
-ghost use Rattle.std.specs.Prelude.{◌≡◌, ◌≢◌, Some, IfOk};
+ghost use Rattle.std.specs.Prelude.{◌≡◌, ◌≢◌, [], ◌∷◌, Some, IfOk};
 ghost use Rattle.verdicts.specs.Lines.{Line as WantedLine};
 ghost use Rattle.verdicts.specs.Places.{Standing};
-ghost use Rattle.verdicts.specs.Judge.{read_line, settle, Good};
+ghost use Rattle.verdicts.specs.Judge.{read_line, judge_from};
 ghost use Rattle.report_lines.specs.Held.{held_line};
 ghost use Rattle.report.specs.Stands.{Stands, IsRead, StandsAs};
 ghost use Rattle.report.specs.Taken.{Takes, IsLine, IsTaken};
@@ -32,8 +32,7 @@ impl Judging {
         ensures { (s : Standing) → Stands subject.now.setting.study.now self.old s →
             result ≢ Some ReportFault.NoMemory →
             StandsAs subject.now.setting.study.now result self.new
-            (settle subject.now.setting.study.now line s
-            (read_line subject.now.setting.study.now s text.now) Good) }
+            (judge_from subject.now.setting.study.now line s (text.now ∷ [])) }
     {
         match self.take_line(crew, subject, text) {
             Ok(Ok(_)) => None,

@@ -1,8 +1,8 @@
 //! Reads a line, and takes it.
 
-ghost use Rattle.std.specs.Prelude.{◌≢◌, ◌+◌, ℕ, IfOk, Some};
-ghost use Rattle.sharp_verdicts.specs.SharpJudge.{sharp_settle, SharpGood};
-ghost use Rattle.sharp_verdicts.specs.SharpPlaces.{SharpStanding, read_sharp_line};
+ghost use Rattle.std.specs.Prelude.{◌≢◌, ◌+◌, ℕ, [], ◌∷◌, IfOk, Some};
+ghost use Rattle.sharp_verdicts.specs.SharpJudge.{sharp_judge_from};
+ghost use Rattle.sharp_verdicts.specs.SharpPlaces.{SharpStanding};
 ghost use Rattle.sharp_report.specs.SharpStands.{SharpStands, IsReadWithin, IsSharpRead, IsSharpTaken, SharpStandsAs};
 
 use crate::faults::SharpFault;
@@ -32,8 +32,7 @@ impl SharpJudging {
             IsReadWithin subject.now.setting.study.now count s →
             result ≢ Some SharpFault.NoMemory →
             SharpStandsAs subject.now.setting.study.now (count + 1) result self.new
-            (sharp_settle subject.now.setting.study.now line s
-            (read_sharp_line subject.now.setting.study.now s text.now) SharpGood) }
+            (sharp_judge_from subject.now.setting.study.now line s (text.now ∷ [])) }
     {
         match self.take_line(crew, subject, text) {
             Ok(Ok(_)) => None,
