@@ -11,8 +11,8 @@ use crate::grammar::explain_command;
 use clap::ArgMatches;
 use clap::error::ErrorKind;
 use lists::NoMemory;
-use report_lines::read_number;
 use std::alloc::Global;
+use verdicts::read_number;
 
 /// The value of an id.
 fn value_at<'a>(matches: &ArgMatches<'a>, id: &str) -> Option<&'a str>

@@ -7,6 +7,7 @@ use Rattle.std.proofs.lemmas.Bool.{and_parts, and_from, cases_lt}
 use Rattle.std.proofs.lemmas.Bool.Decides.{Decides-eqb}
 use Rattle.std.proofs.lemmas.List.{map-append}
 use Rattle.std.proofs.lemmas.Option.{slice_get_past}
+use Rattle.verdicts.specs.Numbers.{saturated}
 use Rattle.vocab.specs.declared.literals.Literal.{Literal}
 use Rattle.vocab.specs.Literal.{opposite_of}
 use Rattle.vocab.specs.Size.{Extent}
@@ -31,7 +32,7 @@ use Rattle.verdicts.proofs.RangeLaws.{are_supposed, good_in_range}
 use Rattle.verdicts.proofs.SoundLaws.{Holds}
 use Rattle.verdicts.proofs.StepLaws.{reasons_same, lengths_same}
 use Rattle.report_lines.specs.declared.places.Place.TheVariants as place
-use Rattle.report_lines.specs.Held.{held_place, held_count, held_reason}
+use Rattle.report_lines.specs.Held.{held_place, held_reason}
 use Rattle.story.specs.Lines.{supposition_fault, step_fault}
 use Rattle.worlds.specs.Boards.{Known}
 use Rattle.report.specs.declared.judging.Judging.{Judging}
@@ -44,7 +45,7 @@ none_left [] e = refl
 none_left (x ∷ xs) e = absurd (omega (arith, e))
 
 -- whether a lemma was the last
-was_last : (n m k c : ℕ) → n ≡ m → n ≤ 4294967295 → k ≡ held_count c → n ≡ k → (m == c) ≡ true
+was_last : (n m k c : ℕ) → n ≡ m → n ≤ 4294967295 → k ≡ saturated c → n ≡ k → (m == c) ≡ true
 was_last n m k c e l h a = (Decides-eqb m c).1 (omega (arith, a, e, l, h))
 
 -- ---- faults

@@ -6,6 +6,7 @@ use Rattle.std.specs.Option.{unwrap_or}
 use Rattle.std.specs.Str.{bytes_eq}
 use Rattle.std.specs.Cmp.Lexicographic.{pointwise}
 use Rattle.lists.specs.declared.memory.NoMemory.{NoMemory}
+use Rattle.verdicts.specs.Numbers.{saturated}
 use Rattle.vocab.specs.declared.kinds.Sort.TheVariants.{Profile}
 use Rattle.vocab.specs.declared.literals.Literal.{Literal}
 use Rattle.vocab.specs.Name.{is_name}
@@ -31,7 +32,7 @@ use Rattle.verdicts.proofs.RangeLaws.{good_in_range}
 use Rattle.report_lines.specs.declared.lines.Line.{Line as HeldLine}
 use Rattle.report_lines.specs.declared.lines.Line.TheVariants as held
 use Rattle.report_lines.specs.declared.places.Place.TheVariants as place
-use Rattle.report_lines.specs.Held.{held_count, held_reason, held_place, held_line, if_core}
+use Rattle.report_lines.specs.Held.{held_reason, held_place, held_line, if_core}
 use Rattle.report.specs.declared.judging.Judging.{Judging}
 use Rattle.report.specs.Stands.{Stands, IsRead}
 use Rattle.report.specs.Taken.{Takes, IsInStory, IsLine, IsNextRow}
@@ -42,8 +43,8 @@ module _ (study : Question) where
   abbrev pub Said : HeldLine → Line → Type 0
   Said (held.Title version) w = w ≡ Title version
   Said (held.KindIs k) w = w ≡ KindIs k
-  Said (held.VotersAre c) w = (n : ℕ) × (w ≡ VotersAre n) × (c ≡ held_count n)
-  Said (held.AlternativesAre c) w = (n : ℕ) × (w ≡ AlternativesAre n) × (c ≡ held_count n)
+  Said (held.VotersAre c) w = (n : ℕ) × (w ≡ VotersAre n) × (c ≡ saturated n)
+  Said (held.AlternativesAre c) w = (n : ℕ) × (w ≡ AlternativesAre n) × (c ≡ saturated n)
   Said (held.BallotsAre b) w = (places : List ℕ) × (w ≡ BallotsAre places) × (b ≡ pointwise nat_eq places (ballot_places study.size))
   Said (held.AbsentIs absent) w = w ≡ AbsentIs absent
   Said (held.AxiomsAre b) w = (ns : List (List ℕ)) × (w ≡ AxiomsAre ns) × (b ≡ pointwise bytes_eq ns (map (λ a. a.name) study.axioms))
@@ -51,16 +52,16 @@ module _ (study : Question) where
   Said held.SaysImpossible w = w ≡ SaysImpossible
   Said held.SaysUndecided w = w ≡ SaysUndecided
   Said (held.LimitIs c) w = (n : ℕ) × (w ≡ LimitIs n)
-  Said (held.RuleOf c) w = (n : ℕ) × (w ≡ RuleOf n) × (c ≡ held_count n)
+  Said (held.RuleOf c) w = (n : ℕ) × (w ≡ RuleOf n) × (c ≡ saturated n)
   Said (held.Row p o) w = w ≡ Row p o
   Said held.CoreIs w = (ns : List (List ℕ)) × (w ≡ CoreIs ns)
-  Said (held.LemmasAre c) w = (n : ℕ) × (w ≡ LemmasAre n) × (c ≡ held_count n)
+  Said (held.LemmasAre c) w = (n : ℕ) × (w ≡ LemmasAre n) × (c ≡ saturated n)
   Said (held.Heading c) w = (n : ℕ) × (w ≡ Heading n)
   Said (held.Suppose l) w = w ≡ Suppose l
   Said (held.So l why) w = (reason : Reason) × (w ≡ So l reason) × (why ≡ held_reason reason)
   Said (held.Clash why) w = (reason : Reason) × (w ≡ Clash reason) × (why ≡ held_reason reason)
-  Said (held.WithRule name c) w = (n : ℕ) × (w ≡ WithRule name n) × (c ≡ held_count n)
-  Said (held.WithOpen name c) w = (n : ℕ) × (w ≡ WithOpen name n) × (c ≡ held_count n)
+  Said (held.WithRule name c) w = (n : ℕ) × (w ≡ WithRule name n) × (c ≡ saturated n)
+  Said (held.WithOpen name c) w = (n : ℕ) × (w ≡ WithOpen name n) × (c ≡ saturated n)
   Said held.End w = w ≡ End
 
   said : (w : Line) → Said (held_line study w) w

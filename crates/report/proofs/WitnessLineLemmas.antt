@@ -6,6 +6,7 @@ use Rattle.std.specs.List.{list_all}
 use Rattle.std.specs.Str.{bytes_eq}
 use Rattle.std.proofs.lemmas.Bool.Decides.{Decides-eqb}
 use Rattle.lists.proofs.TestLaws.{all_get}
+use Rattle.verdicts.specs.Numbers.{saturated}
 use Rattle.vocab.specs.Study.{Question}
 use Rattle.vocab.specs.Titled.{Titled}
 use Rattle.meaning.specs.declared.cores.Witness.{Witness}
@@ -20,7 +21,7 @@ use Rattle.verdicts.proofs.RangeLaws.{good_in_range}
 use Rattle.report_lines.specs.declared.places.Place.{Place as HeldPlace}
 use Rattle.report_lines.specs.declared.places.Place.TheVariants as place
 use Rattle.verdicts.specs.declared.verdicts.Confirmed.TheVariants as confirmed
-use Rattle.report_lines.specs.Held.{held_place, held_count}
+use Rattle.report_lines.specs.Held.{held_place}
 use Rattle.report.specs.declared.judging.Judging.{Judging}
 use Rattle.report.specs.Stands.{Stands, IsRead}
 
@@ -30,7 +31,7 @@ next_there (k ∷ core) [] = refl
 next_there (k ∷ core) (w ∷ witnesses) = next_there core witnesses
 
 -- a number that is held is compared with one below the end of `u64`
-pub number_same : (n m : ℕ) → m < 18446744073709551615 → held_count n ≡ m → (n == m) ≡ true
+pub number_same : (n m : ℕ) → m < 18446744073709551615 → saturated n ≡ m → (n == m) ≡ true
 number_same n m l e = (Decides-eqb n m).1 (omega (arith, l, e))
 
 -- neither of two tests fails

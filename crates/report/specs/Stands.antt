@@ -1,6 +1,7 @@
 -- What a checker of reports holds, and what it stands for.
 use Rattle.std.specs.Prelude.{◌≡◌, ℕ, ◌<◌, ◌≤◌, ◌==◌, ◌⊎◌, IsTrue, List, map, length, Option, Some, None}
 use Rattle.std.specs.List.{list_all}
+use Rattle.verdicts.specs.Numbers.{saturated}
 use Rattle.vocab.specs.declared.literals.Literal.{Literal}
 use Rattle.vocab.specs.Study.{Question}
 use Rattle.meaning.specs.declared.stories.Lemma.{Lemma}
@@ -9,7 +10,7 @@ use Rattle.verdicts.specs.Places.{Standing}
 use Rattle.verdicts.specs.Faults.{known_of}
 use Rattle.verdicts.specs.FirstFault.{Told, Good, Refused}
 use Rattle.verdicts.specs.Judge.{judge}
-use Rattle.report_lines.specs.Held.{held_count, held_place}
+use Rattle.report_lines.specs.Held.{held_place}
 use Rattle.report.specs.declared.faults.ReportFault.{ReportFault}
 use Rattle.report.specs.declared.faults.ReportFault.TheVariants.{Line as AtLine, NoMemory}
 use Rattle.report.specs.declared.progress.Progress.{Progress}
@@ -25,7 +26,7 @@ pub record Stands (study : Question) (r : Judging) (s : Standing) : Type 0 where
   pub version : r.version ≡ s.version
   pub rows : r.rows ≡ s.rows
   pub core : r.core ≡ s.core
-  pub count : r.count ≡ held_count s.count
+  pub count : r.count ≡ saturated s.count
   pub earlier : supposed r.earlier ≡ supposed s.earlier
   pub alone : IsTrue (list_all (λ lemma. length lemma.steps == 0) r.earlier)
   pub few : length r.earlier ≤ 4294967295

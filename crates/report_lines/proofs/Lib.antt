@@ -2,7 +2,6 @@ pub mod BallotLemmas
 pub mod LineLemmas
 pub mod LiteralLemmas
 pub mod NameLemmas
-pub mod NumberLemmas
 pub mod PlaceLemmas
 pub mod ReasonLemmas
 pub mod ValueLemmas

@@ -13,7 +13,7 @@ use Rattle.meaning.specs.Texts.{kind_text}
 use Rattle.vocab.specs.Name.{is_name}
 use Rattle.vocab.specs.Study.{Question}
 use Rattle.meaning.specs.declared.stories.Reason.{Reason}
-use Rattle.verdicts.specs.Numbers.{number_text, read_number}
+use Rattle.verdicts.specs.Numbers.{number_text, read_number, saturated}
 use Rattle.verdicts.specs.Texts.{joined_words, words_of, kinds, named_by, read_kind, read_literal}
 use Rattle.verdicts.specs.Lines.{Line, Title, KindIs, AbsentIs, SaysPossible, SaysImpossible, SaysUndecided, Heading, So, Clash, WithRule, WithOpen, End}
 use Rattle.verdicts.specs.Reading.{keyed, one_word, no_word, read_version, read_absent, verdict_word, read_heading, read_named, read_witness, read_reason, read_so}
@@ -22,7 +22,7 @@ use Rattle.verdicts.proofs.PrintLaws.{named_nothing, decimal_is}
 use Rattle.verdicts.proofs.LineLaws.{keyed_is, one_is, map_is, none_is}
 use Rattle.report_lines.specs.declared.lines.Line.{Line as HeldLine}
 use Rattle.report_lines.specs.declared.lines.Line.TheVariants as held
-use Rattle.report_lines.specs.Held.{held_count, held_reason, held_line}
+use Rattle.report_lines.specs.Held.{held_reason, held_line}
 use Rattle.report_lines.proofs.WordLemmas.{keyed_then, keyed_one_then}
 
 -- ---- after a key
@@ -166,7 +166,7 @@ module _ (study : Question) where
 
   pub is_heading : (n : ℕ) (word text : List ℕ) → n < 2 ^ 64 → text ≡ decimal n → bytes_eq word text ≡ true → Some (held.Heading n) ≡ option_map (held_line study) (read_heading n word)
   is_heading n word text l e t =
-      let small : n ≡ held_count n = omega (arith, l) in
+      let small : n ≡ saturated n = omega (arith, l) in
       ap (λ k. Some (held.Heading k)) small ∙ sym (ap (option_map (held_line study)) (printed n word text true l e t))
 
   pub no_heading : (n : ℕ) (word text : List ℕ) → n < 2 ^ 64 → text ≡ decimal n → bytes_eq word text ≡ false → None ≡ option_map (held_line study) (read_heading n word)
@@ -175,16 +175,16 @@ module _ (study : Question) where
   -- ---- witnesses
 
   module _ (name : List ℕ) where
-    rule_of : (o : Option ℕ) (p : Option Line) (n : ℕ) → Some n ≡ option_map held_count o → Some (held.WithRule name n) ≡ option_map (held_line study) (option_or (option_map (WithRule name) o) p)
+    rule_of : (o : Option ℕ) (p : Option Line) (n : ℕ) → Some n ≡ option_map saturated o → Some (held.WithRule name n) ≡ option_map (held_line study) (option_or (option_map (WithRule name) o) p)
     rule_of None p n e = absurd (cc)
-    rule_of (Some m) p n e = let same : n ≡ held_count m = cc in ap (λ k. Some (held.WithRule name k)) same
+    rule_of (Some m) p n e = let same : n ≡ saturated m = cc in ap (λ k. Some (held.WithRule name k)) same
 
-    open_of : (o p : Option ℕ) (n : ℕ) → None ≡ option_map held_count o → Some n ≡ option_map held_count p → Some (held.WithOpen name n) ≡ option_map (held_line study) (option_or (option_map (WithRule name) o) (option_map (WithOpen name) p))
+    open_of : (o p : Option ℕ) (n : ℕ) → None ≡ option_map saturated o → Some n ≡ option_map saturated p → Some (held.WithOpen name n) ≡ option_map (held_line study) (option_or (option_map (WithRule name) o) (option_map (WithOpen name) p))
     open_of (Some m) p n e t = absurd (cc)
     open_of None None n e t = absurd (cc)
-    open_of None (Some m) n e t = let same : n ≡ held_count m = cc in ap (λ k. Some (held.WithOpen name k)) same
+    open_of None (Some m) n e t = let same : n ≡ saturated m = cc in ap (λ k. Some (held.WithOpen name k)) same
 
-    neither_of : (o p : Option ℕ) → None ≡ option_map held_count o → None ≡ option_map held_count p → None ≡ option_map (held_line study) (option_or (option_map (WithRule name) o) (option_map (WithOpen name) p))
+    neither_of : (o p : Option ℕ) → None ≡ option_map saturated o → None ≡ option_map saturated p → None ≡ option_map (held_line study) (option_or (option_map (WithRule name) o) (option_map (WithOpen name) p))
     neither_of (Some m) p e t = absurd (cc)
     neither_of None (Some m) e t = absurd (cc)
     neither_of None None e t = refl
@@ -210,16 +210,16 @@ module _ (study : Question) where
         → r ≡ option_map (held_line study) (keyed (codes "without") read_witness words)
     told_after words rest more r e cut h t = keyed_told (held_line study) (codes "without") read_witness words rest r e (t ∙ sym (ap (λ ws. option_map (held_line study) (read_witness ws)) cut ∙ ap (option_map (held_line study)) (named_told more h)))
 
-    pub with_rule : (words rest more : List (List ℕ)) (n : ℕ) → keyed (codes "without") (λ ws. Some ws) words ≡ Some rest → rest ≡ name ∷ more → is_name name ≡ true → Some n ≡ option_map held_count (keyed (codes "rule") (one_word read_number) more)
+    pub with_rule : (words rest more : List (List ℕ)) (n : ℕ) → keyed (codes "without") (λ ws. Some ws) words ≡ Some rest → rest ≡ name ∷ more → is_name name ≡ true → Some n ≡ option_map saturated (keyed (codes "rule") (one_word read_number) more)
         → Some (held.WithRule name n) ≡ option_map (held_line study) (keyed (codes "without") read_witness words)
     with_rule words rest more n e cut h t = told_after words rest more (Some (held.WithRule name n)) e cut h (rule_of _ _ n t)
 
-    pub with_open : (words rest more : List (List ℕ)) (n : ℕ) → keyed (codes "without") (λ ws. Some ws) words ≡ Some rest → rest ≡ name ∷ more → is_name name ≡ true → None ≡ option_map held_count (keyed (codes "rule") (one_word read_number) more)
-        → Some n ≡ option_map held_count (keyed (codes "open") (one_word read_number) more) → Some (held.WithOpen name n) ≡ option_map (held_line study) (keyed (codes "without") read_witness words)
+    pub with_open : (words rest more : List (List ℕ)) (n : ℕ) → keyed (codes "without") (λ ws. Some ws) words ≡ Some rest → rest ≡ name ∷ more → is_name name ≡ true → None ≡ option_map saturated (keyed (codes "rule") (one_word read_number) more)
+        → Some n ≡ option_map saturated (keyed (codes "open") (one_word read_number) more) → Some (held.WithOpen name n) ≡ option_map (held_line study) (keyed (codes "without") read_witness words)
     with_open words rest more n e cut h none t = told_after words rest more (Some (held.WithOpen name n)) e cut h (open_of _ _ n none t)
 
-    pub with_neither : (words rest more : List (List ℕ)) → keyed (codes "without") (λ ws. Some ws) words ≡ Some rest → rest ≡ name ∷ more → is_name name ≡ true → None ≡ option_map held_count (keyed (codes "rule") (one_word read_number) more)
-        → None ≡ option_map held_count (keyed (codes "open") (one_word read_number) more) → None ≡ option_map (held_line study) (keyed (codes "without") read_witness words)
+    pub with_neither : (words rest more : List (List ℕ)) → keyed (codes "without") (λ ws. Some ws) words ≡ Some rest → rest ≡ name ∷ more → is_name name ≡ true → None ≡ option_map saturated (keyed (codes "rule") (one_word read_number) more)
+        → None ≡ option_map saturated (keyed (codes "open") (one_word read_number) more) → None ≡ option_map (held_line study) (keyed (codes "without") read_witness words)
     with_neither words rest more e cut h none t = told_after words rest more None e cut h (neither_of _ _ none t)
 
   -- ---- steps

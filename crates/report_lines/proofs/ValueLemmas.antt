@@ -4,14 +4,13 @@ use Rattle.vocab.specs.declared.kinds.Sort.TheVariants.{Voter, Alt, Ballot, Prof
 use Rattle.vocab.specs.Size.{Extent, IsSize, ballot_count, factorial, sort_count, outcome_count}
 use Rattle.meaning.specs.Space.{below}
 use Rattle.meaning.specs.Texts.{letter, ballot_text, profile_text, ranking_text, outcome_text}
-use Rattle.verdicts.specs.Numbers.{number_text, read_number}
+use Rattle.verdicts.specs.Numbers.{number_text, read_number, saturated}
 use Rattle.verdicts.specs.Reading.{read_place}
 use Rattle.verdicts.specs.Texts.{named_by, value_text, read_profile, read_outcome, read_value}
 use Rattle.verdicts.proofs.NumberLaws.{text_read, read_text}
 use Rattle.verdicts.proofs.WordLaws.{named_below, from_below}
 use Rattle.verdicts.proofs.PrintLaws.{named_nothing}
 use Rattle.verdicts.proofs.TextLaws.{profiles_same, rankings_same, ballots_same, outcomes_same, values_same}
-use Rattle.report_lines.specs.Held.{held_count}
 
 abbrev Own : (ℕ → List ℕ) → ℕ → Type 0
 Own text_of n = (u v : ℕ) → u < n → v < n → text_of u ≡ text_of v → u ≡ v
@@ -64,27 +63,27 @@ module _ (size : Extent) (is : IsSize size) (text : List ℕ) where
   read_of : (i : ℕ) → text ≡ number_text (i + 1) → read_number text ≡ Some (i + 1)
   read_of i e = ap read_number e ∙ read_text (i + 1)
 
-  pub voter_none : None ≡ option_map held_count (read_number text) → None ≡ read_value size Voter text
+  pub voter_none : None ≡ option_map saturated (read_number text) → None ≡ read_value size Voter text
   voter_none e = missing (value_text size Voter) size.voters text (λ i l same. none_not (read_number text) (i + 1) e (read_of i same))
     where
-      none_not : (o : Option ℕ) (n : ℕ) → None ≡ option_map held_count o → o ≡ Some n → ⊥
+      none_not : (o : Option ℕ) (n : ℕ) → None ≡ option_map saturated o → o ≡ Some n → ⊥
       none_not None n e h = cc
       none_not (Some m) n e h = cc
 
-  pub voter_out : (n : ℕ) → Some n ≡ option_map held_count (read_number text) → (n ≡ 0) ⊎ (size.voters < n) → None ≡ read_value size Voter text
-  voter_out n e out = missing (value_text size Voter) size.voters text (λ i l same. none_not i l (e ∙ ap (option_map held_count) (read_of i same)))
+  pub voter_out : (n : ℕ) → Some n ≡ option_map saturated (read_number text) → (n ≡ 0) ⊎ (size.voters < n) → None ≡ read_value size Voter text
+  voter_out n e out = missing (value_text size Voter) size.voters text (λ i l same. none_not i l (e ∙ ap (option_map saturated) (read_of i same)))
     where
-      none_not : (i : ℕ) → i < size.voters → Some n ≡ Some (held_count (i + 1)) → ⊥
-      none_not i l e = let same : n ≡ held_count (i + 1) = cc in elim out [ inl z ↦ omega (arith, same, z) | inr m ↦ omega (arith, same, m, l, is.few_voters) ]
+      none_not : (i : ℕ) → i < size.voters → Some n ≡ Some (saturated (i + 1)) → ⊥
+      none_not i l e = let same : n ≡ saturated (i + 1) = cc in elim out [ inl z ↦ omega (arith, same, z) | inr m ↦ omega (arith, same, m, l, is.few_voters) ]
 
-  pub voter_found : (n : ℕ) → Some n ≡ option_map held_count (read_number text) → n ≢ 0 → n ≤ size.voters → Some (n - 1) ≡ read_value size Voter text
+  pub voter_found : (n : ℕ) → Some n ≡ option_map saturated (read_number text) → n ≢ 0 → n ≤ size.voters → Some (n - 1) ≡ read_value size Voter text
   voter_found n e some within = by_number (read_number text) refl
     where
       by_number : (o : Option ℕ) → read_number text ≡ o → Some (n - 1) ≡ read_value size Voter text
-      by_number None h = let none : Some n ≡ None = e ∙ ap (option_map held_count) h in absurd (cc)
+      by_number None h = let none : Some n ≡ None = e ∙ ap (option_map saturated) h in absurd (cc)
       by_number (Some m) h =
-          let held : Some n ≡ Some (held_count m) = e ∙ ap (option_map held_count) h in
-          let same : n ≡ held_count m = cc in
+          let held : Some n ≡ Some (saturated m) = e ∙ ap (option_map saturated) h in
+          let same : n ≡ saturated m = cc in
           let is_m : m ≡ n - 1 + 1 = omega (arith, same, some, within, is.few_voters) in
           found (value_text size Voter) size.voters (n - 1) text (values_same size is Voter) (omega (arith, some, within)) (text_read text m h ∙ ap (λ k. number_text k) is_m)
 

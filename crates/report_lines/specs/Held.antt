@@ -2,6 +2,7 @@
 use Rattle.std.specs.Prelude.{ℕ, ◌-◌, ◌^◌, min, nat_eq, List, map, length, drop, Option, None, if◌then◌else◌}
 use Rattle.std.specs.Cmp.Lexicographic.{pointwise}
 use Rattle.std.specs.Str.{bytes_eq}
+use Rattle.verdicts.specs.Numbers.{saturated}
 use Rattle.vocab.specs.Size.{ballot_places}
 use Rattle.vocab.specs.Study.{Question}
 use Rattle.meaning.specs.declared.stories.Reason.{Reason}
@@ -39,10 +40,6 @@ held_place AtWitnessRow = place.AtWitnessRow
 held_place (AtEnd verdict) = place.AtEnd (claim_of verdict)
 held_place (AtNothing verdict) = place.AtNothing (claim_of verdict)
 
--- a number, which stands still at the end of `u64`
-abbrev pub held_count : ℕ → ℕ
-held_count n = min n (2 ^ 64 - 1)
-
 -- a reason; the place of a lemma stands still at the end of `u32`
 abbrev pub held_reason : Reason → Reason
 held_reason (ByAxiom k values) = ByAxiom k values
@@ -54,25 +51,25 @@ module _ (study : Question) where
   abbrev pub held_line : Line → HeldLine
   held_line (Title version) = held.Title version
   held_line (KindIs k) = held.KindIs k
-  held_line (VotersAre n) = held.VotersAre (held_count n)
-  held_line (AlternativesAre n) = held.AlternativesAre (held_count n)
+  held_line (VotersAre n) = held.VotersAre (saturated n)
+  held_line (AlternativesAre n) = held.AlternativesAre (saturated n)
   held_line (BallotsAre places) = held.BallotsAre (pointwise nat_eq places (ballot_places study.size))
   held_line (AbsentIs absent) = held.AbsentIs absent
   held_line (AxiomsAre names) = held.AxiomsAre (pointwise bytes_eq names (map (λ a. a.name) study.axioms))
   held_line SaysPossible = held.SaysPossible
   held_line SaysImpossible = held.SaysImpossible
   held_line SaysUndecided = held.SaysUndecided
-  held_line (LimitIs n) = held.LimitIs (held_count n)
-  held_line (RuleOf n) = held.RuleOf (held_count n)
+  held_line (LimitIs n) = held.LimitIs (saturated n)
+  held_line (RuleOf n) = held.RuleOf (saturated n)
   held_line (Row p o) = held.Row p o
   held_line (CoreIs names) = held.CoreIs
-  held_line (LemmasAre n) = held.LemmasAre (held_count n)
-  held_line (Heading n) = held.Heading (held_count n)
+  held_line (LemmasAre n) = held.LemmasAre (saturated n)
+  held_line (Heading n) = held.Heading (saturated n)
   held_line (Suppose l) = held.Suppose l
   held_line (So l r) = held.So l (held_reason r)
   held_line (Clash r) = held.Clash (held_reason r)
-  held_line (WithRule name n) = held.WithRule name (held_count n)
-  held_line (WithOpen name n) = held.WithOpen name (held_count n)
+  held_line (WithRule name n) = held.WithRule name (saturated n)
+  held_line (WithOpen name n) = held.WithOpen name (saturated n)
   held_line End = held.End
 
   -- places, where they are those of distinct axioms of the study in order

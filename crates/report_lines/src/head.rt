@@ -2,21 +2,19 @@
 
 ghost use Rattle.std.specs.Prelude.{◌≡◌, ℕ, Option, option_map};
 ghost use Rattle.vocab.specs.Study.{Question};
-ghost use Rattle.verdicts.specs.Numbers.{read_number};
+ghost use Rattle.verdicts.specs.Numbers.{read_number, saturated};
 ghost use Rattle.verdicts.specs.Texts.{words_of};
 ghost use Rattle.verdicts.specs.Reading.{keyed, one_word};
-ghost use Rattle.report_lines.specs.Held.{held_count};
 ghost use Rattle.report_lines.specs.Wanted.{held_wanted};
 
 use crate::all_axioms::are_all_axioms;
 use crate::ballots::{are_all_ballots, are_rankings};
 use crate::indexed::IndexedStudy;
 use crate::lines::Line;
-use crate::numbers::read_number;
 use crate::places::Place;
 use crate::words::{after_first, are_names, first_keyed, is_same};
 use profiles::Space;
-use verdicts::Confirmed;
+use verdicts::{Confirmed, read_number};
 use vocab::Kind;
 
 /// The first line, with the version of the report.
@@ -52,7 +50,7 @@ pub(crate) fn read_kind(text: &[u8]) -> Option<Line>
 
 /// The number of a line that has a key and a number. It stands still at the end of `u64`.
 pub fn read_count(text: &[u8], key: &[u8]) -> Option<u64>
-    ensures { result ≡ option_map held_count (keyed key.now (one_word read_number) (words_of text.now)) }
+    ensures { result ≡ option_map saturated (keyed key.now (one_word read_number) (words_of text.now)) }
 {
     read_number(first_keyed(text, key)?)
 }

@@ -21,7 +21,6 @@ pub use core_line::read_core;
 pub use head::read_count;
 pub use indexed::IndexedStudy;
 pub use lines::Line;
-pub use numbers::read_number;
 pub use places::Place;
 pub use reading::read_line;
 pub use reasons::read_cited;

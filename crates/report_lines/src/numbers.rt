@@ -1,62 +1,14 @@
-//! Numbers in decimal digits.
+//! Numbers that are not 0.
 
-ghost use Rattle.std.specs.Prelude.{◌≡◌, ◌-◌, ◌^◌, min, option_map};
-ghost use Rattle.std.specs.List.{list_all};
-ghost use Rattle.vocab.specs.Name.{is_digit};
-ghost use Rattle.verdicts.specs.Numbers.{is_number, value_after, read_number};
+ghost use Rattle.std.specs.Prelude.{◌≡◌, option_map};
+ghost use Rattle.verdicts.specs.Numbers.{saturated};
 ghost use Rattle.verdicts.specs.Reading.{read_positive};
-ghost use Rattle.report_lines.specs.Held.{held_count};
 
-fn is_digit(c: u8) -> bool
-    ensures { result ≡ is_digit c }
-{
-    48 <= c && c <= 57
-}
-
-fn are_digits(word: &[u8]) -> bool
-    ensures { result ≡ list_all is_digit word.now }
-{
-    word.iter().all(|c| is_digit(*c))
-}
-
-fn is_number(word: &[u8]) -> bool
-    ensures { result ≡ is_number word.now }
-{
-    match word.split_first() {
-        None => false,
-        Some((first, rest)) => is_digit(*first)
-            && (rest.is_empty() || *first != b'0' && are_digits(rest)),
-    }
-}
-
-/// The number of a word of digits, which stands still at the end of `u64`.
-fn value(word: &[u8]) -> u64
-    ensures { result ≡ held_count (value_after 0 word.now) }
-{
-    let mut value: u64 = 0;
-    for digit in word {
-        value = value
-            .saturating_mul(10)
-            .saturating_add(u64::from(digit.saturating_sub(b'0')));
-    }
-    value
-}
-
-/// The number of a word in decimal digits, without a sign and without a leading zero, except `0` itself. It
-/// stands still at the end of `u64`.
-pub fn read_number(word: &[u8]) -> Option<u64>
-    ensures { result ≡ option_map held_count (read_number word.now) }
-{
-    if is_number(word) {
-        Some(value(word))
-    } else {
-        None
-    }
-}
+use verdicts::read_number;
 
 /// The number of a word, where it is not 0.
 pub(crate) fn read_positive(word: &[u8]) -> Option<u64>
-    ensures { result ≡ option_map held_count (read_positive word.now) }
+    ensures { result ≡ option_map saturated (read_positive word.now) }
 {
     match read_number(word) {
         Some(number) => { if number == 0 { None } else { Some(number) } }

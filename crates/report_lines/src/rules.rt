@@ -2,21 +2,20 @@
 
 ghost use Rattle.std.specs.Prelude.{◌≡◌, ℕ, option_map};
 ghost use Rattle.vocab.specs.Study.{Question};
-ghost use Rattle.verdicts.specs.Numbers.{read_number};
+ghost use Rattle.verdicts.specs.Numbers.{read_number, saturated};
 ghost use Rattle.verdicts.specs.Texts.{words_of};
 ghost use Rattle.verdicts.specs.Lines.{Row};
 ghost use Rattle.verdicts.specs.Reading.{keyed, one_word, read_row};
-ghost use Rattle.report_lines.specs.Held.{held_count};
 ghost use Rattle.report_lines.specs.Rest.{words_after};
 ghost use Rattle.report_lines.specs.Wanted.{held_wanted};
 
 use crate::head::read_count;
 use crate::lines::Line;
-use crate::numbers::read_number;
 use crate::places::Place;
 use crate::values::{read_outcome, read_profile};
 use crate::words::{after_first, cut_word, next_keyed, next_word, only_word};
 use outcomes::OutcomeKind;
+use verdicts::read_number;
 use vocab::Name;
 
 /// The line before the rows of a rule.
@@ -53,7 +52,7 @@ pub(crate) fn read_row<K: OutcomeKind>(kind: &K, text: &[u8]) -> Option<Line>
 }
 
 fn read_next_count(rest: &[u8], key: &[u8]) -> Option<u64>
-    ensures { result ≡ option_map held_count (keyed key.now (one_word read_number) (words_after rest.now)) }
+    ensures { result ≡ option_map saturated (keyed key.now (one_word read_number) (words_after rest.now)) }
 {
     read_number(next_keyed(rest, key)?)
 }

@@ -6,9 +6,9 @@ ghost use Rattle.meaning.specs.Texts.{letter};
 ghost use Rattle.verdicts.specs.Reading.{read_place};
 ghost use Rattle.verdicts.specs.Texts.{read_profile, read_outcome, read_value};
 
-use crate::numbers::read_number;
 use outcomes::OutcomeKind;
 use profiles::{Space, place_of};
+use verdicts::read_number;
 use vocab::Sort;
 
 /// The alternative of a letter.

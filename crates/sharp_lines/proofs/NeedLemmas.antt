@@ -7,11 +7,10 @@ use Rattle.std.proofs.Math.Seq.{take-append_seam, drop-append_seam}
 use Rattle.std.proofs.lemmas.Slice.Eq.{bytes_eq-Decides}
 use Rattle.vocab.specs.Study.{Question}
 use Rattle.meaning.specs.declared.stories.Reason.{Reason}
-use Rattle.verdicts.specs.Numbers.{read_number}
+use Rattle.verdicts.specs.Numbers.{read_number, saturated}
 use Rattle.verdicts.specs.Lines.{End}
 use Rattle.verdicts.specs.Texts.{words_of}
 use Rattle.verdicts.specs.Reading.{keyed, one_word, no_word, read_cited}
-use Rattle.report_lines.specs.Held.{held_count}
 use Rattle.report_lines.proofs.LineLemmas.{no_end}
 use Rattle.report_lines.proofs.WordLemmas.{keyed_then}
 use Rattle.sharp_verdicts.specs.SharpLines.{SharpLine, Plain, InstancesAre, NeedsRule, NeedsOpen}
@@ -23,33 +22,33 @@ use Rattle.sharp_lines.specs.Said.{IsCountOf, IsNeedOf}
 -- ---- a key and a number
 
 module _ (key : List ℕ) where
-  count_held : (words : List (List ℕ)) → IsCountOf (keyed key (one_word (λ w. option_map InstancesAre (read_number w))) words) (option_map held_count (keyed key (one_word read_number) words))
+  count_held : (words : List (List ℕ)) → IsCountOf (keyed key (one_word (λ w. option_map InstancesAre (read_number w))) words) (option_map saturated (keyed key (one_word read_number) words))
   count_held [] = refl
   count_held (w ∷ words) = by_test (bytes_eq w key)
     where
-      by_number : (o : Option ℕ) → IsCountOf (option_map InstancesAre o) (option_map held_count o)
+      by_number : (o : Option ℕ) → IsCountOf (option_map InstancesAre o) (option_map saturated o)
       by_number None = refl
       by_number (Some n) = (n, refl, refl)
 
-      inner : (words : List (List ℕ)) → IsCountOf (one_word (λ w. option_map InstancesAre (read_number w)) words) (option_map held_count (one_word read_number words))
+      inner : (words : List (List ℕ)) → IsCountOf (one_word (λ w. option_map InstancesAre (read_number w)) words) (option_map saturated (one_word read_number words))
       inner [] = refl
       inner (w ∷ []) = by_number (read_number w)
       inner (w ∷ v ∷ words) = refl
 
-      by_test : (b : Bool) → IsCountOf (cond b (one_word (λ w. option_map InstancesAre (read_number w)) words) None) (option_map held_count (cond b (one_word read_number words) None))
+      by_test : (b : Bool) → IsCountOf (cond b (one_word (λ w. option_map InstancesAre (read_number w)) words) None) (option_map saturated (cond b (one_word read_number words) None))
       by_test true = inner words
       by_test false = refl
 
-  pub count_is : (words : List (List ℕ)) (count : Option ℕ) → count ≡ option_map held_count (keyed key (one_word read_number) words) → IsCountOf (keyed key (one_word (λ w. option_map InstancesAre (read_number w))) words) count
+  pub count_is : (words : List (List ℕ)) (count : Option ℕ) → count ≡ option_map saturated (keyed key (one_word read_number) words) → IsCountOf (keyed key (one_word (λ w. option_map InstancesAre (read_number w))) words) count
   count_is words count e = subst (IsCountOf (keyed key (one_word (λ w. option_map InstancesAre (read_number w))) words)) (sym e) (count_held words)
 
 -- ---- a mark
 
-number_held : (o : Option ℕ) (count : ℕ) → Some count ≡ option_map held_count o → (n : ℕ) × (o ≡ Some n) × (count ≡ held_count n)
+number_held : (o : Option ℕ) (count : ℕ) → Some count ≡ option_map saturated o → (n : ℕ) × (o ≡ Some n) × (count ≡ saturated n)
 number_held None count e = absurd (cc)
-number_held (Some n) count e = let same : count ≡ held_count n = cc in (n, refl, same)
+number_held (Some n) count e = let same : count ≡ saturated n = cc in (n, refl, same)
 
-no_number : (o : Option ℕ) → None ≡ option_map held_count o → o ≡ None
+no_number : (o : Option ℕ) → None ≡ option_map saturated o → o ≡ None
 no_number None e = refl
 no_number (Some n) e = absurd (cc)
 
@@ -71,15 +70,15 @@ module _ (r : Reason) where
     parts : mark_at ≡ mark_of (bytes_eq word (codes "rule")) (bytes_eq word (codes "open")) (read_number last)
     parts = refl
 
-    pub mark_none : None ≡ option_map held_count (read_number last) → IsNeedOf mark_at None
+    pub mark_none : None ≡ option_map saturated (read_number last) → IsNeedOf mark_at None
     mark_none e = parts ∙ ap (mark_of (bytes_eq word (codes "rule")) (bytes_eq word (codes "open"))) (no_number (read_number last) e) ∙ none_of (bytes_eq word (codes "rule")) (bytes_eq word (codes "open"))
 
-    pub mark_rule : (count : ℕ) → Some count ≡ option_map held_count (read_number last) → bytes_eq word (codes "rule") ≡ true → IsNeedOf mark_at (Some (Rule r count))
+    pub mark_rule : (count : ℕ) → Some count ≡ option_map saturated (read_number last) → bytes_eq word (codes "rule") ≡ true → IsNeedOf mark_at (Some (Rule r count))
     mark_rule count e t =
         let n = number_held (read_number last) count e in
         (n.0, parts ∙ ap (λ (b : Bool). mark_of b (bytes_eq word (codes "open")) (read_number last)) t ∙ ap (mark_of true (bytes_eq word (codes "open"))) n.1, n.2)
 
-    pub mark_open : (count : ℕ) → Some count ≡ option_map held_count (read_number last) → bytes_eq word (codes "rule") ≡ false → bytes_eq word (codes "open") ≡ true → IsNeedOf mark_at (Some (Open r count))
+    pub mark_open : (count : ℕ) → Some count ≡ option_map saturated (read_number last) → bytes_eq word (codes "rule") ≡ false → bytes_eq word (codes "open") ≡ true → IsNeedOf mark_at (Some (Open r count))
     mark_open count e f t =
         let n = number_held (read_number last) count e in
         (n.0, parts ∙ ap (λ (b : Bool). mark_of b (bytes_eq word (codes "open")) (read_number last)) f ∙ ap (λ (b : Bool). mark_of false b (read_number last)) t ∙ ap (mark_of false true) n.1, n.2)

@@ -2,7 +2,7 @@
 use Rattle.std.specs.Prelude.{◌≡◌, ℕ, ◌+◌, ◌<◌, ◌==◌, not, List, drop, length, get_or, Option, Some, None, IsTrue}
 use Rattle.std.specs.List.{list_all}
 use Rattle.vocab.specs.Study.{Question}
-use Rattle.report_lines.specs.Held.{held_count}
+use Rattle.verdicts.specs.Numbers.{saturated}
 use Rattle.sharp_verdicts.specs.SharpLines.{SharpLine, InstancesAre, NeedsRule, NeedsOpen}
 use Rattle.sharp_verdicts.specs.SharpPlaces.{AtInstances, AtNeed, read_past}
 use Rattle.sharp_lines.specs.declared.needs.Need.{Need}
@@ -19,13 +19,13 @@ IsLastBlank text k = (k < length text) × (get_or text k 0 ≡ 32) × HasNoBlank
 -- what is held of a line that says how many instances there are, if it is such a line
 abbrev pub IsCountOf : Option SharpLine → Option ℕ → Type 0
 IsCountOf line None = line ≡ None
-IsCountOf line (Some count) = (n : ℕ) × (line ≡ Some (InstancesAre n)) × (count ≡ held_count n)
+IsCountOf line (Some count) = (n : ℕ) × (line ≡ Some (InstancesAre n)) × (count ≡ saturated n)
 
 -- what is held of the first line of a mark, if it is such a line
 abbrev pub IsNeedOf : Option SharpLine → Option Need → Type 0
 IsNeedOf line None = line ≡ None
-IsNeedOf line (Some (Rule r count)) = (n : ℕ) × (line ≡ Some (NeedsRule r n)) × (count ≡ held_count n)
-IsNeedOf line (Some (Open r limit)) = (n : ℕ) × (line ≡ Some (NeedsOpen r n)) × (limit ≡ held_count n)
+IsNeedOf line (Some (Rule r count)) = (n : ℕ) × (line ≡ Some (NeedsRule r n)) × (count ≡ saturated n)
+IsNeedOf line (Some (Open r limit)) = (n : ℕ) × (line ≡ Some (NeedsOpen r n)) × (limit ≡ saturated n)
 
 module _ (study : Question) (text : List ℕ) where
   -- of a line of this text at the place of the number of instances

@@ -9,7 +9,8 @@ use crate::last::last_two;
 use crate::marks::LONGEST;
 use meaning::Reason;
 use profiles::Space;
-use report_lines::{IndexedStudy, after_first, is_same, read_cited, read_number};
+use report_lines::{IndexedStudy, after_first, is_same, read_cited};
+use verdicts::read_number;
 
 /// The line with which the mark of an instance begins: a reason that cites the instance, and the number of
 /// rows of a rule, or the limit of an open mark. A number stands still at the end of `u64`.

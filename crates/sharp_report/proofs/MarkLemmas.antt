@@ -13,13 +13,12 @@ use Rattle.meaning.specs.declared.stories.Reason.{Reason}
 use Rattle.verdicts.specs.declared.refusals.Refusal.TheVariants as refusal
 use Rattle.verdicts.specs.Texts.{words_of}
 use Rattle.verdicts.specs.Lines.{Line, Row, Clash, End}
-use Rattle.verdicts.specs.Numbers.{read_number}
+use Rattle.verdicts.specs.Numbers.{read_number, saturated}
 use Rattle.verdicts.specs.Places.{AtRow, AtStep}
 use Rattle.verdicts.specs.Reading.{keyed, one_word, read_cited, read_row}
 use Rattle.verdicts.proofs.FitLaws.{wanted_fits}
 use Rattle.verdicts.proofs.LineLaws.{map_is, then_is, or_is, keyed_is, one_is}
 use Rattle.report_lines.specs.declared.lines.Line.TheVariants as held
-use Rattle.report_lines.specs.Held.{held_count}
 use Rattle.report.specs.Taken.{AreOutcomes}
 use Rattle.sharp_verdicts.specs.declared.instances.Cited.{Cited}
 use Rattle.sharp_verdicts.specs.declared.refusals.SharpRefusal.{SharpRefusal}
@@ -39,7 +38,7 @@ use Rattle.sharp_report.proofs.StoryLemmas.{same_place}
 use Rattle.sharp_report.proofs.TakenLemmas.{wider}
 
 -- a number that is held is another, where its held one is
-pub other_number : (n m k count : ℕ) → count ≡ held_count n → m ≤ 18446744073709551614 → m ≡ k → (count ≡ m → ⊥) → (n == k) ≡ false
+pub other_number : (n m k count : ℕ) → count ≡ saturated n → m ≤ 18446744073709551614 → m ≡ k → (count ≡ m → ⊥) → (n == k) ≡ false
 other_number n m k count held few same other = ne_eqb n k (λ e. other (omega (arith, held, few, same, e)))
 
 module _ (study : Question) where

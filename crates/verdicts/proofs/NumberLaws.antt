@@ -1,5 +1,5 @@
 -- Numbers and their texts are one to one.
-use Rattle.std.proofs.Common.{◌≡◌, refl, sym, ap, ◌∙◌, subst, ℕ, zero, suc, ◌+◌, ◌-◌, ◌*◌, ◌/◌, ◌%◌, ◌<◌, ◌≤◌, ◌≢◌, Bool, true, false, not, ◌&&◌, inl, inr, List, [], ◌∷◌, ◌++◌, Some, arith, lt-ltb, le-ltb, ltb-false, true≢false, append-nil, append_assoc}
+use Rattle.std.proofs.Common.{◌≡◌, refl, sym, ap, ◌∙◌, subst, ℕ, zero, suc, ◌+◌, ◌-◌, ◌*◌, ◌/◌, ◌%◌, ◌^◌, min, ◌<◌, ◌≤◌, ◌≢◌, Bool, true, false, not, ◌&&◌, inl, inr, List, [], ◌∷◌, ◌++◌, Some, arith, lt-ltb, le-ltb, ltb-false, true≢false, append-nil, append_assoc}
 use Rattle.std.specs.Prelude.{◌==◌, nat_lt}
 use Rattle.std.specs.List.{list_all}
 use Rattle.std.proofs.lemmas.Bool.{and_parts, and_from, cases_lt}
@@ -9,7 +9,7 @@ use Rattle.std.proofs.lemmas.Bool.Decides.{Decides-eqb}
 use Rattle.lists.proofs.TestLaws.{all_snoc}
 use Rattle.vocab.specs.Name.{is_digit}
 use Rattle.vocab.proofs.DigitLaws.{digit_from, digit_range}
-use Rattle.verdicts.specs.Numbers.{with_last, digits_below, number_text, is_number, value_after, read_number}
+use Rattle.verdicts.specs.Numbers.{with_last, digits_below, number_text, is_number, value_after, read_number, saturated}
 
 with_last-same : (b : Bool) (f g : ℕ → List ℕ) (n : ℕ) → (b ≡ false → f (n / 10) ≡ g (n / 10)) → with_last b f n ≡ with_last b g n
 with_last-same true f g n h = refl
@@ -75,6 +75,12 @@ text_of_value (c ∷ d ∷ ds) h =
 pub value_push : (a : ℕ) (cs : List ℕ) (d : ℕ) → value_after a (cs ++ d ∷ []) ≡ value_after a cs * 10 + (d - 48)
 value_push a [] d = refl
 value_push a (c ∷ cs) d = value_push (a * 10 + (c - 48)) cs d
+
+-- one more digit of a number that stands still at the end of `u64`
+pub saturated_more : (word : List ℕ) (digit : ℕ) → min (min (saturated (value_after 0 word) * 10) (2 ^ 64 - 1) + (digit - 48)) (2 ^ 64 - 1) ≡ saturated (value_after 0 (word ++ digit ∷ []))
+saturated_more word digit =
+    let e : value_after 0 (word ++ digit ∷ []) ≡ value_after 0 word * 10 + (digit - 48) = value_push 0 word digit in
+    omega (arith, e)
 
 -- how a number is written: one digit, or one after the text of its tenth part
 abbrev ByDigits : (ℕ → Type 0) → Type 0

@@ -1,5 +1,5 @@
 -- Numbers in decimal digits, without a sign and without a leading zero, except `0` itself. There is no greatest one.
-use Rattle.std.specs.Prelude.{ℕ, zero, suc, ◌+◌, ◌-◌, ◌*◌, ◌/◌, ◌%◌, Bool, true, false, not, ◌&&◌, ◌==◌, nat_lt, List, [], ◌∷◌, ◌++◌, Option, Some, None, if◌then◌else◌}
+use Rattle.std.specs.Prelude.{ℕ, zero, suc, ◌+◌, ◌-◌, ◌*◌, ◌/◌, ◌%◌, ◌^◌, min, Bool, true, false, not, ◌&&◌, ◌==◌, nat_lt, List, [], ◌∷◌, ◌++◌, Option, Some, None, if◌then◌else◌}
 use Rattle.std.specs.List.{list_all}
 use Rattle.vocab.specs.Name.{is_digit}
 
@@ -31,3 +31,7 @@ value_after n (c ∷ cs) = value_after (n * 10 + (c - 48)) cs
 -- the number of a text
 abbrev pub read_number : List ℕ → Option ℕ
 read_number text = if is_number text then Some (value_after 0 text) else None
+
+-- a number as `u64` holds it: it stands still at the greatest one
+abbrev pub saturated : ℕ → ℕ
+saturated n = min n (2 ^ 64 - 1)

@@ -2,8 +2,10 @@
 #![tactic(auto)]
 
 pub mod laws;
+mod numbers;
 mod refusals;
 mod verdicts;
 
+pub use numbers::read_number;
 pub use refusals::Refusal;
 pub use verdicts::{Confirmed, Verdict};

@@ -5,7 +5,7 @@ ghost use Rattle.vocab.specs.Study.{Question};
 ghost use Rattle.verdicts.specs.Texts.{words_of};
 ghost use Rattle.verdicts.specs.Lines.{CoreIs, LemmasAre, Heading};
 ghost use Rattle.verdicts.specs.Places.{Standing};
-ghost use Rattle.report_lines.specs.Held.{held_count};
+ghost use Rattle.verdicts.specs.Numbers.{saturated};
 ghost use Rattle.report.specs.Stands.{Stands};
 ghost use Rattle.report.specs.Taken.{Took, Takes};
 
@@ -39,7 +39,7 @@ impl Judging {
     /// Takes the number of lemmas.
     pub(crate) fn take_lemmas(&mut self, count: u64) -> Option<Refusal>
         ensures { (study : Question) (s : Standing) (n : ℕ) → Stands study self.old s →
-            count ≡ held_count n →
+            count ≡ saturated n →
             Took study s (LemmasAre n) self.new result }
     {
         self.count = count;

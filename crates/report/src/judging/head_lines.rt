@@ -3,13 +3,14 @@
 ghost use Rattle.std.specs.Prelude.{◌≡◌, ℕ, ◌==◌, nat_eq, List, map, if◌then◌else◌};
 ghost use Rattle.std.specs.Str.{bytes_eq};
 ghost use Rattle.std.specs.Cmp.Lexicographic.{pointwise};
+ghost use Rattle.verdicts.specs.Numbers.{saturated};
 ghost use Rattle.vocab.specs.Size.{ballot_places};
 ghost use Rattle.vocab.specs.Study.{Question};
 ghost use Rattle.verdicts.specs.Lines.{Title, KindIs, VotersAre, AlternativesAre, BallotsAre, AbsentIs, AxiomsAre, SaysPossible, SaysImpossible, SaysUndecided, LimitIs, RuleOf, End, is_version};
 ghost use Rattle.verdicts.specs.Places.{Place as WantedPlace, AtBallots, AtAxioms, Standing};
 ghost use Rattle.verdicts.specs.Faults.{unless_so, same_kind};
 ghost use Rattle.verdicts.specs.Judge.{after_end};
-ghost use Rattle.report_lines.specs.Held.{held_count, held_place};
+ghost use Rattle.report_lines.specs.Held.{held_place};
 ghost use Rattle.report.specs.Stands.{Stands};
 ghost use Rattle.report.specs.Taken.{Took};
 
@@ -86,7 +87,7 @@ impl Judging {
 
     /// Takes the number of voters.
     pub(crate) fn take_voters(&mut self, study: &Study, count: u64) -> Option<Refusal>
-        ensures { (s : Standing) (n : ℕ) → Stands study.now self.old s → count ≡ held_count n →
+        ensures { (s : Standing) (n : ℕ) → Stands study.now self.old s → count ≡ saturated n →
             Took study.now s (VotersAre n) self.new result }
     {
         let same = count == study.size().voters() as u64;
@@ -95,7 +96,7 @@ impl Judging {
 
     /// Takes the number of alternatives.
     pub(crate) fn take_alternatives(&mut self, study: &Study, count: u64) -> Option<Refusal>
-        ensures { (s : Standing) (n : ℕ) → Stands study.now self.old s → count ≡ held_count n →
+        ensures { (s : Standing) (n : ℕ) → Stands study.now self.old s → count ≡ saturated n →
             Took study.now s (AlternativesAre n) self.new result }
     {
         let same = count == study.size().alternatives() as u64;
@@ -172,7 +173,7 @@ impl Judging {
         count: u64,
     ) -> Option<Refusal>
         ensures { (s : Standing) (n : ℕ) → Stands subject.now.setting.study.now self.old s →
-            count ≡ held_count n → Took subject.now.setting.study.now s (RuleOf n) self.new result }
+            count ≡ saturated n → Took subject.now.setting.study.now s (RuleOf n) self.new result }
     {
         let same = count == subject.setting.kind.space().count() as u64;
         self.pass(same, Refusal::Row, Place::AtRow)

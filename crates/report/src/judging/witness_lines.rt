@@ -7,7 +7,7 @@ ghost use Rattle.verdicts.specs.Lines.{WithRule, WithOpen};
 ghost use Rattle.verdicts.specs.Places.{Standing, AtWitness};
 ghost use Rattle.verdicts.specs.Faults.{next_core, name_fault, unless_so};
 ghost use Rattle.verdicts.specs.Judge.{after_witness};
-ghost use Rattle.report_lines.specs.Held.{held_count};
+ghost use Rattle.verdicts.specs.Numbers.{saturated};
 ghost use Rattle.report.specs.Stands.{Stands, IsRead};
 ghost use Rattle.report.specs.Taken.{Took};
 
@@ -50,7 +50,7 @@ impl Judging {
     ) -> Option<Refusal>
         requires read { IsRead subject.now.setting.study.now self.old }
         ensures { (s : Standing) (n : ℕ) → Stands subject.now.setting.study.now self.old s →
-            s.place ≡ AtWitness → count ≡ held_count n →
+            s.place ≡ AtWitness → count ≡ saturated n →
             Took subject.now.setting.study.now s (WithRule name.now n) self.new result }
     {
         if !self.is_next(subject, name) {
@@ -72,7 +72,7 @@ impl Judging {
     ) -> Option<Refusal>
         requires read { IsRead subject.now.setting.study.now self.old }
         ensures { (s : Standing) (n : ℕ) → Stands subject.now.setting.study.now self.old s →
-            s.place ≡ AtWitness → limit ≡ held_count n →
+            s.place ≡ AtWitness → limit ≡ saturated n →
             Took subject.now.setting.study.now s (WithOpen name.now n) self.new result }
     {
         if !self.is_next(subject, name) {

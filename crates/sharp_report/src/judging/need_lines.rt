@@ -1,7 +1,7 @@
 //! Takes the lines with which marks begin.
 
 ghost use Rattle.std.specs.Prelude.{◌≡◌, ◌<◌, ℕ, IsTrue};
-ghost use Rattle.report_lines.specs.Held.{held_count};
+ghost use Rattle.verdicts.specs.Numbers.{saturated};
 ghost use Rattle.sharp_verdicts.specs.SharpFaults.{next_instance, instance_fault, unless_of};
 ghost use Rattle.sharp_verdicts.specs.SharpLines.{NeedsRule, NeedsOpen};
 ghost use Rattle.sharp_verdicts.specs.SharpPlaces.{SharpStanding, AtNeed};
@@ -56,7 +56,7 @@ impl SharpJudging {
     ) -> Option<SharpRefusal>
         requires reason { IsTrue (names_instance subject.now.setting.study.now reason.now) }
         ensures { (s : SharpStanding) (n : ℕ) → SharpStands subject.now.setting.study.now self.old s →
-            s.place ≡ AtNeed → count ≡ held_count n →
+            s.place ≡ AtNeed → count ≡ saturated n →
             SharpTook subject.now.setting.study.now s (NeedsRule reason.now n) self.new result }
     {
         let due = self.is_next(subject, reason);
@@ -79,7 +79,7 @@ impl SharpJudging {
     ) -> Option<SharpRefusal>
         requires reason { IsTrue (names_instance subject.now.setting.study.now reason.now) }
         ensures { (s : SharpStanding) (n : ℕ) → SharpStands subject.now.setting.study.now self.old s →
-            s.place ≡ AtNeed → limit ≡ held_count n →
+            s.place ≡ AtNeed → limit ≡ saturated n →
             SharpTook subject.now.setting.study.now s (NeedsOpen reason.now n) self.new result }
     {
         if !self.is_next(subject, reason) {
