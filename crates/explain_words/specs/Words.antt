@@ -1,10 +1,10 @@
 -- Which words are a command of `explain`: those that `clap` takes for the program below, where the values have their forms.
 use Rattle.std.specs.Prelude.{◌≤◌, ℕ, true, false, List, [], ◌∷◌, codes, if◌then◌else◌, Option, None, Some, option_map, option_and_then}
 use Rattle.std.specs.Str.{bytes_eq}
-use Rattle.clap.specs.Words.{App, Kinds, Row, Rule, Shape, Text, fault_of, first_of, subcommand_of}
+use Rattle.clap.specs.Words.{App, Row, Rule, Shape, Text, fault_of, first_of, subcommand_of}
 use Rattle.clap.specs.Simple.{new_rule, new_shape}
 use Rattle.words.specs.Values.{number_in, number_within, workers_in}
-use Rattle.words.specs.Words.{required_word, workers_option, with_arguments}
+use Rattle.words.specs.Words.{required_word, workers_option, with_arguments, unless_refused}
 use Rattle.explain_words.specs.declared.commands.Command.{Command}
 use Rattle.explain_words.specs.declared.commands.Command.TheVariants as command
 
@@ -101,11 +101,6 @@ explain_request_under name rows =
 abbrev pub explain_request_in : Option (Text × List Row) → Option ExplainRequest
 explain_request_in = option_and_then (λ met. explain_request_under met.0 met.1)
 
--- a request for help, and whatever else `clap` refuses, is none
-abbrev pub unless_explain_refused : Kinds → Option ExplainRequest → Option ExplainRequest
-unless_explain_refused [] request = request
-unless_explain_refused (kind ∷ kinds) request = None
-
--- the request that the words are, where they are a command
+-- the request that the words are, where they are a command: one for help, and whatever else `clap` refuses, is none
 unfoldable pub request_of : List Text → Option ExplainRequest
-request_of words = unless_explain_refused (fault_of explain_app words) (explain_request_in (subcommand_of explain_app words))
+request_of words = unless_refused (fault_of explain_app words) (explain_request_in (subcommand_of explain_app words))

@@ -1,30 +1,13 @@
 //! What the program tells `clap` of its words.
 
 ghost use Rattle.std.specs.Prelude.{◌≡◌, IfOk, false};
-ghost use Rattle.clap.specs.Words.{App, Shape, app_of, rule_of, with_subcommand};
-ghost use Rattle.words.specs.Words.{required_word, workers_option, IsLeaf};
+ghost use Rattle.clap.specs.Words.{app_of, rule_of};
+ghost use Rattle.words.specs.Words.{IsLeaf};
 ghost use Rattle.explain_words.specs.Words.{story_shape, instance_shape, most_option, rules_shape, cores_shape, look_shape, explain_shape, explain_app};
 
 use clap::{Arg, Command};
 use std::alloc::{AllocError, Global};
-
-/// A word that has to stand at its place.
-fn required_word<'a>(alloc: Global, id: &'a str) -> Arg<'a>
-    ensures rule { rule_of result ≡ required_word id.now }
-    ensures local { result.global ≡ false }
-{
-    Arg::new(alloc, id).required(true)
-}
-
-/// `--workers K`.
-fn workers_option<'a>(alloc: Global) -> Arg<'a>
-    ensures rule { rule_of result ≡ workers_option }
-    ensures local { result.global ≡ false }
-{
-    Arg::new(alloc, "workers")
-        .long("workers")
-        .default_value("1")
-}
+use words::{add_command, required_word, workers_option};
 
 /// `--most N`.
 fn most_option<'a>(alloc: Global) -> Arg<'a>
@@ -84,19 +67,6 @@ fn top_command<'a>(alloc: Global) -> Command<'a>
     Command::new(alloc, "explain")
         .no_binary_name(true)
         .subcommand_required(true)
-}
-
-/// A command with one more below it, where both could be made. (Both are handed over as they come, so that
-/// one place alone lets a command go where memory ends.)
-fn add_command<'a>(
-    command: Result<Command<'a>, AllocError>,
-    below: Result<Command<'a>, AllocError>,
-) -> Result<Command<'a>, AllocError>
-    ensures { (app : App) (shape : Shape) → IfOk command.entry (λ c. app_of c ≡ app) →
-        IfOk below.entry (IsLeaf shape) →
-        IfOk result (λ c. app_of c ≡ with_subcommand app shape) }
-{
-    command?.subcommand(below?)
 }
 
 /// The program with all its commands.

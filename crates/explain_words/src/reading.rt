@@ -1,8 +1,7 @@
 //! The command that the words are.
 
 ghost use Rattle.std.specs.Prelude.{◌≡◌, IfOk, IfSome, option_map};
-ghost use Rattle.clap.specs.Words.{first_of, found_of, rows_of, subcommand_rows_of};
-ghost use Rattle.words.specs.Values.{number_within, number_in, workers_in};
+ghost use Rattle.clap.specs.Words.{found_of, rows_of, subcommand_rows_of};
 ghost use Rattle.words.specs.Words.{texts};
 ghost use Rattle.explain_words.specs.Words.{HasExplainWorkers, command_request, story_in, instance_in, most_in, rules_in, cores_in, look_in, explain_request_under, explain_request_in, request_of};
 
@@ -12,33 +11,7 @@ use clap::ArgMatches;
 use clap::error::ErrorKind;
 use lists::NoMemory;
 use std::alloc::Global;
-use verdicts::read_number;
-
-/// The value of an id.
-fn value_at<'a>(matches: &ArgMatches<'a>, id: &str) -> Option<&'a str>
-    ensures { option_map (λ value. value.now) result ≡ first_of id.now (rows_of (found_of matches.now)) }
-{
-    matches.get_str(id)
-}
-
-/// A number of workers.
-fn workers_of(word: &str) -> Option<u8>
-    ensures { result ≡ number_within 1 16 word.now }
-{
-    let count = read_number(word.as_bytes())?;
-    if 1 <= count && count <= 16 {
-        Some(count as u8)
-    } else {
-        None
-    }
-}
-
-/// The number of workers that was found, or 1.
-fn workers_in(matches: &ArgMatches<'_>) -> Option<u8>
-    ensures { result ≡ workers_in (rows_of (found_of matches.now)) }
-{
-    workers_of(value_at(matches, "workers")?)
-}
+use words::{number_in, number_within, value_at, workers_in};
 
 /// `story STUDY REPORT`.
 fn story_in<'a>(matches: &ArgMatches<'a>) -> Option<Command<'a>>
@@ -52,25 +25,6 @@ fn story_in<'a>(matches: &ArgMatches<'a>) -> Option<Command<'a>>
         report,
         workers,
     })
-}
-
-/// A number of 32 bits.
-fn number_of(word: &str) -> Option<u32>
-    ensures { result ≡ number_within 0 4294967295 word.now }
-{
-    let number = read_number(word.as_bytes())?;
-    if number <= 4_294_967_295 {
-        Some(number as u32)
-    } else {
-        None
-    }
-}
-
-/// The number that was found.
-fn number_in(matches: &ArgMatches<'_>) -> Option<u32>
-    ensures { result ≡ number_in (rows_of (found_of matches.now)) }
-{
-    number_of(value_at(matches, "number")?)
 }
 
 /// `instance STUDY AXIOM NUMBER`.
@@ -87,23 +41,11 @@ fn instance_in<'a>(matches: &ArgMatches<'a>) -> Option<Command<'a>>
     })
 }
 
-/// A number of rules.
-fn most_of(word: &str) -> Option<u32>
-    ensures { result ≡ number_within 1 10000 word.now }
-{
-    let count = read_number(word.as_bytes())?;
-    if 1 <= count && count <= 10_000 {
-        Some(count as u32)
-    } else {
-        None
-    }
-}
-
 /// The number of rules that was found, or 100.
 fn most_in(matches: &ArgMatches<'_>) -> Option<u32>
     ensures { result ≡ most_in (rows_of (found_of matches.now)) }
 {
-    most_of(value_at(matches, "most")?)
+    number_within(value_at(matches, "most")?.as_bytes(), 1, 10_000)
 }
 
 /// `rules STUDY`.

@@ -1,29 +1,12 @@
 //! What the program tells `clap` of its words.
 
-ghost use Rattle.std.specs.Prelude.{◌≡◌, IfOk, false};
-ghost use Rattle.clap.specs.Words.{App, Shape, app_of, rule_of, with_subcommand};
-ghost use Rattle.words.specs.Words.{required_word, workers_option, IsLeaf, study_shape, check_shape, lrat_shape, axioms_shape, sample_shape, adopt_shape, gain_shape, top_shape, bench_app};
+ghost use Rattle.std.specs.Prelude.{◌≡◌, IfOk};
+ghost use Rattle.clap.specs.Words.{app_of};
+ghost use Rattle.words.specs.Words.{IsLeaf, study_shape, check_shape, lrat_shape, axioms_shape, sample_shape, adopt_shape, gain_shape, top_shape, bench_app};
 
-use clap::{Arg, Command};
+use crate::arguments::{add_command, required_word, workers_option};
+use clap::Command;
 use std::alloc::{AllocError, Global};
-
-/// A word that has to stand at its place.
-fn required_word<'a>(alloc: Global, id: &'a str) -> Arg<'a>
-    ensures rule { rule_of result ≡ required_word id.now }
-    ensures local { result.global ≡ false }
-{
-    Arg::new(alloc, id).required(true)
-}
-
-/// `--workers K`.
-fn workers_option<'a>(alloc: Global) -> Arg<'a>
-    ensures rule { rule_of result ≡ workers_option }
-    ensures local { result.global ≡ false }
-{
-    Arg::new(alloc, "workers")
-        .long("workers")
-        .default_value("1")
-}
 
 /// A command that takes a study, and a number of workers.
 fn study_command<'a>(alloc: Global, name: &'a str) -> Result<Command<'a>, AllocError>
@@ -88,19 +71,6 @@ fn top_command<'a>(alloc: Global) -> Command<'a>
     Command::new(alloc, "bench")
         .no_binary_name(true)
         .subcommand_required(true)
-}
-
-/// A command with one more below it, where both could be made. (Both are handed over as they come, so that
-/// one place alone lets a command go where memory ends.)
-fn add_command<'a>(
-    command: Result<Command<'a>, AllocError>,
-    below: Result<Command<'a>, AllocError>,
-) -> Result<Command<'a>, AllocError>
-    ensures { (app : App) (shape : Shape) → IfOk command.entry (λ c. app_of c ≡ app) →
-        IfOk below.entry (IsLeaf shape) →
-        IfOk result (λ c. app_of c ≡ with_subcommand app shape) }
-{
-    command?.subcommand(below?)
 }
 
 /// The program with all its commands.

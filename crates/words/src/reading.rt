@@ -1,14 +1,14 @@
 //! The command that the words are.
 
 ghost use Rattle.std.specs.Prelude.{◌≡◌, ℕ, IfOk, IfSome, option_map};
-ghost use Rattle.clap.specs.Words.{Text, first_of, found_of, rows_of, subcommand_rows_of};
-ghost use Rattle.words.specs.Values.{kind_named, number_within, workers_in, kind_in, number_in};
+ghost use Rattle.clap.specs.Words.{Text, found_of, rows_of, subcommand_rows_of};
+ghost use Rattle.words.specs.Values.{kind_named, kind_in, number_in};
 ghost use Rattle.words.specs.Words.{Request, Decide, Check, Export, Proof, Axioms, Sample, Sharpen, HasWorkers};
 ghost use Rattle.words.specs.Words.{texts, asked, over_study, check_in, lrat_in, adopt_in, gain_in, request_under, request_in, request_of};
 
 use crate::commands::Command;
 use crate::grammar::bench_command;
-use crate::numbers::number_within;
+use crate::values::{number_in, value_at, workers_in};
 use clap::ArgMatches;
 use clap::error::ErrorKind;
 use lists::NoMemory;
@@ -27,46 +27,11 @@ fn kind_named(word: &str) -> Option<Kind>
     }
 }
 
-/// The value of an id.
-fn value_at<'a>(matches: &ArgMatches<'a>, id: &str) -> Option<&'a str>
-    ensures { option_map (λ value. value.now) result ≡ first_of id.now (rows_of (found_of matches.now)) }
-{
-    matches.get_str(id)
-}
-
-/// A number of workers.
-fn workers_of(word: &str) -> Option<u8>
-    ensures { result ≡ number_within 1 16 word.now }
-{
-    number_within(word.as_bytes(), 1, 16).map(|workers| workers as u8)
-}
-
-/// The number of workers that was found, or 1.
-fn workers_in(matches: &ArgMatches<'_>) -> Option<u8>
-    ensures { result ≡ workers_in (rows_of (found_of matches.now)) }
-{
-    workers_of(value_at(matches, "workers")?)
-}
-
 /// The kind that was found.
 fn kind_in(matches: &ArgMatches<'_>) -> Option<Kind>
     ensures { result ≡ kind_in (rows_of (found_of matches.now)) }
 {
     kind_named(value_at(matches, "kind")?)
-}
-
-/// A number of 32 bits.
-fn number_of(word: &str) -> Option<u32>
-    ensures { result ≡ number_within 0 4294967295 word.now }
-{
-    number_within(word.as_bytes(), 0, 4_294_967_295).map(|number| number as u32)
-}
-
-/// The number that was found.
-fn number_in(matches: &ArgMatches<'_>) -> Option<u32>
-    ensures { result ≡ number_in (rows_of (found_of matches.now)) }
-{
-    number_of(value_at(matches, "number")?)
 }
 
 /// The study and the number of workers.
