@@ -13,7 +13,7 @@ use Rattle.sentence_fronts.specs.declared.expected.Symbol.{Symbol}
 use Rattle.sentence_fronts.specs.declared.expected.Symbol.TheVariants as symbol
 use Rattle.sentence_fronts.specs.declared.lexeme_kinds.LexemeKind.TheVariants as kind
 use Rattle.sentence_fronts.specs.LexemeKinds.{kind_of, word_kind}
-use Rattle.sentence_fronts.specs.Expected.{Derives, a_formula, name_called, name_equal, call_whole, call_equal, a_joint, no_more_ands, one_more_and, no_more_ors, one_more_or, a_term, no_call, a_call, no_more_terms, one_more_term, a_variable, a_sort, a_colon, a_dot, a_close, an_equals, Goes, after}
+use Rattle.sentence_fronts.specs.Expected.{Derives, a_formula, name_called, name_equal, call_whole, call_equal, a_joint, no_more_ands, one_more_and, no_more_ors, one_more_or, a_term, no_call, a_call, no_more_terms, one_more_term, a_variable, a_sort, a_colon, a_dot, a_close, an_equals, Goes, expected_after}
 use Rattle.sentence_fronts.proofs.Words.{quantifier_word, sort_word, plain_word, word_view, each_kind}
 
 -- the same, where something is expected after the lexeme
@@ -84,52 +84,52 @@ equal_back (a_term d) = name_equal d
 call_equal_back : {ls rest : List Lexeme} → Derives symbol.Term ls rest → Derives symbol.AfterCall (lexeme.Equals ∷ ls) rest
 call_equal_back (a_term d) = call_equal d
 
-formula_word : (name : List ℕ) (ls rest : List Lexeme) → GoesOn (after symbol.Formula (word_kind name)) ls rest → Derives symbol.Formula (lexeme.Word name ∷ ls) rest
+formula_word : (name : List ℕ) (ls rest : List Lexeme) → GoesOn (expected_after symbol.Formula (word_kind name)) ls rest → Derives symbol.Formula (lexeme.Word name ∷ ls) rest
 formula_word name ls rest g =
     elim (word_view name) [
       | quantifier_word q e k ↦ (
-          let h : GoesOn (after symbol.Formula kind.Quantifier) ls rest = subst (λ x. GoesOn (after symbol.Formula x) ls rest) k g in
+          let h : GoesOn (expected_after symbol.Formula kind.Quantifier) ls rest = subst (λ x. GoesOn (expected_after symbol.Formula x) ls rest) k g in
           quantified_back q e (one_of symbol.Variable ls h.1.1.1.0 h.1.1.1.1) h.1.1.1.2 h.1.1.2 h.1.2 h.2)
       | sort_word s e f k ↦ (
-          let h : GoesOn (after symbol.Formula kind.Sort) ls rest = subst (λ x. GoesOn (after symbol.Formula x) ls rest) k g in
+          let h : GoesOn (expected_after symbol.Formula kind.Sort) ls rest = subst (λ x. GoesOn (expected_after symbol.Formula x) ls rest) k g in
           name_back f (one_of symbol.AfterName ls rest h))
       | plain_word f k ↦ (
-          let h : GoesOn (after symbol.Formula kind.Name) ls rest = subst (λ x. GoesOn (after symbol.Formula x) ls rest) k g in
+          let h : GoesOn (expected_after symbol.Formula kind.Name) ls rest = subst (λ x. GoesOn (expected_after symbol.Formula x) ls rest) k g in
           name_back f (one_of symbol.AfterName ls rest h))
     ]
 
-term_word : (name : List ℕ) (ls rest : List Lexeme) → GoesOn (after symbol.Term (word_kind name)) ls rest → Derives symbol.Term (lexeme.Word name ∷ ls) rest
+term_word : (name : List ℕ) (ls rest : List Lexeme) → GoesOn (expected_after symbol.Term (word_kind name)) ls rest → Derives symbol.Term (lexeme.Word name ∷ ls) rest
 term_word name ls rest g =
     elim (word_view name) [
-      | quantifier_word q e k ↦ absurd (subst (λ x. GoesOn (after symbol.Term x) ls rest) k g)
+      | quantifier_word q e k ↦ absurd (subst (λ x. GoesOn (expected_after symbol.Term x) ls rest) k g)
       | sort_word s e f k ↦ (
-          let h : GoesOn (after symbol.Term kind.Sort) ls rest = subst (λ x. GoesOn (after symbol.Term x) ls rest) k g in
+          let h : GoesOn (expected_after symbol.Term kind.Sort) ls rest = subst (λ x. GoesOn (expected_after symbol.Term x) ls rest) k g in
           term_back f (one_of symbol.MayCall ls rest h))
       | plain_word f k ↦ (
-          let h : GoesOn (after symbol.Term kind.Name) ls rest = subst (λ x. GoesOn (after symbol.Term x) ls rest) k g in
+          let h : GoesOn (expected_after symbol.Term kind.Name) ls rest = subst (λ x. GoesOn (expected_after symbol.Term x) ls rest) k g in
           term_back f (one_of symbol.MayCall ls rest h))
     ]
 
 variable_back : {name : List ℕ} {ls rest : List Lexeme} → IsFree name → ls ≡ rest → Derives symbol.Variable (lexeme.Word name ∷ ls) rest
 variable_back {name} {ls} f e = subst (λ r. Derives symbol.Variable (lexeme.Word name ∷ ls) r) e (a_variable f)
 
-variable_word : (name : List ℕ) (ls rest : List Lexeme) → GoesOn (after symbol.Variable (word_kind name)) ls rest → Derives symbol.Variable (lexeme.Word name ∷ ls) rest
+variable_word : (name : List ℕ) (ls rest : List Lexeme) → GoesOn (expected_after symbol.Variable (word_kind name)) ls rest → Derives symbol.Variable (lexeme.Word name ∷ ls) rest
 variable_word name ls rest g =
     elim (word_view name) [
-      | quantifier_word q e k ↦ absurd (subst (λ x. GoesOn (after symbol.Variable x) ls rest) k g)
-      | sort_word s e f k ↦ variable_back f (subst (λ x. GoesOn (after symbol.Variable x) ls rest) k g)
-      | plain_word f k ↦ variable_back f (subst (λ x. GoesOn (after symbol.Variable x) ls rest) k g)
+      | quantifier_word q e k ↦ absurd (subst (λ x. GoesOn (expected_after symbol.Variable x) ls rest) k g)
+      | sort_word s e f k ↦ variable_back f (subst (λ x. GoesOn (expected_after symbol.Variable x) ls rest) k g)
+      | plain_word f k ↦ variable_back f (subst (λ x. GoesOn (expected_after symbol.Variable x) ls rest) k g)
     ]
 
 sort_back : {name : List ℕ} {ls rest : List Lexeme} (s : Sort) → name ≡ word_of_sort s → ls ≡ rest → Derives symbol.Sort (lexeme.Word name ∷ ls) rest
 sort_back {name} {ls} s k e = subst (λ r. Derives symbol.Sort (lexeme.Word name ∷ ls) r) e (a_sort s k)
 
-sort_at : (name : List ℕ) (ls rest : List Lexeme) → GoesOn (after symbol.Sort (word_kind name)) ls rest → Derives symbol.Sort (lexeme.Word name ∷ ls) rest
+sort_at : (name : List ℕ) (ls rest : List Lexeme) → GoesOn (expected_after symbol.Sort (word_kind name)) ls rest → Derives symbol.Sort (lexeme.Word name ∷ ls) rest
 sort_at name ls rest g =
     elim (word_view name) [
-      | quantifier_word q e k ↦ absurd (subst (λ x. GoesOn (after symbol.Sort x) ls rest) k g)
-      | sort_word s e f k ↦ sort_back s e (subst (λ x. GoesOn (after symbol.Sort x) ls rest) k g)
-      | plain_word f k ↦ absurd (subst (λ x. GoesOn (after symbol.Sort x) ls rest) k g)
+      | quantifier_word q e k ↦ absurd (subst (λ x. GoesOn (expected_after symbol.Sort x) ls rest) k g)
+      | sort_word s e f k ↦ sort_back s e (subst (λ x. GoesOn (expected_after symbol.Sort x) ls rest) k g)
+      | plain_word f k ↦ absurd (subst (λ x. GoesOn (expected_after symbol.Sort x) ls rest) k g)
     ]
 
 -- the symbol stands for this lexeme alone
@@ -164,7 +164,7 @@ terms_of : (ls rest : List Lexeme) → Goes (symbol.MoreTerms ∷ symbol.Term �
 terms_of ls rest g = let s = two_of symbol.MoreTerms symbol.Term ls rest g in terms_join s.1 s.2
 
 -- no symbol but these four begins with a name
-pub back : (a : Symbol) (l : Lexeme) (ls rest : List Lexeme) → GoesOn (after a (kind_of l)) ls rest → Derives a (l ∷ ls) rest
+pub back : (a : Symbol) (l : Lexeme) (ls rest : List Lexeme) → GoesOn (expected_after a (kind_of l)) ls rest → Derives a (l ∷ ls) rest
 back symbol.Formula (lexeme.Word name) ls rest g = formula_word name ls rest g
 back symbol.Formula (lexeme.Voter n) ls rest g = let s = two_of symbol.Term symbol.Equals ls rest g in voter_back s.1 s.2
 back symbol.Formula (lexeme.Alt n) ls rest g = let s = two_of symbol.Term symbol.Equals ls rest g in alternative_back s.1 s.2
@@ -195,5 +195,5 @@ back symbol.Colon lexeme.Colon ls rest g = alone symbol.Colon lexeme.Colon ls re
 back symbol.Dot lexeme.Dot ls rest g = alone symbol.Dot lexeme.Dot ls rest g a_dot
 back symbol.Close lexeme.Close ls rest g = alone symbol.Close lexeme.Close ls rest g a_close
 back symbol.Equals lexeme.Equals ls rest g = alone symbol.Equals lexeme.Equals ls rest g an_equals
-back a (lexeme.Word name) ls rest g = absurd (each_kind (λ k. GoesOn (after a k) ls rest → ⊥) name (λ h. h) (λ h. h) (λ h. h) g)
+back a (lexeme.Word name) ls rest g = absurd (each_kind (λ k. GoesOn (expected_after a k) ls rest → ⊥) name (λ h. h) (λ h. h) (λ h. h) g)
 back _ _ ls rest g = absurd g

@@ -9,7 +9,7 @@ use Rattle.sentence_fronts.specs.declared.expected.Symbol.{Symbol}
 use Rattle.sentence_fronts.specs.declared.expected.Symbol.TheVariants as symbol
 use Rattle.sentence_fronts.specs.declared.lexeme_kinds.LexemeKind.{LexemeKind}
 use Rattle.sentence_fronts.specs.declared.lexeme_kinds.LexemeKind.TheVariants as kind
-use Rattle.sentence_fronts.specs.Expected.{Derives, a_formula, name_equal, call_whole, a_joint, no_more_ands, no_more_ors, a_term, no_call, no_more_terms, a_variable, a_sort, a_colon, a_dot, a_close, an_equals, Goes, after}
+use Rattle.sentence_fronts.specs.Expected.{Derives, a_formula, name_equal, call_whole, a_joint, no_more_ands, no_more_ors, a_term, no_call, no_more_terms, a_variable, a_sort, a_colon, a_dot, a_close, an_equals, Goes, expected_after}
 use Rattle.sentence_fronts.proofs.Moves.{one}
 
 -- Some lexemes are what is expected there.
@@ -60,7 +60,7 @@ call_hope rest = (x ∷ lexeme.Close ∷ rest, (rest, (lexeme.Close ∷ rest, on
 name_hope : (rest : List Lexeme) → Hopes (Some (symbol.AfterName ∷ [])) rest
 name_hope rest = (lexeme.Equals ∷ x ∷ rest, one (name_equal (variable free_x)))
 
-pub hope : (a : Symbol) (k : LexemeKind) (rest : List Lexeme) → Hopes (after a k) rest
+pub hope : (a : Symbol) (k : LexemeKind) (rest : List Lexeme) → Hopes (expected_after a k) rest
 hope symbol.Formula kind.Quantifier rest = binder_hope rest
 hope symbol.Formula kind.Not rest = (x ∷ lexeme.Equals ∷ x ∷ rest, one (formula_of rest))
 hope symbol.Formula kind.Open rest = formula_then symbol.Joint (joint_lexemes rest) rest (joint_of rest)

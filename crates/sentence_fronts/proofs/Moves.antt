@@ -9,12 +9,12 @@ use Rattle.syntax.specs.Grammar.{IsFree, IsTerm, variable, call, voter, alternat
 use Rattle.sentence_fronts.specs.declared.expected.Symbol.{Symbol}
 use Rattle.sentence_fronts.specs.declared.expected.Symbol.TheVariants as symbol
 use Rattle.sentence_fronts.specs.LexemeKinds.{kind_of, word_kind}
-use Rattle.sentence_fronts.specs.Expected.{Derives, a_formula, name_called, name_equal, call_whole, call_equal, a_joint, no_more_ands, one_more_and, no_more_ors, one_more_or, a_term, no_call, a_call, no_more_terms, one_more_term, a_variable, a_sort, a_colon, a_dot, a_close, an_equals, Goes, after, may_end}
+use Rattle.sentence_fronts.specs.Expected.{Derives, a_formula, name_called, name_equal, call_whole, call_equal, a_joint, no_more_ands, one_more_and, no_more_ors, one_more_or, a_term, no_call, a_call, no_more_terms, one_more_term, a_variable, a_sort, a_colon, a_dot, a_close, an_equals, Goes, expected_after, may_end}
 use Rattle.sentence_fronts.proofs.Words.{free_kind, sort_kind, quantifier_kind}
 
 -- A lexeme that begins what a symbol stands for begins what is expected after it, or else the symbol stands for no lexeme.
 pub data Ahead (a : Symbol) (l : Lexeme) (ls rest : List Lexeme) : Type 0 where
-  moves : (ps : List Symbol) → after a (kind_of l) ≡ Some ps → Goes ps ls rest → Ahead a l ls rest
+  moves : (ps : List Symbol) → expected_after a (kind_of l) ≡ Some ps → Goes ps ls rest → Ahead a l ls rest
   ends : may_end a ≡ true → rest ≡ l ∷ ls → Ahead a l ls rest
 
 terms_split : {ls rest : List Lexeme} {ts : NamedTermTrees} → IsTerms ls ts rest → (mid : List Lexeme) × Derives symbol.Term ls mid × Derives symbol.MoreTerms mid rest
@@ -44,14 +44,14 @@ one {ls} d = (ls, refl, d)
 two : {a b : Symbol} {ls rest : List Lexeme} → (mid : List Lexeme) × Derives b ls mid × Derives a mid rest → Goes (a ∷ b ∷ []) ls rest
 two {ls} s = (s.0, (ls, refl, s.1), s.2)
 
-free_formula : (name : List ℕ) → IsFree name → after symbol.Formula (word_kind name) ≡ Some (symbol.AfterName ∷ [])
-free_formula name f = free_kind (λ k. after symbol.Formula k ≡ Some (symbol.AfterName ∷ [])) name f refl refl
+free_formula : (name : List ℕ) → IsFree name → expected_after symbol.Formula (word_kind name) ≡ Some (symbol.AfterName ∷ [])
+free_formula name f = free_kind (λ k. expected_after symbol.Formula k ≡ Some (symbol.AfterName ∷ [])) name f refl refl
 
-free_term : (name : List ℕ) → IsFree name → after symbol.Term (word_kind name) ≡ Some (symbol.MayCall ∷ [])
-free_term name f = free_kind (λ k. after symbol.Term k ≡ Some (symbol.MayCall ∷ [])) name f refl refl
+free_term : (name : List ℕ) → IsFree name → expected_after symbol.Term (word_kind name) ≡ Some (symbol.MayCall ∷ [])
+free_term name f = free_kind (λ k. expected_after symbol.Term k ≡ Some (symbol.MayCall ∷ [])) name f refl refl
 
-free_variable : (name : List ℕ) → IsFree name → after symbol.Variable (word_kind name) ≡ Some []
-free_variable name f = free_kind (λ k. after symbol.Variable k ≡ Some []) name f refl refl
+free_variable : (name : List ℕ) → IsFree name → expected_after symbol.Variable (word_kind name) ≡ Some []
+free_variable name f = free_kind (λ k. expected_after symbol.Variable k ≡ Some []) name f refl refl
 
 equal_ahead : {l : Lexeme} {ls ms rest : List Lexeme} {s t : NamedTermTree} → IsTerm (l ∷ ls) s (lexeme.Equals ∷ ms) → IsTerm ms t rest → Ahead symbol.Formula l ls rest
 equal_ahead (variable {name} f) e = moves (symbol.AfterName ∷ []) (free_formula name f) (one (name_equal e))
@@ -67,7 +67,7 @@ atom_ahead (equal d e) = equal_ahead d e
 formula_ahead : {l : Lexeme} {ls rest : List Lexeme} {f : NamedTree} → IsFormula (l ∷ ls) f rest → Ahead symbol.Formula l ls rest
 formula_ahead (quantified {word = w} {name = n} {sort_word = v} {ls = m} q s e f k d) =
     moves (symbol.Formula ∷ symbol.Dot ∷ symbol.Sort ∷ symbol.Colon ∷ symbol.Variable ∷ [])
-    (ap (after symbol.Formula) (quantifier_kind q w e))
+    (ap (expected_after symbol.Formula) (quantifier_kind q w e))
     (m, (lexeme.Dot ∷ m, (lexeme.Word v ∷ lexeme.Dot ∷ m, (lexeme.Colon ∷ lexeme.Word v ∷ lexeme.Dot ∷ m, (lexeme.Word n ∷ lexeme.Colon ∷ lexeme.Word v ∷ lexeme.Dot ∷ m, refl, a_variable f), a_colon), a_sort s k), a_dot), a_formula d)
 formula_ahead (negation d) = moves (symbol.Formula ∷ []) refl (one (a_formula d))
 formula_ahead (group {ms = m} j d c) = moves (symbol.Joint ∷ symbol.Formula ∷ []) refl (two (joint_lexeme j ∷ m, a_formula d, a_joint j refl c))
@@ -103,7 +103,7 @@ ahead (a_call d) = moves (symbol.MoreTerms ∷ symbol.Term ∷ []) refl (two (te
 ahead no_more_terms = moves [] refl refl
 ahead (one_more_term d) = moves (symbol.MoreTerms ∷ symbol.Term ∷ []) refl (two (terms_split d))
 ahead (a_variable {name} f) = moves [] (free_variable name f) refl
-ahead (a_sort {name} s e) = moves [] (ap (after symbol.Sort) (sort_kind s name e)) refl
+ahead (a_sort {name} s e) = moves [] (ap (expected_after symbol.Sort) (sort_kind s name e)) refl
 ahead a_colon = moves [] refl refl
 ahead a_dot = moves [] refl refl
 ahead a_close = moves [] refl refl

@@ -12,7 +12,7 @@ use Rattle.sentence_fronts.specs.declared.expected.Symbol.TheVariants as symbol
 use Rattle.sentence_fronts.specs.declared.lexeme_kinds.LexemeKind.{LexemeKind}
 use Rattle.sentence_fronts.specs.declared.lexeme_kinds.LexemeKind.TheVariants as kind
 use Rattle.sentence_fronts.specs.LexemeKinds.{kind_of}
-use Rattle.sentence_fronts.specs.Expected.{Derives, a_formula, call_whole, no_call, a_term, Goes, Completes, after, may_end, may_be_longer, is_closing, is_settled_above, is_settled, RefusesKind, Leads}
+use Rattle.sentence_fronts.specs.Expected.{Derives, a_formula, call_whole, no_call, a_term, Goes, Completes, expected_after, may_end, may_be_longer, is_closing, is_settled_above, is_settled, RefusesKind, Leads}
 use Rattle.sentence_fronts.proofs.Moves.{moves, ends, ahead, one}
 use Rattle.sentence_fronts.proofs.Backs.{GoesOn, one_of, back}
 use Rattle.sentence_fronts.proofs.Hopes.{Hopes, hope}
@@ -59,7 +59,7 @@ abbrev settled_after : Bool → Option (List Symbol) → Bool
 settled_after c None = true
 settled_after c (Some ps) = is_settled_above c ps
 
-keeps : (a : Symbol) (k : LexemeKind) (c : Bool) → (not (may_be_longer a) || c) ≡ true → settled_after c (after a k) ≡ true
+keeps : (a : Symbol) (k : LexemeKind) (c : Bool) → (not (may_be_longer a) || c) ≡ true → settled_after c (expected_after a k) ≡ true
 keeps symbol.Formula kind.Quantifier c h = let e : c ≡ true = h in rw e refl
 keeps symbol.Formula kind.Not c h = let e : c ≡ true = h in rw e refl
 keeps symbol.Formula kind.Name c h = let e : c ≡ true = h in rw e refl
@@ -103,13 +103,13 @@ is_longer kind.Open = true
 is_longer kind.Equals = true
 is_longer _ = false
 
-longer_at : (a : Symbol) (k : LexemeKind) (ps : List Symbol) → may_end a ≡ true → after a k ≡ Some ps → is_longer k ≡ true
+longer_at : (a : Symbol) (k : LexemeKind) (ps : List Symbol) → may_end a ≡ true → expected_after a k ≡ Some ps → is_longer k ≡ true
 unfolding is_longer
 longer_at symbol.AfterCall kind.Equals ps h e = refl
 longer_at symbol.MayCall kind.Open ps h e = refl
 longer_at _ _ ps h e = absurd cc
 
-none_at : (a : Symbol) (k : LexemeKind) → is_closing a ≡ true → is_longer k ≡ true → after a k ≡ None
+none_at : (a : Symbol) (k : LexemeKind) → is_closing a ≡ true → is_longer k ≡ true → expected_after a k ≡ None
 unfolding is_longer
 none_at symbol.Joint kind.Open h e = refl
 none_at symbol.Joint kind.Equals h e = refl
@@ -165,18 +165,18 @@ floor_below false c h k = absurd cc
 some_same : {xs ys : List Symbol} → ◌≡◌ {A = Option (List Symbol)} (Some xs) (Some ys) → xs ≡ ys
 some_same h = cc
 
-leads_top : (below ps : List Symbol) (top : Symbol) (k : LexemeKind) → is_settled (below ++ top ∷ []) ≡ true → after top k ≡ Some ps → Leads (below ++ top ∷ []) k (below ++ ps)
+leads_top : (below ps : List Symbol) (top : Symbol) (k : LexemeKind) → is_settled (below ++ top ∷ []) ≡ true → expected_after top k ≡ Some ps → Leads (below ++ top ∷ []) k (below ++ ps)
 leads_top below ps top k settled h = record {
   on = λ l rest e g.
       let s = top_split below top (l ∷ rest) g in
-      let at : after top (kind_of l) ≡ Some ps = ap (after top) e ∙ h in
+      let at : expected_after top (kind_of l) ≡ Some ps = ap (expected_after top) e ∙ h in
       elim (ahead s.1) [
         | moves qs q m ↦ goes_append below ps rest s.0 [] (subst (λ x. Goes x rest s.0) (some_same (sym q ∙ at)) m) s.2
         | ends t u ↦ absurd (below_stops below l rest (floor_below (may_be_longer top) _ (ending_longer top t) (floor_of below top settled)) (longer_at top (kind_of l) ps t at) (subst (λ m. Completes below m) u s.2))
       ];
   back = λ l rest e g.
       let s = goes_split below ps rest [] g in
-      let at : after top (kind_of l) ≡ Some ps = ap (after top) e ∙ h in
+      let at : expected_after top (kind_of l) ≡ Some ps = ap (expected_after top) e ∙ h in
       top_join below top (l ∷ rest) s.0 (back top l rest s.0 (subst (λ x. GoesOn x rest s.0) (sym at) s.1)) s.2;
   some = λ ls g.
       let s = top_split below top ls g in
@@ -207,16 +207,16 @@ pub record Passes (stack : List Symbol) (k : LexemeKind) (rest : List Symbol) : 
 pub passes_none : (stack : List Symbol) (k : LexemeKind) → is_settled stack ≡ true → Passes stack k stack
 passes_none stack k h = record { above = []; whole = sym (append-nil stack); on = λ l ls e g. g; back = λ l ls e g. g; some = λ ls g. (ls, g); settled = h }
 
-only_ends : (below : List Symbol) (top : Symbol) (k : LexemeKind) (l : Lexeme) (ls : List Lexeme) → after top k ≡ None → kind_of l ≡ k → Completes (below ++ top ∷ []) (l ∷ ls) → (may_end top ≡ true) × Completes below (l ∷ ls)
+only_ends : (below : List Symbol) (top : Symbol) (k : LexemeKind) (l : Lexeme) (ls : List Lexeme) → expected_after top k ≡ None → kind_of l ≡ k → Completes (below ++ top ∷ []) (l ∷ ls) → (may_end top ≡ true) × Completes below (l ∷ ls)
 only_ends below top k l ls h e g =
     let s = top_split below top (l ∷ ls) g in
-    let at : after top (kind_of l) ≡ None = ap (after top) e ∙ h in
+    let at : expected_after top (kind_of l) ≡ None = ap (expected_after top) e ∙ h in
     elim (ahead s.1) [
       | moves qs q m ↦ absurd cc
       | ends t u ↦ (t, subst (λ m. Completes below m) u s.2)
     ]
 
-pub passes_more : (stack rest below : List Symbol) (top : Symbol) (k : LexemeKind) → Passes stack k rest → rest ≡ below ++ top ∷ [] → after top k ≡ None → may_end top ≡ true → Passes stack k below
+pub passes_more : (stack rest below : List Symbol) (top : Symbol) (k : LexemeKind) → Passes stack k rest → rest ≡ below ++ top ∷ [] → expected_after top k ≡ None → may_end top ≡ true → Passes stack k below
 passes_more stack rest below top k p e h t = record {
   above = top ∷ p.above;
   whole = p.whole ∙ ap (λ x. x ++ p.above) e ∙ append_assoc below (top ∷ []) p.above;
@@ -226,7 +226,7 @@ passes_more stack rest below top k p e h t = record {
   settled = (settled_split true below (top ∷ []) (subst (λ x. is_settled x ≡ true) e p.settled)).0;
 }
 
-pub step_found : (stack rest below ps : List Symbol) (top : Symbol) (k : LexemeKind) → Passes stack k rest → rest ≡ below ++ top ∷ [] → after top k ≡ Some ps → Leads stack k (take (length below) stack ++ ps)
+pub step_found : (stack rest below ps : List Symbol) (top : Symbol) (k : LexemeKind) → Passes stack k rest → rest ≡ below ++ top ∷ [] → expected_after top k ≡ Some ps → Leads stack k (take (length below) stack ++ ps)
 step_found stack rest below ps top k p e h =
     let stays : take (length below) stack ≡ below = ap (take (length below)) (p.whole ∙ ap (λ x. x ++ p.above) e ∙ append_assoc below (top ∷ []) p.above) ∙ take-append_seam below (top ∷ p.above) in
     let leads = leads_top below ps top k (subst (λ x. is_settled x ≡ true) e p.settled) h in
@@ -237,7 +237,7 @@ step_found stack rest below ps top k p e h =
       settled = leads.settled;
     })
 
-pub step_refused : (stack rest below : List Symbol) (top : Symbol) (k : LexemeKind) → Passes stack k rest → rest ≡ below ++ top ∷ [] → after top k ≡ None → may_end top ≡ false → RefusesKind stack k
+pub step_refused : (stack rest below : List Symbol) (top : Symbol) (k : LexemeKind) → Passes stack k rest → rest ≡ below ++ top ∷ [] → expected_after top k ≡ None → may_end top ≡ false → RefusesKind stack k
 step_refused stack rest below top k p e h t l ls i g =
     let o = only_ends below top k l ls h i (subst (λ x. Completes x (l ∷ ls)) e (p.on l ls i g)) in
     let a = o.0 in

@@ -48,42 +48,42 @@ abbrev pub Completes : List Symbol → List Lexeme → Type 0
 Completes stack ls = Goes stack ls []
 
 -- what is expected in place of a symbol after a lexeme of this kind, the next last
-abbrev pub after : Symbol → LexemeKind → Option (List Symbol)
-after symbol.Formula kind.Quantifier = Some (symbol.Formula ∷ symbol.Dot ∷ symbol.Sort ∷ symbol.Colon ∷ symbol.Variable ∷ [])
-after symbol.Formula kind.Not = Some (symbol.Formula ∷ [])
-after symbol.Formula kind.Open = Some (symbol.Joint ∷ symbol.Formula ∷ [])
-after symbol.Formula kind.Name = Some (symbol.AfterName ∷ [])
-after symbol.Formula kind.Sort = Some (symbol.AfterName ∷ [])
-after symbol.Formula kind.Voter = Some (symbol.Term ∷ symbol.Equals ∷ [])
-after symbol.Formula kind.Alt = Some (symbol.Term ∷ symbol.Equals ∷ [])
-after symbol.Formula kind.Ballot = Some (symbol.Term ∷ symbol.Equals ∷ [])
-after symbol.AfterName kind.Open = Some (symbol.AfterCall ∷ symbol.MoreTerms ∷ symbol.Term ∷ [])
-after symbol.AfterName kind.Equals = Some (symbol.Term ∷ [])
-after symbol.AfterCall kind.Equals = Some (symbol.Term ∷ [])
-after symbol.Joint kind.And = Some (symbol.MoreAnds ∷ symbol.Formula ∷ [])
-after symbol.Joint kind.Or = Some (symbol.MoreOrs ∷ symbol.Formula ∷ [])
-after symbol.Joint kind.Implies = Some (symbol.Close ∷ symbol.Formula ∷ [])
-after symbol.Joint kind.Same = Some (symbol.Close ∷ symbol.Formula ∷ [])
-after symbol.MoreAnds kind.And = Some (symbol.MoreAnds ∷ symbol.Formula ∷ [])
-after symbol.MoreAnds kind.Close = Some []
-after symbol.MoreOrs kind.Or = Some (symbol.MoreOrs ∷ symbol.Formula ∷ [])
-after symbol.MoreOrs kind.Close = Some []
-after symbol.Term kind.Name = Some (symbol.MayCall ∷ [])
-after symbol.Term kind.Sort = Some (symbol.MayCall ∷ [])
-after symbol.Term kind.Voter = Some []
-after symbol.Term kind.Alt = Some []
-after symbol.Term kind.Ballot = Some []
-after symbol.MayCall kind.Open = Some (symbol.MoreTerms ∷ symbol.Term ∷ [])
-after symbol.MoreTerms kind.Comma = Some (symbol.MoreTerms ∷ symbol.Term ∷ [])
-after symbol.MoreTerms kind.Close = Some []
-after symbol.Variable kind.Name = Some []
-after symbol.Variable kind.Sort = Some []
-after symbol.Sort kind.Sort = Some []
-after symbol.Colon kind.Colon = Some []
-after symbol.Dot kind.Dot = Some []
-after symbol.Close kind.Close = Some []
-after symbol.Equals kind.Equals = Some []
-after _ _ = None
+abbrev pub expected_after : Symbol → LexemeKind → Option (List Symbol)
+expected_after symbol.Formula kind.Quantifier = Some (symbol.Formula ∷ symbol.Dot ∷ symbol.Sort ∷ symbol.Colon ∷ symbol.Variable ∷ [])
+expected_after symbol.Formula kind.Not = Some (symbol.Formula ∷ [])
+expected_after symbol.Formula kind.Open = Some (symbol.Joint ∷ symbol.Formula ∷ [])
+expected_after symbol.Formula kind.Name = Some (symbol.AfterName ∷ [])
+expected_after symbol.Formula kind.Sort = Some (symbol.AfterName ∷ [])
+expected_after symbol.Formula kind.Voter = Some (symbol.Term ∷ symbol.Equals ∷ [])
+expected_after symbol.Formula kind.Alt = Some (symbol.Term ∷ symbol.Equals ∷ [])
+expected_after symbol.Formula kind.Ballot = Some (symbol.Term ∷ symbol.Equals ∷ [])
+expected_after symbol.AfterName kind.Open = Some (symbol.AfterCall ∷ symbol.MoreTerms ∷ symbol.Term ∷ [])
+expected_after symbol.AfterName kind.Equals = Some (symbol.Term ∷ [])
+expected_after symbol.AfterCall kind.Equals = Some (symbol.Term ∷ [])
+expected_after symbol.Joint kind.And = Some (symbol.MoreAnds ∷ symbol.Formula ∷ [])
+expected_after symbol.Joint kind.Or = Some (symbol.MoreOrs ∷ symbol.Formula ∷ [])
+expected_after symbol.Joint kind.Implies = Some (symbol.Close ∷ symbol.Formula ∷ [])
+expected_after symbol.Joint kind.Same = Some (symbol.Close ∷ symbol.Formula ∷ [])
+expected_after symbol.MoreAnds kind.And = Some (symbol.MoreAnds ∷ symbol.Formula ∷ [])
+expected_after symbol.MoreAnds kind.Close = Some []
+expected_after symbol.MoreOrs kind.Or = Some (symbol.MoreOrs ∷ symbol.Formula ∷ [])
+expected_after symbol.MoreOrs kind.Close = Some []
+expected_after symbol.Term kind.Name = Some (symbol.MayCall ∷ [])
+expected_after symbol.Term kind.Sort = Some (symbol.MayCall ∷ [])
+expected_after symbol.Term kind.Voter = Some []
+expected_after symbol.Term kind.Alt = Some []
+expected_after symbol.Term kind.Ballot = Some []
+expected_after symbol.MayCall kind.Open = Some (symbol.MoreTerms ∷ symbol.Term ∷ [])
+expected_after symbol.MoreTerms kind.Comma = Some (symbol.MoreTerms ∷ symbol.Term ∷ [])
+expected_after symbol.MoreTerms kind.Close = Some []
+expected_after symbol.Variable kind.Name = Some []
+expected_after symbol.Variable kind.Sort = Some []
+expected_after symbol.Sort kind.Sort = Some []
+expected_after symbol.Colon kind.Colon = Some []
+expected_after symbol.Dot kind.Dot = Some []
+expected_after symbol.Close kind.Close = Some []
+expected_after symbol.Equals kind.Equals = Some []
+expected_after _ _ = None
 
 -- the symbol may stand for no lexeme
 abbrev pub may_end : Symbol → Bool

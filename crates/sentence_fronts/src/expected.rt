@@ -1,7 +1,7 @@
 //! What is expected next, and what is expected once it came.
 
 ghost use Rattle.std.specs.Prelude.{◌≡◌, MatchOption, Some, None};
-ghost use Rattle.sentence_fronts.specs.Expected.{after as after_of, may_end as can_end};
+ghost use Rattle.sentence_fronts.specs.Expected.{expected_after, may_end as can_end};
 
 use crate::lexeme_kinds::LexemeKind;
 
@@ -34,8 +34,8 @@ pub(crate) enum Symbol {
 
 /// What a formula goes on with after a lexeme that begins it.
 fn formula_after(kind: LexemeKind) -> Option<&'static [Symbol]>
-    ensures { MatchOption result (after_of Symbol.Formula kind ≡ None)
-        (λ next. after_of Symbol.Formula kind ≡ Some next.now) }
+    ensures { MatchOption result (expected_after Symbol.Formula kind ≡ None)
+        (λ next. expected_after Symbol.Formula kind ≡ Some next.now) }
 {
     match kind {
         LexemeKind::Quantifier => Some(&[
@@ -57,8 +57,8 @@ fn formula_after(kind: LexemeKind) -> Option<&'static [Symbol]>
 
 /// What a joint of a group goes on with.
 fn joint_after(kind: LexemeKind) -> Option<&'static [Symbol]>
-    ensures { MatchOption result (after_of Symbol.Joint kind ≡ None)
-        (λ next. after_of Symbol.Joint kind ≡ Some next.now) }
+    ensures { MatchOption result (expected_after Symbol.Joint kind ≡ None)
+        (λ next. expected_after Symbol.Joint kind ≡ Some next.now) }
 {
     match kind {
         LexemeKind::And => Some(&[Symbol::MoreAnds, Symbol::Formula]),
@@ -70,8 +70,8 @@ fn joint_after(kind: LexemeKind) -> Option<&'static [Symbol]>
 
 /// What a term goes on with after a lexeme that begins it.
 fn term_after(kind: LexemeKind) -> Option<&'static [Symbol]>
-    ensures { MatchOption result (after_of Symbol.Term kind ≡ None)
-        (λ next. after_of Symbol.Term kind ≡ Some next.now) }
+    ensures { MatchOption result (expected_after Symbol.Term kind ≡ None)
+        (λ next. expected_after Symbol.Term kind ≡ Some next.now) }
 {
     match kind {
         LexemeKind::Name | LexemeKind::Sort => Some(&[Symbol::MayCall]),
@@ -82,9 +82,9 @@ fn term_after(kind: LexemeKind) -> Option<&'static [Symbol]>
 
 /// What is expected in place of the symbol after a lexeme of this kind, the next last; None where none of the
 /// kind begins it.
-pub(crate) fn after(symbol: Symbol, kind: LexemeKind) -> Option<&'static [Symbol]>
-    ensures { MatchOption result (after_of symbol kind ≡ None)
-        (λ next. after_of symbol kind ≡ Some next.now) }
+pub(crate) fn expected_after(symbol: Symbol, kind: LexemeKind) -> Option<&'static [Symbol]>
+    ensures { MatchOption result (expected_after symbol kind ≡ None)
+        (λ next. expected_after symbol kind ≡ Some next.now) }
 {
     match (symbol, kind) {
         (Symbol::Formula, _) => formula_after(kind),

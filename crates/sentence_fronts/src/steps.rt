@@ -4,7 +4,7 @@ ghost use Rattle.std.specs.Prelude.{◌≡◌, ◌++◌, take, true, IsTrue, IsF
 ghost use Rattle.std.specs.List.{list_all};
 ghost use Rattle.sentence_fronts.specs.Expected.{RefusesKind, Leads, is_settled, may_end as can_end};
 
-use crate::expected::{Symbol, after, may_end};
+use crate::expected::{Symbol, expected_after, may_end};
 use crate::lexeme_kinds::LexemeKind;
 use lists::NoMemory;
 
@@ -24,7 +24,7 @@ pub(crate) fn step(stack: &[Symbol], kind: LexemeKind) -> Option<Change>
 {
     let mut rest = stack;
     while let Some((top, below)) = rest.split_last() {
-        if let Some(above) = after(*top, kind) {
+        if let Some(above) = expected_after(*top, kind) {
             return Some(Change {
                 stay: below.len(),
                 above,
