@@ -1,5 +1,5 @@
 -- What is written of a derivation is read again.
-use Rattle.std.proofs.Common.{◌≡◌, refl, sym, ap, ap₂, ◌∙◌, ℕ, suc, ◌+◌, ◌≤◌, Bool, true, false, not, cond, List, [], ◌∷◌, ◌++◌, length, map, Option, Some, None, option_map, option_and_then, Ok, ◌≢◌, ne_eqb, append_assoc, arith}
+use Rattle.std.proofs.Common.{◌≡◌, refl, sym, ap, ap₂, ◌∙◌, ℕ, suc, ◌+◌, ◌≤◌, Bool, true, false, not, cond, List, [], ◌∷◌, ◌++◌, length, map, Option, Some, option_map, option_and_then, Ok, ◌≢◌, ne_eqb, append_assoc, arith}
 use Rattle.std.proofs.lemmas.Bool.{false≢true, leb-true, and_from}
 use Rattle.std.proofs.lemmas.List.Folds.{list_all-append}
 use Rattle.std.specs.Prelude.{◌==◌, ◌&&◌, ◌||◌, nat_le, codes}
@@ -12,18 +12,18 @@ use Rattle.cnf.specs.Fresh.{is_over}
 use Rattle.cnf.specs.declared.derivations.Line.{Line}
 use Rattle.cnf.specs.declared.derivations.Step.{Step}
 use Rattle.cnf.specs.declared.derivations.Step.TheVariants.{Add, Drop}
-use Rattle.verdicts.specs.Numbers.{number_text}
-use Rattle.verdicts.proofs.NumberLaws.{number_digits}
+use Rattle.verdicts.specs.Numbers.{number_text, number_within}
+use Rattle.verdicts.proofs.NumberLaws.{number_digits, number_again}
 use Rattle.clause_text.specs.declared.steps.Told.{Told}
 use Rattle.clause_text.specs.declared.steps.Told.TheVariants.{Read}
-use Rattle.clause_text.specs.Words.{is_comment, words_in_line, number_up_to, Token}
+use Rattle.clause_text.specs.Words.{is_comment, words_in_line, Token}
 use Rattle.clause_text.specs.Dimacs.{signed_text, clause_text}
 use Rattle.clause_text.specs.Lrat.{hints_text, step_text, lrat_text}
 use Rattle.clause_text.specs.ReadLrat.{most_id, id_of, hint_of, hints_of, after_token, literals_read, added_clause, adding, dropping, ids_of, told, before_rest, steps_of, read_lrat}
 use Rattle.clause_text.specs.Left.{saying}
 use Rattle.clause_text.specs.Laws.{is_id, adds_in_range, placed_from}
 use Rattle.clause_text.proofs.WordLemmas.{is_end, said_first}
-use Rattle.clause_text.proofs.RoundLemmas.{and_left, and_right, some_bytes, number_plain, number_some, literal_some, literal_plain, split_off, one_word, plain_line, clause_front, clause_line, number_again, literal_token, end_token, digits_say}
+use Rattle.clause_text.proofs.RoundLemmas.{and_left, and_right, some_bytes, number_plain, number_some, literal_some, literal_plain, split_off, one_word, plain_line, clause_front, clause_line, literal_token, end_token, digits_say}
 
 -- ---- the words of a line
 
@@ -58,8 +58,7 @@ id_again : (n : ℕ) → is_id n ≡ true → id_of (number_text n) ≡ Some n
 id_again n within =
     let low : 1 ≤ n = leb-true 1 n (and_left (nat_le 1 n) (nat_le n most_id) within) in
     let high : n ≤ most_id = leb-true n most_id (and_right (nat_le 1 n) (nat_le n most_id) within) in
-    let some : n ≢ 0 = omega (arith, low) in
-    ap (λ (read : Option ℕ). option_and_then (λ (n : ℕ). cond (n == 0) None (Some n)) read) (number_again most_id n high) ∙ ap (λ (t : Bool). cond t None (Some n)) (ne_eqb n 0 some)
+    number_again 1 most_id n low high
 
 -- a hint of digits has no sign
 plain_hint : (text : List ℕ) → some_bytes text ≡ true → list_all is_digit text ≡ true → hint_of text ≡ option_map (λ (id : ℕ). (false, id)) (id_of text)
@@ -139,7 +138,7 @@ module _ (v id : ℕ) (clause : Clause) (hints : List ℕ) where
   by_second : (clause' : Clause) (rest : List (List ℕ)) → told v (number_text id ∷ (map signed_text clause' ++ (48 ∷ []) ∷ rest)) ≡ adding (id_of (number_text id)) (literals_read v (map signed_text clause' ++ (48 ∷ []) ∷ rest))
   by_second [] rest = refl
   by_second (l ∷ ls) rest =
-      ap (λ (t : Bool). cond t (dropping (number_up_to most_id (number_text id)) (ids_of (map signed_text ls ++ (48 ∷ []) ∷ rest))) (adding (id_of (number_text id)) (literals_read v (map signed_text (l ∷ ls) ++ (48 ∷ []) ∷ rest)))) (literal_no_d l)
+      ap (λ (t : Bool). cond t (dropping (number_within 0 most_id (number_text id)) (ids_of (map signed_text ls ++ (48 ∷ []) ∷ rest))) (adding (id_of (number_text id)) (literals_read v (map signed_text (l ∷ ls) ++ (48 ∷ []) ∷ rest)))) (literal_no_d l)
 
   told_again : is_id id ≡ true → is_over v clause ≡ true → list_all is_id hints ≡ true → told v (words_in_line added_line) ≡ Read (Add id clause hints)
   told_again fits over within =

@@ -1,21 +1,22 @@
 -- The variables of the lines that are read are in range, and the lines of a text are few.
-use Rattle.std.proofs.Common.{◌≡◌, refl, ap, ◌∙◌, subst, ℕ, suc, ◌+◌, ◌-◌, ◌^◌, ◌<◌, ◌≤◌, arith, Bool, true, false, cond, List, [], ◌∷◌, length, filter, Option, Some, None, option_and_then, Result, Ok, Err}
-use Rattle.std.proofs.lemmas.Bool.{eqb-false, leb-false}
+use Rattle.std.proofs.Common.{◌≡◌, refl, ap, ◌∙◌, subst, ℕ, suc, ◌+◌, ◌-◌, ◌^◌, ◌<◌, ◌≤◌, arith, Bool, true, false, cond, List, [], ◌∷◌, length, filter, Option, Some, None, Result, Ok, Err}
+use Rattle.std.proofs.lemmas.Bool.{eqb-false, leb-false, le-leb}
 use Rattle.std.proofs.lemmas.List.{length-map}
 use Rattle.std.proofs.lemmas.List.Sums.{length-filter, count_by-le-length}
 use Rattle.std.proofs.lemmas.List.Splits.{length-slice_split}
 use Rattle.std.proofs.lemmas.List.FromFn.{length-enumerate_from}
-use Rattle.std.specs.Prelude.{◌==◌, ◌&&◌, nat_le, IfOk, IsTrue, codes}
+use Rattle.std.specs.Prelude.{◌==◌, ◌&&◌, nat_le, IfOk, IfSome, IsTrue, codes}
 use Rattle.std.specs.List.{list_all, slice_split, enumerate_from}
 use Rattle.std.specs.Str.{bytes_eq}
 use Rattle.cnf.specs.Sat.{Clause}
 use Rattle.cnf.specs.Fresh.{is_over, added_by, AreOver}
 use Rattle.cnf.specs.declared.derivations.Line.{Line}
-use Rattle.verdicts.specs.Numbers.{read_number}
+use Rattle.verdicts.specs.Numbers.{number_within}
+use Rattle.verdicts.proofs.NumberLaws.{IsWithin, number_is_within}
 use Rattle.clause_text.specs.declared.faults.LratFault.{LratFault}
 use Rattle.clause_text.specs.declared.steps.Told.{Told}
 use Rattle.clause_text.specs.declared.steps.Told.TheVariants.{Read, Negative, Formless}
-use Rattle.clause_text.specs.Words.{WordedLine, words_in_line, says, said_lines, number_up_to, Token, Ends, Says, plain_token, minus_token, token_of}
+use Rattle.clause_text.specs.Words.{WordedLine, words_in_line, says, said_lines, Token, Ends, Says, plain_token, minus_token, token_of}
 use Rattle.clause_text.specs.ReadLrat.{most_id, id_of, ids_of, hints_of, literals_read, after_token, added_clause, adding, dropping, told, before_rest, steps_of, read_lrat}
 
 some_number : (n : ℕ) → (n == 0) ≡ false → nat_le 1 n ≡ true
@@ -31,16 +32,12 @@ module _ (v : ℕ) where
   IsUpTo None = Unit {0}
   IsUpTo (Some n) = IsTrue (nat_le n v)
 
-  number_is_up_to : (word : List ℕ) → IsUpTo (number_up_to v word)
-  number_is_up_to word = by_number (read_number word)
+  number_is_up_to : (word : List ℕ) → IsUpTo (number_within 0 v word)
+  number_is_up_to word = by_number (number_within 0 v word) (number_is_within 0 v word)
     where
-      by_test : (n : ℕ) (t : Bool) → nat_le n v ≡ t → IsUpTo (cond t (Some n) None)
-      by_test n true h = h
-      by_test n false h = tt
-
-      by_number : (number : Option ℕ) → IsUpTo (option_and_then (λ n. cond (nat_le n v) (Some n) None) number)
-      by_number None = tt
-      by_number (Some n) = by_test n (nat_le n v) refl
+      by_number : (o : Option ℕ) → IfSome o (IsWithin 0 v) → IsUpTo o
+      by_number None h = tt
+      by_number (Some n) h = le-leb n v h.1
 
   -- ---- literals
 
@@ -73,9 +70,9 @@ module _ (v : ℕ) where
   token_is_over [] = tt
   token_is_over (c ∷ cs) = by_test (c == 45)
     where
-      by_test : (t : Bool) → IsTokenOver (cond t (minus_token (number_up_to v cs)) (plain_token (number_up_to v (c ∷ cs))))
-      by_test true = minus_is_over (number_up_to v cs) (number_is_up_to cs)
-      by_test false = plain_is_over (number_up_to v (c ∷ cs)) (number_is_up_to (c ∷ cs))
+      by_test : (t : Bool) → IsTokenOver (cond t (minus_token (number_within 0 v cs)) (plain_token (number_within 0 v (c ∷ cs))))
+      by_test true = minus_is_over (number_within 0 v cs) (number_is_up_to cs)
+      by_test false = plain_is_over (number_within 0 v (c ∷ cs)) (number_is_up_to (c ∷ cs))
 
   -- ---- clauses
 
@@ -120,8 +117,8 @@ module _ (v : ℕ) where
   told_is_over (id ∷ []) = tt
   told_is_over (id ∷ word ∷ rest) = by_test (bytes_eq word (codes "d"))
     where
-      by_test : (t : Bool) → IsToldOver (cond t (dropping (number_up_to most_id id) (ids_of rest)) (adding (id_of id) (literals_read v (word ∷ rest))))
-      by_test true = dropping_is_over (number_up_to most_id id) (ids_of rest)
+      by_test : (t : Bool) → IsToldOver (cond t (dropping (number_within 0 most_id id) (ids_of rest)) (adding (id_of id) (literals_read v (word ∷ rest))))
+      by_test true = dropping_is_over (number_within 0 most_id id) (ids_of rest)
       by_test false = adding_is_over (id_of id) (literals_read v (word ∷ rest)) (literals_are_over (word ∷ rest))
 
   steps_are_over : (lines : List WordedLine) → IfOk (steps_of v lines) (AreOver v)

@@ -10,10 +10,10 @@ use Rattle.vocab.specs.Name.{is_digit}
 use Rattle.cnf.specs.Signed.{Signed}
 use Rattle.cnf.specs.Sat.{Clause}
 use Rattle.cnf.specs.Fresh.{is_over}
-use Rattle.verdicts.specs.Numbers.{number_text, is_number}
-use Rattle.verdicts.proofs.NumberLaws.{number_digits, text_is_number, read_text}
+use Rattle.verdicts.specs.Numbers.{number_text, is_number, number_within}
+use Rattle.verdicts.proofs.NumberLaws.{number_digits, text_is_number, number_again}
 use Rattle.clause_text.specs.declared.faults.CnfFault.TheVariants as fault
-use Rattle.clause_text.specs.Words.{WordedLine, is_blank, is_comment, words_in_line, number_up_to, Token, Ends, Says, token_of, minus_token, plain_token}
+use Rattle.clause_text.specs.Words.{WordedLine, is_blank, is_comment, words_in_line, Token, Ends, Says, token_of, minus_token, plain_token}
 use Rattle.clause_text.specs.Dimacs.{signed_text, clause_text, dimacs_text}
 use Rattle.clause_text.specs.ReadDimacs.{header_of, placed_words, at_word, is_full_for, clauses_from, with_variables, after_header, read_lines, read_dimacs}
 use Rattle.clause_text.specs.Left.{saying}
@@ -134,17 +134,13 @@ clause_line (l ∷ ls) =
 
 -- ---- words of clauses
 
-pub number_again : (most n : ℕ) → n ≤ most → number_up_to most (number_text n) ≡ Some n
-number_again most n h =
-    ap (λ (read : Option ℕ). option_and_then (λ (n : ℕ). cond (nat_le n most) (Some n) None) read) (read_text n) ∙ ap (λ (t : Bool). cond t (Some n) None) (le-leb n most h)
-
 -- a word of digits has no sign
-unsigned : (v : ℕ) (text : List ℕ) → some_bytes text ≡ true → list_all is_digit text ≡ true → token_of v text ≡ plain_token (number_up_to v text)
+unsigned : (v : ℕ) (text : List ℕ) → some_bytes text ≡ true → list_all is_digit text ≡ true → token_of v text ≡ plain_token (number_within 0 v text)
 unsigned v [] some digits = absurd (false≢true some)
 unsigned v (c ∷ cs) some digits =
     let low : 48 ≤ c = leb-true 48 c (and_left (nat_le 48 c) (nat_le c 57) (and_left (is_digit c) (list_all is_digit cs) digits)) in
     let sign : c ≢ 45 = omega (arith, low) in
-    ap (λ (t : Bool). cond t (minus_token (number_up_to v cs)) (plain_token (number_up_to v (c ∷ cs)))) (ne_eqb c 45 sign)
+    ap (λ (t : Bool). cond t (minus_token (number_within 0 v cs)) (plain_token (number_within 0 v (c ∷ cs)))) (ne_eqb c 45 sign)
 
 pub literal_token : (v : ℕ) (l : Signed) → (nat_le 1 l.variable && nat_le l.variable v) ≡ true → token_of v (signed_text l) ≡ Some (Says l)
 literal_token v l within = by_sign l.positive refl
@@ -158,11 +154,11 @@ literal_token v l within = by_sign l.positive refl
     by_sign : (t : Bool) → l.positive ≡ t → token_of v (cond t (number_text l.variable) (45 ∷ number_text l.variable)) ≡ Some (Says l)
     by_sign true is =
         unsigned v (number_text l.variable) (number_some l.variable) (number_digits l.variable)
-        ∙ ap plain_token (number_again v l.variable few)
+        ∙ ap plain_token (number_again 0 v l.variable (omega arith) few)
         ∙ ap (λ (t : Bool). cond t (Some Ends) (Some (Says (record { variable = l.variable; positive = true })))) (ne_eqb l.variable 0 some)
         ∙ ap (λ (t : Bool). Some (Says (record { variable = l.variable; positive = t }))) (sym is)
     by_sign false is =
-        ap minus_token (number_again v l.variable few)
+        ap minus_token (number_again 0 v l.variable (omega arith) few)
         ∙ ap (λ (t : Bool). cond t None (Some (Says (record { variable = l.variable; positive = false })))) (ne_eqb l.variable 0 some)
         ∙ ap (λ (t : Bool). Some (Says (record { variable = l.variable; positive = t }))) (sym is)
 
@@ -305,8 +301,8 @@ module _ (head : List ℕ) (v : ℕ) (clauses : List Clause) where
   sizes_again few short =
       let fits : length clauses ≤ 4294967295 = omega (arith, short) in
       ap header_of header_words
-      ∙ ap (λ (read : Option ℕ). option_and_then (λ (variables : ℕ). option_map (λ (count : ℕ). (variables, count)) (number_up_to 4294967295 (number_text (length clauses)))) read) (number_again 10000000 v few)
-      ∙ ap (λ (read : Option ℕ). option_map (λ (count : ℕ). (v, count)) read) (number_again 4294967295 (length clauses) fits)
+      ∙ ap (λ (read : Option ℕ). option_and_then (λ (variables : ℕ). option_map (λ (count : ℕ). (variables, count)) (number_within 0 4294967295 (number_text (length clauses)))) read) (number_again 0 10000000 v (omega arith) few)
+      ∙ ap (λ (read : Option ℕ). option_map (λ (count : ℕ). (v, count)) read) (number_again 0 4294967295 (length clauses) (omega arith) fits)
 
   -- the clauses are read as they were written
   pub written_is_read : list_all (λ b. not (is_end b)) head ≡ true → v ≤ 10000000 → length clauses ≤ 4000000 → sum_by length clauses ≤ 60000000 → list_all (is_over v) clauses ≡ true

@@ -9,7 +9,6 @@ mod lines;
 mod literals;
 mod lrat_reading;
 mod lrat_writing;
-mod numbers;
 mod size_text;
 mod steps;
 mod tokens;

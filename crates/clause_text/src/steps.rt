@@ -1,15 +1,16 @@
 //! The lines of a derivation.
 
 ghost use Rattle.std.specs.Prelude.{◌≡◌, ◌≤◌, [], IfOk, option_map};
+ghost use Rattle.verdicts.specs.Numbers.{number_within};
 ghost use Rattle.clause_text.specs.ReadLrat.{most_id, id_of, hint_of, is_zero, ids_of, hints_of, literals_read, dropping, adding, told};
-ghost use Rattle.clause_text.specs.Words.{words_in_line, number_up_to};
+ghost use Rattle.clause_text.specs.Words.{words_in_line};
 
 use crate::lines::{is_same, next_word};
-use crate::numbers::number_up_to;
 use crate::tokens::{Word, token_of};
 use cnf::{Ids, Lits, Step};
 use lists::NoMemory;
 use std::alloc::Global;
+use verdicts::number_within;
 
 /// The greatest id.
 const MOST_ID: u64 = 9_223_372_036_854_775_807;
@@ -26,10 +27,7 @@ pub(crate) enum Told {
 fn id_of(word: &[u8]) -> Option<u64>
     ensures { result ≡ id_of word.now }
 {
-    let Some(id) = number_up_to(MOST_ID, word) else {
-        return None;
-    };
-    if id == 0 { None } else { Some(id) }
+    number_within(word, 1, MOST_ID)
 }
 
 /// A hint: an id, and whether it is below 0.
@@ -140,9 +138,9 @@ fn read_literals<'a>(
 /// What is taken away; the id at the front means nothing.
 fn dropping(alloc: Global, front: &[u8], rest: &[u8]) -> Result<Told, NoMemory>
     ensures { IfOk result (λ found. found ≡
-        dropping (number_up_to most_id front.now) (ids_of (words_in_line rest.now))) }
+        dropping (number_within 0 most_id front.now) (ids_of (words_in_line rest.now))) }
 {
-    if number_up_to(MOST_ID, front).is_none() {
+    if number_within(front, 0, MOST_ID).is_none() {
         return Ok(Told::Formless);
     }
     match ids_of(alloc, rest)? {

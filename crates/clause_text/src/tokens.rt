@@ -1,11 +1,12 @@
 //! The words of clauses.
 
 ghost use Rattle.std.specs.Prelude.{◌≡◌, ◌≤◌};
+ghost use Rattle.verdicts.specs.Numbers.{number_within};
 ghost use Rattle.clause_text.specs.Tokens.{read_as};
-ghost use Rattle.clause_text.specs.Words.{token_of, minus_token, plain_token, number_up_to};
+ghost use Rattle.clause_text.specs.Words.{token_of, minus_token, plain_token};
 
-use crate::numbers::number_up_to;
 use cnf::Lit;
+use verdicts::number_within;
 
 /// What a word is in a clause: none of its words, 0, which ends it, or a literal.
 #[derive(Clone, Copy)]
@@ -18,9 +19,9 @@ pub(crate) enum Word {
 /// A number after a minus; `-0` is none.
 fn minus_token(most: u32, word: &[u8]) -> Word
     requires { most ≤ 10000000 }
-    ensures { read_as result ≡ minus_token (number_up_to most word.now) }
+    ensures { read_as result ≡ minus_token (number_within 0 most word.now) }
 {
-    match number_up_to(u64::from(most), word) {
+    match number_within(word, 0, u64::from(most)) {
         None => Word::Stray,
         Some(0) => Word::Stray,
         Some(number) => Word::Says(Lit::new(number as u32, false)),
@@ -30,9 +31,9 @@ fn minus_token(most: u32, word: &[u8]) -> Word
 /// A number without a sign.
 fn plain_token(most: u32, word: &[u8]) -> Word
     requires { most ≤ 10000000 }
-    ensures { read_as result ≡ plain_token (number_up_to most word.now) }
+    ensures { read_as result ≡ plain_token (number_within 0 most word.now) }
 {
-    match number_up_to(u64::from(most), word) {
+    match number_within(word, 0, u64::from(most)) {
         None => Word::Stray,
         Some(0) => Word::Ends,
         Some(number) => Word::Says(Lit::new(number as u32, true)),

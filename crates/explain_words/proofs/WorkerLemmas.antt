@@ -4,7 +4,8 @@ use Rattle.std.specs.Prelude.{option_and_then, codes}
 use Rattle.std.specs.Str.{bytes_eq}
 use Rattle.clap.specs.Words.{Row, Text, first_of}
 use Rattle.words.specs.Values.{number_in, workers_in}
-use Rattle.words.proofs.FewWorkers.{IsFew, few_in}
+use Rattle.words.specs.Words.{over_study}
+use Rattle.words.proofs.FewWorkers.{IsFew, few_in, few_over}
 use Rattle.explain_words.specs.declared.commands.Command.{Command}
 use Rattle.explain_words.specs.Words.{ExplainRequest, Story, Instance, Rules, Cores, Look, HasExplainWorkers, command_request, most_in, explain_request_under}
 
@@ -16,11 +17,9 @@ either true x y g h = g
 either false x y g h = h
 
 -- a request that is made of two names and such a number
-made : (report study : Option Text) (w : Option ℕ) → IfSome w IsFew → Good (option_and_then (λ r. option_and_then (λ s. option_map (Story s r) w) study) report)
-made None study w few = tt
-made (Some r) None w few = tt
-made (Some r) (Some s) None few = tt
-made (Some r) (Some s) (Some n) few = few
+told : (rows : List Row) (report : Option Text) → Good (option_and_then (λ r. over_study (λ study workers. Story study r workers) rows) report)
+told rows None = tt
+told rows (Some report) = few_over HasExplainWorkers (λ study workers. Story study report workers) (λ study n few. few) rows
 
 -- one without
 counted : (axiom_name study : Option Text) (n : Option ℕ) → Good (option_and_then (λ a. option_and_then (λ s. option_map (Instance s a) n) study) axiom_name)
@@ -36,26 +35,14 @@ listed (Some s) None w few = tt
 listed (Some s) (Some n) None few = tt
 listed (Some s) (Some n) (Some k) few = few
 
--- one of a name and such a number
-mapped : (study : Option Text) (w : Option ℕ) → IfSome w IsFew → Good (option_and_then (λ s. option_map (Cores s) w) study)
-mapped None w few = tt
-mapped (Some s) None few = tt
-mapped (Some s) (Some k) few = few
-
--- the same of what a study asks
-looked : (study : Option Text) (w : Option ℕ) → IfSome w IsFew → Good (option_and_then (λ s. option_map (Look s) w) study)
-looked None w few = tt
-looked (Some s) None few = tt
-looked (Some s) (Some k) few = few
-
 under : (rows : List Row) (name : Text) → Good (explain_request_under name rows)
 under rows name =
     either (bytes_eq name (codes "story")) _ _
-    (made (first_of (codes "report") rows) (first_of (codes "study") rows) (workers_in rows) (few_in (first_of (codes "workers") rows)))
+    (told rows (first_of (codes "report") rows))
     (either (bytes_eq name (codes "instance")) _ _ (counted (first_of (codes "axiom") rows) (first_of (codes "study") rows) (number_in rows))
     (either (bytes_eq name (codes "rules")) _ _ (listed (first_of (codes "study") rows) (most_in rows) (workers_in rows) (few_in (first_of (codes "workers") rows)))
-    (either (bytes_eq name (codes "cores")) _ _ (mapped (first_of (codes "study") rows) (workers_in rows) (few_in (first_of (codes "workers") rows)))
-    (either (bytes_eq name (codes "study")) _ _ (looked (first_of (codes "study") rows) (workers_in rows) (few_in (first_of (codes "workers") rows))) tt))))
+    (either (bytes_eq name (codes "cores")) _ _ (few_over HasExplainWorkers Cores (λ study n few. few) rows)
+    (either (bytes_eq name (codes "study")) _ _ (few_over HasExplainWorkers Look (λ study n few. few) rows) tt))))
 
 -- so has each command that was found
 pub found : (command : Option Command) (name : Text) (rows : List Row) → option_map command_request command ≡ explain_request_under name rows → IfSome command (λ it. HasExplainWorkers (command_request it))

@@ -1,10 +1,11 @@
 -- Which words are a command of `explain`: those that `clap` takes for the program below, where the values have their forms.
 use Rattle.std.specs.Prelude.{◌≤◌, ℕ, true, false, List, [], ◌∷◌, codes, if◌then◌else◌, Option, None, Some, option_map, option_and_then}
 use Rattle.std.specs.Str.{bytes_eq}
+use Rattle.verdicts.specs.Numbers.{number_within}
 use Rattle.clap.specs.Words.{App, Row, Rule, Shape, Text, fault_of, first_of, subcommand_of}
 use Rattle.clap.specs.Simple.{new_rule, new_shape}
-use Rattle.words.specs.Values.{number_in, number_within, workers_in}
-use Rattle.words.specs.Words.{required_word, workers_option, with_arguments, unless_refused}
+use Rattle.words.specs.Values.{number_in, workers_in}
+use Rattle.words.specs.Words.{over_study, required_word, workers_option, with_arguments, unless_refused}
 use Rattle.explain_words.specs.declared.commands.Command.{Command}
 use Rattle.explain_words.specs.declared.commands.Command.TheVariants as command
 
@@ -67,8 +68,8 @@ explain_app = record { top = record explain_shape { is_leaf = false }; subs = st
 -- ---- the request that the words are
 
 abbrev pub story_in : List Row → Option ExplainRequest
-story_in rows = option_and_then (λ report. option_and_then (λ study. option_map (Story study report) (workers_in rows))
-    (first_of (codes "study") rows)) (first_of (codes "report") rows)
+story_in rows = option_and_then (λ report. over_study (λ study workers. Story study report workers) rows)
+    (first_of (codes "report") rows)
 
 abbrev pub instance_in : List Row → Option ExplainRequest
 instance_in rows = option_and_then (λ axiom_name. option_and_then (λ study. option_map (Instance study axiom_name) (number_in rows))
@@ -82,20 +83,14 @@ abbrev pub rules_in : List Row → Option ExplainRequest
 rules_in rows = option_and_then (λ study. option_and_then (λ most. option_map (Rules study most) (workers_in rows)) (most_in rows))
     (first_of (codes "study") rows)
 
-abbrev pub cores_in : List Row → Option ExplainRequest
-cores_in rows = option_and_then (λ study. option_map (Cores study) (workers_in rows)) (first_of (codes "study") rows)
-
-abbrev pub look_in : List Row → Option ExplainRequest
-look_in rows = option_and_then (λ study. option_map (Look study) (workers_in rows)) (first_of (codes "study") rows)
-
 -- the request of a command by its name, with the values that `clap` found
 abbrev pub explain_request_under : Text → List Row → Option ExplainRequest
 explain_request_under name rows =
     if bytes_eq name (codes "story") then story_in rows
     else if bytes_eq name (codes "instance") then instance_in rows
     else if bytes_eq name (codes "rules") then rules_in rows
-    else if bytes_eq name (codes "cores") then cores_in rows
-    else if bytes_eq name (codes "study") then look_in rows
+    else if bytes_eq name (codes "cores") then over_study Cores rows
+    else if bytes_eq name (codes "study") then over_study Look rows
     else None
 
 abbrev pub explain_request_in : Option (Text × List Row) → Option ExplainRequest

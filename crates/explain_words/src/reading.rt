@@ -2,8 +2,8 @@
 
 ghost use Rattle.std.specs.Prelude.{◌≡◌, IfOk, IfSome, option_map};
 ghost use Rattle.clap.specs.Words.{found_of, rows_of, subcommand_rows_of};
-ghost use Rattle.words.specs.Words.{texts};
-ghost use Rattle.explain_words.specs.Words.{HasExplainWorkers, command_request, story_in, instance_in, most_in, rules_in, cores_in, look_in, explain_request_under, explain_request_in, request_of};
+ghost use Rattle.words.specs.Words.{texts, over_study};
+ghost use Rattle.explain_words.specs.Words.{HasExplainWorkers, command_request, Cores, Look, story_in, instance_in, most_in, rules_in, explain_request_under, explain_request_in, request_of};
 
 use crate::commands::Command;
 use crate::grammar::explain_command;
@@ -11,7 +11,8 @@ use clap::ArgMatches;
 use clap::error::ErrorKind;
 use lists::NoMemory;
 use std::alloc::Global;
-use words::{number_in, number_within, value_at, workers_in};
+use verdicts::number_within;
+use words::{number_in, value_at, workers_in};
 
 /// `story STUDY REPORT`.
 fn story_in<'a>(matches: &ArgMatches<'a>) -> Option<Command<'a>>
@@ -45,7 +46,7 @@ fn instance_in<'a>(matches: &ArgMatches<'a>) -> Option<Command<'a>>
 fn most_in(matches: &ArgMatches<'_>) -> Option<u32>
     ensures { result ≡ most_in (rows_of (found_of matches.now)) }
 {
-    number_within(value_at(matches, "most")?.as_bytes(), 1, 10_000)
+    number_within(value_at(matches, "most")?.as_bytes(), 1, 10_000).map(|most| most as u32)
 }
 
 /// `rules STUDY`.
@@ -64,7 +65,7 @@ fn rules_in<'a>(matches: &ArgMatches<'a>) -> Option<Command<'a>>
 
 /// `cores STUDY`.
 fn cores_in<'a>(matches: &ArgMatches<'a>) -> Option<Command<'a>>
-    ensures { option_map command_request result ≡ cores_in (rows_of (found_of matches.now)) }
+    ensures { option_map command_request result ≡ over_study Cores (rows_of (found_of matches.now)) }
 {
     let study = value_at(matches, "study")?;
     let workers = workers_in(matches)?;
@@ -73,7 +74,7 @@ fn cores_in<'a>(matches: &ArgMatches<'a>) -> Option<Command<'a>>
 
 /// `study STUDY`.
 fn look_in<'a>(matches: &ArgMatches<'a>) -> Option<Command<'a>>
-    ensures { option_map command_request result ≡ look_in (rows_of (found_of matches.now)) }
+    ensures { option_map command_request result ≡ over_study Look (rows_of (found_of matches.now)) }
 {
     let study = value_at(matches, "study")?;
     let workers = workers_in(matches)?;

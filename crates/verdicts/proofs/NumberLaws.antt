@@ -1,15 +1,15 @@
 -- Numbers and their texts are one to one.
-use Rattle.std.proofs.Common.{◌≡◌, refl, sym, ap, ◌∙◌, subst, ℕ, zero, suc, ◌+◌, ◌-◌, ◌*◌, ◌/◌, ◌%◌, ◌^◌, min, ◌<◌, ◌≤◌, ◌≢◌, Bool, true, false, not, ◌&&◌, inl, inr, List, [], ◌∷◌, ◌++◌, Some, arith, lt-ltb, le-ltb, ltb-false, true≢false, append-nil, append_assoc}
-use Rattle.std.specs.Prelude.{◌==◌, nat_lt}
+use Rattle.std.proofs.Common.{◌≡◌, refl, sym, ap, ◌∙◌, subst, ℕ, zero, suc, ◌+◌, ◌-◌, ◌*◌, ◌/◌, ◌%◌, ◌^◌, min, ◌<◌, ◌≤◌, ◌≢◌, Bool, true, false, not, ◌&&◌, inl, inr, List, [], ◌∷◌, ◌++◌, Option, Some, None, cond, arith, lt-ltb, le-ltb, ltb-false, true≢false, append-nil, append_assoc}
+use Rattle.std.specs.Prelude.{◌==◌, nat_lt, nat_le, option_and_then, IfSome}
 use Rattle.std.specs.List.{list_all}
-use Rattle.std.proofs.lemmas.Bool.{and_parts, and_from, cases_lt}
+use Rattle.std.proofs.lemmas.Bool.{and_parts, and_from, cases_lt, leb-true, le-leb}
 use Rattle.std.proofs.lemmas.Nat.{div-mul-add, mod-mul-add}
 use Rattle.std.proofs.Math.Nat.{div-lt_self, mod-lt}
 use Rattle.std.proofs.lemmas.Bool.Decides.{Decides-eqb}
 use Rattle.lists.proofs.TestLaws.{all_snoc}
 use Rattle.vocab.specs.Name.{is_digit}
 use Rattle.vocab.proofs.DigitLaws.{digit_from, digit_range}
-use Rattle.verdicts.specs.Numbers.{with_last, digits_below, number_text, is_number, value_after, read_number, saturated}
+use Rattle.verdicts.specs.Numbers.{with_last, digits_below, number_text, is_number, value_after, read_number, number_within, saturated}
 
 with_last-same : (b : Bool) (f g : ℕ → List ℕ) (n : ℕ) → (b ≡ false → f (n / 10) ≡ g (n / 10)) → with_last b f n ≡ with_last b g n
 with_last-same true f g n h = refl
@@ -72,7 +72,7 @@ text_of_value (c ∷ d ∷ ds) h =
     not_48 e same = absurd (true≢false (sym e ∙ ap not ((Decides-eqb c 48).1 same)))
 
 -- the value of the text of a number
-pub value_push : (a : ℕ) (cs : List ℕ) (d : ℕ) → value_after a (cs ++ d ∷ []) ≡ value_after a cs * 10 + (d - 48)
+value_push : (a : ℕ) (cs : List ℕ) (d : ℕ) → value_after a (cs ++ d ∷ []) ≡ value_after a cs * 10 + (d - 48)
 value_push a [] d = refl
 value_push a (c ∷ cs) d = value_push (a * 10 + (c - 48)) cs d
 
@@ -130,3 +130,25 @@ text_read t n e = by_test (is_number t) refl
     by_test : (b : Bool) → is_number t ≡ b → t ≡ number_text n
     by_test true h = let v : value_after 0 t ≡ n = grind (arith, h, e) in sym (text_of_value t h) ∙ ap number_text v
     by_test false h = absurd (grind (arith, h, e))
+
+-- ---- numbers from `least` to `most`
+
+module _ (least most : ℕ) where
+  abbrev pub IsWithin : ℕ → Type 0
+  IsWithin n = (least ≤ n) × (n ≤ most)
+
+  pub number_is_within : (text : List ℕ) → IfSome (number_within least most text) IsWithin
+  number_is_within text = by_number (read_number text)
+    where
+      by_test : (n : ℕ) (t : Bool) → (nat_le least n && nat_le n most) ≡ t → IfSome (cond t (Some n) None) IsWithin
+      by_test n true e = let p = and_parts (nat_le least n) (nat_le n most) e in (leb-true least n p.0, leb-true n most p.1)
+      by_test n false e = tt
+
+      by_number : (o : Option ℕ) → IfSome (option_and_then (λ n. cond (nat_le least n && nat_le n most) (Some n) None) o) IsWithin
+      by_number None = tt
+      by_number (Some n) = by_test n _ refl
+
+  pub number_again : (n : ℕ) → least ≤ n → n ≤ most → number_within least most (number_text n) ≡ Some n
+  number_again n low high =
+      ap (option_and_then (λ n. cond (nat_le least n && nat_le n most) (Some n) None)) (read_text n)
+      ∙ ap (λ t. cond t (Some n) None) (and_from (nat_le least n) (nat_le n most) (le-leb least n low) (le-leb n most high))

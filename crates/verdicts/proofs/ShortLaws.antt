@@ -65,8 +65,8 @@ joined_within c k (w ∷ v ∷ ws) h =
 -- ---- words
 
 -- a number below 2^64 has at most 20 digits
-number_within : (n : ℕ) → n < 2 ^ 64 → length (number_text n) ≤ 20
-number_within n h = subst (λ text. length text ≤ 20) (decimal_is n h) (length-decimal-le 20 n (omega arith) (omega (arith, h)) h)
+number_is_short : (n : ℕ) → n < 2 ^ 64 → length (number_text n) ≤ 20
+number_is_short n h = subst (λ text. length text ≤ 20) (decimal_is n h) (length-decimal-le 20 n (omega arith) (omega (arith, h)) h)
 
 module _ (size : Extent) (is : IsSize size) where
   abbrev m : ℕ
@@ -123,7 +123,7 @@ module _ (size : Extent) (is : IsSize size) where
   outcome_within_of Sets o = omega (arith, length-map (elements m o) letter, kept_short (is_element o) m 0, is.few_alternatives)
 
   value_within : (s : Sort) (v : ℕ) → v < sort_count size s → length (value_text size s v) ≤ 52
-  value_within Voter v h = omega (arith, number_within (v + 1) (omega (arith, h, is.few_voters)))
+  value_within Voter v h = omega (arith, number_is_short (v + 1) (omega (arith, h, is.few_voters)))
   value_within Alt v h = omega arith
   value_within Ballot v h = omega (arith, ballot_within v)
   value_within Profile v h = omega (arith, profile_within v)
@@ -180,7 +180,7 @@ module _ (study : Question) (is : IsReportable study) where
   few_words l h k = ap not (le-ltb 4096 (length (line_text study l)) (omega (arith, joined_within 32 52 (line_words study l) h, k)))
 
   pub short_number : (n : ℕ) → n < 2 ^ 64 → list_all (within 52) (number_text n ∷ []) ≡ true
-  short_number n h = and_from _ _ (within_from 52 (number_text n) (omega (arith, number_within n h))) refl
+  short_number n h = and_from _ _ (within_from 52 (number_text n) (omega (arith, number_is_short n h))) refl
 
   short_profile : (p : ℕ) → within 52 (profile_text study.size p) ≡ true
   short_profile p = within_from 52 (profile_text study.size p) (omega (arith, profile_within study.size is.size p))

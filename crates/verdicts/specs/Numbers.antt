@@ -1,5 +1,5 @@
 -- Numbers in decimal digits, without a sign and without a leading zero, except `0` itself. There is no greatest one.
-use Rattle.std.specs.Prelude.{ℕ, zero, suc, ◌+◌, ◌-◌, ◌*◌, ◌/◌, ◌%◌, ◌^◌, min, Bool, true, false, not, ◌&&◌, ◌==◌, nat_lt, List, [], ◌∷◌, ◌++◌, Option, Some, None, if◌then◌else◌}
+use Rattle.std.specs.Prelude.{ℕ, zero, suc, ◌+◌, ◌-◌, ◌*◌, ◌/◌, ◌%◌, ◌^◌, min, Bool, true, false, not, ◌&&◌, ◌==◌, nat_lt, nat_le, List, [], ◌∷◌, ◌++◌, Option, Some, None, option_and_then, if◌then◌else◌}
 use Rattle.std.specs.List.{list_all}
 use Rattle.vocab.specs.Name.{is_digit}
 
@@ -31,6 +31,11 @@ value_after n (c ∷ cs) = value_after (n * 10 + (c - 48)) cs
 -- the number of a text
 abbrev pub read_number : List ℕ → Option ℕ
 read_number text = if is_number text then Some (value_after 0 text) else None
+
+-- the number of a text, where it is one from `least` to `most`
+abbrev pub number_within : ℕ → ℕ → List ℕ → Option ℕ
+number_within least most text =
+    option_and_then (λ n. if nat_le least n && nat_le n most then Some n else None) (read_number text)
 
 -- a number as `u64` holds it: it stands still at the greatest one
 abbrev pub saturated : ℕ → ℕ

@@ -6,6 +6,6 @@ mod numbers;
 mod refusals;
 mod verdicts;
 
-pub use numbers::read_number;
+pub use numbers::{number_within, read_number};
 pub use refusals::Refusal;
 pub use verdicts::{Confirmed, Verdict};

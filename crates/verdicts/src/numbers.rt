@@ -1,9 +1,9 @@
 //! The number of a word of decimal digits.
 
-ghost use Rattle.std.specs.Prelude.{◌≡◌, option_map};
+ghost use Rattle.std.specs.Prelude.{◌≡◌, ◌-◌, ◌^◌, ◌<◌, option_map};
 ghost use Rattle.std.specs.List.{list_all};
 ghost use Rattle.vocab.specs.Name.{is_digit};
-ghost use Rattle.verdicts.specs.Numbers.{is_number, value_after, read_number, saturated};
+ghost use Rattle.verdicts.specs.Numbers.{is_number, value_after, read_number, number_within, saturated};
 
 fn is_digit(c: u8) -> bool
     ensures { result ≡ is_digit c }
@@ -49,5 +49,23 @@ pub fn read_number(word: &[u8]) -> Option<u64>
         Some(value(word))
     } else {
         None
+    }
+}
+
+/// The number of a word in decimal digits, where it is one from `least` to `most`, which is less than the
+/// greatest `u64`: None of any other word.
+pub fn number_within(word: &[u8], least: u64, most: u64) -> Option<u64>
+    requires { most < 2 ^ 64 - 1 }
+    ensures { result ≡ number_within least most word.now }
+{
+    match read_number(word) {
+        Some(number) => {
+            if least <= number && number <= most {
+                Some(number)
+            } else {
+                None
+            }
+        }
+        None => None,
     }
 }

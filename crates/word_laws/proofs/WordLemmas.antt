@@ -2,7 +2,8 @@
 use Rattle.std.proofs.Common.{◌≡◌, refl, [], ◌∷◌, ◌++◌, codes, Some, option_map}
 use Rattle.clap.specs.Words.{Text}
 use Rattle.clap.proofs.OnLiterals.{clap_on_literals}
-use Rattle.words.specs.Values.{number_within, kind_named}
+use Rattle.verdicts.specs.Numbers.{number_within}
+use Rattle.words.specs.Values.{kind_named}
 use Rattle.words.specs.Words.{Decide, Check, Export, Proof, Lrat, Axioms, Sample, Adopt, Gain, Sharpen, request_of}
 use Rattle.word_laws.specs.Laws.{IsPlain, PlainWords, WorkersWords}
 

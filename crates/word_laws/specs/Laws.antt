@@ -2,7 +2,8 @@
 use Rattle.std.specs.Prelude.{◌≡◌, ◌==◌, Bool, false, [], ◌∷◌, ◌++◌, codes, None, Some, option_map}
 use Rattle.clap.specs.Words.{Text}
 use Rattle.vocab.specs.declared.kinds.Kind.TheVariants.{Sets}
-use Rattle.words.specs.Values.{number_within, kind_named}
+use Rattle.verdicts.specs.Numbers.{number_within}
+use Rattle.words.specs.Values.{kind_named}
 use Rattle.words.specs.Words.{Decide, Check, Export, Proof, Lrat, Axioms, Sample, Adopt, Gain, Sharpen, request_of}
 
 abbrev pub begins_with_hyphen : Text → Bool

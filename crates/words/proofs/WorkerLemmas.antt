@@ -4,9 +4,9 @@ use Rattle.std.specs.Prelude.{option_and_then, codes}
 use Rattle.std.specs.Str.{bytes_eq}
 use Rattle.clap.specs.Words.{Row, Text, first_of}
 use Rattle.words.specs.declared.commands.Command.{Command}
-use Rattle.words.specs.Values.{workers_in, kind_in, number_in}
+use Rattle.words.specs.Values.{kind_in, number_in}
 use Rattle.words.specs.Words.{Request, Decide, Check, Export, Proof, Lrat, Axioms, Sample, Adopt, Gain, Sharpen, HasWorkers, asked, over_study, request_under}
-use Rattle.words.proofs.FewWorkers.{IsFew, few_in}
+use Rattle.words.proofs.FewWorkers.{IsFew, few_over}
 
 abbrev Good : Option Request → Type 0
 Good o = IfSome o HasWorkers
@@ -15,16 +15,9 @@ either : (b : Bool) (x y : Option Request) → Good x → Good y → Good (cond 
 either true x y g h = g
 either false x y g h = h
 
--- a request that is made of a study and such a number
-made : (make : Text → ℕ → Request) → ((study : Text) (n : ℕ) → IsFew n → HasWorkers (make study n)) → (s : Option Text) (w : Option ℕ) → IfSome w IsFew
-    → Good (option_and_then (λ study. option_map (make study) w) s)
-made make good None w few = tt
-made make good (Some study) None few = tt
-made make good (Some study) (Some n) few = good study n few
-
 module _ (rows : List Row) where
   over : (make : Text → ℕ → Request) → ((study : Text) (n : ℕ) → IsFew n → HasWorkers (make study n)) → Good (over_study make rows)
-  over make good = made make good (first_of (codes "study") rows) (workers_in rows) (few_in (first_of (codes "workers") rows))
+  over make good = few_over HasWorkers make good rows
 
   checks : (o : Option Text) → Good (option_and_then (λ report. over_study (λ study workers. Check study report workers) rows) o)
   checks None = tt

@@ -27,6 +27,10 @@ pub fn workers_option<'a>(alloc: Global) -> Arg<'a>
 
 /// A command with one more below it, where both could be made. (Both are handed over as they come, so that
 /// one place alone lets a command go where memory ends.)
+///
+/// # Errors
+///
+/// `AllocError` where memory for one of the two, or for both together, could not be had.
 pub fn add_command<'a>(
     command: Result<Command<'a>, AllocError>,
     below: Result<Command<'a>, AllocError>,

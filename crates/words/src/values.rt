@@ -1,27 +1,12 @@
 //! The values of words in what `clap` found.
 
 ghost use Rattle.std.specs.Prelude.{◌≡◌, option_map};
+ghost use Rattle.verdicts.specs.Numbers.{number_within};
 ghost use Rattle.clap.specs.Words.{first_of, found_of, rows_of};
-ghost use Rattle.words.specs.Values.{number_within, workers_in, number_in};
+ghost use Rattle.words.specs.Values.{workers_in, number_in};
 
 use clap::ArgMatches;
-use verdicts::read_number;
-
-/// The number of a word in decimal digits, where it is one from `least` to `most`: None of any other word.
-pub fn number_within(word: &[u8], least: u32, most: u32) -> Option<u32>
-    ensures { result ≡ number_within least most word.now }
-{
-    match read_number(word) {
-        Some(number) => {
-            if u64::from(least) <= number && number <= u64::from(most) {
-                Some(number as u32)
-            } else {
-                None
-            }
-        }
-        None => None,
-    }
-}
+use verdicts::number_within;
 
 /// The value of an argument, by its id, in what `clap` found: None where it has none.
 pub fn value_at<'a>(matches: &ArgMatches<'a>, id: &str) -> Option<&'a str>
@@ -49,7 +34,7 @@ pub fn workers_in(matches: &ArgMatches<'_>) -> Option<u8>
 fn number_of(word: &str) -> Option<u32>
     ensures { result ≡ number_within 0 4294967295 word.now }
 {
-    number_within(word.as_bytes(), 0, 4_294_967_295)
+    number_within(word.as_bytes(), 0, 4_294_967_295).map(|number| number as u32)
 }
 
 /// The value of `number`, a number of 32 bits: None where there is no value, or where it is no such number.
