@@ -3,7 +3,7 @@ use Rattle.std.proofs.Common.{◌≡◌, ◌∙◌, sym, subst, ℕ, ◌≤◌, 
 use Rattle.std.proofs.lemmas.Bool.{cases_lt}
 use Rattle.edge.specs.Shelf.{Files}
 use Rattle.verdicts.specs.declared.verdicts.Verdict.TheVariants.{Impossible}
-use Rattle.words.specs.Words.{Request, Decide, Check, Export, Proof, Lrat, Axioms, Sample, Adopt, Gain, Sharpen, request_of}
+use Rattle.words.specs.Words.{Request, Decide, Proof, Adopt, Sharpen, request_of}
 use Rattle.answers.specs.declared.runs.Run.{Run}
 use Rattle.answers.specs.Runs.{with_status}
 use Rattle.answers.specs.Lawful.{IsBenchAnswer}
@@ -68,9 +68,4 @@ calls_conclusive words d run files (Adopt name' proof workers) name study call t
     ended words d run call (Adopt name' proof workers) asked files told (λ r text row. enough_adopted files name proof r text study (subst (λ (n : List ℕ). IsAdoption files n proof r text) same row) g enough)
 calls_conclusive words d run files (Sharpen name' workers) name study call told asked same g enough =
     ended words d run call (Sharpen name' workers) asked files told (λ r text row. enough_sharpened files name r text study (subst (λ (n : List ℕ). IsSharpening files n r text) same row) g enough)
-calls_conclusive words d run files (Check name' report workers) name study call told asked same g enough = absurd same
-calls_conclusive words d run files (Export name' workers) name study call told asked same g enough = absurd same
-calls_conclusive words d run files (Lrat cnf proof) name study call told asked same g enough = absurd same
-calls_conclusive words d run files (Axioms kind) name study call told asked same g enough = absurd same
-calls_conclusive words d run files (Sample number) name study call told asked same g enough = absurd same
-calls_conclusive words d run files (Gain name' report) name study call told asked same g enough = absurd same
+calls_conclusive words d run files request name study call told asked same g enough = absurd same

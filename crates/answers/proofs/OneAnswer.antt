@@ -4,7 +4,7 @@ use Rattle.edge.specs.Shelf.{Files}
 use Rattle.vocab.specs.Study.{Question}
 use Rattle.clause_text.specs.ReadDimacs.{Formula, read_dimacs}
 use Rattle.sharp_verdicts.specs.Judged.{judged_text}
-use Rattle.words.specs.Words.{Request, Decide, Check, Export, Proof, Lrat, Axioms, Sample, Adopt, Gain, Sharpen, request_of}
+use Rattle.words.specs.Words.{Request, Check, Export, Lrat, Axioms, Gain, request_of}
 use Rattle.answers.specs.declared.runs.Run.{Run}
 use Rattle.answers.specs.Runs.{IsBare}
 use Rattle.answers.specs.FileLimits.{HasFile, HoldsTooMany, most_study_bytes, most_cnf_bytes}
@@ -115,16 +115,12 @@ module _ (files : Files) (run run' : Run) (text text' : List ℕ) where
 
   one_row : (request : Option Request) → IsSettled request → IsBenchAnswer request files run text → IsBenchAnswer request files run' text' → AreSame run run' text text'
   one_row None settled a a' = (one_run run run' 2 2 a.0 a'.0 refl, a.1 ∙ sym a'.1)
-  one_row (Some (Decide study workers)) settled a a' = absurd settled
   one_row (Some (Check study report workers)) settled a a' = one_over files study run run' text text' _ _ (one_judged report) a a'
   one_row (Some (Export study workers)) settled a a' = one_export study a a'
-  one_row (Some (Proof study workers)) settled a a' = absurd settled
   one_row (Some (Lrat cnf proof)) settled a a' = one_lrat cnf proof a a'
   one_row (Some (Axioms kind)) settled a a' = (one_run run run' 0 0 a.0 a'.0 refl, a.1 ∙ sym a'.1)
-  one_row (Some (Sample number)) settled a a' = absurd settled
-  one_row (Some (Adopt study proof workers)) settled a a' = absurd settled
   one_row (Some (Gain study report)) settled a a' = one_over files study run run' text text' _ _ (one_gain report) a a'
-  one_row (Some (Sharpen study workers)) settled a a' = absurd settled
+  one_row request settled a a' = absurd settled
 
 pub one_answer : AnswersAreOne
 one_answer words files run run' text text' settled a a' = one_row files run run' text text' (request_of words) settled a a'

@@ -9,7 +9,7 @@ use Rattle.cnf.specs.declared.derivations.Step.{Step}
 use Rattle.cnf.specs.declared.derivations.Step.TheVariants.{Add, Drop}
 use Rattle.cnf.specs.Signed.{Signed}
 use Rattle.cnf.specs.Sat.{Clause, opposite_lit}
-use Rattle.cnf.specs.Derived.{StandingClauses, clause_under, Effect, Satisfied, Falsified, Forces, Unresolved, without, add_fault, after_add, after_step, fault_from, IsAccepted}
+use Rattle.cnf.specs.Derived.{StandingClauses, clause_under, Effect, Forces, without, add_fault, after_add, after_step, fault_from, IsAccepted}
 use Rattle.cnf.specs.Fresh.{is_over, added_by, AreOver}
 use Rattle.cnf.specs.Trimmed.{is_in_option, effect_under, is_falsified_effect, is_used, are_hints_trimmed, is_cited_by, is_empty_clause, is_step_trimmed, is_trimmed_from, is_trimmed}
 use Rattle.cnf.proofs.TrimmedLaws.{trimmed_accepted}
@@ -56,10 +56,8 @@ used_id standing later id known None go ids is h = absurd (true≢false (sym h))
 used_id standing later id known (Some clause) go ids is h = under_id standing id clause ids is
 
 used_next : (standing : StandingClauses) (later : List ℕ) (e : Effect) (go : Signed → Bool) → is_used standing later e go ≡ true → (l : Signed) × (go l ≡ true)
-used_next standing later Satisfied go h = absurd (true≢false (sym h))
-used_next standing later Falsified go h = absurd (true≢false (sym h))
 used_next standing later (Forces l) go h = (l, (and_parts (list_any (λ i. is_in_option (opposite_lit l) (clause_under standing i)) later) (go l) h).1)
-used_next standing later Unresolved go h = absurd (true≢false (sym h))
+used_next standing later e go h = absurd (true≢false (sym h))
 
 hints_are_ids : (standing : StandingClauses) (ids : List ℕ) (known : List Signed) → are_ids standing ≡ true → are_hints_trimmed standing ids known ≡ true → list_all is_id ids ≡ true
 hints_are_ids standing [] known good h = absurd (true≢false (sym h))

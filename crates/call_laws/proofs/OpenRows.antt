@@ -8,7 +8,7 @@ use Rattle.verdicts.specs.declared.verdicts.Verdict.TheVariants.{Undecided}
 use Rattle.verdicts.specs.Report.{report_text}
 use Rattle.samples.specs.Sample.{IsSampleStudy}
 use Rattle.samples.proofs.Samples.{samples_once}
-use Rattle.words.specs.Words.{Request, Decide, Check, Export, Proof, Lrat, Axioms, Sample, Adopt, Gain, Sharpen, request_of}
+use Rattle.words.specs.Words.{Request, Decide, Proof, Sample, Adopt, Sharpen, request_of}
 use Rattle.answers.specs.declared.runs.Run.{Run}
 use Rattle.answers.specs.Runs.{IsBare}
 use Rattle.answers.specs.Adopt.{Adopts, proof_refused, proof_retold}
@@ -95,12 +95,7 @@ module _ (words : List (List ℕ)) (d : Devices) (run : Run) (call : IsCall word
       (λ text rest. adopted run four files proof study text (report_text study Undecided) rest)
   of_file files (Sharpen file workers) name study told asked same g =
       open_at files (Sharpen file workers) file name study (report_text study Undecided) (λ text s. Sharpens s run text) told asked same g (λ text row. row) (sharpens run four study)
-  of_file files (Check file report workers) name study told asked same g = absurd same
-  of_file files (Export file workers) name study told asked same g = absurd same
-  of_file files (Lrat cnf proof) name study told asked same g = absurd same
-  of_file files (Axioms kind) name study told asked same g = absurd same
-  of_file files (Sample number) name study told asked same g = absurd same
-  of_file files (Gain file report) name study told asked same g = absurd same
+  of_file files request name study told asked same g = absurd same
 
   of_number : (number : ℕ) (study : Question) → request_of words ≡ Some (Sample number) → IsSampleStudy number study → IsLeftOpen study d run (summary_line number study Undecided)
   of_number number study asked sample =

@@ -4,7 +4,7 @@ use Rattle.std.specs.Io.KnownBytes.{Appends}
 use Rattle.edge.specs.Shelf.{Files}
 use Rattle.vocab.specs.Study.{Question}
 use Rattle.clause_form.specs.declared.refusals.GroundFault.{GroundFault}
-use Rattle.words.specs.Words.{Request, Decide, Check, Export, Proof, Lrat, Axioms, Sample, Adopt, Gain, Sharpen, request_of}
+use Rattle.words.specs.Words.{Request, Decide, Check, Export, Proof, Adopt, Gain, Sharpen, request_of}
 use Rattle.answers.specs.declared.runs.Run.{Run}
 use Rattle.answers.specs.Adopt.{Adopts, proof_refused, proof_retold}
 use Rattle.answers.specs.Call.{IsCall, are_told}
@@ -62,15 +62,13 @@ module _ (words : List (List ℕ)) (d : Devices) (run : Run) (files : Files) (ca
       refused_at (Export study workers) study name line (λ text s. OverClauses s run text (IsWritten s run text)) asked (λ text row. row) same refuses
   refusal (Proof study workers) name line asked same refuses =
       refused_at (Proof study workers) study name line (λ text s. OverClauses s run text (Proves s run text)) asked (λ text row. row) same refuses
-  refusal (Lrat cnf proof) name line asked same refuses = absurd same
-  refusal (Axioms kind) name line asked same refuses = absurd same
-  refusal (Sample number) name line asked same refuses = absurd same
   refusal (Adopt study proof workers) name line asked same refuses =
       refused_at (Adopt study proof workers) study name line (λ text s. OverClauses s run text (Adopts files proof s run text)) asked (λ text row. row) same refuses
   refusal (Gain study report) name line asked same refuses =
       refused_at (Gain study report) study name line (λ text s. Gains files report s run text) asked (λ text row. row) same refuses
   refusal (Sharpen study workers) name line asked same refuses =
       refused_at (Sharpen study workers) study name line (λ text s. OverClauses s run text (Sharpens s run text)) asked (λ text row. row) same refuses
+  refusal request name line asked same refuses = absurd same
 
   -- of a command whose row is one over the clauses of the study of a file
   over_clauses_at : (request : Request) (study name : List ℕ) (q : Question) (fault : GroundFault) (IsRest : List ℕ → Question → Type 0) → request_of words ≡ Some request
@@ -86,19 +84,15 @@ module _ (words : List (List ℕ)) (d : Devices) (run : Run) (files : Files) (ca
       → GivesStudy files name q → clauses_fault q ≡ Some fault → Says d run 3 (refusal_line q fault)
   clauses_refusal (Decide study workers) name q fault asked same g is =
       over_clauses_at (Decide study workers) study name q fault (λ text s. IsReported s run text) asked (λ text row. row) same g is
-  clauses_refusal (Check study report workers) name q fault asked same g is = absurd same
   clauses_refusal (Export study workers) name q fault asked same g is =
       over_clauses_at (Export study workers) study name q fault (λ text s. IsWritten s run text) asked (λ text row. row) same g is
   clauses_refusal (Proof study workers) name q fault asked same g is =
       over_clauses_at (Proof study workers) study name q fault (λ text s. Proves s run text) asked (λ text row. row) same g is
-  clauses_refusal (Lrat cnf proof) name q fault asked same g is = absurd same
-  clauses_refusal (Axioms kind) name q fault asked same g is = absurd same
-  clauses_refusal (Sample number) name q fault asked same g is = absurd same
   clauses_refusal (Adopt study proof workers) name q fault asked same g is =
       over_clauses_at (Adopt study proof workers) study name q fault (λ text s. Adopts files proof s run text) asked (λ text row. row) same g is
-  clauses_refusal (Gain study report) name q fault asked same g is = absurd same
   clauses_refusal (Sharpen study workers) name q fault asked same g is =
       over_clauses_at (Sharpen study workers) study name q fault (λ text s. Sharpens s run text) asked (λ text row. row) same g is
+  clauses_refusal request name q fault asked same g is = absurd same
 
   refutation_refusal : (name proof bytes : List ℕ) (workers : ℕ) (study : Question) → request_of words ≡ Some (Adopt name proof workers) → GivesStudy files name study
       → clauses_fault study ≡ None → files proof ≡ Some bytes → (said_of (exported_formula study) bytes).status ≡ 1 → Says d run 1 (said_of (exported_formula study) bytes).text

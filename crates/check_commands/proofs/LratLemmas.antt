@@ -24,11 +24,8 @@ lrat_command name proof = record { two = refl; statuses = refl }
 
 -- a refusal other than want of memory is the one of the text
 pub cnf_refused : (fault : CnfFault) (wanted : Result Formula CnfFault) → fault ≢ cnf.NoMemory → IsCnfRefused fault wanted → wanted ≡ Err fault
-cnf_refused cnf.Header wanted known is = is
-cnf_refused (cnf.Literal line) wanted known is = is
-cnf_refused (cnf.Count found) wanted known is = is
-cnf_refused cnf.Full wanted known is = is
 cnf_refused cnf.NoMemory wanted known is = absurd (known refl)
+cnf_refused fault wanted known is = is
 
 -- bytes that give no clauses
 pub refuses_cnf : (told : Option Files) (name bytes text : List ℕ) (fault : CnfFault) → IfSome told (λ files. files name ≡ Some bytes) → length bytes ≤ most_cnf_bytes

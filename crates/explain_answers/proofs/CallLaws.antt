@@ -197,11 +197,8 @@ module _ (words : List (List ℕ)) (d : Devices) (status : ℕ) (call : IsExplai
 -- no command has status 2
 no_command : (request : Option ExplainRequest) → list_any (λ s. s == 2) (explain_statuses request) ≡ true → request ≡ None
 no_command None e = refl
-no_command (Some (Story study report workers)) e = absurd (true≢false (sym e))
-no_command (Some (Instance study axiom_name number)) e = absurd (true≢false (sym e))
-no_command (Some (Rules study most workers)) e = absurd (true≢false (sym e))
-no_command (Some (Cores study workers)) e = absurd (true≢false (sym e))
 no_command (Some (Look study workers)) e = absurd (true≢false (sym e))
+no_command request e = absurd (true≢false (sym e))
 
 usage_alone : (words : List (List ℕ)) (d : Devices) (status : ℕ) → IsExplainCall words d status → status ≡ 2 → request_of words ≡ None
 usage_alone words d status call two =

@@ -90,13 +90,8 @@ bound s (Some r) h = (r, refl)
 -- how many quantifiers stand on a path of the whole
 pub whole_depth : (f : Tree) → length (prefix_of f) + quantifier_depth (body_of f) ≡ quantifier_depth f
 whole_depth (Leaf a) = refl
-whole_depth (Not f) = omega arith
-whole_depth (Both f g) = omega arith
-whole_depth (Either f g) = omega arith
-whole_depth (Implies f g) = omega arith
-whole_depth (Same f g) = omega arith
 whole_depth (All s f) = let h = whole_depth f in omega (arith, h)
-whole_depth (Exists s f) = omega arith
+whole_depth f = omega arith
 
 module _ (size : Extent) (sized : IsSize size) where
   -- ---- constants

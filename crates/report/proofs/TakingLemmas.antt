@@ -65,28 +65,20 @@ module _ (study : Question) where
   Said held.End w = w ≡ End
 
   said : (w : Line) → Said (held_line study w) w
-  said (Title version) = refl
-  said (KindIs k) = refl
   said (VotersAre n) = (n, refl, refl)
   said (AlternativesAre n) = (n, refl, refl)
   said (BallotsAre places) = (places, refl, refl)
-  said (AbsentIs absent) = refl
   said (AxiomsAre ns) = (ns, refl, refl)
-  said SaysPossible = refl
-  said SaysImpossible = refl
-  said SaysUndecided = refl
   said (LimitIs n) = (n, refl)
   said (RuleOf n) = (n, refl, refl)
-  said (Row p o) = refl
   said (CoreIs ns) = (ns, refl)
   said (LemmasAre n) = (n, refl, refl)
   said (Heading n) = (n, refl)
-  said (Suppose l) = refl
   said (So l r) = (r, refl, refl)
   said (Clash r) = (r, refl, refl)
   said (WithRule name n) = (n, refl, refl)
   said (WithOpen name n) = (n, refl, refl)
-  said End = refl
+  said w = refl
 
   -- the line of which this is held
   pub said_of : (line h : HeldLine) (w : Line) → line ≡ h → line ≡ held_line study w → Said h w

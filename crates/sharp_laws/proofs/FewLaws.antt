@@ -17,7 +17,7 @@ use Rattle.verdicts.proofs.FirstFaultLaws.{all_read}
 use Rattle.verdicts.proofs.LineEndLaws.{story_fits}
 use Rattle.sharp_verdicts.specs.declared.refusals.SharpRefusal.TheVariants.{Report}
 use Rattle.sharp_verdicts.specs.Right.{Pointed}
-use Rattle.sharp_verdicts.specs.SharpLines.{SharpLine, SharpTitle, Plain, InstancesAre, NeedsRule, NeedsOpen, after_first, sharp_line_text, all_mark_lines, story_part, sharp_lines, sharp_text}
+use Rattle.sharp_verdicts.specs.SharpLines.{SharpLine, SharpTitle, Plain, InstancesAre, after_first, sharp_line_text, all_mark_lines, story_part, sharp_lines, sharp_text}
 use Rattle.sharp_verdicts.specs.SharpPlaces.{SharpPlace, AtNeedRow, AtSharpEnd, SharpStanding, sharp_start, read_sharp_line}
 use Rattle.sharp_verdicts.specs.SharpFaults.{sharp_fault}
 use Rattle.sharp_verdicts.specs.SharpJudge.{after_mark, advance_plain, advance_sharp, sharp_judge}
@@ -43,9 +43,7 @@ module _ (study : Question) where
   one_more : (s : SharpStanding) (l : SharpLine) → lemmas_of (advance_sharp study s l) ≤ lemmas_of s + 1
   one_more s SharpTitle = one_lemma study s.told (Title (own_version study))
   one_more s (Plain l) = one_plain s.place s l
-  one_more s (InstancesAre n) = same_fits _ _ refl
-  one_more s (NeedsRule r n) = same_fits _ _ refl
-  one_more s (NeedsOpen r n) = same_fits _ _ refl
+  one_more s l = same_fits _ _ refl
 
   -- a reader whose lemmas are no more than the lines
   abbrev AreFew : SharpStanding → List (List ℕ) → Type 0

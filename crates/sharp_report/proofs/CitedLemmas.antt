@@ -13,7 +13,7 @@ use Rattle.meaning.specs.declared.stories.Reason.TheVariants.{Axiom as ByAxiom, 
 use Rattle.meaning.specs.declared.stories.Lemma.{Lemma}
 use Rattle.meaning.specs.declared.stories.StoryStep.{StoryStep}
 use Rattle.verdicts.specs.Report.{is_reason}
-use Rattle.verdicts.specs.Lines.{Line, Title, KindIs, VotersAre, AlternativesAre, BallotsAre, AbsentIs, AxiomsAre, SaysPossible, SaysImpossible, SaysUndecided, LimitIs, RuleOf, Row, CoreIs, LemmasAre, Heading, Suppose, So, Clash, WithRule, WithOpen, End}
+use Rattle.verdicts.specs.Lines.{Line, AlternativesAre, SaysPossible, SaysUndecided, LimitIs, RuleOf, Row, Suppose, So, Clash, WithRule, WithOpen, End}
 use Rattle.verdicts.specs.Places.{Place, AtLimit, AtRule, AtRow, AtBallots, AtAxioms, AtLemma, AtSuppose, AtStep, AtWitness, AtWitnessRow, AtEnd, Standing}
 use Rattle.verdicts.specs.Faults.{next_core, fault_of}
 use Rattle.verdicts.specs.Judge.{witness_place, after_witness, advance}
@@ -157,22 +157,12 @@ module _ (study : Question) where
 
   pub next : (n : ℕ) (t : Standing) (w : Line) (cs : List ℕ) → is_before_story t.place ≡ true → Fits study t.place n w → fault_of study t w ≡ None → says_possible (held_line study w) ≡ false → Cites study cs t.earlier t.steps
       → After (is_story_read (advance study t w).place) (advance study t w) (cs ++ codes_of_line study (held_line study w))
-  next n t (Title v) cs b f e p h = (refl, no_more cs t.earlier t.steps h)
-  next n t (KindIs k) cs b f e p h = (refl, no_more cs t.earlier t.steps h)
-  next n t (VotersAre m) cs b f e p h = (refl, no_more cs t.earlier t.steps h)
   next n t (AlternativesAre m) cs b f e p h = at_ballots t (cs ++ []) (t.version == 2) (no_more cs t.earlier t.steps h)
-  next n t (BallotsAre places) cs b f e p h = (refl, no_more cs t.earlier t.steps h)
-  next n t (AbsentIs absent) cs b f e p h = (refl, no_more cs t.earlier t.steps h)
-  next n t (AxiomsAre names) cs b f e p h = (refl, no_more cs t.earlier t.steps h)
   next n t SaysPossible cs b f e p h = absurd (true≢false p)
-  next n t SaysImpossible cs b f e p h = (refl, no_more cs t.earlier t.steps h)
   next n t SaysUndecided cs b f e p h = absurd (cc)
   next n t (LimitIs m) cs b f e p h = absurd (limit_out t.place n m b f)
   next n t (RuleOf m) cs b f e p h = absurd (rule_out t.place n m b f)
   next n t (Row q o) cs b f e p h = absurd (row_out t.place n q o b f)
-  next n t (CoreIs names) cs b f e p h = (refl, no_more cs t.earlier t.steps h)
-  next n t (LemmasAre m) cs b f e p h = (refl, no_more cs t.earlier t.steps h)
-  next n t (Heading j) cs b f e p h = (refl, no_more cs t.earlier t.steps h)
   next n t (Suppose l) cs b f e p h = subst (λ (x : Bool). After x (advance study t (Suppose l)) (cs ++ [])) (sym (not_read t.place b)) (b, no_more cs t.earlier t.steps h)
   next n t (So l r) cs b f e p h =
       (refl, subst (λ (xs : List ℕ). Cites study (cs ++ xs) t.earlier (t.steps ++ record { literal = l; reason = r } ∷ [])) (sym (same_codes r)) (step_more cs t.earlier t.steps r h (named_reason r (so_fits t.place n l r f)) l))
@@ -184,6 +174,7 @@ module _ (study : Question) where
   next n t (WithRule name m) cs b f e p h = absurd (with_rule_out t.place n m name b f)
   next n t (WithOpen name m) cs b f e p h = absurd (with_open_out t.place n m name b f)
   next n t End cs b f e p h = absurd (end_out t.place n b f)
+  next n t w cs b f e p h = (refl, no_more cs t.earlier t.steps h)
 
   -- ---- the core
 

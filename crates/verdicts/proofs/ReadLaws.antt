@@ -248,9 +248,6 @@ module _ (study : Question) (is : IsReportable study) where
   line_words_ok (BallotsAre places) h = (_, _, refl, rankings_words places)
   line_words_ok (AbsentIs absent) h = (_, _, refl, absent_word absent)
   line_words_ok (AxiomsAre ns) h = (_, _, refl, names_words ns h)
-  line_words_ok SaysPossible h = (_, _, refl, refl)
-  line_words_ok SaysImpossible h = (_, _, refl, refl)
-  line_words_ok SaysUndecided h = (_, _, refl, refl)
   line_words_ok (LimitIs n) h = (_, _, refl, one_word_ok (number_text n) (number_word n))
   line_words_ok (RuleOf n) h = (_, _, refl, one_word_ok (number_text n) (number_word n))
   line_words_ok (Row p o) h = (_, _, refl, and_from _ _ (profile_word study.size is.size p) (one_word_ok (outcome_text study.size o) (outcome_word_of study.size is.size study.size.kind o)))
@@ -262,7 +259,7 @@ module _ (study : Question) (is : IsReportable study) where
   line_words_ok (Clash r) h = (_, _, refl, reason_words_ok r)
   line_words_ok (WithRule name n) h = (_, _, refl, and_from _ _ (name_word name h) (one_word_ok (number_text n) (number_word n)))
   line_words_ok (WithOpen name n) h = (_, _, refl, and_from _ _ (name_word name h) (one_word_ok (number_text n) (number_word n)))
-  line_words_ok End h = (_, _, refl, refl)
+  line_words_ok l h = (_, _, refl, refl)
 
   pub words_lack : (c : ℕ) (ws : List (List ℕ)) → c ≤ 32 → list_all is_word ws ≡ true → list_all (lacks c) ws ≡ true
   words_lack c [] h e = refl
