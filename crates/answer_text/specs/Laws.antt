@@ -1,8 +1,10 @@
 -- What holds of the lines of answers.
 use Rattle.std.specs.Prelude.{◌≡◌}
-use Rattle.sharp_verdicts.specs.Judged.{Judged, judged_text}
-use Rattle.verdicts.specs.Judge.{Judgement}
+use Rattle.verdicts.specs.declared.refusals.Refusal.{Refusal}
+use Rattle.verdicts.specs.declared.verdicts.Verdict.{Verdict}
+use Rattle.verdicts.specs.FirstFault.{Judgement}
 use Rattle.verdicts.specs.Words.{answer_text}
+use Rattle.sharp_verdicts.specs.Judged.{Judged, judged_text}
 use Rattle.report_files.specs.declared.worths.JudgedWorth.{JudgedWorth}
 use Rattle.report_files.specs.declared.worths.Worth.{Worth}
 use Rattle.report_files.specs.Files.{IsWorth, IsJudgedWorth}
@@ -10,7 +12,7 @@ use Rattle.answer_text.specs.Said.{worth_text, judged_worth_text}
 
 -- what is said of a report is the line of the answer that its worth stands for
 abbrev pub AreLinesOfAnswers : Type 0
-AreLinesOfAnswers = (answer : Judgement) (worth : Worth) → IsWorth answer worth →
+AreLinesOfAnswers = (answer : Judgement Verdict Refusal) (worth : Worth) → IsWorth answer worth →
     worth_text worth ≡ answer_text answer
 
 -- the same of a report or a sharp text

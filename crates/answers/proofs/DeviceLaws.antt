@@ -13,10 +13,10 @@ use Rattle.vocab.specs.Size.{IsSize}
 use Rattle.vocab.specs.Study.{Question}
 use Rattle.clause_text.specs.ReadDimacs.{Formula}
 use Rattle.verdicts.specs.declared.verdicts.Verdict.{Verdict}
-use Rattle.verdicts.specs.Judge.{Confirmed}
 use Rattle.verdicts.specs.Report.{IsReport}
+use Rattle.verdicts.specs.FirstFault.{Confirmed}
 use Rattle.verdicts.specs.Words.{answer_text}
-use Rattle.words.specs.Words.{Request, Decide, Check, Export, Proof, Lrat, Axioms, Sample, Adopt, Gain, Sharpen, request_of}
+use Rattle.words.specs.Words.{Request, Decide, Check, Lrat, Axioms, Adopt, Gain, request_of}
 use Rattle.sharp_verdicts.specs.Judged.{Judged, judged_text}
 use Rattle.sharp_verdicts.specs.Right.{Pointed}
 use Rattle.sharp_laws.specs.Laws.{IsSharpText}
@@ -75,15 +75,7 @@ usage_front words d run call asked six =
 no_command : (request : Option Request) → list_any (λ s. s == 2) (statuses_of request) ≡ true → request ≡ None
 no_command None e = refl
 no_command (Some (Decide study workers)) e = absurd (true≢false (sym e))
-no_command (Some (Check study report workers)) e = absurd (true≢false (sym e))
-no_command (Some (Export study workers)) e = absurd (true≢false (sym e))
-no_command (Some (Proof study workers)) e = absurd (true≢false (sym e))
-no_command (Some (Lrat cnf proof)) e = absurd (true≢false (sym e))
-no_command (Some (Axioms kind)) e = absurd (true≢false (sym e))
-no_command (Some (Sample number)) e = absurd (true≢false (sym e))
-no_command (Some (Adopt study proof workers)) e = absurd (true≢false (sym e))
-no_command (Some (Gain study report)) e = absurd (true≢false (sym e))
-no_command (Some (Sharpen study workers)) e = absurd (true≢false (sym e))
+no_command request e = absurd (true≢false (sym e))
 
 pub usage_exact : UsageIsExact
 usage_exact words d run call = record {
@@ -226,21 +218,15 @@ confirmed_untaken files name proof first run text same untaken (proof_judged for
 
 three_untaken : (request : Option Request) (files : Files) (first second : List ℕ) (run : Run) (text : List ℕ) → files_of request ≡ first ∷ second ∷ []
     → (IsFirstTaken request files first → ⊥) → IsBenchAnswer request files run text → run.status ≡ 3
-three_untaken None files first second run text two untaken row = absurd (cc)
-three_untaken (Some (Decide study workers)) files first second run text two untaken row = absurd (cc)
 three_untaken (Some (Check study report workers)) files first second run text two untaken row =
     over_untaken files study first run text _ (head_same study first _ _ two) (λ s g p. absurd (untaken (s, g))) row
-three_untaken (Some (Export study workers)) files first second run text two untaken row = absurd (cc)
-three_untaken (Some (Proof study workers)) files first second run text two untaken row = absurd (cc)
 three_untaken (Some (Lrat cnf proof)) files first second run text two untaken row =
     confirmed_untaken files cnf proof first run text (head_same cnf first _ _ two) untaken row
-three_untaken (Some (Axioms kind)) files first second run text two untaken row = absurd (cc)
-three_untaken (Some (Sample number)) files first second run text two untaken row = absurd (cc)
 three_untaken (Some (Adopt study proof workers)) files first second run text two untaken row =
     over_untaken files study first run text _ (head_same study first _ _ two) (λ s g p. adopted_untaken s run text _ (λ none. untaken (s, g, none)) p) row
 three_untaken (Some (Gain study report)) files first second run text two untaken row =
     over_untaken files study first run text _ (head_same study first _ _ two) (λ s g p. gained_untaken files report s run text (λ is. untaken (s, g, is)) p) row
-three_untaken (Some (Sharpen study workers)) files first second run text two untaken row = absurd (cc)
+three_untaken request files first second run text two untaken row = absurd (cc)
 
 module _ (words : List (List ℕ)) (d : Devices) (run : Run) (files : Files) (first second : List ℕ) (call : IsCall words d run) (told : d.told ≡ Some files)
     (two : files_of (request_of words) ≡ first ∷ second ∷ []) (untaken : IsFirstTaken (request_of words) files first → ⊥) where

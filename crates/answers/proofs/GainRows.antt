@@ -8,8 +8,9 @@ use Rattle.vocab.specs.Size.{Extent}
 use Rattle.vocab.specs.Study.{Question}
 use Rattle.verdicts.specs.declared.verdicts.Verdict.{Verdict}
 use Rattle.verdicts.specs.declared.verdicts.Verdict.TheVariants.{Possible}
-use Rattle.verdicts.specs.Judge.{Judgement, Confirmed}
+use Rattle.verdicts.specs.declared.refusals.Refusal.{Refusal}
 use Rattle.verdicts.specs.Report.{IsReport}
+use Rattle.verdicts.specs.FirstFault.{Judgement, Confirmed}
 use Rattle.choice_sets.specs.declared.gains.Manipulation.{Manipulation}
 use Rattle.choice_sets.specs.Gains.{first_gain, gains}
 use Rattle.choice_sets.specs.Laws.{HasNoGain, IsManipulation}
@@ -93,13 +94,13 @@ module _ (words : List (List ℕ)) (d : Devices) (run : Run) (files : Files) (na
   right_says : (study : Question) (bytes : List ℕ) (verdict : Verdict) → GivesStudy files name study → study.size.kind ≡ Sets → files report ≡ Some bytes
       → IsReport study verdict bytes → length bytes ≤ most_report_bytes → Says d run 0 (said_of_gain study (Confirmed verdict))
   right_says study bytes verdict g sets held right fits =
-      subst (λ (a : Judgement). Says d run (judgement_status a) (said_of_gain study a))
+      subst (λ (a : Judgement Verdict Refusal). Says d run (judgement_status a) (said_of_gain study a))
       (right_judged study bytes verdict (reportable files name study g) (listed files name study g) right fits) (judged_says study bytes g sets held)
 
   sharp_says : (study : Question) (bytes : List ℕ) → GivesStudy files name study → study.size.kind ≡ Sets → files report ≡ Some bytes → has_sharp_title bytes ≡ true
       → Says d run 1 (codes "refused line 1: form\n")
   sharp_says study bytes g sets held titled =
-      subst (λ (a : Judgement). Says d run (judgement_status a) (said_of_gain study a)) (titled_is_faulty study bytes titled) (judged_says study bytes g sets held)
+      subst (λ (a : Judgement Verdict Refusal). Says d run (judgement_status a) (said_of_gain study a)) (titled_is_faulty study bytes titled) (judged_says study bytes g sets held)
 
 pub gains_answered : GainsAreAnswered
 gains_answered words d run files name report call told asked low = record {

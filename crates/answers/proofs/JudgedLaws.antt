@@ -6,34 +6,26 @@ use Rattle.std.proofs.lemmas.List.{take-append-drop, take-take}
 use Rattle.std.proofs.lemmas.List.Splits.{length-slice_split}
 use Rattle.std.proofs.lemmas.Slice.Eq.{bytes_eq-Decides}
 use Rattle.vocab.specs.Study.{Question, HasFewAxioms}
+use Rattle.verdicts.specs.declared.refusals.Refusal.{Refusal}
 use Rattle.verdicts.specs.declared.refusals.Refusal.TheVariants.{Form}
 use Rattle.verdicts.specs.declared.verdicts.Verdict.{Verdict}
-use Rattle.verdicts.specs.FirstFault.{Refused}
-use Rattle.verdicts.specs.Judge.{judge, pieces, front, Judgement, Confirmed, Faulty, TooLong, answer, beyond, answer_within}
+use Rattle.verdicts.specs.FirstFault.{Refused, Judgement, Confirmed, Faulty, TooLong, beyond}
+use Rattle.verdicts.specs.Judge.{judge, pieces, front, answer, answer_within}
 use Rattle.verdicts.specs.Laws.{IsReportable}
 use Rattle.verdicts.specs.Report.{IsReport}
 use Rattle.verdicts.proofs.WordLaws.{split_ended}
 use Rattle.sharp_verdicts.specs.Judged.{Judged, AsReport, AsSharp, sharp_title, has_sharp_title}
 use Rattle.sharp_verdicts.specs.Right.{Pointed}
-use Rattle.sharp_verdicts.specs.SharpJudge.{SharpJudgement, SharpConfirmed, SharpFaulty, SharpTooLong, sharp_answer_within}
+use Rattle.sharp_verdicts.specs.SharpJudge.{sharp_answer_within}
 use Rattle.sharp_verdicts.specs.SharpLines.{sharp_text}
 use Rattle.sharp_laws.specs.Laws.{IsSharpText}
 use Rattle.sharp_laws.proofs.AnswerLaws.{texts_confirmed}
-use Rattle.sharp_laws.proofs.ApartLaws.{no_report}
+use Rattle.sharp_laws.proofs.ApartLaws.{no_report, report_given, sharp_given}
 use Rattle.sharp_laws.proofs.FaultLaws.{within_limit as sharp_within_limit}
 use Rattle.sharp_laws.proofs.JudgeLaws.{judge_sound as sharp_judge_sound}
 use Rattle.answers.specs.FileLimits.{most_report_bytes}
 use Rattle.answers.specs.Check.{judgement, judged, judgement_status, judged_status}
 use Rattle.answers.proofs.FitLemmas.{right_judged}
-
--- which of two answers was given
-report_given : (b : Bool) (s : SharpJudgement) (r a : Judgement) → cond b (AsSharp s) (AsReport r) ≡ AsReport a → r ≡ a
-report_given true s r a e = absurd (cc)
-report_given false s r a e = cc
-
-sharp_given : (b : Bool) (s : SharpJudgement) (r : Judgement) (a : SharpJudgement) → cond b (AsSharp s) (AsReport r) ≡ AsSharp a → s ≡ a
-sharp_given true s r a e = cc
-sharp_given false s r a e = absurd (cc)
 
 -- the text of a sharp verdict has its title
 text_titled : (study : Question) (v : Pointed) → has_sharp_title (sharp_text study v) ≡ true
@@ -81,7 +73,7 @@ module _ (study : Question) (text : List ℕ) where
       by false h = ap AsReport e
 
   -- a sharp text that its judge confirms is judged as one
-  sharp_judged : (v : Pointed) → sharp_answer_within most_report_bytes study text ≡ SharpConfirmed v → judged study text ≡ AsSharp (SharpConfirmed v)
+  sharp_judged : (v : Pointed) → sharp_answer_within most_report_bytes study text ≡ Confirmed v → judged study text ≡ AsSharp (Confirmed v)
   sharp_judged v e =
       let is = (sharp_judge_sound study text v ((sharp_within_limit most_report_bytes study text v).0 e).1).is in
       let titled : has_sharp_title text ≡ true = ap has_sharp_title is ∙ text_titled study v in
@@ -94,28 +86,26 @@ module _ (study : Question) (text : List ℕ) where
   report_checked verdict whole few is fits = report_judged verdict (right_judged study text verdict whole few is fits)
 
   pub sharp_checked : (v : Pointed) → IsReportable study → HasFewAxioms study → IsSharpText study v text → length text ≤ most_report_bytes
-      → judged study text ≡ AsSharp (SharpConfirmed v)
+      → judged study text ≡ AsSharp (Confirmed v)
   sharp_checked v whole few is fits = sharp_judged v ((texts_confirmed most_report_bytes study whole few (omega arith) text v).1 (fits, is))
 
   -- ---- what is confirmed
 
-  pub report_answered : (a : Judgement) → judged study text ≡ AsReport a → judgement study text ≡ a
+  pub report_answered : (a : Judgement Verdict Refusal) → judged study text ≡ AsReport a → judgement study text ≡ a
   report_answered a e = report_given (has_sharp_title text) (sharp_answer_within most_report_bytes study text) (judgement study text) a e
 
-  pub sharp_answered : (v : Pointed) → judged study text ≡ AsSharp (SharpConfirmed v) → IsSharpText study v text × (length text ≤ most_report_bytes)
+  pub sharp_answered : (v : Pointed) → judged study text ≡ AsSharp (Confirmed v) → IsSharpText study v text × (length text ≤ most_report_bytes)
   sharp_answered v e =
-      let is = sharp_given (has_sharp_title text) (sharp_answer_within most_report_bytes study text) (judgement study text) (SharpConfirmed v) e in
+      let is = sharp_given (has_sharp_title text) (sharp_answer_within most_report_bytes study text) (Confirmed v) (judgement study text) e in
       let within = (sharp_within_limit most_report_bytes study text v).0 is in
       (sharp_judge_sound study text v within.1, within.0)
 
 -- status 0 says that the answer is a confirmation
-pub zero_confirms : (a : Judgement) → judgement_status a ≡ 0 → (verdict : Verdict) × (a ≡ Confirmed verdict)
-zero_confirms (Confirmed verdict) e = (verdict, refl)
+pub zero_confirms : {V R : Type 0} (a : Judgement V R) → judgement_status a ≡ 0 → (v : V) × (a ≡ Confirmed v)
+zero_confirms (Confirmed v) e = (v, refl)
 zero_confirms (Faulty line word) e = absurd (omega (arith, e))
 zero_confirms TooLong e = absurd (omega (arith, e))
 
-pub zero_judged : (a : Judged) → judged_status a ≡ 0 → ((verdict : Verdict) × (a ≡ AsReport (Confirmed verdict))) ⊎ ((v : Pointed) × (a ≡ AsSharp (SharpConfirmed v)))
+pub zero_judged : (a : Judged) → judged_status a ≡ 0 → ((verdict : Verdict) × (a ≡ AsReport (Confirmed verdict))) ⊎ ((v : Pointed) × (a ≡ AsSharp (Confirmed v)))
 zero_judged (AsReport a) e = let c = zero_confirms a e in inl (c.0, ap AsReport c.1)
-zero_judged (AsSharp (SharpConfirmed v)) e = inr (v, refl)
-zero_judged (AsSharp (SharpFaulty line word)) e = absurd (omega (arith, e))
-zero_judged (AsSharp SharpTooLong) e = absurd (omega (arith, e))
+zero_judged (AsSharp a) e = let c = zero_confirms a e in inr (c.0, ap AsSharp c.1)

@@ -5,7 +5,7 @@ use Rattle.vocab.specs.Size.{IsSize}
 use Rattle.vocab.specs.Study.{Question, HasFewAxioms}
 use Rattle.verdicts.specs.declared.verdicts.Verdict.{Verdict}
 use Rattle.verdicts.specs.declared.verdicts.Verdict.TheVariants.{Possible, Impossible, Undecided}
-use Rattle.verdicts.specs.Judge.{Confirmed}
+use Rattle.verdicts.specs.FirstFault.{Confirmed}
 use Rattle.verdicts.specs.Laws.{IsReportable}
 use Rattle.verdicts.specs.Report.{IsSomeReport, IsReport}
 use Rattle.verdicts.proofs.ClaimLaws.{claims_hold, within_limit}

@@ -5,12 +5,12 @@ use Rattle.vocab.specs.declared.kinds.Kind.TheVariants.{Sets}
 use Rattle.vocab.specs.Size.{Extent, full_size}
 use Rattle.verdicts.specs.declared.refusals.Refusal.TheVariants.{Form}
 use Rattle.verdicts.specs.declared.verdicts.Verdict.TheVariants.{Possible}
-use Rattle.verdicts.specs.Judge.{Confirmed, Faulty, TooLong}
+use Rattle.verdicts.specs.FirstFault.{Confirmed, Faulty, TooLong}
 use Rattle.clause_text.specs.ReadDimacs.{Formula}
 use Rattle.sharp_verdicts.specs.declared.refusals.SharpRefusal.TheVariants.{Instance}
-use Rattle.sharp_verdicts.specs.SharpJudge.{SharpConfirmed, SharpFaulty, SharpTooLong}
+use Rattle.sharp_verdicts.specs.Judged.{AsSharp}
 use Rattle.answers.specs.Call.{touched_at}
-use Rattle.answers.specs.Check.{judgement_status, sharp_status_of}
+use Rattle.answers.specs.Check.{judgement_status, judged_status}
 use Rattle.answers.specs.Gain.{rule_gain_text}
 use Rattle.answers.specs.Lrat.{said_of}
 
@@ -19,7 +19,7 @@ use Rattle.answers.specs.Lrat.{said_of}
 confirmed_reports_alone_end_with_status_0 : map judgement_status (Confirmed (Possible (0 ∷ [])) ∷ Faulty 9 Form ∷ TooLong ∷ []) ≡ 0 ∷ 1 ∷ 1 ∷ []
 confirmed_reports_alone_end_with_status_0 = refl
 
-confirmed_sharp_texts_alone_end_with_status_0 : map sharp_status_of (SharpConfirmed (record { core = []; story = []; instances = []; marks = [] }) ∷ SharpFaulty 19 Instance ∷ SharpTooLong ∷ [])
+confirmed_sharp_texts_alone_end_with_status_0 : map judged_status (AsSharp (Confirmed (record { core = []; story = []; instances = []; marks = [] })) ∷ AsSharp (Faulty 19 Instance) ∷ AsSharp TooLong ∷ [])
     ≡ 0 ∷ 1 ∷ 1 ∷ []
 confirmed_sharp_texts_alone_end_with_status_0 = refl
 

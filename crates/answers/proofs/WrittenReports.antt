@@ -3,7 +3,7 @@ use Rattle.std.proofs.Common.{◌≡◌, ℕ, ◌≤◌, inl, subst, List, lengt
 use Rattle.edge.specs.Shelf.{Files}
 use Rattle.vocab.specs.Study.{Question}
 use Rattle.verdicts.specs.declared.verdicts.Verdict.{Verdict}
-use Rattle.verdicts.specs.Judge.{Confirmed}
+use Rattle.verdicts.specs.FirstFault.{Confirmed}
 use Rattle.words.specs.Words.{Decide, Check, Adopt, request_of}
 use Rattle.sharp_verdicts.specs.Judged.{Judged, AsReport, judged_text}
 use Rattle.answers.specs.declared.runs.Run.{Run}

@@ -6,7 +6,10 @@ use Rattle.vocab.specs.Size.{Extent}
 use Rattle.vocab.specs.Study.{Question}
 use Rattle.meaning.specs.Space.{with_ballot}
 use Rattle.meaning.specs.Texts.{ballot_text, outcome_text, profile_text}
-use Rattle.verdicts.specs.Judge.{Judgement, Confirmed, Faulty, TooLong, rule_in}
+use Rattle.verdicts.specs.declared.refusals.Refusal.{Refusal}
+use Rattle.verdicts.specs.declared.verdicts.Verdict.{Verdict}
+use Rattle.verdicts.specs.FirstFault.{Judgement, Confirmed, Faulty, TooLong}
+use Rattle.verdicts.specs.Judge.{rule_in}
 use Rattle.verdicts.specs.Numbers.{number_text}
 use Rattle.verdicts.specs.Words.{answer_text}
 use Rattle.choice_sets.specs.declared.gains.Manipulation.{Manipulation}
@@ -35,7 +38,7 @@ rule_gain_text size None = codes "no rule\n"
 rule_gain_text size (Some table) = gain_text size table (first_gain size table)
 
 -- what is said of a report: of one that is not confirmed, what `check` says
-abbrev pub said_of_gain : Question → Judgement → List ℕ
+abbrev pub said_of_gain : Question → Judgement Verdict Refusal → List ℕ
 said_of_gain study (Confirmed verdict) = rule_gain_text study.size (rule_in verdict)
 said_of_gain study (Faulty line word) = answer_text (Faulty line word)
 said_of_gain study TooLong = answer_text TooLong

@@ -5,8 +5,8 @@ use Rattle.vocab.specs.declared.kinds.Kind.TheVariants.{Sets}
 use Rattle.vocab.specs.Study.{Question}
 use Rattle.verdicts.specs.declared.verdicts.Verdict.{Verdict}
 use Rattle.verdicts.specs.declared.verdicts.Verdict.TheVariants.{Possible}
-use Rattle.verdicts.specs.Judge.{Confirmed}
 use Rattle.verdicts.specs.Report.{IsReport}
+use Rattle.verdicts.specs.FirstFault.{Confirmed}
 use Rattle.choice_sets.specs.Laws.{HasNoGain}
 use Rattle.words.specs.Words.{Gain, request_of}
 use Rattle.sharp_verdicts.specs.Judged.{has_sharp_title}

@@ -17,7 +17,7 @@ use Rattle.meaning.specs.Truth.{satisfies}
 use Rattle.meaning.specs.Variables.{variable_count}
 use Rattle.verdicts.specs.declared.verdicts.Verdict.{Verdict}
 use Rattle.verdicts.specs.declared.verdicts.Verdict.TheVariants.{Possible, Impossible}
-use Rattle.verdicts.specs.Judge.{Confirmed}
+use Rattle.verdicts.specs.FirstFault.{Confirmed}
 use Rattle.verdicts.specs.Laws.{is_rule_given}
 use Rattle.verdicts.specs.Report.{report_text}
 use Rattle.samples.specs.Sample.{IsSampleStudy}

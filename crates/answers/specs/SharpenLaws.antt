@@ -10,7 +10,7 @@ use Rattle.clause_form.specs.declared.refusals.GroundFault.{GroundFault}
 use Rattle.verdicts.specs.declared.verdicts.Verdict.{Verdict}
 use Rattle.verdicts.specs.declared.verdicts.Verdict.TheVariants.{Possible}
 use Rattle.verdicts.specs.Claims.{IsRuleFor}
-use Rattle.verdicts.specs.Judge.{Confirmed}
+use Rattle.verdicts.specs.FirstFault.{Confirmed}
 use Rattle.verdicts.specs.Laws.{is_rule_given}
 use Rattle.verdicts.specs.Report.{report_text}
 use Rattle.words.specs.Words.{Check, Sharpen, request_of}
@@ -21,7 +21,6 @@ use Rattle.sharp_verdicts.specs.Derived.{derived_study}
 use Rattle.sharp_verdicts.specs.Instances.{others_than}
 use Rattle.sharp_verdicts.specs.Judged.{AsReport, AsSharp}
 use Rattle.sharp_verdicts.specs.Right.{satisfies_instances, IsSharpRight, pointed}
-use Rattle.sharp_verdicts.specs.SharpJudge.{SharpConfirmed}
 use Rattle.sharp_verdicts.specs.SharpLines.{sharp_text}
 use Rattle.sharp_verdicts.specs.Sharpened.{IsWithoutInstance}
 use Rattle.sharp_verdicts.specs.Totals.{passes_clause_limits, total}
@@ -117,7 +116,7 @@ SharpeningsAreAnswered =
 pub data IsConfirmedFor (study : Question) (run : Run) (text : List ℕ) : Type 0 where
   by_verdict : (verdict : Verdict) → run.verdict ≡ Some verdict → judged study text ≡ AsReport (Confirmed verdict)
       → IsConfirmedFor study run text
-  by_sharp : (s : Sharp) → run.sharp ≡ Some s → judged study text ≡ AsSharp (SharpConfirmed (pointed s))
+  by_sharp : (s : Sharp) → run.sharp ≡ Some s → judged study text ≡ AsSharp (Confirmed (pointed s))
       → IsConfirmedFor study run text
 
 -- what `sharpen` prints with status 0 is, within the limit of reports, confirmed by `check` over the same study

@@ -8,7 +8,8 @@ use Rattle.vocab.specs.Study.{Question}
 use Rattle.verdicts.specs.declared.verdicts.Verdict.{Verdict}
 use Rattle.verdicts.specs.declared.verdicts.Verdict.TheVariants.{Possible, Impossible, Undecided}
 use Rattle.verdicts.specs.Claims.{IsRuleFor, Claims}
-use Rattle.verdicts.specs.Judge.{Confirmed, rule_in}
+use Rattle.verdicts.specs.FirstFault.{Confirmed}
+use Rattle.verdicts.specs.Judge.{rule_in}
 use Rattle.choice_sets.specs.declared.gains.Manipulation.{Manipulation}
 use Rattle.choice_sets.specs.Gains.{first_gain, gains}
 use Rattle.choice_sets.specs.Laws.{HasNoGain, IsManipulation}

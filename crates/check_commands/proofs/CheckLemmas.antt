@@ -2,11 +2,14 @@
 use Rattle.std.proofs.Common.{◌≡◌, sym, refl, subst, ℕ, ◌≤◌, List, [], ◌∷◌, Option, None, Some, IfSome, Result, Ok, Err, IfOk, arith}
 use Rattle.edge.specs.Shelf.{Files}
 use Rattle.vocab.specs.Study.{Question}
+use Rattle.verdicts.specs.declared.verdicts.Verdict.{Verdict}
 use Rattle.verdicts.specs.declared.verdicts.Verdict.TheVariants.{Possible, Impossible, Undecided}
-use Rattle.verdicts.specs.Judge.{Judgement, Confirmed, Faulty, TooLong}
+use Rattle.verdicts.specs.declared.refusals.Refusal.{Refusal}
+use Rattle.verdicts.specs.FirstFault.{Judgement, Confirmed, Faulty, TooLong}
 use Rattle.verdicts.specs.Words.{answer_text}
+use Rattle.sharp_verdicts.specs.declared.refusals.SharpRefusal.{SharpRefusal}
+use Rattle.sharp_verdicts.specs.Right.{Pointed}
 use Rattle.sharp_verdicts.specs.Judged.{Judged as OfEither, AsReport, AsSharp, judged_text, sharp_answer_text}
-use Rattle.sharp_verdicts.specs.SharpJudge.{SharpJudgement, SharpConfirmed, SharpFaulty, SharpTooLong}
 use Rattle.report_files.specs.declared.worths.Worth.{Worth}
 use Rattle.report_files.specs.declared.worths.Worth.TheVariants as worth
 use Rattle.report_files.specs.declared.worths.SharpWorth.{SharpWorth}
@@ -16,7 +19,7 @@ use Rattle.report_files.specs.declared.worths.JudgedWorth.TheVariants as judged_
 use Rattle.report_files.specs.Files.{IsWorth, IsSharpWorth, IsJudgedWorth, IsJudgedWorthOf}
 use Rattle.words.specs.Words.{Check}
 use Rattle.answers.specs.Studies.{GivesStudy, study_refused, study_given}
-use Rattle.answers.specs.Check.{IsChecked, IsJudged, judged, judgement_status, sharp_status_of, judged_status}
+use Rattle.answers.specs.Check.{IsChecked, IsJudged, judged, judgement_status, judged_status}
 use Rattle.answers.specs.Call.{AreFiles, are_told, none_read}
 use Rattle.command_parts.specs.declared.answer.Answer.{Answer}
 use Rattle.command_parts.specs.declared.answer.Answer.TheVariants.{Judged}
@@ -29,14 +32,14 @@ use Rattle.command_parts.proofs.PairLemmas.{IsPairCommand}
 
 -- ---- what is said of a report or a sharp text
 
-abbrev SaidAs : Judgement → Worth → Type 0
+abbrev SaidAs : Judgement Verdict Refusal → Worth → Type 0
 SaidAs a w = (worth_status w ≡ judgement_status a) × (worth_text w ≡ answer_text a)
 
-abbrev SharpSaidAs : SharpJudgement → SharpWorth → Type 0
-SharpSaidAs a w = (sharp_status w ≡ sharp_status_of a) × (sharp_worth_text w ≡ sharp_answer_text a)
+abbrev SharpSaidAs : Judgement Pointed SharpRefusal → SharpWorth → Type 0
+SharpSaidAs a w = (sharp_status w ≡ judgement_status a) × (sharp_worth_text w ≡ sharp_answer_text a)
 
 -- what is said for what a report is worth is what the judge answers
-by_judgement : (a : Judgement) (w : Worth) → IsWorth a w → SaidAs a w
+by_judgement : (a : Judgement Verdict Refusal) (w : Worth) → IsWorth a w → SaidAs a w
 by_judgement (Confirmed (Possible table)) w is = subst (λ (x : Worth). SaidAs (Confirmed (Possible table)) x) (sym is) (refl, refl)
 by_judgement (Confirmed (Impossible core story witnesses)) w is = subst (λ (x : Worth). SaidAs (Confirmed (Impossible core story witnesses)) x) (sym is) (refl, refl)
 by_judgement (Confirmed Undecided) w is = absurd is
@@ -44,10 +47,10 @@ by_judgement (Faulty line word) w is = subst (λ (x : Worth). SaidAs (Faulty lin
 by_judgement TooLong w is = subst (λ (x : Worth). SaidAs TooLong x) (sym is) (refl, refl)
 
 -- the same of a sharp text
-by_sharp_judgement : (a : SharpJudgement) (w : SharpWorth) → IsSharpWorth a w → SharpSaidAs a w
-by_sharp_judgement (SharpConfirmed v) w is = subst (λ (x : SharpWorth). SharpSaidAs (SharpConfirmed v) x) (sym is) (refl, refl)
-by_sharp_judgement (SharpFaulty line word) w is = subst (λ (x : SharpWorth). SharpSaidAs (SharpFaulty line word) x) (sym is) (refl, refl)
-by_sharp_judgement SharpTooLong w is = subst (λ (x : SharpWorth). SharpSaidAs SharpTooLong x) (sym is) (refl, refl)
+by_sharp_judgement : (a : Judgement Pointed SharpRefusal) (w : SharpWorth) → IsSharpWorth a w → SharpSaidAs a w
+by_sharp_judgement (Confirmed v) w is = subst (λ (x : SharpWorth). SharpSaidAs (Confirmed v) x) (sym is) (refl, refl)
+by_sharp_judgement (Faulty line word) w is = subst (λ (x : SharpWorth). SharpSaidAs (Faulty line word) x) (sym is) (refl, refl)
+by_sharp_judgement TooLong w is = subst (λ (x : SharpWorth). SharpSaidAs TooLong x) (sym is) (refl, refl)
 
 -- the same of either
 by_either : (a : OfEither) (w : JudgedWorth) → IsJudgedWorth a w → (judged_worth_status w ≡ judged_status a) × (judged_worth_text w ≡ judged_text a)

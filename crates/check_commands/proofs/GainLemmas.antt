@@ -9,10 +9,13 @@ use Rattle.vocab.specs.Size.{Extent}
 use Rattle.vocab.specs.Study.{Question}
 use Rattle.meaning.specs.Truth.{is_rule}
 use Rattle.verdicts.specs.declared.verdicts.Confirmed.{Confirmed as Claim}
+use Rattle.verdicts.specs.declared.verdicts.Verdict.{Verdict}
 use Rattle.verdicts.specs.declared.verdicts.Verdict.TheVariants.{Possible}
+use Rattle.verdicts.specs.declared.refusals.Refusal.{Refusal}
 use Rattle.verdicts.specs.Claims.{claim_of}
 use Rattle.verdicts.specs.Report.{is_right}
-use Rattle.verdicts.specs.Judge.{Judgement, Confirmed, Faulty, TooLong, answer, rule_of}
+use Rattle.verdicts.specs.FirstFault.{Judgement, Confirmed, Faulty, TooLong}
+use Rattle.verdicts.specs.Judge.{answer, rule_of}
 use Rattle.verdicts.proofs.ClaimLaws.{within_limit}
 use Rattle.report_files.specs.declared.worths.Worth.{Worth}
 use Rattle.report_files.specs.declared.worths.Worth.TheVariants as worth
@@ -38,11 +41,11 @@ use Rattle.command_parts.proofs.PairLemmas.{IsPairCommand}
 -- ---- what is said of a report
 
 module _ (study : Question) where
-  abbrev SaidAs : Judgement → Worth → Type 0
+  abbrev SaidAs : Judgement Verdict Refusal → Worth → Type 0
   SaidAs a w = (worth_status w ≡ judgement_status a) × (worth_text w ≡ said_of_gain study a)
 
   -- of one that is not confirmed, what `check` says
-  by_judgement : (a : Judgement) (w : Worth) → ((claim : Claim) → w ≢ worth.Confirmed claim) → IsWorth a w → SaidAs a w
+  by_judgement : (a : Judgement Verdict Refusal) (w : Worth) → ((claim : Claim) → w ≢ worth.Confirmed claim) → IsWorth a w → SaidAs a w
   by_judgement (Confirmed verdict) w other is = absurd (never (claim_of verdict) is)
     where
       never : (o : Option Claim) → IsSomeAnd o (λ claim. w ≡ worth.Confirmed claim) → ⊥
@@ -60,7 +63,7 @@ module _ (study : Question) where
       record { bytes = bytes; held = held; ends = record { ends = said.0; no_verdict = refl; no_logs = refl; no_sharp = refl }; is = said.1 }
 
   -- of a confirmed one, what is said of its rule
-  rule_said : (held : List ℕ) (claim : Claim) (w : Worth) (rule : Option (List ℕ)) (a : Judgement) → judgement study held ≡ a
+  rule_said : (held : List ℕ) (claim : Claim) (w : Worth) (rule : Option (List ℕ)) (a : Judgement Verdict Refusal) → judgement study held ≡ a
       → w ≡ worth.Confirmed claim → IsWorth a w → rule ≡ rule_of (answer study held)
       → (0 ≡ judgement_status a) × (rule_gain_text study.size rule ≡ said_of_gain study a)
   rule_said held claim w rule (Confirmed verdict) e same is told =

@@ -6,13 +6,12 @@ use Rattle.vocab.specs.Study.{Question}
 use Rattle.study.proofs.OneAnswer.{studies_once}
 use Rattle.study.specs.Reading.{IsStudyOf}
 use Rattle.verdicts.specs.declared.verdicts.Verdict.{Verdict}
-use Rattle.verdicts.specs.Judge.{Confirmed, Faulty, TooLong}
 use Rattle.verdicts.specs.Report.{IsReport}
+use Rattle.verdicts.specs.FirstFault.{Confirmed}
 use Rattle.verdicts.proofs.ClaimLaws.{within_limit}
 use Rattle.verdicts.proofs.JudgeLaws.{judge_sound}
 use Rattle.sharp_verdicts.specs.Judged.{Judged, AsReport, AsSharp, judged_text}
 use Rattle.sharp_verdicts.specs.Right.{Pointed}
-use Rattle.sharp_verdicts.specs.SharpJudge.{SharpConfirmed, SharpFaulty, SharpTooLong}
 use Rattle.sharp_laws.specs.Laws.{IsSharpText}
 use Rattle.answers.specs.Call.{AreFiles, are_told}
 use Rattle.answers.specs.Check.{judged, judged_status, IsChecked}
@@ -58,20 +57,14 @@ module _ (study : Question) (name report bytes : List ℕ) where
   confirmed_page (AsReport (Confirmed v)) text e zero is =
       let c = (within_limit most_report_bytes study bytes v).0 (report_answered study bytes (Confirmed v) e) in
       inl (record { verdict = v; right = judge_sound study bytes v c.1; fits = c.0; page = is })
-  confirmed_page (AsReport (Faulty line word)) text e zero is = absurd (omega (arith, zero))
-  confirmed_page (AsReport TooLong) text e zero is = absurd (omega (arith, zero))
-  confirmed_page (AsSharp (SharpConfirmed v)) text e zero is =
+  confirmed_page (AsSharp (Confirmed v)) text e zero is =
       let c = sharp_answered study bytes v e in inr (record { verdict = v; right = c.0; fits = c.1; page = is })
-  confirmed_page (AsSharp (SharpFaulty line word)) text e zero is = absurd (omega (arith, zero))
-  confirmed_page (AsSharp SharpTooLong) text e zero is = absurd (omega (arith, zero))
+  confirmed_page a text e zero is = absurd (omega (arith, zero))
 
   refused_text : (a : Judged) (status : ℕ) (text : List ℕ) → status ≡ judged_status a → status ≢ 0 → IsSaid study name report a text → text ≡ judged_text a
   refused_text (AsReport (Confirmed v)) status text e other is = absurd (other e)
-  refused_text (AsReport (Faulty line word)) status text e other is = is
-  refused_text (AsReport TooLong) status text e other is = is
-  refused_text (AsSharp (SharpConfirmed v)) status text e other is = absurd (other e)
-  refused_text (AsSharp (SharpFaulty line word)) status text e other is = is
-  refused_text (AsSharp SharpTooLong) status text e other is = is
+  refused_text (AsSharp (Confirmed v)) status text e other is = absurd (other e)
+  refused_text a status text e other is = is
 
 module _ (files : Files) (name report bytes : List ℕ) (study : Question) (g : GivesStudy files name study) (held : files report ≡ Some bytes) where
   module _ (status : ℕ) (text : List ℕ) (told : IsToldOf files name report study status text) where

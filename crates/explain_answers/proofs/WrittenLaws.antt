@@ -7,7 +7,7 @@ use Rattle.vocab.specs.Study.{Question}
 use Rattle.clause_form.specs.declared.refusals.GroundFault.{GroundFault}
 use Rattle.cnf.proofs.SpentLaws.{spent_is_short}
 use Rattle.meaning.specs.Variables.{variable_count}
-use Rattle.verdicts.specs.Judge.{Confirmed}
+use Rattle.verdicts.specs.FirstFault.{Confirmed}
 use Rattle.sharp_verdicts.specs.Judged.{Judged}
 use Rattle.sharp_laws.proofs.ClaimLaws.{claims_hold}
 use Rattle.rule_lists.specs.declared.answers.Ending.{Ending as ListEnding}
@@ -208,13 +208,11 @@ module _ (words : List (List ℕ)) (d : Devices) (files : Files) (status : ℕ) 
 
   clauses_refusal : (request : ExplainRequest) (name : List ℕ) (q : Question) (fault : GroundFault) → request_of words ≡ Some request → AsksClauses request name
       → GivesStudy files name q → clauses_fault q ≡ Some fault → (status ≡ 3) × Appends d.taken_before d.taken_now (refusal_line q fault)
-  clauses_refusal (Story study report workers) name q fault asked same g is = absurd same
-  clauses_refusal (Instance study axiom_name number) name q fault asked same g is = absurd same
   clauses_refusal (Rules study most workers) name q fault asked same g is =
       over_clauses_at (Rules study most workers) study name q fault (λ text s. IsRuleListWritten s most status text) asked (λ text row. row) same g is
   clauses_refusal (Cores study workers) name q fault asked same g is =
       over_clauses_at (Cores study workers) study name q fault (λ text s. IsMapped s status text) asked (λ text row. row) same g is
-  clauses_refusal (Look study workers) name q fault asked same g is = absurd same
+  clauses_refusal request name q fault asked same g is = absurd same
 
 pub refusals_explained : ExplainRefusalsAreWritten
 refusals_explained words d files status call told low = record {

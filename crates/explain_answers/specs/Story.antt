@@ -2,9 +2,8 @@
 use Rattle.std.specs.Prelude.{◌≡◌, ℕ, List, [], None, Some}
 use Rattle.edge.specs.Shelf.{Files}
 use Rattle.vocab.specs.Study.{Question}
-use Rattle.verdicts.specs.Judge.{Confirmed, Faulty, TooLong}
+use Rattle.verdicts.specs.FirstFault.{Confirmed, Faulty, TooLong}
 use Rattle.sharp_verdicts.specs.Judged.{Judged, AsReport, AsSharp, judged_text}
-use Rattle.sharp_verdicts.specs.SharpJudge.{SharpConfirmed, SharpFaulty, SharpTooLong}
 use Rattle.answers.specs.Check.{judged, judged_status}
 use Rattle.answers.specs.declared.runs.Run.{Run}
 use Rattle.answers.specs.Studies.{OverStudy}
@@ -15,9 +14,9 @@ abbrev pub IsSaid : Question → (name report : List ℕ) → Judged → (text :
 IsSaid study name report (AsReport (Confirmed verdict)) text = IsPageText study name report verdict text
 IsSaid study name report (AsReport (Faulty line word)) text = text ≡ judged_text (AsReport (Faulty line word))
 IsSaid study name report (AsReport TooLong) text = text ≡ judged_text (AsReport TooLong)
-IsSaid study name report (AsSharp (SharpConfirmed v)) text = IsSharpPageText study name report v text
-IsSaid study name report (AsSharp (SharpFaulty line word)) text = text ≡ judged_text (AsSharp (SharpFaulty line word))
-IsSaid study name report (AsSharp SharpTooLong) text = text ≡ judged_text (AsSharp SharpTooLong)
+IsSaid study name report (AsSharp (Confirmed v)) text = IsSharpPageText study name report v text
+IsSaid study name report (AsSharp (Faulty line word)) text = text ≡ judged_text (AsSharp (Faulty line word))
+IsSaid study name report (AsSharp TooLong) text = text ≡ judged_text (AsSharp TooLong)
 
 -- the report of a file is judged over a study: the status is that of `check`, and the text is what is written of it
 pub record IsToldOf (files : Files) (name report : List ℕ) (study : Question) (status : ℕ) (text : List ℕ) : Type 0 where

@@ -5,9 +5,8 @@ use Rattle.std.specs.List.{list_any}
 use Rattle.edge.specs.Shelf.{Files, OthersStay, NoneFell}
 use Rattle.edge.specs.Faults.{Rose}
 use Rattle.vocab.specs.Study.{Question}
-use Rattle.verdicts.specs.Judge.{Confirmed, Faulty, TooLong}
+use Rattle.verdicts.specs.FirstFault.{Confirmed, Faulty, TooLong}
 use Rattle.sharp_verdicts.specs.Judged.{Judged, AsReport, AsSharp}
-use Rattle.sharp_verdicts.specs.SharpJudge.{SharpConfirmed, SharpFaulty, SharpTooLong}
 use Rattle.answers.specs.Check.{judged, judged_status}
 use Rattle.answers.specs.Studies.{GivesStudy, study_refused, study_given}
 use Rattle.answers.specs.Call.{AreFiles, are_told, none_read, touched_at}
@@ -37,25 +36,13 @@ module _ (study : Question) (name report : List ℕ) where
 
   by_judgement : (a : Judged) (r : Reply) → IsReplyTo study name report (reading_of a) r → RepliesAs a r
   by_judgement (AsReport (Confirmed verdict)) (reply.Page page) h = (refl, h)
-  by_judgement (AsReport (Confirmed verdict)) reply.Usage h = absurd h
-  by_judgement (AsReport (Confirmed verdict)) (reply.Refused answer) h = absurd h
-  by_judgement (AsReport (Confirmed verdict)) (reply.Instance said) h = absurd h
-  by_judgement (AsReport (Confirmed verdict)) (reply.Rules s list) h = absurd h
-  by_judgement (AsReport (Confirmed verdict)) (reply.Cores s map) h = absurd h
-  by_judgement (AsReport (Confirmed verdict)) (reply.Look s look) h = absurd h
-  by_judgement (AsReport (Confirmed verdict)) (reply.Helped helped) h = absurd h
+  by_judgement (AsReport (Confirmed verdict)) r h = absurd h
   by_judgement (AsReport (Faulty line word)) r h = subst (λ (x : Reply). RepliesAs (AsReport (Faulty line word)) x) (sym h) (refl, refl)
   by_judgement (AsReport TooLong) r h = subst (λ (x : Reply). RepliesAs (AsReport TooLong) x) (sym h) (refl, refl)
-  by_judgement (AsSharp (SharpConfirmed v)) (reply.Page page) h = (refl, h)
-  by_judgement (AsSharp (SharpConfirmed v)) reply.Usage h = absurd h
-  by_judgement (AsSharp (SharpConfirmed v)) (reply.Refused answer) h = absurd h
-  by_judgement (AsSharp (SharpConfirmed v)) (reply.Instance said) h = absurd h
-  by_judgement (AsSharp (SharpConfirmed v)) (reply.Rules s list) h = absurd h
-  by_judgement (AsSharp (SharpConfirmed v)) (reply.Cores s map) h = absurd h
-  by_judgement (AsSharp (SharpConfirmed v)) (reply.Look s look) h = absurd h
-  by_judgement (AsSharp (SharpConfirmed v)) (reply.Helped helped) h = absurd h
-  by_judgement (AsSharp (SharpFaulty line word)) r h = subst (λ (x : Reply). RepliesAs (AsSharp (SharpFaulty line word)) x) (sym h) (refl, refl)
-  by_judgement (AsSharp SharpTooLong) r h = subst (λ (x : Reply). RepliesAs (AsSharp SharpTooLong) x) (sym h) (refl, refl)
+  by_judgement (AsSharp (Confirmed v)) (reply.Page page) h = (refl, h)
+  by_judgement (AsSharp (Confirmed v)) r h = absurd h
+  by_judgement (AsSharp (Faulty line word)) r h = subst (λ (x : Reply). RepliesAs (AsSharp (Faulty line word)) x) (sym h) (refl, refl)
+  by_judgement (AsSharp TooLong) r h = subst (λ (x : Reply). RepliesAs (AsSharp TooLong) x) (sym h) (refl, refl)
 
   pub told_reply : (told : Option Files) (read : Reading) (r : Reply) → IfSome told (λ files. IsReadOf study files report read) → IsReplyTo study name report read r
       → (files : Files) → told ≡ Some files → IsToldOf files name report study (status_of r) (reply_text r)
@@ -70,25 +57,10 @@ module _ (study : Question) (name report : List ℕ) where
 
   reply_is_low : (read : Reading) (r : Reply) → IsReplyTo study name report read r → IsLowReply r
   reply_is_low (reading.Confirmed verdict) (reply.Page page) h = (omega arith, tt)
-  reply_is_low (reading.Confirmed verdict) reply.Usage h = absurd h
-  reply_is_low (reading.Confirmed verdict) (reply.Refused answer) h = absurd h
-  reply_is_low (reading.Confirmed verdict) (reply.Instance said) h = absurd h
-  reply_is_low (reading.Confirmed verdict) (reply.Rules s list) h = absurd h
-  reply_is_low (reading.Confirmed verdict) (reply.Cores s map) h = absurd h
-  reply_is_low (reading.Confirmed verdict) (reply.Look s look) h = absurd h
-  reply_is_low (reading.Confirmed verdict) (reply.Helped helped) h = absurd h
-  reply_is_low (reading.Faulty line word) r h = subst IsLowReply (sym h) (omega arith, tt)
-  reply_is_low reading.TooLong r h = subst IsLowReply (sym h) (omega arith, tt)
+  reply_is_low (reading.Confirmed verdict) r h = absurd h
   reply_is_low (reading.SharpConfirmed v) (reply.Page page) h = (omega arith, tt)
-  reply_is_low (reading.SharpConfirmed v) reply.Usage h = absurd h
-  reply_is_low (reading.SharpConfirmed v) (reply.Refused answer) h = absurd h
-  reply_is_low (reading.SharpConfirmed v) (reply.Instance said) h = absurd h
-  reply_is_low (reading.SharpConfirmed v) (reply.Rules s list) h = absurd h
-  reply_is_low (reading.SharpConfirmed v) (reply.Cores s map) h = absurd h
-  reply_is_low (reading.SharpConfirmed v) (reply.Look s look) h = absurd h
-  reply_is_low (reading.SharpConfirmed v) (reply.Helped helped) h = absurd h
-  reply_is_low (reading.SharpFaulty line word) r h = subst IsLowReply (sym h) (omega arith, tt)
-  reply_is_low reading.SharpTooLong r h = subst IsLowReply (sym h) (omega arith, tt)
+  reply_is_low (reading.SharpConfirmed v) r h = absurd h
+  reply_is_low read r h = subst IsLowReply (sym h) (omega arith, tt)
 
   pub reply_low : (read : Reading) (r : Reply) → IsReplyTo study name report read r → status_of r ≤ 1
   reply_low read r h = (reply_is_low read r h).0

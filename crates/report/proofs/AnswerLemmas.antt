@@ -10,8 +10,8 @@ use Rattle.verdicts.specs.declared.verdicts.Verdict.TheVariants.{Possible, Impos
 use Rattle.verdicts.specs.Claims.{claim_of}
 use Rattle.verdicts.specs.Places.{Place, AtNothing, Standing}
 use Rattle.verdicts.specs.declared.refusals.Refusal.{Refusal}
-use Rattle.verdicts.specs.FirstFault.{Told, Good, Refused}
-use Rattle.verdicts.specs.Judge.{judge, has_no_end, ended, Judgement, Confirmed as IsSomeReport, Faulty, TooLong, at_end, conclude, rule_of}
+use Rattle.verdicts.specs.FirstFault.{Told, Good, Refused, Judgement, Confirmed as Confirms, Faulty, TooLong}
+use Rattle.verdicts.specs.Judge.{judge, has_no_end, ended, at_end, conclude, rule_of}
 use Rattle.verdicts.proofs.ClaimLaws.{right_claims}
 use Rattle.verdicts.proofs.JudgeLaws.{good_holds, concluded_sound}
 use Rattle.verdicts.proofs.LineEndLaws.{lines_complete}
@@ -37,14 +37,14 @@ claim_some None c h = absurd h
 claim_some (Some a) c h = let same : a ≡ c = cc in ap Some same
 
 -- Ok is the claim of the verdict that is confirmed
-pub concluded : (a : Judgement) (c : Confirmed) → Concludes a (Ok c) → (v : Verdict) × (a ≡ IsSomeReport v) × (claim_of v ≡ Some c)
-concluded (IsSomeReport v) c h = (v, refl, claim_some (claim_of v) c h)
+pub concluded : (a : Judgement Verdict Refusal) (c : Confirmed) → Concludes a (Ok c) → (v : Verdict) × (a ≡ Confirms v) × (claim_of v ≡ Some c)
+concluded (Confirms v) c h = (v, refl, claim_some (claim_of v) c h)
 concluded (Faulty line word) c h = absurd (cc)
 concluded TooLong c h = absurd h
 
 -- where the verdict that is confirmed has a claim, it is answered
-pub concludes_claim : (a : Judgement) (v : Verdict) (c : Confirmed) (result : Result Confirmed ReportFault) → a ≡ IsSomeReport v → claim_of v ≡ Some c → Concludes a result → result ≡ Ok c
-concludes_claim a v c result e f h = some_claim (claim_of v) c result f (subst (λ (b : Judgement). Concludes b result) e h)
+pub concludes_claim : (a : Judgement Verdict Refusal) (v : Verdict) (c : Confirmed) (result : Result Confirmed ReportFault) → a ≡ Confirms v → claim_of v ≡ Some c → Concludes a result → result ≡ Ok c
+concludes_claim a v c result e f h = some_claim (claim_of v) c result f (subst (λ (b : Judgement Verdict Refusal). Concludes b result) e h)
 
 pub true_if_right : (study : Question) (text : List ℕ) (result : Result Confirmed ReportFault) → IsSize study.size → ConfirmsRight study text result → ConfirmsTrue study result
 true_if_right study text (Ok c) size h = right_claims study size text c h
@@ -117,8 +117,8 @@ module _ (study : Question) (lines : List (List ℕ)) where
       by_told (Refused line word) k = refl
 
   -- it is the rule of the report that the lines are
-  confirmed_rule : (a : Judgement) (table : List ℕ) → rule_of a ≡ Some table → a ≡ IsSomeReport (Possible table)
-  confirmed_rule (IsSomeReport (Possible t)) table e = let same : t ≡ table = cc in ap (λ x. IsSomeReport (Possible x)) same
+  confirmed_rule : (a : Judgement Verdict Refusal) (table : List ℕ) → rule_of a ≡ Some table → a ≡ Confirms (Possible table)
+  confirmed_rule (Confirms (Possible t)) table e = let same : t ≡ table = cc in ap (λ x. Confirms (Possible x)) same
   confirmed_rule _ table e = absurd (cc)
 
   pub rule_right : (r : Option (List ℕ)) → r ≡ rule_of (conclude (length lines + 1) [] (judge study lines)) → IsReportedRule study (ended lines) r

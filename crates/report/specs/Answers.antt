@@ -3,10 +3,12 @@ use Rattle.std.specs.Prelude.{◌≡◌, ℕ, List, Option, Some, None, Result, 
 use Rattle.vocab.specs.Study.{Question}
 use Rattle.verdicts.specs.declared.verdicts.Confirmed.{Confirmed}
 use Rattle.verdicts.specs.declared.verdicts.Confirmed.TheVariants as claim
+use Rattle.verdicts.specs.declared.verdicts.Verdict.{Verdict}
 use Rattle.verdicts.specs.declared.verdicts.Verdict.TheVariants.{Possible}
+use Rattle.verdicts.specs.declared.refusals.Refusal.{Refusal}
 use Rattle.verdicts.specs.Report.{IsReport}
 use Rattle.verdicts.specs.Claims.{claim_of, IsClaimed, ClaimHolds}
-use Rattle.verdicts.specs.Judge.{Judgement, Confirmed as IsSomeReport, Faulty, TooLong}
+use Rattle.verdicts.specs.FirstFault.{Judgement, Confirmed as Confirms, Faulty, TooLong}
 use Rattle.verdicts.specs.Laws.{IsReportable}
 use Rattle.report_lines.specs.declared.places.Place.{Place}
 use Rattle.report_lines.specs.declared.places.Place.TheVariants as place
@@ -19,8 +21,8 @@ told_of None = Ok tt
 told_of (Some fault) = Err fault
 
 -- what is answered of a report that is not cut off
-abbrev pub Concludes : Judgement → Result Confirmed ReportFault → Type 0
-Concludes (IsSomeReport verdict) result = IsSomeAnd (claim_of verdict) (λ claim. result ≡ Ok claim)
+abbrev pub Concludes : Judgement Verdict Refusal → Result Confirmed ReportFault → Type 0
+Concludes (Confirms verdict) result = IsSomeAnd (claim_of verdict) (λ claim. result ≡ Ok claim)
 Concludes (Faulty line word) result = result ≡ Err (AtLine line word)
 Concludes TooLong result = ⊥
 

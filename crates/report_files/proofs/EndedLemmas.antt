@@ -1,9 +1,10 @@
 -- What a judge that goes line by line answers of a file, from how far it was read.
-use Rattle.std.proofs.Common.{◌≡◌, ◌≢◌, refl, sym, ap, ◌∙◌, subst, ℕ, zero, suc, ◌+◌, ◌<◌, ◌≤◌, inl, inr, Bool, false, true≢false, List, [], ◌∷◌, ◌++◌, length, take, arith, cond, append-nil, append_assoc, Option, Some, None, lt-ltb, length-append}
-use Rattle.std.proofs.lemmas.Bool.{cases_lt, le-ltb}
+use Rattle.std.proofs.Common.{◌≡◌, ◌≢◌, refl, sym, ap, ◌∙◌, subst, ℕ, zero, suc, ◌+◌, ◌<◌, ◌≤◌, inl, inr, Bool, false, true≢false, List, [], ◌∷◌, ◌++◌, length, take, arith, append-nil, append_assoc, Option, Some, None, length-append}
+use Rattle.std.proofs.lemmas.Bool.{cases_lt}
 use Rattle.std.specs.Io.KnownBytes.{Consumes, IsAtEnd}
-use Rattle.std.specs.Prelude.{nat_lt}
-use Rattle.verdicts.specs.Judge.{pieces, front, final}
+use Rattle.verdicts.specs.FirstFault.{Told, Judgement, beyond}
+use Rattle.verdicts.specs.Judge.{pieces, front, final, answered, answered_within}
+use Rattle.verdicts.proofs.WholeTextLaws.{short_within, long_within}
 use Rattle.report_files.specs.declared.files.Ending.{Ending}
 use Rattle.report_files.specs.declared.files.Ending.TheVariants as ending
 use Rattle.report_files.specs.Files.{IsEndedAt, most_verdict_bytes}
@@ -46,35 +47,28 @@ limit_is known left faulty bytes held ended k =
 
 -- ---- what is answered
 
-module _ {T J : Type 0} (judge : List (List ℕ) → T) (conclude : ℕ → List ℕ → T → J) (beyond : T → J) where
-  -- the answer to a text of which so many bytes are read
-  abbrev pub within : List ℕ → J
-  within held = cond (nat_lt most_verdict_bytes (length held)) (beyond (judge (front (pieces (take most_verdict_bytes held))))) (conclude (length (pieces held)) (final (pieces held)) (judge (front (pieces held))))
-
-  short_within : (held : List ℕ) → length held ≤ most_verdict_bytes → within held ≡ conclude (length (pieces held)) (final (pieces held)) (judge (front (pieces held)))
-  short_within held h = ap (λ b. cond b (beyond (judge (front (pieces (take most_verdict_bytes held))))) (conclude (length (pieces held)) (final (pieces held)) (judge (front (pieces held))))) (le-ltb most_verdict_bytes (length held) h)
-
-  long_within : (held : List ℕ) → most_verdict_bytes < length held → within held ≡ beyond (judge (front (pieces (take most_verdict_bytes held))))
-  long_within held h = ap (λ b. cond b (beyond (judge (front (pieces (take most_verdict_bytes held))))) (conclude (length (pieces held)) (final (pieces held)) (judge (front (pieces held))))) (lt-ltb most_verdict_bytes (length held) h)
+module _ {S V R : Type 0} (conclude : ℕ → List ℕ → Told S R → Judgement V R) (judge : List (List ℕ) → Told S R) where
+  abbrev within : List ℕ → Judgement V R
+  within = answered_within conclude judge most_verdict_bytes
 
   -- all was read
   pub whole_within : (known left : Option (List ℕ)) (faulty : Bool) (bytes held : List ℕ) → IsEndedAt ending.Whole known left faulty bytes → known ≡ Some held
-      → within held ≡ conclude (length (pieces bytes)) (final (pieces bytes)) (judge (front (pieces bytes)))
+      → within held ≡ answered conclude judge bytes
   whole_within known left faulty bytes held ended k =
       let parts = whole_is known left faulty bytes held ended k in
       let short : length held ≤ most_verdict_bytes = subst (λ t. length t ≤ most_verdict_bytes) (sym parts.0) parts.1 in
-      short_within held short ∙ ap (λ t. conclude (length (pieces t)) (final (pieces t)) (judge (front (pieces t)))) parts.0
+      short_within conclude judge most_verdict_bytes held short ∙ ap (answered conclude judge) parts.0
 
   -- a line that was read is faulty: no line after it changes what is told
-  pub faulty_within : (e : Ending) (known left : Option (List ℕ)) (faulty : Bool) (bytes held : List ℕ) (told : T) (a : J) → IsEndedAt e known left faulty bytes → known ≡ Some held
+  pub faulty_within : (e : Ending) (known left : Option (List ℕ)) (faulty : Bool) (bytes held : List ℕ) (told : Told S R) (a : Judgement V R) → IsEndedAt e known left faulty bytes → known ≡ Some held
       → ((more : List (List ℕ)) → judge (front (pieces bytes) ++ more) ≡ told) → beyond told ≡ a → ((n : ℕ) (rest : List ℕ) → conclude n rest told ≡ a) → within held ≡ a
   faulty_within e known left faulty bytes held told a ended k stays past ends =
       let parts = prefix_is e known left faulty bytes held ended k in
       ap within parts.1 ∙ elim (cases_lt most_verdict_bytes (length (bytes ++ parts.0))) [
         | inl long ↦
             let part = front_part bytes parts.0 most_verdict_bytes parts.2 in
-            long_within (bytes ++ parts.0) long ∙ ap (λ t. beyond (judge (front (pieces t)))) part.1 ∙ ap beyond (stays_so part.0) ∙ past
-        | inr short ↦ short_within (bytes ++ parts.0) short ∙ ap (λ t. conclude (length (pieces (bytes ++ parts.0))) (final (pieces (bytes ++ parts.0))) t) (stays_so parts.0) ∙ ends (length (pieces (bytes ++ parts.0))) (final (pieces (bytes ++ parts.0)))
+            long_within conclude judge most_verdict_bytes (bytes ++ parts.0) long ∙ ap (λ t. beyond (judge (front (pieces t)))) part.1 ∙ ap beyond (stays_so part.0) ∙ past
+        | inr short ↦ short_within conclude judge most_verdict_bytes (bytes ++ parts.0) short ∙ ap (λ t. conclude (length (pieces (bytes ++ parts.0))) (final (pieces (bytes ++ parts.0))) t) (stays_so parts.0) ∙ ends (length (pieces (bytes ++ parts.0))) (final (pieces (bytes ++ parts.0)))
       ]
     where
       stays_so : (rest : List ℕ) → judge (front (pieces (bytes ++ rest))) ≡ told
@@ -95,4 +89,4 @@ module _ {T J : Type 0} (judge : List (List ℕ) → T) (conclude : ℕ → List
   beyond_within ending.Faulty known left faulty bytes held differs none ended k = absurd (true≢false (sym ended.2 ∙ none))
   beyond_within ending.TooLong known left faulty bytes held differs none ended k =
       let parts = limit_is known left faulty bytes held ended k in
-      long_within held parts.0 ∙ ap (λ t. beyond (judge (front (pieces t)))) parts.1
+      long_within conclude judge most_verdict_bytes held parts.0 ∙ ap (λ t. beyond (judge (front (pieces t)))) parts.1

@@ -7,14 +7,15 @@ use Rattle.vocab.specs.Study.{Question, HasFewAxioms}
 use Rattle.verdicts.specs.declared.refusals.Refusal.TheVariants.{Form}
 use Rattle.verdicts.specs.declared.verdicts.Confirmed.{Confirmed}
 use Rattle.verdicts.specs.Claims.{claim_of}
-use Rattle.verdicts.specs.Judge.{pieces, front, Confirmed as IsSomeReport, Faulty, answer, answer_within}
+use Rattle.verdicts.specs.FirstFault.{Confirmed as Confirms, Faulty}
+use Rattle.verdicts.specs.Judge.{pieces, front, answer, answer_within}
 use Rattle.verdicts.specs.Report.{lemma_count}
 use Rattle.verdicts.proofs.ClaimLaws.{within_limit}
 use Rattle.verdicts.proofs.LineEndLaws.{lemmas_fit}
 use Rattle.verdicts.proofs.ReportLaws.{right_is_confirmed}
 use Rattle.verdicts.specs.Laws.{IsReportable}
 use Rattle.sharp_verdicts.specs.Judged.{AsReport, AsSharp, has_sharp_title, judged_within}
-use Rattle.sharp_verdicts.specs.SharpJudge.{SharpConfirmed, sharp_answer_within}
+use Rattle.sharp_verdicts.specs.SharpJudge.{sharp_answer_within}
 use Rattle.sharp_verdicts.specs.SharpLines.{sharp_text}
 use Rattle.sharp_laws.proofs.AnswerLaws.{texts_confirmed}
 use Rattle.sharp_laws.proofs.ApartLaws.{no_report}
@@ -151,15 +152,15 @@ module _ (study : Question) (files : Files) (name : List ℕ) where
       let same : held ≡ c.bytes = same_bytes (files name) held c.bytes at c.held in
       let v = c.right.verdict in
       let few : lemma_count v < 2 ^ 64 = omega (arith, lemmas_fit study c.bytes v c.right.report, c.fits) in
-      let whole : answer study c.bytes ≡ IsSomeReport v = right_is_confirmed study is listed c.bytes v c.right.report few in
-      let confirmed : answer_within most_verdict_bytes study c.bytes ≡ IsSomeReport v = (within_limit most_verdict_bytes study c.bytes v).1 (c.fits, whole) in
-      let none : has_sharp_title c.bytes ≡ false = untitled c.bytes (has_sharp_title c.bytes) refl (λ e. let wrong : IsSomeReport v ≡ Faulty 1 Form = sym whole ∙ e in absurd (cc)) in
+      let whole : answer study c.bytes ≡ Confirms v = right_is_confirmed study is listed c.bytes v c.right.report few in
+      let confirmed : answer_within most_verdict_bytes study c.bytes ≡ Confirms v = (within_limit most_verdict_bytes study c.bytes v).1 (c.fits, whole) in
+      let none : has_sharp_title c.bytes ≡ false = untitled c.bytes (has_sharp_title c.bytes) refl (λ e. let wrong : Confirms v ≡ Faulty 1 Form = sym whole ∙ e in absurd (cc)) in
       by_worth w
       (subst (λ a. IsJudgedWorth (AsReport a) w) confirmed
       (subst (λ b. IsJudgedWorth (cond b (AsSharp (sharp_answer_within most_verdict_bytes study c.bytes)) (AsReport (answer_within most_verdict_bytes study c.bytes))) w) none
       (subst (λ (xs : List ℕ). IsJudgedWorth (judged_within most_verdict_bytes study xs) w) same is_worth)))
     where
-      by_worth : (w : JudgedWorth) → IsJudgedWorth (AsReport (IsSomeReport c.right.verdict)) w → w ≡ Report (worth.Confirmed claim)
+      by_worth : (w : JudgedWorth) → IsJudgedWorth (AsReport (Confirms c.right.verdict)) w → w ≡ Report (worth.Confirmed claim)
       by_worth (Report x) h = ap Report (confirmed_some (claim_of c.right.verdict) claim x c.right.claims h)
       by_worth (Sharp x) h = absurd h
 
@@ -167,7 +168,7 @@ module _ (study : Question) (files : Files) (name : List ℕ) where
   sharp_confirmed listed w (held, at, is_worth) is s =
       let same : held ≡ s.bytes = same_bytes (files name) held s.bytes at s.held in
       let low : most_verdict_bytes < 2 ^ 64 = omega arith in
-      let confirmed : sharp_answer_within most_verdict_bytes study s.bytes ≡ SharpConfirmed s.verdict = (texts_confirmed most_verdict_bytes study is listed low s.bytes s.verdict).1 (s.fits, s.text) in
+      let confirmed : sharp_answer_within most_verdict_bytes study s.bytes ≡ Confirms s.verdict = (texts_confirmed most_verdict_bytes study is listed low s.bytes s.verdict).1 (s.fits, s.text) in
       let titled : has_sharp_title s.bytes ≡ true = ap has_sharp_title s.text.is ∙ begins_titled in
       by_worth w
       (subst (λ a. IsJudgedWorth (AsSharp a) w) confirmed
@@ -177,7 +178,7 @@ module _ (study : Question) (files : Files) (name : List ℕ) where
       begins_titled : has_sharp_title (sharp_text study s.verdict) ≡ true
       begins_titled = refl
 
-      by_worth : (w : JudgedWorth) → IsJudgedWorth (AsSharp (SharpConfirmed s.verdict)) w → w ≡ Sharp sharp_worth.Confirmed
+      by_worth : (w : JudgedWorth) → IsJudgedWorth (AsSharp (Confirms s.verdict)) w → w ≡ Sharp sharp_worth.Confirmed
       by_worth (Report x) h = absurd h
       by_worth (Sharp x) h = ap Sharp h
 

@@ -9,8 +9,8 @@ use Rattle.verdicts.specs.declared.refusals.Refusal.TheVariants.{Form}
 use Rattle.verdicts.specs.Faults.{fault_of}
 use Rattle.verdicts.specs.Texts.{words_of}
 use Rattle.verdicts.specs.Places.{Place, Standing, start, wanted}
-use Rattle.verdicts.specs.FirstFault.{Told, Good, Refused}
-use Rattle.verdicts.specs.Judge.{advance, read_line, line_fault, after, judge, pieces, front, final, Faulty, at_end, conclude, answer, rule_of}
+use Rattle.verdicts.specs.FirstFault.{Told, Good, Refused, Faulty}
+use Rattle.verdicts.specs.Judge.{advance, read_line, line_fault, after, judge, pieces, front, final, at_end, conclude, answer, rule_of}
 use Rattle.verdicts.proofs.FirstFaultLaws.{after_refused, same_last}
 use Rattle.report.specs.declared.progress.Progress.{Progress}
 use Rattle.report.specs.Stands.{StandsAt, StandsFor}

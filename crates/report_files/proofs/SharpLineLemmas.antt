@@ -6,7 +6,7 @@ use Rattle.std.specs.Option.{option_map_or}
 use Rattle.vocab.specs.Study.{Question}
 use Rattle.verdicts.specs.Texts.{words_of}
 use Rattle.verdicts.specs.declared.refusals.Refusal.TheVariants.{Form}
-use Rattle.verdicts.specs.FirstFault.{Told, Good, Refused}
+use Rattle.verdicts.specs.FirstFault.{Told, Good, Refused, Faulty}
 use Rattle.verdicts.specs.Judge.{pieces, front, final}
 use Rattle.verdicts.proofs.FirstFaultLaws.{stops, after_refused, same_last}
 use Rattle.sharp_verdicts.specs.declared.refusals.SharpRefusal.{SharpRefusal}
@@ -14,7 +14,7 @@ use Rattle.sharp_verdicts.specs.declared.refusals.SharpRefusal.TheVariants.{Repo
 use Rattle.sharp_verdicts.specs.SharpLines.{SharpTitle}
 use Rattle.sharp_verdicts.specs.SharpPlaces.{SharpPlace, AtSharp, AtReport, AtInstances, AtNeed, AtNeedRow, AtSharpEnd, AtSharpNothing, SharpStanding, sharp_start, not_possible, wanted_past, read_past, read_sharp_at, read_sharp_line}
 use Rattle.sharp_verdicts.specs.SharpFaults.{sharp_fault}
-use Rattle.sharp_verdicts.specs.SharpJudge.{advance_sharp, sharp_line_fault, sharp_after, sharp_judge_from, sharp_judge, SharpFaulty, at_sharp_end, sharp_conclude, sharp_answer}
+use Rattle.sharp_verdicts.specs.SharpJudge.{advance_sharp, sharp_line_fault, sharp_after, sharp_judge_from, sharp_judge, at_sharp_end, sharp_conclude, sharp_answer}
 use Rattle.sharp_report.specs.declared.progress.SharpProgress.{SharpProgress}
 use Rattle.sharp_report.specs.SharpStands.{SharpStandsAs, SharpStandsFor}
 use Rattle.report_files.specs.Lines.{has_title}
@@ -69,7 +69,7 @@ module _ (study : Question) where
   -- ---- the end of a text
 
   -- a text whose first line is not the title, or has not ended
-  pub untitled_refused : (lines : List (List ℕ)) (rest : List ℕ) → has_title lines ≡ false → sharp_conclude study (length lines + 1) rest (sharp_judge study lines) ≡ SharpFaulty 1 (Report Form)
+  pub untitled_refused : (lines : List (List ℕ)) (rest : List ℕ) → has_title lines ≡ false → sharp_conclude study (length lines + 1) rest (sharp_judge study lines) ≡ Faulty 1 (Report Form)
   untitled_refused [] [] e = refl
   untitled_refused [] (x ∷ rest) e = refl
   untitled_refused (line ∷ lines) rest e =

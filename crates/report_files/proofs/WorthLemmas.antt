@@ -9,8 +9,8 @@ use Rattle.verdicts.specs.declared.verdicts.Confirmed.{Confirmed}
 use Rattle.verdicts.specs.declared.verdicts.Verdict.{Verdict}
 use Rattle.verdicts.specs.Claims.{claim_of}
 use Rattle.verdicts.specs.Places.{Standing}
-use Rattle.verdicts.specs.FirstFault.{Told, Good, Refused}
-use Rattle.verdicts.specs.Judge.{judge, pieces, front, Judgement, Confirmed as IsSomeReport, Faulty, TooLong, conclude, answer, beyond, answer_within}
+use Rattle.verdicts.specs.FirstFault.{Told, Good, Refused, Judgement, Confirmed as Confirms, Faulty, TooLong, beyond}
+use Rattle.verdicts.specs.Judge.{judge, pieces, front, conclude, answer, answer_within}
 use Rattle.verdicts.proofs.ClaimLaws.{within_limit}
 use Rattle.verdicts.proofs.JudgeLaws.{judge_sound}
 use Rattle.report.specs.declared.faults.ReportFault.{ReportFault}
@@ -43,13 +43,13 @@ some_worth : (o : Option Confirmed) (c : Confirmed) → IsSomeAnd o (λ claim. c
 some_worth None c h = absurd h
 some_worth (Some a) c h = let same : c ≡ a = cc in ap worth.Confirmed same
 
-pub concludes_ok : (a : Judgement) (c : Confirmed) → Concludes a (Ok c) → IsWorth a (worth.Confirmed c)
-concludes_ok (IsSomeReport verdict) c h = some_worth (claim_of verdict) c h
+pub concludes_ok : (a : Judgement Verdict Refusal) (c : Confirmed) → Concludes a (Ok c) → IsWorth a (worth.Confirmed c)
+concludes_ok (Confirms verdict) c h = some_worth (claim_of verdict) c h
 concludes_ok (Faulty n word) c h = absurd (cc)
 concludes_ok TooLong c h = absurd h
 
-pub concludes_line : (a : Judgement) (m : ℕ) (word : Refusal) → Concludes a (Err (AtLine m word)) → IsWorth a (worth.Faulty m word)
-concludes_line (IsSomeReport verdict) m word h = absurd (none_claimed (claim_of verdict) h)
+pub concludes_line : (a : Judgement Verdict Refusal) (m : ℕ) (word : Refusal) → Concludes a (Err (AtLine m word)) → IsWorth a (worth.Faulty m word)
+concludes_line (Confirms verdict) m word h = absurd (none_claimed (claim_of verdict) h)
   where
     none_claimed : (o : Option Confirmed) → IsSomeAnd o (λ claim. refuses m word ≡ Ok claim) → ⊥
     none_claimed None h = h
@@ -63,15 +63,15 @@ module _ (study : Question) where
   -- all was read
   pub whole_worth : (e : Ending) (known left : Option (List ℕ)) (faulty : Bool) (bytes held : List ℕ) (result : Result Confirmed ReportFault) (w : Worth)
       → e ≡ ending.Whole → IsEndedAt e known left faulty bytes → known ≡ Some held
-      → Concludes (answer study bytes) result → ((a : Judgement) → Concludes a result → IsWorth a w) → IsWorth (answer_within most_verdict_bytes study held) w
+      → Concludes (answer study bytes) result → ((a : Judgement Verdict Refusal) → Concludes a result → IsWorth a w) → IsWorth (answer_within most_verdict_bytes study held) w
   whole_worth e known left faulty bytes held result w same ended k concluded worth_of =
       let whole : IsEndedAt ending.Whole known left faulty bytes = subst (λ x. IsEndedAt x known left faulty bytes) same ended in
-      subst (λ a. IsWorth a w) (sym (whole_within (judge study) conclude beyond known left faulty bytes held whole k)) (worth_of (answer study bytes) concluded)
+      subst (λ a. IsWorth a w) (sym (whole_within conclude (judge study) known left faulty bytes held whole k)) (worth_of (answer study bytes) concluded)
 
   -- a line is faulty
   pub faulty_worth : (p : Progress) (e : Ending) (known left : Option (List ℕ)) (faulty : Bool) (bytes held : List ℕ) (fault : ReportFault) (w : Worth)
       → p.fault ≡ Some fault → IsEndedAt e known left faulty bytes → known ≡ Some held → StandsFor study p (front (pieces bytes))
-      → ((a : Judgement) → Concludes a (Err fault) → IsWorth a w) → IsWorth (answer_within most_verdict_bytes study held) w
+      → ((a : Judgement Verdict Refusal) → Concludes a (Err fault) → IsWorth a w) → IsWorth (answer_within most_verdict_bytes study held) w
   faulty_worth p e known left faulty bytes held fault w f ended k stands worth_of = by_told (judge study (front (pieces bytes))) refl stands.1
     where
       by_told : (told : Told Standing Refusal) → judge study (front (pieces bytes)) ≡ told → StandsAt study p told → IsWorth (answer_within most_verdict_bytes study held) w
@@ -80,12 +80,12 @@ module _ (study : Question) where
           let same : Some fault ≡ Some (AtLine m word) = sym f ∙ h in
           let fault_is : fault ≡ AtLine m word = cc in
           let answered : answer_within most_verdict_bytes study held ≡ Faulty m word =
-          faulty_within (judge study) conclude beyond e known left faulty bytes held (Refused m word) (Faulty m word) ended k
+          faulty_within conclude (judge study) e known left faulty bytes held (Refused m word) (Faulty m word) ended k
           (λ more. refused_more study (front (pieces bytes)) more m word told) refl (λ n rest. refl) in
           subst (λ a. IsWorth a w) (sym answered) (worth_of (Faulty m word) (ap Err fault_is))
 
   -- the file goes on beyond the limit, and no line is faulty
-  faultless_is : (p : Progress) (told : Told Standing Refusal) → p.fault ≡ None → StandsAt study p told → beyond told ≡ TooLong
+  faultless_is : (p : Progress) (told : Told Standing Refusal) → p.fault ≡ None → StandsAt study p told → beyond {V = Verdict} told ≡ TooLong
   faultless_is p (Good s) e h = refl
   faultless_is p (Refused m word) e h = absurd (cc)
 
@@ -94,7 +94,7 @@ module _ (study : Question) where
       → IsWorth (answer_within most_verdict_bytes study held) worth.TooLong
   long_worth p e known left faulty bytes held f none differs ended k stands =
       subst (λ a. IsWorth a worth.TooLong)
-      (sym (beyond_within (judge study) conclude beyond e known left faulty bytes held differs none ended k ∙ faultless_is p (judge study (front (pieces bytes))) f stands.1)) refl
+      (sym (beyond_within conclude (judge study) e known left faulty bytes held differs none ended k ∙ faultless_is p (judge study (front (pieces bytes))) f stands.1)) refl
 
 -- ---- what is confirmed of a file
 
@@ -107,8 +107,8 @@ confirmed_some None c w e h = absurd h
 confirmed_some (Some a) c w e h = let same : a ≡ c = cc in h ∙ ap worth.Confirmed same
 
 -- the verdict whose claim it is
-worth_claim : (a : Judgement) (c : Confirmed) (w : Worth) → w ≡ worth.Confirmed c → IsWorth a w → (v : Verdict) × (a ≡ IsSomeReport v) × (claim_of v ≡ Some c)
-worth_claim (IsSomeReport v) c w e h = (v, refl, some_confirmed (claim_of v) c w e h)
+worth_claim : (a : Judgement Verdict Refusal) (c : Confirmed) (w : Worth) → w ≡ worth.Confirmed c → IsWorth a w → (v : Verdict) × (a ≡ Confirms v) × (claim_of v ≡ Some c)
+worth_claim (Confirms v) c w e h = (v, refl, some_confirmed (claim_of v) c w e h)
 worth_claim (Faulty n word) c w e h = absurd (cc)
 worth_claim TooLong c w e h = absurd (cc)
 

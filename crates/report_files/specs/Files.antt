@@ -5,13 +5,16 @@ use Rattle.edge.specs.Shelf.{Files}
 use Rattle.edge.specs.declared.faults.RewindFault.{RewindFault}
 use Rattle.edge.specs.declared.faults.RewindFault.TheVariants as rewind
 use Rattle.vocab.specs.Study.{Question}
-use Rattle.verdicts.specs.Judge.{Judgement, Confirmed as IsSomeReport, Faulty, TooLong, answer_within}
+use Rattle.verdicts.specs.declared.refusals.Refusal.{Refusal}
+use Rattle.verdicts.specs.declared.verdicts.Verdict.{Verdict}
+use Rattle.verdicts.specs.FirstFault.{Judgement, Confirmed as Confirms, Faulty, TooLong}
+use Rattle.verdicts.specs.Judge.{answer_within}
 use Rattle.verdicts.specs.Claims.{claim_of, IsClaimed, ClaimHolds}
 use Rattle.verdicts.specs.Laws.{IsReportable}
 use Rattle.verdicts.specs.declared.verdicts.Confirmed.{Confirmed}
+use Rattle.sharp_verdicts.specs.declared.refusals.SharpRefusal.{SharpRefusal}
 use Rattle.sharp_verdicts.specs.Judged.{Judged, AsReport, AsSharp, judged_within}
 use Rattle.sharp_verdicts.specs.Right.{Pointed, IsSharpRight}
-use Rattle.sharp_verdicts.specs.SharpJudge.{SharpJudgement, SharpConfirmed, SharpFaulty, SharpTooLong}
 use Rattle.sharp_laws.specs.Laws.{IsSharpText, SharpClaims}
 use Rattle.report_files.specs.declared.files.Ending.{Ending}
 use Rattle.report_files.specs.declared.files.Ending.TheVariants as ending
@@ -46,16 +49,16 @@ IsEndedAt ending.Faulty before now faulty bytes = Consumes before now bytes ×
 -- ---- what an answer is worth
 
 -- an answer to a report
-abbrev pub IsWorth : Judgement → Worth → Type 0
-IsWorth (IsSomeReport verdict) w = IsSomeAnd (claim_of verdict) (λ claim. w ≡ worth.Confirmed claim)
+abbrev pub IsWorth : Judgement Verdict Refusal → Worth → Type 0
+IsWorth (Confirms verdict) w = IsSomeAnd (claim_of verdict) (λ claim. w ≡ worth.Confirmed claim)
 IsWorth (Faulty line word) w = w ≡ worth.Faulty line word
 IsWorth TooLong w = w ≡ worth.TooLong
 
 -- an answer to a sharp text
-abbrev pub IsSharpWorth : SharpJudgement → SharpWorth → Type 0
-IsSharpWorth (SharpConfirmed v) w = w ≡ sharp_worth.Confirmed
-IsSharpWorth (SharpFaulty line word) w = w ≡ sharp_worth.Faulty line word
-IsSharpWorth SharpTooLong w = w ≡ sharp_worth.TooLong
+abbrev pub IsSharpWorth : Judgement Pointed SharpRefusal → SharpWorth → Type 0
+IsSharpWorth (Confirms v) w = w ≡ sharp_worth.Confirmed
+IsSharpWorth (Faulty line word) w = w ≡ sharp_worth.Faulty line word
+IsSharpWorth TooLong w = w ≡ sharp_worth.TooLong
 
 -- an answer to a text that may be either, of the judge whose it is
 abbrev pub IsJudgedWorth : Judged → JudgedWorth → Type 0

@@ -1,9 +1,12 @@
 //! What a report or a sharp text is worth.
 
 ghost use Rattle.std.specs.Prelude.{◌≡◌, Ok, Err, IfOk, OnErr};
-ghost use Rattle.verdicts.specs.Judge.{Judgement};
+ghost use Rattle.verdicts.specs.declared.refusals.Refusal.{Refusal};
+ghost use Rattle.verdicts.specs.declared.verdicts.Verdict.{Verdict};
+ghost use Rattle.verdicts.specs.FirstFault.{Judgement};
 ghost use Rattle.report.specs.Answers.{Concludes};
-ghost use Rattle.sharp_verdicts.specs.SharpJudge.{SharpJudgement};
+ghost use Rattle.sharp_verdicts.specs.declared.refusals.SharpRefusal.{SharpRefusal};
+ghost use Rattle.sharp_verdicts.specs.Right.{Pointed};
 ghost use Rattle.sharp_report.specs.SharpAnswers.{SharpConcludes};
 ghost use Rattle.report_files.specs.Files.{IsWorth, IsSharpWorth};
 
@@ -25,7 +28,8 @@ pub enum Worth {
 impl Worth {
     /// What a report is worth of which this is answered, unless memory was wanting.
     pub(crate) fn of(answer: Result<Confirmed, ReportFault>) -> Result<Worth, NoMemory>
-        ensures worth { IfOk result (λ worth. (a : Judgement) → Concludes a answer → IsWorth a worth) }
+        ensures worth { IfOk result (λ worth.
+            (a : Judgement Verdict Refusal) → Concludes a answer → IsWorth a worth) }
         ensures claimed { (claim : Confirmed) → result ≡ Ok (Worth.Confirmed claim) → answer ≡ Ok claim }
         ensures wanting { OnErr result (answer ≡ Err ReportFault.NoMemory) }
     {
@@ -50,7 +54,7 @@ impl SharpWorth {
     /// What a sharp text is worth of which this is answered, unless memory was wanting.
     pub(crate) fn of(answer: Result<(), SharpFault>) -> Result<SharpWorth, NoMemory>
         ensures worth { IfOk result (λ worth.
-            (a : SharpJudgement) → SharpConcludes a answer → IsSharpWorth a worth) }
+            (a : Judgement Pointed SharpRefusal) → SharpConcludes a answer → IsSharpWorth a worth) }
         ensures confirmed { result ≡ Ok SharpWorth.Confirmed → answer ≡ Ok tt }
         ensures wanting { OnErr result (answer ≡ Err SharpFault.NoMemory) }
     {

@@ -1,25 +1,24 @@
 -- The judge confirms the texts of right sharp verdicts, each of its own verdict, and refuses a text that is cut where it is cut.
 use Rattle.std.proofs.Common.{◌≡◌, ◌≢◌, refl, sym, ap, ◌∙◌, subst, ℕ, ◌+◌, ◌^◌, ◌<◌, true, List, [], ◌∷◌, ◌++◌, map, length, Some, arith, append-nil, ◌↔◌, ◌≤◌}
-use Rattle.std.specs.List.{list_all, join_with_byte}
+use Rattle.std.specs.List.{list_all}
 use Rattle.std.proofs.lemmas.Bool.{and_parts, and_from}
-use Rattle.std.proofs.lemmas.List.Splits.{join_with_byte-slice_split, length-slice_split}
-use Rattle.std.specs.Prelude.{◌==◌}
 use Rattle.vocab.specs.Study.{Question, HasFewAxioms}
 use Rattle.meaning.proofs.SpaceLaws.{list_all-map_of}
 use Rattle.meaning.proofs.TestLaws.{list_all-both}
 use Rattle.verdicts.specs.declared.refusals.Refusal.TheVariants.{Form}
-use Rattle.verdicts.specs.FirstFault.{Good}
+use Rattle.verdicts.specs.FirstFault.{Good, Confirmed, Faulty}
 use Rattle.verdicts.specs.Judge.{pieces, front, final}
 use Rattle.verdicts.specs.Laws.{IsReportable, HasShortLines}
 use Rattle.verdicts.specs.Places.{Standing}
 use Rattle.verdicts.specs.Texts.{words_of}
 use Rattle.verdicts.proofs.WordLaws.{lacks, split_ended}
-use Rattle.verdicts.proofs.ReportLaws.{short, front_snoc, front_more, final_snoc, texts_cons, same_line, only_piece, pieces_append}
+use Rattle.verdicts.proofs.WholeTextLaws.{front_snoc, only_piece, cut_lines, all_answered}
+use Rattle.verdicts.proofs.ReportLaws.{short, texts_cons, same_line}
 use Rattle.sharp_verdicts.specs.declared.refusals.SharpRefusal.TheVariants.{Report}
 use Rattle.sharp_verdicts.specs.Right.{Pointed, IsSharpRight}
 use Rattle.sharp_verdicts.specs.SharpLines.{SharpLine, SharpTitle, Plain, sharp_line_text, sharp_lines, sharp_text}
 use Rattle.sharp_verdicts.specs.SharpPlaces.{SharpPlace, AtSharp, AtReport, AtInstances, AtNeed, AtNeedRow, AtSharpEnd, AtSharpNothing, SharpStanding, sharp_start, wanted_past, read_sharp_line}
-use Rattle.sharp_verdicts.specs.SharpJudge.{advance_sharp, sharp_judge_from, sharp_judge, pointed_of, SharpConfirmed, SharpFaulty, at_sharp_end, sharp_conclude, sharp_answer, sharp_answer_within}
+use Rattle.sharp_verdicts.specs.SharpJudge.{advance_sharp, sharp_judge_from, sharp_judge, pointed_of, at_sharp_end, sharp_conclude, sharp_answer, sharp_answer_within}
 use Rattle.sharp_laws.specs.Laws.{IsSharpText}
 use Rattle.sharp_laws.proofs.FitLaws.{SharpFits}
 use Rattle.sharp_laws.proofs.JudgeLaws.{ended_map, judge_sound}
@@ -71,21 +70,19 @@ module _ (study : Question) (is : IsReportable study) where
   pub text_short : HasFewAxioms study → (v : Pointed) → IsSharpRight study v → length v.story < 2 ^ 64 → HasShortLines (sharp_text study v)
   text_short listed v right few = ap (list_all short) (all_pieces v right) ∙ list_all-both short (texts_of v) ([] ∷ []) (shorts listed v right few) refl
 
-  confirmed : (v : Pointed) → IsSharpRight study v → list_all short (texts_of v) ≡ true → sharp_answer study (sharp_text study v) ≡ SharpConfirmed v
+  confirmed : (v : Pointed) → IsSharpRight study v → list_all short (texts_of v) ≡ true → sharp_answer study (sharp_text study v) ≡ Confirmed v
   confirmed v right h =
       let lines = texts_of v in
-      let n = length (lines ++ [] ∷ []) in
+      let n = length lines + 1 in
       let run = whole_run study is v right in
       let j = judged 1 sharp_start run.0 (sharp_lines study v) [] run.1 h in
-      ap (λ ps. sharp_conclude study (length ps) (final ps) (sharp_judge study (front ps))) (all_pieces v right)
-      ∙ ap (λ xs. sharp_conclude study n (final (lines ++ [] ∷ [])) (sharp_judge study xs)) (front_snoc lines [])
-      ∙ ap (λ y. sharp_conclude study n y (sharp_judge study lines)) (final_snoc lines [])
+      all_answered (sharp_conclude study) (sharp_judge study) (sharp_text study v) lines (all_pieces v right)
       ∙ ap (λ xs. sharp_conclude study n [] (sharp_judge study xs)) (sym (append-nil lines))
       ∙ ap (sharp_conclude study n []) j.1
       ∙ ap (λ p. at_sharp_end study n [] p run.0) run.2
-      ∙ ap SharpConfirmed run.3
+      ∙ ap Confirmed run.3
 
-  pub judge_complete : HasFewAxioms study → (text : List ℕ) (v : Pointed) → IsSharpText study v text → length v.story < 2 ^ 64 → sharp_answer study text ≡ SharpConfirmed v
+  pub judge_complete : HasFewAxioms study → (text : List ℕ) (v : Pointed) → IsSharpText study v text → length v.story < 2 ^ 64 → sharp_answer study text ≡ Confirmed v
   judge_complete listed text v t few = ap (sharp_answer study) t.is ∙ confirmed v t.right (shorts listed v t.right few)
 
   -- ---- distinct
@@ -152,10 +149,10 @@ module _ (study : Question) (is : IsReportable study) where
       let r = whole_run study is v right in
       let q = whole_run study is w other in
       let whole = sym (pieces_of v rest right) ∙ ap pieces e ∙ all_pieces w other in
-      only_piece study is rest (texts_of v) (texts_of w) (pieces rest) refl whole
+      only_piece rest (texts_of v) (texts_of w) (pieces rest) refl whole
       (λ f. no_more sharp_start r.0 q.0 (sharp_lines study v) (sharp_lines study w) (front (pieces rest)) r.1 q.1 r.2 f)
 
-  pub no_confirmed_prefix : (v w : Pointed) (text rest : List ℕ) → sharp_answer study text ≡ SharpConfirmed v → sharp_answer study (text ++ rest) ≡ SharpConfirmed w → rest ≡ []
+  pub no_confirmed_prefix : (v w : Pointed) (text rest : List ℕ) → sharp_answer study text ≡ Confirmed v → sharp_answer study (text ++ rest) ≡ Confirmed w → rest ≡ []
   no_confirmed_prefix v w text rest a b =
       let t = judge_sound study text v a in
       let u = judge_sound study (text ++ rest) w b in
@@ -164,15 +161,10 @@ module _ (study : Question) (is : IsReportable study) where
   -- ---- texts that are cut
 
   -- a place that is not past the end
-  at_end_other : (n : ℕ) (rest : List ℕ) (p : SharpPlace) (s : SharpStanding) → (p ≡ AtSharpNothing → ⊥) → at_sharp_end study n rest p s ≡ SharpFaulty n (Report Form)
+  at_end_other : (n : ℕ) (rest : List ℕ) (p : SharpPlace) (s : SharpStanding) → (p ≡ AtSharpNothing → ⊥) → at_sharp_end study n rest p s ≡ Faulty n (Report Form)
   at_end_other n (c ∷ rest) p s h = refl
   at_end_other n [] AtSharpNothing s h = absurd (h refl)
-  at_end_other n [] AtSharp s h = refl
-  at_end_other n [] AtReport s h = refl
-  at_end_other n [] AtInstances s h = refl
-  at_end_other n [] AtNeed s h = refl
-  at_end_other n [] AtNeedRow s h = refl
-  at_end_other n [] AtSharpEnd s h = refl
+  at_end_other n [] p s h = refl
 
   -- the judge goes along some lines of a sharp text, and wants another
   stops_before : (n : ℕ) (s t : SharpStanding) (ls : List SharpLine) (before : List (List ℕ)) (line : List ℕ) (more : List (List ℕ)) → Runs s ls t
@@ -188,35 +180,22 @@ module _ (study : Question) (is : IsReportable study) where
       let read = ap (read_sharp_line study s) (sym c.0) ∙ line_read s l r.0 r.1 p.0 in
       (later.0, past study n s b before l read r.2 ∙ later.1, later.2)
 
-  cut_here : (v : Pointed) (text rest : List ℕ) → IsSharpText study v (text ++ rest) → list_all short (texts_of v) ≡ true
-      → (qs : List (List ℕ)) → pieces (final (pieces text) ++ rest) ≡ qs → rest ≢ []
-      → sharp_answer study text ≡ SharpFaulty (length (pieces text)) (Report Form)
-  cut_here v text rest t h [] e some = absurd (omega (arith, length-slice_split (λ b. b == 10) (final (pieces text) ++ rest), ap length e))
-  cut_here v text rest t h (q ∷ []) e some =
-      let lines = texts_of v in
-      let all : front (pieces text) ++ q ∷ [] ≡ lines ++ [] ∷ [] = sym (pieces_append text rest ∙ ap (λ ps. front (pieces text) ++ ps) e) ∙ ap pieces t.is ∙ all_pieces v t.right in
-      let none : q ≡ [] = sym (final_snoc (front (pieces text)) q) ∙ ap final all ∙ final_snoc lines [] in
-      let empty : final (pieces text) ++ rest ≡ [] = sym (join_with_byte-slice_split 10 (final (pieces text) ++ rest)) ∙ ap (join_with_byte 10) e ∙ none in
-      absurd (some (right_empty (final (pieces text)) rest empty))
-    where
-      right_empty : (xs ys : List ℕ) → xs ++ ys ≡ [] → ys ≡ []
-      right_empty [] ys e = e
-      right_empty (x ∷ xs) ys e = absurd (cc)
-  cut_here v text rest t h (q ∷ y ∷ ps) e some =
-      let all : front (pieces text) ++ q ∷ y ∷ ps ≡ texts_of v ++ [] ∷ [] = sym (pieces_append text rest ∙ ap (λ ps. front (pieces text) ++ ps) e) ∙ ap pieces t.is ∙ all_pieces v t.right in
-      let lines : texts_of v ≡ front (pieces text) ++ q ∷ front (y ∷ ps) = sym (front_snoc (texts_of v) []) ∙ ap front (sym all) ∙ front_more (front (pieces text)) q y ps in
+  cut_here : (v : Pointed) (text rest : List ℕ) → IsSharpText study v (text ++ rest) → list_all short (texts_of v) ≡ true → rest ≢ []
+      → sharp_answer study text ≡ Faulty (length (pieces text)) (Report Form)
+  cut_here v text rest t h some =
+      let cut = cut_lines text rest (texts_of v) (ap pieces t.is ∙ all_pieces v t.right) some in
       let run = whole_run study is v t.right in
-      let stop = stops_before 1 sharp_start run.0 (sharp_lines study v) (front (pieces text)) q (front (y ∷ ps)) run.1 h lines in
+      let stop = stops_before 1 sharp_start run.0 (sharp_lines study v) (front (pieces text)) cut.0 cut.1 run.1 h cut.2 in
       ap (sharp_conclude study (length (pieces text)) (final (pieces text))) stop.1
       ∙ at_end_other (length (pieces text)) (final (pieces text)) stop.0.place stop.0 stop.2
 
   pub cut_is_form : HasFewAxioms study → (v : Pointed) (text rest : List ℕ) → IsSharpText study v (text ++ rest) → length v.story < 2 ^ 64 → rest ≢ []
-      → sharp_answer study text ≡ SharpFaulty (length (pieces text)) (Report Form)
-  cut_is_form listed v text rest t few some = cut_here v text rest t (shorts listed v t.right few) (pieces (final (pieces text) ++ rest)) refl some
+      → sharp_answer study text ≡ Faulty (length (pieces text)) (Report Form)
+  cut_is_form listed v text rest t few some = cut_here v text rest t (shorts listed v t.right few) some
 
 -- where at most so many bytes are read, exactly the texts of right sharp verdicts that have no more are confirmed
 pub texts_confirmed : (limit : ℕ) (study : Question) → IsReportable study → HasFewAxioms study → limit < 2 ^ 64 → (text : List ℕ) (v : Pointed)
-    → (sharp_answer_within limit study text ≡ SharpConfirmed v) ↔ ((length text ≤ limit) × IsSharpText study v text)
+    → (sharp_answer_within limit study text ≡ Confirmed v) ↔ ((length text ≤ limit) × IsSharpText study v text)
 texts_confirmed limit study is listed low text v = (
   λ e. let r = (within_limit limit study text v).0 e in (r.0, judge_sound study text v r.1),
   λ h.

@@ -1,15 +1,19 @@
 -- No text is confirmed both as a report and as a sharp text, and the judge of reports refuses the first line of a sharp text.
-use Rattle.std.proofs.Common.{◌≡◌, refl, sym, ap, ◌∙◌, ℕ, ◌<◌, List, [], ◌∷◌, ◌++◌, length, get_or, arith}
+use Rattle.std.proofs.Common.{◌≡◌, refl, sym, ap, ◌∙◌, ℕ, ◌<◌, Bool, true, false, cond, List, [], ◌∷◌, ◌++◌, length, get_or, arith}
 use Rattle.std.specs.Prelude.{codes, ◌==◌}
 use Rattle.std.proofs.lemmas.List.Splits.{length-slice_split}
 use Rattle.vocab.specs.Study.{Question}
+use Rattle.verdicts.specs.declared.refusals.Refusal.{Refusal}
 use Rattle.verdicts.specs.declared.refusals.Refusal.TheVariants.{Form}
 use Rattle.verdicts.specs.declared.verdicts.Verdict.{Verdict}
-use Rattle.verdicts.specs.Judge.{judge, pieces, front, final, Confirmed, Faulty, conclude, answer}
+use Rattle.verdicts.specs.FirstFault.{Judgement, Confirmed, Faulty}
+use Rattle.verdicts.specs.Judge.{judge, pieces, front, final, conclude, answer}
 use Rattle.verdicts.proofs.JudgeLaws.{judge_sound as report_sound}
 use Rattle.verdicts.proofs.WordLaws.{split_ended}
+use Rattle.sharp_verdicts.specs.declared.refusals.SharpRefusal.{SharpRefusal}
+use Rattle.sharp_verdicts.specs.Judged.{AsReport, AsSharp}
 use Rattle.sharp_verdicts.specs.Right.{Pointed}
-use Rattle.sharp_verdicts.specs.SharpJudge.{SharpConfirmed, sharp_answer}
+use Rattle.sharp_verdicts.specs.SharpJudge.{sharp_answer}
 use Rattle.sharp_laws.proofs.JudgeLaws.{judge_sound}
 
 -- the first line of a sharp text
@@ -26,9 +30,19 @@ no_report study text rest e =
     by_rest (p ∷ ps) h = refl
 
 -- the seventh byte of a report is `r`, and that of a sharp text is `s`
-pub told_apart : (study : Question) (text : List ℕ) (verdict : Verdict) (v : Pointed) → answer study text ≡ Confirmed verdict → sharp_answer study text ≡ SharpConfirmed v → ⊥
+pub told_apart : (study : Question) (text : List ℕ) (verdict : Verdict) (v : Pointed) → answer study text ≡ Confirmed verdict → sharp_answer study text ≡ Confirmed v → ⊥
 told_apart study text verdict v a b =
     let report = report_sound study text verdict a in
     let sharp = judge_sound study text v b in
     let differ : 114 ≡ 115 = ap (λ (t : List ℕ). get_or t 6 0) (sym report.is ∙ sharp.is) in
     absurd (omega (arith, differ))
+
+-- ---- which of two answers was given
+
+pub report_given : (b : Bool) (s : Judgement Pointed SharpRefusal) (r a : Judgement Verdict Refusal) → cond b (AsSharp s) (AsReport r) ≡ AsReport a → r ≡ a
+report_given true s r a e = absurd (cc)
+report_given false s r a e = cc
+
+pub sharp_given : (b : Bool) (s a : Judgement Pointed SharpRefusal) (r : Judgement Verdict Refusal) → cond b (AsSharp s) (AsReport r) ≡ AsSharp a → s ≡ a
+sharp_given true s a r e = cc
+sharp_given false s a r e = absurd (cc)

@@ -36,6 +36,7 @@ use Rattle.closing.specs.Closed.{closed_body}
 use Rattle.closing.proofs.ClosedLaws.{body_written, body_true}
 use Rattle.closing.proofs.SentenceLaws.{closed_prefix, closed_own_body}
 use Rattle.verdicts.specs.Claims.{HasNoRule}
+use Rattle.verdicts.specs.FirstFault.{Confirmed}
 use Rattle.verdicts.specs.Laws.{is_rule_given}
 use Rattle.verdicts.proofs.WordLaws.{IsIn, in_below}
 use Rattle.verdicts.proofs.Members.{flat_map_in, map_in, filter_in}
@@ -44,7 +45,7 @@ use Rattle.sharp_verdicts.specs.Derived.{instance_name, closed_at, axiom_of, axi
 use Rattle.sharp_verdicts.specs.Instances.{same_instance, has_instance, others_than, reasons_of, is_axiom_told, core_of, is_present, count_at, values_at, number_at, cites, is_told, all_instances, instances_of, is_true_of}
 use Rattle.sharp_verdicts.specs.Right.{Pointed, satisfies_instances, is_mark, IsSharpRight}
 use Rattle.sharp_verdicts.proofs.DerivedLaws.{derived_get}
-use Rattle.sharp_verdicts.specs.SharpJudge.{SharpConfirmed, sharp_answer}
+use Rattle.sharp_verdicts.specs.SharpJudge.{sharp_answer}
 use Rattle.sharp_laws.specs.Laws.{HasNoRuleOfAll, SharpClaims}
 use Rattle.sharp_laws.proofs.JudgeLaws.{judge_sound}
 
@@ -268,5 +269,5 @@ module _ (study : Question) where
         needed = λ given c here. rule_of_others v.instances v.instances v.marks c right.marks given here;
       }
 
-  pub confirmed_hold : IsSize study.size → (text : List ℕ) (v : Pointed) → sharp_answer study text ≡ SharpConfirmed v → SharpClaims study v
+  pub confirmed_hold : IsSize study.size → (text : List ℕ) (v : Pointed) → sharp_answer study text ≡ Confirmed v → SharpClaims study v
   confirmed_hold taken text v e = claims_hold taken v (judge_sound study text v e).right

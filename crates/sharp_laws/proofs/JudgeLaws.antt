@@ -1,20 +1,20 @@
 -- A judge that reaches the end has read the text of a right sharp verdict.
-use Rattle.std.proofs.Common.{◌≡◌, refl, sym, ap, ◌∙◌, subst, ℕ, List, [], ◌∷◌, ◌++◌, map, length, Some, None, append-nil}
+use Rattle.std.proofs.Common.{◌≡◌, refl, sym, ap, ◌∙◌, subst, ℕ, List, [], ◌∷◌, ◌++◌, map, length, Some, None}
 use Rattle.std.specs.List.{flat_map}
 use Rattle.std.proofs.lemmas.List.{map-append}
 use Rattle.vocab.specs.Study.{Question}
 use Rattle.verdicts.specs.declared.refusals.Refusal.TheVariants.{Form}
-use Rattle.verdicts.specs.FirstFault.{Told, Good, Refused}
+use Rattle.verdicts.specs.FirstFault.{Told, Good, Refused, Confirmed}
 use Rattle.verdicts.specs.Judge.{ended, pieces, front, final}
 use Rattle.verdicts.proofs.FirstFaultLaws.{all_read}
-use Rattle.verdicts.proofs.JudgeLaws.{text_pieces}
+use Rattle.verdicts.proofs.WholeTextLaws.{whole_pieces}
 use Rattle.sharp_verdicts.specs.declared.refusals.SharpRefusal.{SharpRefusal}
 use Rattle.sharp_verdicts.specs.declared.refusals.SharpRefusal.TheVariants.{Report}
 use Rattle.sharp_verdicts.specs.Right.{Pointed, is_mark}
 use Rattle.sharp_verdicts.specs.SharpLines.{SharpLine, sharp_line_text}
 use Rattle.sharp_verdicts.specs.SharpPlaces.{SharpPlace, AtSharpNothing, SharpStanding, sharp_start, read_sharp_line}
 use Rattle.sharp_verdicts.specs.SharpFaults.{listed_instances, sharp_fault}
-use Rattle.sharp_verdicts.specs.SharpJudge.{advance_sharp, sharp_judge_from, sharp_judge, pointed_of, SharpConfirmed, at_sharp_end, sharp_conclude, sharp_answer}
+use Rattle.sharp_verdicts.specs.SharpJudge.{advance_sharp, sharp_judge_from, sharp_judge, pointed_of, at_sharp_end, sharp_conclude, sharp_answer}
 use Rattle.sharp_laws.specs.Laws.{IsSharpText}
 use Rattle.sharp_laws.proofs.FitLaws.{line_fits}
 use Rattle.sharp_laws.proofs.MarkLaws.{marks_full}
@@ -36,12 +36,12 @@ module _ (study : Question) where
   ran : (s t : SharpStanding) (texts : List (List ℕ)) → HasSharpRead study s [] → sharp_judge_from study 1 s texts ≡ Good t → Ran t texts
   ran s t texts h e = all_read (read_sharp_line study) (sharp_fault study) (Report Form) (advance_sharp study) Ran ran_next 1 s t [] texts ([], h, refl) e
 
-  at_end_is : (n : ℕ) (rest : List ℕ) (p : SharpPlace) (s : SharpStanding) (v : Pointed) → at_sharp_end study n rest p s ≡ SharpConfirmed v
+  at_end_is : (n : ℕ) (rest : List ℕ) (p : SharpPlace) (s : SharpStanding) (v : Pointed) → at_sharp_end study n rest p s ≡ Confirmed v
       → (rest ≡ []) × (p ≡ AtSharpNothing) × (pointed_of study s ≡ v)
   at_end_is n [] AtSharpNothing s v e = let same : pointed_of study s ≡ v = cc in (refl, refl, same)
   at_end_is n rest p s v e = absurd (cc)
 
-  conclude_is : (n : ℕ) (rest : List ℕ) (told : Told SharpStanding SharpRefusal) (v : Pointed) → sharp_conclude study n rest told ≡ SharpConfirmed v
+  conclude_is : (n : ℕ) (rest : List ℕ) (told : Told SharpStanding SharpRefusal) (v : Pointed) → sharp_conclude study n rest told ≡ Confirmed v
       → (s : SharpStanding) × (told ≡ Good s) × (rest ≡ []) × (s.place ≡ AtSharpNothing) × (pointed_of study s ≡ v)
   conclude_is n rest (Refused line word) v e = absurd (cc)
   conclude_is n rest (Good s) v e = let r = at_end_is n rest s.place s v e in (s, refl, r.0, r.1, r.2)
@@ -65,10 +65,8 @@ module _ (study : Question) where
         is = ap ended r.2 ∙ ended_map r.0 ∙ ap (flat_map (λ line. sharp_line_text study line ++ 10 ∷ [])) read.2;
       }
 
-  pub judge_sound : (text : List ℕ) (v : Pointed) → sharp_answer study text ≡ SharpConfirmed v → IsSharpText study v text
+  pub judge_sound : (text : List ℕ) (v : Pointed) → sharp_answer study text ≡ Confirmed v → IsSharpText study v text
   judge_sound text v e =
       let c = conclude_is (length (pieces text)) (final (pieces text)) (sharp_judge study (front (pieces text))) v e in
-      let whole : text ≡ ended (front (pieces text)) =
-      text_pieces text ∙ ap (λ rest. ended (front (pieces text)) ++ rest) c.2 ∙ append-nil (ended (front (pieces text))) in
       subst (λ (w : Pointed). IsSharpText study w text) c.4
-      (subst (λ (t : List ℕ). IsSharpText study (pointed_of study c.0) t) (sym whole) (lines_sound (front (pieces text)) c.0 c.1 c.3))
+      (subst (λ (t : List ℕ). IsSharpText study (pointed_of study c.0) t) (sym (whole_pieces text c.2)) (lines_sound (front (pieces text)) c.0 c.1 c.3))

@@ -9,8 +9,8 @@ use Rattle.verdicts.specs.Claims.{HasNoRule}
 use Rattle.verdicts.specs.declared.refusals.Refusal.TheVariants.{Form, Fails}
 use Rattle.verdicts.specs.declared.verdicts.Verdict.{Verdict}
 use Rattle.verdicts.specs.Lines.{name_at}
-use Rattle.verdicts.specs.FirstFault.{Good, Refused}
-use Rattle.verdicts.specs.Judge.{has_no_end, ended, pieces, Confirmed, Faulty, answer}
+use Rattle.verdicts.specs.FirstFault.{Good, Refused, Confirmed, Faulty}
+use Rattle.verdicts.specs.Judge.{has_no_end, ended, pieces, answer}
 use Rattle.verdicts.specs.Laws.{IsReportable, HasShortLines, is_rule_given}
 use Rattle.sharp_verdicts.specs.declared.instances.Cited.{Cited}
 use Rattle.sharp_verdicts.specs.declared.refusals.SharpRefusal.{SharpRefusal}
@@ -20,7 +20,7 @@ use Rattle.sharp_verdicts.specs.Right.{Pointed, satisfies_instances, IsSharpRigh
 use Rattle.sharp_verdicts.specs.SharpLines.{sharp_text}
 use Rattle.sharp_verdicts.specs.SharpPlaces.{SharpStanding}
 use Rattle.sharp_verdicts.specs.SharpFaults.{instances_fault}
-use Rattle.sharp_verdicts.specs.SharpJudge.{sharp_line_fault, sharp_judge, SharpConfirmed, SharpFaulty, sharp_conclude, sharp_answer, sharp_answer_within}
+use Rattle.sharp_verdicts.specs.SharpJudge.{sharp_line_fault, sharp_judge, sharp_conclude, sharp_answer, sharp_answer_within}
 
 -- the text is that of this sharp verdict, which is right
 pub record IsSharpText (study : Question) (v : Pointed) (text : List ℕ) : Type 0 where
@@ -31,13 +31,13 @@ pub record IsSharpText (study : Question) (v : Pointed) (text : List ℕ) : Type
 
 -- what the judge confirms is the text of a right sharp verdict
 abbrev pub IsSharpJudgeSound : Type 0
-IsSharpJudgeSound = (study : Question) (text : List ℕ) (v : Pointed) → sharp_answer study text ≡ SharpConfirmed v → IsSharpText study v text
+IsSharpJudgeSound = (study : Question) (text : List ℕ) (v : Pointed) → sharp_answer study text ≡ Confirmed v → IsSharpText study v text
 
 -- the judge confirms the text of each right sharp verdict of a study of few axioms, where a machine word counts its lemmas
 abbrev pub IsSharpJudgeComplete : Type 0
 IsSharpJudgeComplete =
     (study : Question) → IsReportable study → HasFewAxioms study → (text : List ℕ) (v : Pointed)
-    → IsSharpText study v text → length v.story < 2 ^ 64 → sharp_answer study text ≡ SharpConfirmed v
+    → IsSharpText study v text → length v.story < 2 ^ 64 → sharp_answer study text ≡ Confirmed v
 
 -- no line of the text of a right sharp verdict of a study of few axioms is longer than 4,096 bytes, where a machine word counts its lemmas
 abbrev pub SharpLinesAreShort : Type 0
@@ -55,14 +55,14 @@ AreSharpTextsDistinct =
 abbrev pub HasNoSharpPrefix : Type 0
 HasNoSharpPrefix =
     (study : Question) → IsReportable study → (v w : Pointed) (text rest : List ℕ)
-    → sharp_answer study text ≡ SharpConfirmed v → sharp_answer study (text ++ rest) ≡ SharpConfirmed w → rest ≡ []
+    → sharp_answer study text ≡ Confirmed v → sharp_answer study (text ++ rest) ≡ Confirmed w → rest ≡ []
 
 -- a right sharp text of a study of few axioms that is cut anywhere before its end has its first faulty line where it is cut, which is not what the grammar wants
 abbrev pub CutSharpTextsAreForm : Type 0
 CutSharpTextsAreForm =
     (study : Question) → IsReportable study → HasFewAxioms study → (v : Pointed) (text rest : List ℕ)
     → IsSharpText study v (text ++ rest) → length v.story < 2 ^ 64 → rest ≢ []
-    → sharp_answer study text ≡ SharpFaulty (length (pieces text)) (Report Form)
+    → sharp_answer study text ≡ Faulty (length (pieces text)) (Report Form)
 
 -- lines none of which has a line end within it are answered as the text that has them, each with its line end
 abbrev pub SharpLinesAreAnswered : Type 0
@@ -74,7 +74,7 @@ SharpLinesAreAnswered =
 abbrev pub SharpConfirmedWithinLimit : Type 0
 SharpConfirmedWithinLimit =
     (limit : ℕ) (study : Question) (text : List ℕ) (v : Pointed)
-    → (sharp_answer_within limit study text ≡ SharpConfirmed v) ↔ ((length text ≤ limit) × (sharp_answer study text ≡ SharpConfirmed v))
+    → (sharp_answer_within limit study text ≡ Confirmed v) ↔ ((length text ≤ limit) × (sharp_answer study text ≡ Confirmed v))
 
 -- lines without a fault have given at most as many lemmas as they are
 abbrev pub SharpLemmasAreFew : Type 0
@@ -86,7 +86,7 @@ SharpLemmasFit = (study : Question) (v : Pointed) (text : List ℕ) → text ≡
 
 -- no text is confirmed both as a report and as a sharp text
 abbrev pub AreToldApart : Type 0
-AreToldApart = (study : Question) (text : List ℕ) (verdict : Verdict) (v : Pointed) → answer study text ≡ Confirmed verdict → ¬ (sharp_answer study text ≡ SharpConfirmed v)
+AreToldApart = (study : Question) (text : List ℕ) (verdict : Verdict) (v : Pointed) → answer study text ≡ Confirmed verdict → ¬ (sharp_answer study text ≡ Confirmed v)
 
 -- the judge of reports refuses the first line of a sharp text, which is not what the grammar of reports wants
 abbrev pub SharpTextsAreNoReports : Type 0
@@ -96,7 +96,7 @@ SharpTextsAreNoReports = (study : Question) (text rest : List ℕ) → text ≡ 
 abbrev pub SharpTextsAreConfirmed : Type 0
 SharpTextsAreConfirmed =
     (limit : ℕ) (study : Question) → IsReportable study → HasFewAxioms study → limit < 2 ^ 64 → (text : List ℕ) (v : Pointed)
-    → (sharp_answer_within limit study text ≡ SharpConfirmed v) ↔ ((length text ≤ limit) × IsSharpText study v text)
+    → (sharp_answer_within limit study text ≡ Confirmed v) ↔ ((length text ≤ limit) × IsSharpText study v text)
 
 -- ---- what they claim
 
@@ -124,7 +124,7 @@ SharpClaimsHold = (study : Question) → IsSize study.size → (v : Pointed) →
 -- and so does what a confirmed sharp text claims
 abbrev pub ConfirmedSharpClaimsHold : Type 0
 ConfirmedSharpClaimsHold =
-    (study : Question) → IsSize study.size → (text : List ℕ) (v : Pointed) → sharp_answer study text ≡ SharpConfirmed v → SharpClaims study v
+    (study : Question) → IsSize study.size → (text : List ℕ) (v : Pointed) → sharp_answer study text ≡ Confirmed v → SharpClaims study v
 
 -- ---- faulty lines
 

@@ -13,14 +13,16 @@ use Rattle.meaning.specs.declared.stories.Reason.TheVariants.{Axiom as ByAxiom, 
 use Rattle.meaning.specs.Stories.{is_story}
 use Rattle.meaning.proofs.WorkedExamples.{choice, anonymity, neutrality, step}
 use Rattle.verdicts.specs.declared.refusals.Refusal.TheVariants as refusal
-use Rattle.verdicts.specs.Judge.{Faulty, answer}
+use Rattle.verdicts.specs.FirstFault.{Judgement, Confirmed, Faulty, TooLong}
+use Rattle.verdicts.specs.Judge.{answer}
 use Rattle.sharp_verdicts.specs.declared.instances.Cited.{Cited}
+use Rattle.sharp_verdicts.specs.declared.refusals.SharpRefusal.{SharpRefusal}
 use Rattle.sharp_verdicts.specs.declared.refusals.SharpRefusal.TheVariants.{Report, Instance}
 use Rattle.sharp_verdicts.specs.Instances.{instances_of, core_of}
 use Rattle.sharp_verdicts.specs.Right.{Pointed, is_mark}
 use Rattle.sharp_verdicts.specs.Sharpened.{HaveMarkEvidence}
 use Rattle.sharp_verdicts.specs.SharpLines.{sharp_text}
-use Rattle.sharp_verdicts.specs.SharpJudge.{SharpJudgement, SharpConfirmed, SharpFaulty, SharpTooLong, sharp_answer, sharp_answer_within}
+use Rattle.sharp_verdicts.specs.SharpJudge.{sharp_answer, sharp_answer_within}
 
 -- lines, each with its end
 abbrev text_of : List (List ℕ) → List ℕ
@@ -88,7 +90,7 @@ marks_are_right = refl
 sharp_verdict_has_this_text : sharp_text symmetric two_instances ≡ text_of two_instances_text
 sharp_verdict_has_this_text = refl
 
-sharp_text_is_confirmed : sharp_answer symmetric (text_of two_instances_text) ≡ SharpConfirmed two_instances
+sharp_text_is_confirmed : sharp_answer symmetric (text_of two_instances_text) ≡ Confirmed two_instances
 sharp_text_is_confirmed = refl
 
 -- the judge of reports refuses it
@@ -98,63 +100,63 @@ sharp_text_is_no_report = refl
 -- ---- faults
 
 -- the answer where a line of the text, numbered from 1, is another
-abbrev with_line : ℕ → List ℕ → SharpJudgement
+abbrev with_line : ℕ → List ℕ → Judgement Pointed SharpRefusal
 with_line n line = sharp_answer symmetric (text_of (slice_set two_instances_text (n - 1) line))
 
-report_is_no_sharp_text : with_line 1 (codes "bench report 1") ≡ SharpFaulty 1 (Report refusal.Form)
+report_is_no_sharp_text : with_line 1 (codes "bench report 1") ≡ Faulty 1 (Report refusal.Form)
 report_is_no_sharp_text = refl
 
 -- anonymity between ab|ba and ba|ab, for a
-false_instance_is_named : with_line 28 (codes "ba|ab b") ≡ SharpFaulty 29 (Report (refusal.Fails (codes "anonymity") 10))
+false_instance_is_named : with_line 28 (codes "ba|ab b") ≡ Faulty 29 (Report (refusal.Fails (codes "anonymity") 10))
 false_instance_is_named = refl
 
-other_count_is_instance : map (λ line. with_line 19 line) (codes "instances 3" ∷ codes "instances 1" ∷ codes "instances 0" ∷ []) ≡ replicate 3 (SharpFaulty 19 Instance)
+other_count_is_instance : map (λ line. with_line 19 line) (codes "instances 3" ∷ codes "instances 1" ∷ codes "instances 0" ∷ []) ≡ replicate 3 (Faulty 19 Instance)
 other_count_is_instance = refl
 
-malformed_count_is_form : map (λ line. with_line 19 line) (codes "instances" ∷ codes "instances 02" ∷ codes "without anonymity open 100000" ∷ []) ≡ replicate 3 (SharpFaulty 19 (Report refusal.Form))
+malformed_count_is_form : map (λ line. with_line 19 line) (codes "instances" ∷ codes "instances 02" ∷ codes "without anonymity open 100000" ∷ []) ≡ replicate 3 (Faulty 19 (Report refusal.Form))
 malformed_count_is_form = refl
 
 -- an instance that is not the next comes before another number of rows, and both after a line that is malformed
-instance_out_of_turn_is_instance : map (λ line. with_line 20 line) (codes "needs neutrality ab|ba a b a rule 4" ∷ codes "needs anonymity ab|ba 1 2 b open 100000" ∷ codes "needs anonymity ab|ba 2 1 a rule 5" ∷ []) ≡ replicate 3 (SharpFaulty 20 Instance)
+instance_out_of_turn_is_instance : map (λ line. with_line 20 line) (codes "needs neutrality ab|ba a b a rule 4" ∷ codes "needs anonymity ab|ba 1 2 b open 100000" ∷ codes "needs anonymity ab|ba 2 1 a rule 5" ∷ []) ≡ replicate 3 (Faulty 20 Instance)
 instance_out_of_turn_is_instance = refl
 
-other_number_of_rows_is_row : with_line 20 (codes "needs anonymity ab|ba 1 2 a rule 5") ≡ SharpFaulty 20 (Report refusal.Row)
+other_number_of_rows_is_row : with_line 20 (codes "needs anonymity ab|ba 1 2 a rule 5") ≡ Faulty 20 (Report refusal.Row)
 other_number_of_rows_is_row = refl
 
-other_limit_is_open : with_line 20 (codes "needs anonymity ab|ba 1 2 a open 99999") ≡ SharpFaulty 20 (Report refusal.OpenMark)
+other_limit_is_open : with_line 20 (codes "needs anonymity ab|ba 1 2 a open 99999") ≡ Faulty 20 (Report refusal.OpenMark)
 other_limit_is_open = refl
 
-malformed_need_is_form : map (λ line. with_line 20 line) (codes "needs" ∷ codes "needs rule 4" ∷ codes "needs anonymity rule 4" ∷ codes "needs anonymity ab|ba 1 2 rule 4" ∷ codes "needs unanimity ab|ba a rule 4" ∷ codes "needs anonymity ab|ba 1 2 a rule" ∷ codes "needs anonymity ab|ba 1 2 a rule 4 4" ∷ []) ≡ replicate 7 (SharpFaulty 20 (Report refusal.Form))
+malformed_need_is_form : map (λ line. with_line 20 line) (codes "needs" ∷ codes "needs rule 4" ∷ codes "needs anonymity rule 4" ∷ codes "needs anonymity ab|ba 1 2 rule 4" ∷ codes "needs unanimity ab|ba a rule 4" ∷ codes "needs anonymity ab|ba 1 2 a rule" ∷ codes "needs anonymity ab|ba 1 2 a rule 4 4" ∷ []) ≡ replicate 7 (Faulty 20 (Report refusal.Form))
 malformed_need_is_form = refl
 
-row_of_another_profile_is_row : with_line 22 (codes "ab|ab a") ≡ SharpFaulty 22 (Report refusal.Row)
+row_of_another_profile_is_row : with_line 22 (codes "ab|ab a") ≡ Faulty 22 (Report refusal.Row)
 row_of_another_profile_is_row = refl
 
 -- a sharp text says of no rule that it is possible, and an undecided one is refused as a report is
-possible_is_form : map (λ line. with_line 6 line) (codes "verdict possible" ∷ codes "verdict undecided" ∷ []) ≡ SharpFaulty 6 (Report refusal.Form) ∷ SharpFaulty 6 (Report refusal.Undecided) ∷ []
+possible_is_form : map (λ line. with_line 6 line) (codes "verdict possible" ∷ codes "verdict undecided" ∷ []) ≡ Faulty 6 (Report refusal.Form) ∷ Faulty 6 (Report refusal.Undecided) ∷ []
 possible_is_form = refl
 
 -- the head, the core and the lemmas are judged as in a report
 faults_of_the_story_stay : map (λ (n, line). with_line n line) ((3, codes "voters 3") ∷ (7, codes "core neutrality anonymity") ∷ (7, codes "core neutrality") ∷ (12, codes "so !b@ba|ab by axiom neutrality ab|ba a b a") ∷ (15, codes "so !a@ab|ba by lemma 2") ∷ []) ≡
-    SharpFaulty 3 (Report refusal.StudyDiffers) ∷ SharpFaulty 7 (Report refusal.Core) ∷ SharpFaulty 11 (Report refusal.NotInCore) ∷ SharpFaulty 12 (Report refusal.NotForced) ∷ SharpFaulty 15 (Report refusal.Later) ∷ []
+    Faulty 3 (Report refusal.StudyDiffers) ∷ Faulty 7 (Report refusal.Core) ∷ Faulty 11 (Report refusal.NotInCore) ∷ Faulty 12 (Report refusal.NotForced) ∷ Faulty 15 (Report refusal.Later) ∷ []
 faults_of_the_story_stay = refl
 
 -- the text has to go on to its end, and nothing follows it
 text_ends_once : map (λ n. sharp_answer symmetric (text_of (take n two_instances_text))) (0 ∷ 1 ∷ 18 ∷ 19 ∷ 29 ∷ []) ≡
-    SharpFaulty 1 (Report refusal.Form) ∷ SharpFaulty 2 (Report refusal.Form) ∷ SharpFaulty 19 (Report refusal.Form) ∷ SharpFaulty 20 (Report refusal.Form) ∷ SharpFaulty 30 (Report refusal.Form) ∷ []
+    Faulty 1 (Report refusal.Form) ∷ Faulty 2 (Report refusal.Form) ∷ Faulty 19 (Report refusal.Form) ∷ Faulty 20 (Report refusal.Form) ∷ Faulty 30 (Report refusal.Form) ∷ []
 text_ends_once = refl
 
-more_after_the_end_is_form : map (λ more. sharp_answer symmetric (text_of two_instances_text ++ more)) (codes "end\n" ∷ codes "e" ∷ []) ≡ replicate 2 (SharpFaulty 31 (Report refusal.Form))
+more_after_the_end_is_form : map (λ more. sharp_answer symmetric (text_of two_instances_text ++ more)) (codes "end\n" ∷ codes "e" ∷ []) ≡ replicate 2 (Faulty 31 (Report refusal.Form))
 more_after_the_end_is_form = refl
 
 -- a core with an axiom that the story does not cite is refused where the story is read
 abbrev with_neutrality_twice : Question
 with_neutrality_twice = record { size = choice 2 2; conflicts = 100000; axioms = axiom_of (codes "anonymity") anonymity ∷ axiom_of (codes "neutrality") neutrality ∷ axiom_of (codes "again") neutrality ∷ [] }
 
-axiom_that_is_not_cited_is_core : sharp_answer with_neutrality_twice (text_of (slice_set (slice_set two_instances_text 4 (codes "axioms anonymity neutrality again")) 6 (codes "core anonymity neutrality again"))) ≡ SharpFaulty 19 (Report refusal.Core)
+axiom_that_is_not_cited_is_core : sharp_answer with_neutrality_twice (text_of (slice_set (slice_set two_instances_text 4 (codes "axioms anonymity neutrality again")) 6 (codes "core anonymity neutrality again"))) ≡ Faulty 19 (Report refusal.Core)
 axiom_that_is_not_cited_is_core = refl
 
-text_beyond_the_limit_is_too_long : map (λ limit. sharp_answer_within limit symmetric (text_of two_instances_text)) (500 ∷ []) ≡ SharpTooLong ∷ []
+text_beyond_the_limit_is_too_long : map (λ limit. sharp_answer_within limit symmetric (text_of two_instances_text)) (500 ∷ []) ≡ TooLong ∷ []
 text_beyond_the_limit_is_too_long = refl
 
 -- ---- open marks
@@ -170,11 +172,11 @@ open_marks_text =
 open_marks_have_this_text : sharp_text symmetric open_marks ≡ text_of open_marks_text
 open_marks_have_this_text = refl
 
-open_marks_are_confirmed : sharp_answer symmetric (text_of open_marks_text) ≡ SharpConfirmed open_marks
+open_marks_are_confirmed : sharp_answer symmetric (text_of open_marks_text) ≡ Confirmed open_marks
 open_marks_are_confirmed = refl
 
 -- a mark for each instance, and no other
-other_number_of_marks_is_form : map (λ lines. sharp_answer symmetric (text_of lines)) ((take 20 open_marks_text ++ codes "end" ∷ []) ∷ (take 21 open_marks_text ++ codes "needs neutrality ab|ba a b a open 100000" ∷ codes "end" ∷ []) ∷ []) ≡ SharpFaulty 21 (Report refusal.Form) ∷ SharpFaulty 22 (Report refusal.Form) ∷ []
+other_number_of_marks_is_form : map (λ lines. sharp_answer symmetric (text_of lines)) ((take 20 open_marks_text ++ codes "end" ∷ []) ∷ (take 21 open_marks_text ++ codes "needs neutrality ab|ba a b a open 100000" ∷ codes "end" ∷ []) ∷ []) ≡ Faulty 21 (Report refusal.Form) ∷ Faulty 22 (Report refusal.Form) ∷ []
 other_number_of_marks_is_form = refl
 
 -- ---- a size that is not full
@@ -188,10 +190,10 @@ head_with lines = (codes "bench sharp 1" ∷ codes "kind choice" ∷ codes "vote
 
 -- the head says which ballots may be cast and whether voters may be absent exactly where the size is not full
 ballots_stand_where_the_size_is_not_full : map (λ lines. sharp_answer with_absence (text_of (head_with lines))) ((codes "ballots ab ba" ∷ codes "absent yes" ∷ []) ∷ (codes "ballots ab ba" ∷ codes "absent no" ∷ []) ∷ [] ∷ []) ≡
-    SharpFaulty 8 (Report refusal.Undecided) ∷ SharpFaulty 6 (Report refusal.StudyDiffers) ∷ SharpFaulty 5 (Report refusal.Form) ∷ []
+    Faulty 8 (Report refusal.Undecided) ∷ Faulty 6 (Report refusal.StudyDiffers) ∷ Faulty 5 (Report refusal.Form) ∷ []
 ballots_stand_where_the_size_is_not_full = refl
 
-ballots_do_not_stand_in_a_full_size : sharp_answer symmetric (text_of (head_with (codes "ballots ab ba" ∷ codes "absent no" ∷ []))) ≡ SharpFaulty 5 (Report refusal.Form)
+ballots_do_not_stand_in_a_full_size : sharp_answer symmetric (text_of (head_with (codes "ballots ab ba" ∷ codes "absent no" ∷ []))) ≡ Faulty 5 (Report refusal.Form)
 ballots_do_not_stand_in_a_full_size = refl
 
 -- an open mark wants the log of a search without its instance: one that opens them all after no search has none

@@ -2,12 +2,15 @@
 use Rattle.std.specs.Prelude.{ℕ, Bool, List, [], ◌∷◌, ◌++◌, length, take, codes, if◌then◌else◌}
 use Rattle.std.specs.Str.{bytes_eq}
 use Rattle.vocab.specs.Study.{Question}
-use Rattle.verdicts.specs.Judge.{Judgement, answer_within}
-use Rattle.verdicts.specs.Numbers.{number_text}
-use Rattle.verdicts.specs.Words.{refusal_text, answer_text}
+use Rattle.verdicts.specs.declared.refusals.Refusal.{Refusal}
+use Rattle.verdicts.specs.declared.verdicts.Verdict.{Verdict}
+use Rattle.verdicts.specs.FirstFault.{Judgement}
+use Rattle.verdicts.specs.Judge.{answer_within}
+use Rattle.verdicts.specs.Words.{refusal_text, judgement_text, answer_text}
 use Rattle.sharp_verdicts.specs.declared.refusals.SharpRefusal.{SharpRefusal}
 use Rattle.sharp_verdicts.specs.declared.refusals.SharpRefusal.TheVariants.{Report, Instance}
-use Rattle.sharp_verdicts.specs.SharpJudge.{SharpJudgement, SharpConfirmed, SharpFaulty, SharpTooLong, sharp_answer_within}
+use Rattle.sharp_verdicts.specs.Right.{Pointed}
+use Rattle.sharp_verdicts.specs.SharpJudge.{sharp_answer_within}
 
 -- ---- which judge answers
 
@@ -21,8 +24,8 @@ has_sharp_title text = bytes_eq (take (length sharp_title) text) sharp_title
 
 -- the answer of the judge of reports, or of the judge of sharp texts
 pub data Judged : Type 0 where
-  AsReport : Judgement → Judged
-  AsSharp : SharpJudgement → Judged
+  AsReport : Judgement Verdict Refusal → Judged
+  AsSharp : Judgement Pointed SharpRefusal → Judged
 
 -- the answer to a text of which so many bytes are read: a text with the title of a sharp text is judged as one, and each other text as a report
 abbrev pub judged_within : ℕ → Question → List ℕ → Judged
@@ -37,10 +40,8 @@ sharp_refusal_text (Report word) = refusal_text word
 sharp_refusal_text Instance = codes "instance"
 
 -- the line of an answer to a sharp text, with its line end
-abbrev pub sharp_answer_text : SharpJudgement → List ℕ
-sharp_answer_text (SharpConfirmed v) = codes "confirmed sharp\n"
-sharp_answer_text (SharpFaulty line word) = codes "refused line " ++ (number_text line ++ codes ": " ++ sharp_refusal_text word ++ 10 ∷ [])
-sharp_answer_text SharpTooLong = codes "refused: too long\n"
+abbrev pub sharp_answer_text : Judgement Pointed SharpRefusal → List ℕ
+sharp_answer_text = judgement_text (λ v. codes "sharp") sharp_refusal_text
 
 -- the line of an answer, with its line end
 abbrev pub judged_text : Judged → List ℕ

@@ -1,5 +1,5 @@
 -- The first faulty line of a sharp text, or the sharp verdict that is confirmed.
-use Rattle.std.specs.Prelude.{ℕ, ◌==◌, nat_lt, List, [], ◌∷◌, ◌++◌, length, take, Option, Some, if◌then◌else◌}
+use Rattle.std.specs.Prelude.{ℕ, ◌==◌, List, [], ◌∷◌, ◌++◌, length, Option, Some, if◌then◌else◌}
 use Rattle.std.specs.Option.{option_map_or}
 use Rattle.vocab.specs.declared.kinds.Sort.TheVariants.{Profile}
 use Rattle.vocab.specs.Size.{sort_count}
@@ -7,8 +7,8 @@ use Rattle.vocab.specs.Study.{Question}
 use Rattle.meaning.specs.declared.cores.Witness.TheVariants.{Rule, Open}
 use Rattle.verdicts.specs.declared.refusals.Refusal.TheVariants as refusal
 use Rattle.verdicts.specs.Lines.{Line, Title, Row, End}
-use Rattle.verdicts.specs.FirstFault.{Told, Good, Refused, judge_lines}
-use Rattle.verdicts.specs.Judge.{advance, pieces, front, final}
+use Rattle.verdicts.specs.FirstFault.{Told, judge_lines, Judgement, Confirmed, Faulty, concluded}
+use Rattle.verdicts.specs.Judge.{advance, answered, answered_within}
 use Rattle.verdicts.specs.Report.{own_version}
 use Rattle.sharp_verdicts.specs.declared.refusals.SharpRefusal.{SharpRefusal}
 use Rattle.sharp_verdicts.specs.declared.refusals.SharpRefusal.TheVariants.{Report}
@@ -71,33 +71,20 @@ module _ (study : Question) where
 
 -- ---- a whole text
 
--- a sharp text is confirmed, or has a first faulty line, or is longer than what is read of it
-pub data SharpJudgement : Type 0 where
-  SharpConfirmed : Pointed → SharpJudgement
-  SharpFaulty : (line : ℕ) → SharpRefusal → SharpJudgement
-  SharpTooLong : SharpJudgement
-
 module _ (study : Question) where
   -- where no line is faulty: the end must be read, and no byte may follow it
-  abbrev pub at_sharp_end : ℕ → List ℕ → SharpPlace → SharpStanding → SharpJudgement
-  at_sharp_end n [] AtSharpNothing s = SharpConfirmed (pointed_of study s)
-  at_sharp_end n rest place s = SharpFaulty n (Report refusal.Form)
+  abbrev pub at_sharp_end : ℕ → List ℕ → SharpPlace → SharpStanding → Judgement Pointed SharpRefusal
+  at_sharp_end n [] AtSharpNothing s = Confirmed (pointed_of study s)
+  at_sharp_end n rest place s = Faulty n (Report refusal.Form)
 
   -- with the number of the last piece, and the piece
-  abbrev pub sharp_conclude : ℕ → List ℕ → Told SharpStanding SharpRefusal → SharpJudgement
-  sharp_conclude n rest (Refused line word) = SharpFaulty line word
-  sharp_conclude n rest (Good s) = at_sharp_end n rest s.place s
+  abbrev pub sharp_conclude : ℕ → List ℕ → Told SharpStanding SharpRefusal → Judgement Pointed SharpRefusal
+  sharp_conclude = concluded (λ n rest s. at_sharp_end n rest s.place s)
 
   -- the answer to a text
-  abbrev pub sharp_answer : List ℕ → SharpJudgement
-  sharp_answer text = sharp_conclude (length (pieces text)) (final (pieces text)) (sharp_judge study (front (pieces text)))
+  abbrev pub sharp_answer : List ℕ → Judgement Pointed SharpRefusal
+  sharp_answer = answered sharp_conclude (sharp_judge study)
 
-  -- where no line that ends within the limit is faulty
-  abbrev pub sharp_beyond : Told SharpStanding SharpRefusal → SharpJudgement
-  sharp_beyond (Refused line word) = SharpFaulty line word
-  sharp_beyond (Good s) = SharpTooLong
-
--- the answer to a text of which so many bytes are read: of a longer one the lines are judged that end within them
-abbrev pub sharp_answer_within : ℕ → Question → List ℕ → SharpJudgement
-sharp_answer_within limit study text =
-    if nat_lt limit (length text) then sharp_beyond study (sharp_judge study (front (pieces (take limit text)))) else sharp_answer study text
+-- the answer to a text of which so many bytes are read
+abbrev pub sharp_answer_within : ℕ → Question → List ℕ → Judgement Pointed SharpRefusal
+sharp_answer_within limit study = answered_within (sharp_conclude study) (sharp_judge study) limit

@@ -11,15 +11,15 @@ use Rattle.verdicts.specs.declared.verdicts.Confirmed.TheVariants as claim
 use Rattle.verdicts.specs.declared.verdicts.Verdict.{Verdict}
 use Rattle.verdicts.specs.declared.verdicts.Verdict.TheVariants.{Possible, Impossible, Undecided}
 use Rattle.verdicts.specs.Places.{Place, Standing, AtNothing}
-use Rattle.verdicts.specs.FirstFault.{Told, Good}
-use Rattle.verdicts.specs.Judge.{at_end, conclude, beyond}
+use Rattle.verdicts.specs.FirstFault.{Told, Good, beyond}
+use Rattle.verdicts.specs.Judge.{at_end, conclude}
 use Rattle.report_lines.specs.Held.{held_place}
 use Rattle.sharp_verdicts.specs.declared.instances.Cited.{Cited}
 use Rattle.sharp_verdicts.specs.declared.refusals.SharpRefusal.{SharpRefusal}
 use Rattle.sharp_verdicts.specs.declared.refusals.SharpRefusal.TheVariants.{Report}
 use Rattle.sharp_verdicts.specs.Judged.{AsReport, AsSharp}
 use Rattle.sharp_verdicts.specs.SharpFaults.{listed_instances}
-use Rattle.sharp_verdicts.specs.SharpJudge.{pointed_of, at_sharp_end, sharp_conclude, sharp_beyond}
+use Rattle.sharp_verdicts.specs.SharpJudge.{pointed_of, at_sharp_end, sharp_conclude}
 use Rattle.sharp_verdicts.specs.SharpPlaces.{SharpPlace, AtSharpNothing, SharpStanding}
 use Rattle.sharp_report.specs.SharpStands.{held_sharp_place}
 use Rattle.verdict_reading.specs.declared.collector.Collector.{Collector}
@@ -32,7 +32,7 @@ use Rattle.verdict_reading.specs.declared.text_collector.TextRefusal.TheVariants
 use Rattle.verdict_reading.specs.Collected.{EndsAt, Collects, claim_at, verdict_at}
 use Rattle.verdict_reading.specs.SharpCollected.{as_read, SharpCollects, is_at_end, sharp_verdict_at}
 use Rattle.verdict_reading.specs.Told.{HasCollected, IsFirstFaulty}
-use Rattle.verdict_reading.specs.Readings.{reading_of, judged_end, sharp_judged_end, judged_lines}
+use Rattle.verdict_reading.specs.Readings.{reading_of, judged_end, judged_lines}
 
 -- ---- the verdict that is read
 
@@ -95,10 +95,10 @@ no_items (x ∷ rest) e = let none : length (x ∷ rest) ≡ 0 = eqb-true (lengt
 
 -- what is read of a report, and of a sharp text
 abbrev report_end : (whole : Bool) → ℕ → List ℕ → Standing → Reading
-report_end whole n rest s = reading_of (AsReport (judged_end whole n rest (Good s)))
+report_end whole n rest s = reading_of (AsReport (judged_end conclude whole n rest (Good s)))
 
 abbrev sharp_end : Question → (whole : Bool) → ℕ → List ℕ → SharpStanding → Reading
-sharp_end study whole n rest s = reading_of (AsSharp (sharp_judged_end study whole n rest (Good s)))
+sharp_end study whole n rest s = reading_of (AsSharp (judged_end (sharp_conclude study) whole n rest (Good s)))
 
 -- it is cut off
 pub cut_off : (whole : Bool) (n : ℕ) (rest : List ℕ) (s : Standing) → whole ≡ false → reading.TooLong ≡ report_end whole n rest s
@@ -174,7 +174,7 @@ module _ (study : Question) (lines : List (List ℕ)) (rest : List ℕ) where
       → IfOk result (λ r. r ≡ reading_of (judged_lines study sharp whole lines rest))
   report_ends true whole ended c line result h e go = absurd h
   report_ends false whole ended c line result h e go =
-      subst (λ (t : Told Standing Refusal). IfOk result (λ r. r ≡ reading_of (AsReport (judged_end whole (length lines + 1) rest t)))) (sym h.1)
+      subst (λ (t : Told Standing Refusal). IfOk result (λ r. r ≡ reading_of (AsReport (judged_end conclude whole (length lines + 1) rest t)))) (sym h.1)
       (subst (λ n. IfOk result (λ r. r ≡ report_end whole n rest h.0)) e (go h.0 h.2))
 
   -- of a sharp text
@@ -183,7 +183,7 @@ module _ (study : Question) (lines : List (List ℕ)) (rest : List ℕ) where
       → IfOk result (λ r. r ≡ reading_of (judged_lines study sharp whole lines rest))
   sharp_ends false whole ended c line result h e go = absurd h
   sharp_ends true whole ended c line result h e go =
-      subst (λ (t : Told SharpStanding SharpRefusal). IfOk result (λ r. r ≡ reading_of (AsSharp (sharp_judged_end study whole (length lines + 1) rest t)))) (sym h.1)
+      subst (λ (t : Told SharpStanding SharpRefusal). IfOk result (λ r. r ≡ reading_of (AsSharp (judged_end (sharp_conclude study) whole (length lines + 1) rest t)))) (sym h.1)
       (subst (λ n. IfOk result (λ r. r ≡ sharp_end study whole n rest h.0)) e (go h.0 h.2))
 
   -- a line is faulty
@@ -197,4 +197,4 @@ module _ (study : Question) (lines : List (List ℕ)) (rest : List ℕ) where
       → reading.SharpFaulty line word ≡ reading_of (judged_lines study sharp whole lines rest)
   sharp_text_refused false whole line word h = absurd h
   sharp_text_refused true true line word h = sym (ap (λ (t : Told SharpStanding SharpRefusal). reading_of (AsSharp (sharp_conclude study (length lines + 1) rest t))) h)
-  sharp_text_refused true false line word h = sym (ap (λ (t : Told SharpStanding SharpRefusal). reading_of (AsSharp (sharp_beyond study t))) h)
+  sharp_text_refused true false line word h = sym (ap (λ (t : Told SharpStanding SharpRefusal). reading_of (AsSharp (beyond t))) h)

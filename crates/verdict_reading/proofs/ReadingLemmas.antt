@@ -1,31 +1,28 @@
 -- What is read of a text and of a file.
-use Rattle.std.proofs.Common.{◌≡◌, refl, sym, ap, ◌∙◌, ℕ, ◌+◌, Bool, true, false, true≢false, List, length, Option, Some, None, ◌<◌, arith, cond, take, drop, lt-ltb, take-append-drop}
+use Rattle.std.proofs.Common.{◌≡◌, refl, sym, ap, ◌∙◌, ℕ, ◌+◌, Bool, true, false, true≢false, List, length, Option, Some, None, ◌<◌, arith, cond, take, drop, take-append-drop}
 use Rattle.std.specs.Prelude.{IfSome, IsSome}
 use Rattle.edge.specs.Shelf.{Files}
 use Rattle.vocab.specs.Study.{Question}
 use Rattle.verdicts.specs.declared.verdicts.Verdict.{Verdict}
-use Rattle.verdicts.specs.declared.refusals.Refusal.{Refusal}
-use Rattle.verdicts.specs.Places.{Standing}
-use Rattle.verdicts.specs.FirstFault.{Told, Good, Refused}
-use Rattle.verdicts.specs.Judge.{Judgement, Confirmed, Faulty, TooLong, judge, conclude, beyond, answer, answer_within, pieces, front, final}
+use Rattle.verdicts.specs.FirstFault.{Told, Judgement, Confirmed, Faulty, TooLong, beyond}
+use Rattle.verdicts.specs.Judge.{judge, conclude, answered_within, answer, answer_within, pieces, front, final}
+use Rattle.verdicts.proofs.WholeTextLaws.{long_within, not_beyond}
 use Rattle.verdicts.proofs.ClaimLaws.{within_limit}
 use Rattle.verdicts.proofs.JudgeLaws.{judge_sound}
 use Rattle.sharp_verdicts.specs.Judged.{Judged, AsReport, AsSharp, has_sharp_title, judged_within}
-use Rattle.sharp_verdicts.specs.Right.{Pointed}
-use Rattle.sharp_verdicts.specs.declared.refusals.SharpRefusal.{SharpRefusal}
-use Rattle.sharp_verdicts.specs.SharpPlaces.{SharpStanding}
-use Rattle.sharp_verdicts.specs.SharpJudge.{SharpJudgement, SharpConfirmed, SharpFaulty, SharpTooLong, sharp_judge, sharp_conclude, sharp_beyond, sharp_answer, sharp_answer_within}
+use Rattle.sharp_verdicts.specs.SharpJudge.{sharp_judge, sharp_conclude, sharp_answer, sharp_answer_within}
+use Rattle.sharp_laws.proofs.ApartLaws.{report_given, sharp_given}
 use Rattle.sharp_laws.proofs.FaultLaws.{within_limit as sharp_within_limit}
 use Rattle.sharp_laws.proofs.JudgeLaws.{judge_sound as sharp_judge_sound}
 use Rattle.report_files.specs.Files.{most_verdict_bytes}
-use Rattle.report_files.proofs.EndedLemmas.{within, whole_within, limit_is, whole_is}
+use Rattle.report_files.proofs.EndedLemmas.{whole_within, limit_is, whole_is}
 use Rattle.report_files.proofs.PieceLemmas.{pieces_count}
 use Rattle.report_files.proofs.TitleLemmas.{title_within}
 use Rattle.verdict_reading.specs.declared.reading.Reading.{Reading}
 use Rattle.verdict_reading.specs.declared.reading.Reading.TheVariants as reading
 use Rattle.verdict_reading.specs.declared.sharp_verdict.SharpVerdict.{SharpVerdict}
 use Rattle.verdict_reading.specs.SharpCollected.{as_read, as_said}
-use Rattle.verdict_reading.specs.Readings.{reading_of, judged_whole, sharp_judged_end, judged_front, IsRightOf, ReadingHolds, IsFileFront, IsReadOf}
+use Rattle.verdict_reading.specs.Readings.{reading_of, judged_whole, judged_end, judged_front, IsRightOf, ReadingHolds, IsFileFront, IsReadOf}
 
 -- ---- right verdicts
 
@@ -34,41 +31,32 @@ confirmed_is : (a : Judged) (v : Verdict) → reading_of a ≡ reading.Confirmed
 confirmed_is (AsReport (Confirmed w)) v e = let same : w ≡ v = cc in ap (λ x. AsReport (Confirmed x)) same
 confirmed_is (AsReport (Faulty line word)) v e = absurd (cc)
 confirmed_is (AsReport TooLong) v e = absurd (cc)
-confirmed_is (AsSharp (SharpConfirmed w)) v e = absurd (cc)
-confirmed_is (AsSharp (SharpFaulty line word)) v e = absurd (cc)
-confirmed_is (AsSharp SharpTooLong) v e = absurd (cc)
+confirmed_is (AsSharp (Confirmed w)) v e = absurd (cc)
+confirmed_is (AsSharp (Faulty line word)) v e = absurd (cc)
+confirmed_is (AsSharp TooLong) v e = absurd (cc)
 
-sharp_is : (a : Judged) (v : SharpVerdict) → reading_of a ≡ reading.SharpConfirmed v → a ≡ AsSharp (SharpConfirmed (as_said v))
+sharp_is : (a : Judged) (v : SharpVerdict) → reading_of a ≡ reading.SharpConfirmed v → a ≡ AsSharp (Confirmed (as_said v))
 sharp_is (AsReport (Confirmed w)) v e = absurd (cc)
 sharp_is (AsReport (Faulty line word)) v e = absurd (cc)
 sharp_is (AsReport TooLong) v e = absurd (cc)
-sharp_is (AsSharp (SharpConfirmed w)) v e = let same : as_read w ≡ v = cc in ap (λ (x : SharpVerdict). AsSharp (SharpConfirmed (as_said x))) same
-sharp_is (AsSharp (SharpFaulty line word)) v e = absurd (cc)
-sharp_is (AsSharp SharpTooLong) v e = absurd (cc)
-
--- of two answers, by the title of the text
-by_report : (b : Bool) (x : SharpJudgement) (y z : Judgement) → cond b (AsSharp x) (AsReport y) ≡ AsReport z → y ≡ z
-by_report true x y z e = absurd (cc)
-by_report false x y z e = cc
-
-by_sharp : (b : Bool) (x z : SharpJudgement) (y : Judgement) → cond b (AsSharp x) (AsReport y) ≡ AsSharp z → x ≡ z
-by_sharp true x z y e = cc
-by_sharp false x z y e = absurd (cc)
+sharp_is (AsSharp (Confirmed w)) v e = let same : as_read w ≡ v = cc in ap (λ (x : SharpVerdict). AsSharp (Confirmed (as_said x))) same
+sharp_is (AsSharp (Faulty line word)) v e = absurd (cc)
+sharp_is (AsSharp TooLong) v e = absurd (cc)
 
 module _ (study : Question) (text : List ℕ) where
   pub right_of : (r : Reading) → r ≡ reading_of (judged_whole study text) → IsRightOf study text r
   right_of r e = record {
-    report = λ v is. judge_sound study text v (by_report (has_sharp_title text) (sharp_answer study text) (answer study text) (Confirmed v) (confirmed_is (judged_whole study text) v (sym e ∙ is)));
-    sharp = λ v is. sharp_judge_sound study text (as_said v) (by_sharp (has_sharp_title text) (sharp_answer study text) (SharpConfirmed (as_said v)) (answer study text) (sharp_is (judged_whole study text) v (sym e ∙ is)));
+    report = λ v is. judge_sound study text v (report_given (has_sharp_title text) (sharp_answer study text) (answer study text) (Confirmed v) (confirmed_is (judged_whole study text) v (sym e ∙ is)));
+    sharp = λ v is. sharp_judge_sound study text (as_said v) (sharp_given (has_sharp_title text) (sharp_answer study text) (Confirmed (as_said v)) (answer study text) (sharp_is (judged_whole study text) v (sym e ∙ is)));
   }
 
   right_within : (r : Reading) → r ≡ reading_of (judged_within most_verdict_bytes study text) → IsRightOf study text r
   right_within r e = record {
     report = λ v is.
-        let confirmed = by_report (has_sharp_title text) (sharp_answer_within most_verdict_bytes study text) (answer_within most_verdict_bytes study text) (Confirmed v) (confirmed_is (judged_within most_verdict_bytes study text) v (sym e ∙ is)) in
+        let confirmed = report_given (has_sharp_title text) (sharp_answer_within most_verdict_bytes study text) (answer_within most_verdict_bytes study text) (Confirmed v) (confirmed_is (judged_within most_verdict_bytes study text) v (sym e ∙ is)) in
         judge_sound study text v ((within_limit most_verdict_bytes study text v).0 confirmed).1;
     sharp = λ v is.
-        let confirmed = by_sharp (has_sharp_title text) (sharp_answer_within most_verdict_bytes study text) (SharpConfirmed (as_said v)) (answer_within most_verdict_bytes study text) (sharp_is (judged_within most_verdict_bytes study text) v (sym e ∙ is)) in
+        let confirmed = sharp_given (has_sharp_title text) (sharp_answer_within most_verdict_bytes study text) (Confirmed (as_said v)) (answer_within most_verdict_bytes study text) (sharp_is (judged_within most_verdict_bytes study text) v (sym e ∙ is)) in
         sharp_judge_sound study text (as_said v) ((sharp_within_limit most_verdict_bytes study text (as_said v)).0 confirmed).1;
   }
 
@@ -82,17 +70,9 @@ module _ (study : Question) (text : List ℕ) where
       let right = right_of r (e ∙ ap reading_of whole_is_front) in
       record { report = λ v is. (text, right.report v is); sharp = λ v is. (text, right.sharp v is) }
   front_holds false r e = record {
-    report = λ v is. absurd (not_beyond (judge study (front (pieces text))) v (by_report (has_sharp_title text) (sharp_beyond study (sharp_judge study (front (pieces text)))) (beyond (judge study (front (pieces text)))) (Confirmed v) (confirmed_is (judged_front study false text) v (sym e ∙ is))));
-    sharp = λ v is. absurd (not_sharp_beyond (sharp_judge study (front (pieces text))) (as_said v) (by_sharp (has_sharp_title text) (sharp_beyond study (sharp_judge study (front (pieces text)))) (SharpConfirmed (as_said v)) (beyond (judge study (front (pieces text)))) (sharp_is (judged_front study false text) v (sym e ∙ is))));
+    report = λ v is. absurd (not_beyond (judge study (front (pieces text))) v (report_given (has_sharp_title text) (beyond (sharp_judge study (front (pieces text)))) (beyond (judge study (front (pieces text)))) (Confirmed v) (confirmed_is (judged_front study false text) v (sym e ∙ is))));
+    sharp = λ v is. absurd (not_beyond (sharp_judge study (front (pieces text))) (as_said v) (sharp_given (has_sharp_title text) (beyond (sharp_judge study (front (pieces text)))) (Confirmed (as_said v)) (beyond (judge study (front (pieces text)))) (sharp_is (judged_front study false text) v (sym e ∙ is))));
   }
-    where
-      not_beyond : (judged : Told Standing Refusal) (v : Verdict) → beyond judged ≡ Confirmed v → ⊥
-      not_beyond (Good s) v e = cc
-      not_beyond (Refused n word) v e = cc
-
-      not_sharp_beyond : (judged : Told SharpStanding SharpRefusal) (v : Pointed) → sharp_beyond study judged ≡ SharpConfirmed v → ⊥
-      not_sharp_beyond (Good s) v e = cc
-      not_sharp_beyond (Refused n word) v e = cc
 
 -- ---- files
 
@@ -102,16 +82,15 @@ front_fits true before now bytes h = let fits = h.2 in omega (arith, fits)
 front_fits false before now bytes h = let fits = h.3 in omega (arith, fits)
 
 -- what a judge answers of a file that is held, by what was read of it
-module _ {T J : Type 0} (judged : List (List ℕ) → T) (ends : ℕ → List ℕ → T → J) (past : T → J) where
+module _ {S V R : Type 0} (conclude_with : ℕ → List ℕ → Told S R → Judgement V R) (judged : List (List ℕ) → Told S R) where
   front_within : (whole : Bool) (known left : Option (List ℕ)) (bytes held : List ℕ) → IsFileFront whole known left bytes → known ≡ Some held
-      → within judged ends past held ≡ cond whole (ends (length (front (pieces bytes)) + 1) (final (pieces bytes)) (judged (front (pieces bytes)))) (past (judged (front (pieces bytes))))
+      → answered_within conclude_with judged most_verdict_bytes held ≡ judged_end conclude_with whole (length (front (pieces bytes)) + 1) (final (pieces bytes)) (judged (front (pieces bytes)))
   front_within true known left bytes held h k =
-      whole_within judged ends past known left false bytes held h k
-      ∙ ap (λ n. ends n (final (pieces bytes)) (judged (front (pieces bytes)))) (pieces_count bytes)
+      whole_within conclude_with judged known left false bytes held h k
+      ∙ ap (λ n. conclude_with n (final (pieces bytes)) (judged (front (pieces bytes)))) (pieces_count bytes)
   front_within false known left bytes held h k =
       let parts = limit_is known left false bytes held h k in
-      ap (λ b. cond b (past (judged (front (pieces (take most_verdict_bytes held))))) (ends (length (pieces held)) (final (pieces held)) (judged (front (pieces held))))) (lt-ltb most_verdict_bytes (length held) parts.0)
-      ∙ ap (λ (t : List ℕ). past (judged (front (pieces t)))) parts.1
+      long_within conclude_with judged most_verdict_bytes held parts.0 ∙ ap (λ (t : List ℕ). beyond (judged (front (pieces t)))) parts.1
 
 -- the front of a file tells which judge it is
 front_title : (whole : Bool) (known left : Option (List ℕ)) (bytes held : List ℕ) → IsFileFront whole known left bytes → known ≡ Some held → has_sharp_title held ≡ has_sharp_title bytes
@@ -128,12 +107,12 @@ module _ (study : Question) where
       → r ≡ reading_of (judged_front study whole bytes) → r ≡ reading_of (judged_within most_verdict_bytes study held)
   held_is known left whole bytes held r h k e =
       let n = length (front (pieces bytes)) + 1 in
-      let sharp = front_within (sharp_judge study) (sharp_conclude study) (sharp_beyond study) whole known left bytes held h k in
-      let report = front_within (judge study) conclude beyond whole known left bytes held h k in
+      let sharp = front_within (sharp_conclude study) (sharp_judge study) whole known left bytes held h k in
+      let report = front_within conclude (judge study) whole known left bytes held h k in
       e ∙ sym (ap reading_of (
       ap (λ b. cond b (AsSharp (sharp_answer_within most_verdict_bytes study held)) (AsReport (answer_within most_verdict_bytes study held))) (front_title whole known left bytes held h k)
       ∙ ap (λ x. cond (has_sharp_title bytes) (AsSharp x) (AsReport (answer_within most_verdict_bytes study held))) sharp
-      ∙ ap (λ y. cond (has_sharp_title bytes) (AsSharp (sharp_judged_end study whole n (final (pieces bytes)) (sharp_judge study (front (pieces bytes))))) (AsReport y)) report))
+      ∙ ap (λ y. cond (has_sharp_title bytes) (AsSharp (judged_end (sharp_conclude study) whole n (final (pieces bytes)) (sharp_judge study (front (pieces bytes))))) (AsReport y)) report))
 
   -- what is read of the file that is held
   read_of : (files : Files) (name held : List ℕ) (r : Reading) → files name ≡ Some held → r ≡ reading_of (judged_within most_verdict_bytes study held) → IsReadOf study files name r

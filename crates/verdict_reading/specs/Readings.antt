@@ -4,15 +4,11 @@ use Rattle.std.specs.Io.KnownBytes.{Consumes, IsAtEnd}
 use Rattle.edge.specs.Shelf.{Files}
 use Rattle.vocab.specs.Study.{Question}
 use Rattle.verdicts.specs.declared.verdicts.Verdict.{Verdict}
-use Rattle.verdicts.specs.declared.refusals.Refusal.{Refusal}
-use Rattle.verdicts.specs.Places.{Standing}
-use Rattle.verdicts.specs.FirstFault.{Told}
-use Rattle.verdicts.specs.Judge.{Judgement, Confirmed, Faulty, TooLong, judge, answer, beyond, conclude, pieces, front, final}
+use Rattle.verdicts.specs.FirstFault.{Told, Judgement, Confirmed, Faulty, TooLong, beyond}
+use Rattle.verdicts.specs.Judge.{judge, answer, conclude, pieces, front, final}
 use Rattle.verdicts.specs.Report.{IsReport}
 use Rattle.sharp_verdicts.specs.Judged.{Judged, AsReport, AsSharp, has_sharp_title, judged_within}
-use Rattle.sharp_verdicts.specs.declared.refusals.SharpRefusal.{SharpRefusal}
-use Rattle.sharp_verdicts.specs.SharpPlaces.{SharpStanding}
-use Rattle.sharp_verdicts.specs.SharpJudge.{SharpJudgement, SharpConfirmed, SharpFaulty, SharpTooLong, sharp_judge, sharp_answer, sharp_beyond, sharp_conclude}
+use Rattle.sharp_verdicts.specs.SharpJudge.{sharp_judge, sharp_answer, sharp_conclude}
 use Rattle.sharp_laws.specs.Laws.{IsSharpText}
 use Rattle.report_files.specs.Files.{most_verdict_bytes}
 use Rattle.verdict_reading.specs.declared.reading.Reading.{Reading}
@@ -25,27 +21,23 @@ abbrev pub reading_of : Judged → Reading
 reading_of (AsReport (Confirmed verdict)) = reading.Confirmed verdict
 reading_of (AsReport (Faulty line word)) = reading.Faulty line word
 reading_of (AsReport TooLong) = reading.TooLong
-reading_of (AsSharp (SharpConfirmed v)) = reading.SharpConfirmed (as_read v)
-reading_of (AsSharp (SharpFaulty line word)) = reading.SharpFaulty line word
-reading_of (AsSharp SharpTooLong) = reading.SharpTooLong
+reading_of (AsSharp (Confirmed v)) = reading.SharpConfirmed (as_read v)
+reading_of (AsSharp (Faulty line word)) = reading.SharpFaulty line word
+reading_of (AsSharp TooLong) = reading.SharpTooLong
 
 -- the answer to a text: one with the title of a sharp text is judged as one, and each other text as a report
 abbrev pub judged_whole : Question → List ℕ → Judged
 judged_whole study text = if has_sharp_title text then AsSharp (sharp_answer study text) else AsReport (answer study text)
 
--- what the judge of reports answers of lines that have been judged, and of what follows the last line end with its number: of a text that is whole, or of the front of a longer one
-abbrev pub judged_end : (whole : Bool) → ℕ → List ℕ → Told Standing Refusal → Judgement
-judged_end whole n rest told = if whole then conclude n rest told else beyond told
+-- what a judge answers of lines that have been judged, and of what follows the last line end with its number: of a text that is whole, or of the front of a longer one
+abbrev pub judged_end : {S V R : Type 0} → (ℕ → List ℕ → Told S R → Judgement V R) → (whole : Bool) → ℕ → List ℕ → Told S R → Judgement V R
+judged_end conclude_with whole n rest told = if whole then conclude_with n rest told else beyond told
 
--- the same of the judge of sharp texts
-abbrev pub sharp_judged_end : Question → (whole : Bool) → ℕ → List ℕ → Told SharpStanding SharpRefusal → SharpJudgement
-sharp_judged_end study whole n rest told = if whole then sharp_conclude study n rest told else sharp_beyond study told
-
--- the same of some lines, of a sharp text or of a report, and of what follows them
+-- what is answered of some lines, of a sharp text or of a report, and of what follows them
 abbrev pub judged_lines : Question → (sharp whole : Bool) → List (List ℕ) → List ℕ → Judged
 judged_lines study sharp whole lines rest =
-    if sharp then AsSharp (sharp_judged_end study whole (length lines + 1) rest (sharp_judge study lines))
-    else AsReport (judged_end whole (length lines + 1) rest (judge study lines))
+    if sharp then AsSharp (judged_end (sharp_conclude study) whole (length lines + 1) rest (sharp_judge study lines))
+    else AsReport (judged_end conclude whole (length lines + 1) rest (judge study lines))
 
 -- the same of the lines of a text
 abbrev pub judged_front : Question → (whole : Bool) → List ℕ → Judged

@@ -3,13 +3,15 @@
 ghost use Rattle.std.specs.Prelude.{◌≡◌, ◌+◌, ◌<◌, ◌==◌, ℕ, Bool, List, length, IfOk};
 ghost use Rattle.vocab.specs.Study.{Question};
 ghost use Rattle.verdicts.specs.FirstFault.{Good};
+ghost use Rattle.verdicts.specs.Judge.{conclude};
 ghost use Rattle.verdicts.specs.Places.{Standing};
 ghost use Rattle.sharp_verdicts.specs.Judged.{AsReport, AsSharp};
+ghost use Rattle.sharp_verdicts.specs.SharpJudge.{sharp_conclude};
 ghost use Rattle.sharp_verdicts.specs.SharpPlaces.{SharpStanding};
 ghost use Rattle.verdict_reading.specs.Collected.{Collects};
 ghost use Rattle.verdict_reading.specs.SharpCollected.{SharpCollects};
 ghost use Rattle.verdict_reading.specs.Told.{HasCollected, IsFirstFaulty, TellsOf};
-ghost use Rattle.verdict_reading.specs.Readings.{reading_of, judged_whole, judged_end, sharp_judged_end, judged_lines, IsTextRead, IsRightOf};
+ghost use Rattle.verdict_reading.specs.Readings.{reading_of, judged_whole, judged_end, judged_lines, IsTextRead, IsRightOf};
 
 use crate::collector::Collector;
 use crate::lines::{Told, has_sharp_title, read_lines};
@@ -50,7 +52,8 @@ fn end_of_report(
 ) -> Result<Reading, NoMemory>
     ensures { (study : Question) (s : Standing) (rest : List ℕ) → Collects study collector s →
         ended ≡ (length rest == 0) →
-        IfOk result (λ reading. reading ≡ reading_of (AsReport (judged_end whole line rest (Good s)))) }
+        IfOk result (λ reading.
+        reading ≡ reading_of (AsReport (judged_end conclude whole line rest (Good s)))) }
 {
     if !whole {
         return Ok(Reading::TooLong);
@@ -82,7 +85,7 @@ fn end_of_sharp(
     ensures { (study : Question) (s : SharpStanding) (rest : List ℕ) → SharpCollects study collector s →
         ended ≡ (length rest == 0) →
         IfOk result (λ reading.
-        reading ≡ reading_of (AsSharp (sharp_judged_end study whole line rest (Good s)))) }
+        reading ≡ reading_of (AsSharp (judged_end (sharp_conclude study) whole line rest (Good s)))) }
 {
     if !whole {
         return Ok(Reading::SharpTooLong);

@@ -1,9 +1,9 @@
 -- What a confirmed report claims holds.
-use Rattle.std.proofs.Common.{◌≡◌, refl, sym, subst, true≢false, eqb-true, filter, ap, ◌∙◌, ℕ, ◌+◌, ◌≤◌, ◌↔◌, inl, inr, cond, take, lt-ltb, le-ltb, Bool, true, false, not, ◌&&◌, List, [], ◌∷◌, length, Some, arith, ltb-true}
+use Rattle.std.proofs.Common.{◌≡◌, refl, sym, subst, true≢false, eqb-true, filter, ℕ, ◌+◌, ◌≤◌, ◌↔◌, inl, inr, Bool, true, not, ◌&&◌, List, [], ◌∷◌, length, Some, arith, ltb-true}
 use Rattle.std.specs.Cmp.Lexicographic.{pointwise}
 use Rattle.std.specs.Prelude.{◌==◌, nat_lt, slice_get}
 use Rattle.std.specs.List.{list_all, list_any}
-use Rattle.std.proofs.lemmas.Bool.{and_parts, and_from, or_cases, cases_lt}
+use Rattle.std.proofs.lemmas.Bool.{and_parts, and_from, or_cases}
 use Rattle.vocab.specs.Size.{IsSize}
 use Rattle.vocab.specs.Study.{Question}
 use Rattle.meaning.specs.declared.cores.Witness.{Witness}
@@ -21,11 +21,10 @@ use Rattle.verdicts.specs.declared.verdicts.Verdict.TheVariants.{Possible, Impos
 use Rattle.verdicts.specs.Report.{is_right}
 use Rattle.verdicts.specs.Claims.{HasNoRule, claim_of, IsClaimed, IsImpossible, ClaimHolds}
 use Rattle.verdicts.specs.declared.verdicts.Verdict.{Verdict}
-use Rattle.verdicts.specs.declared.refusals.Refusal.{Refusal}
-use Rattle.verdicts.specs.Places.{Standing}
-use Rattle.verdicts.specs.FirstFault.{Told, Good, Refused}
-use Rattle.verdicts.specs.Judge.{judge, pieces, front, Confirmed, answer, beyond, answer_within}
+use Rattle.verdicts.specs.FirstFault.{Confirmed}
+use Rattle.verdicts.specs.Judge.{judge, conclude, answer, answer_within}
 use Rattle.verdicts.specs.Laws.{is_rule_given, IsRuleConfirmed, IsImpossibilityConfirmed, IsCoreConfirmed}
+use Rattle.verdicts.proofs.WholeTextLaws.{confirmed_within}
 use Rattle.verdicts.proofs.JudgeLaws.{judge_sound}
 
 -- what holds of all places of a study holds of those of a core
@@ -76,20 +75,7 @@ module _ (study : Question) (taken : IsSize study.size) (text : List ℕ) where
   claims_hold = (rule_holds, λ core story witnesses. (impossibility_holds core story witnesses, core_holds core story witnesses))
 
 pub within_limit : (limit : ℕ) (study : Question) (text : List ℕ) (verdict : Verdict) → (answer_within limit study text ≡ Confirmed verdict) ↔ ((length text ≤ limit) × (answer study text ≡ Confirmed verdict))
-within_limit limit study text verdict = (
-  λ e. elim (cases_lt limit (length text)) [
-    | inl less ↦ absurd (not_beyond (judge study (front (pieces (take limit text)))) (sym (chosen true (lt-ltb limit (length text) less)) ∙ e))
-    | inr le ↦ (le, sym (chosen false (le-ltb limit (length text) le)) ∙ e)
-  ],
-  λ h. chosen false (le-ltb limit (length text) h.0) ∙ h.1,
-)
-  where
-    chosen : (b : Bool) → nat_lt limit (length text) ≡ b → answer_within limit study text ≡ cond b (beyond (judge study (front (pieces (take limit text))))) (answer study text)
-    chosen b e = ap (λ c. cond c (beyond (judge study (front (pieces (take limit text))))) (answer study text)) e
-
-    not_beyond : (told : Told Standing Refusal) → beyond told ≡ Confirmed verdict → ⊥
-    not_beyond (Good s) e = cc
-    not_beyond (Refused n word) e = cc
+within_limit limit study = confirmed_within conclude (judge study) limit
 
 same_claim : (a b : Claim) → Some a ≡ Some b → a ≡ b
 same_claim a b e = cc

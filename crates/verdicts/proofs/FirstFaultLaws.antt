@@ -53,7 +53,7 @@ module _ {S R : Type 0} (fault : S → List ℕ → Option R) (after : S → Lis
   -- ---- lines without a fault
 
   -- what holds before lines, and after each one without a fault, holds after all of them
-  pub all_good : (P : S → List (List ℕ) → Type 0) → ((s : S) (before : List (List ℕ)) (text : List ℕ) → P s before → fault s text ≡ None → P (after s text) (before ++ text ∷ []))
+  all_good : (P : S → List (List ℕ) → Type 0) → ((s : S) (before : List (List ℕ)) (text : List ℕ) → P s before → fault s text ≡ None → P (after s text) (before ++ text ∷ []))
       → (n : ℕ) (s t : S) (before texts : List (List ℕ)) → P s before → judged n s texts ≡ Good t → P t (before ++ texts)
   all_good P next n s t before [] h e = subst (λ u. P u (before ++ [])) (same_good (judged n s []) s t refl e) (subst (P s) (sym (append-nil before)) h)
   all_good P next n s t before (text ∷ texts) h e = by_fault (fault s text) refl e (λ f. all_good P next (n + 1) (after s text) t (before ++ text ∷ []) texts (next s before text h f))
@@ -97,7 +97,7 @@ module _ {S R : Type 0} (fault : S → List ℕ → Option R) (after : S → Lis
 
 -- ---- lines that are read
 
--- over what a line says where the reader stands, if it is the one that is wanted there, the refusal of what it says, that of a line that is not wanted, and where he stands after it
+-- over what a line says where the reader stands, if it is the one that is wanted there, the refusal of what it says, that of a line that is not wanted, and where the reader stands after it
 module _ {S L R : Type 0} (read : S → List ℕ → Option L) (fault_of : S → L → Option R) (form : R) (advance : S → L → S) where
   abbrev fault : S → List ℕ → Option R
   fault s text = option_map_or (fault_of s) (read s text) (Some form)
@@ -106,7 +106,7 @@ module _ {S L R : Type 0} (read : S → List ℕ → Option L) (fault_of : S →
   after s text = option_map_or (advance s) (read s text) s
 
   -- a line without a fault says something
-  pub faultless : (s : S) (text : List ℕ) → fault s text ≡ None → (l : L) × (read s text ≡ Some l) × (fault_of s l ≡ None) × (after s text ≡ advance s l)
+  faultless : (s : S) (text : List ℕ) → fault s text ≡ None → (l : L) × (read s text ≡ Some l) × (fault_of s l ≡ None) × (after s text ≡ advance s l)
   faultless s text = by_line (read s text) refl
     where
       by_line : (o : Option L) → read s text ≡ o → option_map_or (fault_of s) o (Some form) ≡ None → (l : L) × (read s text ≡ Some l) × (fault_of s l ≡ None) × (after s text ≡ advance s l)

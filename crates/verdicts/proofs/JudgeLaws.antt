@@ -1,9 +1,9 @@
 -- A judge that reaches the end has read the report of a right verdict.
-use Rattle.std.proofs.Common.{◌≡◌, refl, sym, ap, ◌∙◌, subst, ℕ, ◌+◌, ◌<◌, Bool, true, false, List, [], ◌∷◌, ◌++◌, map, length, Option, Some, None, arith, cond, append_assoc, append-nil}
-use Rattle.std.specs.Prelude.{◌==◌, nat_lt}
-use Rattle.std.specs.List.{flat_map, join_with_byte}
+use Rattle.std.proofs.Common.{◌≡◌, refl, sym, ap, ◌∙◌, subst, ℕ, ◌+◌, Bool, true, false, List, [], ◌∷◌, ◌++◌, map, length, Option, Some, None, cond}
+use Rattle.std.specs.Prelude.{nat_lt}
+use Rattle.std.specs.List.{flat_map}
 use Rattle.std.proofs.lemmas.List.{map-append}
-use Rattle.std.proofs.lemmas.List.Splits.{join_with_byte-slice_split, length-slice_split}
+use Rattle.std.proofs.lemmas.List.Splits.{join_with_byte-slice_split}
 use Rattle.vocab.specs.Study.{Question}
 use Rattle.verdicts.specs.Texts.{words_of, joined_words}
 use Rattle.verdicts.specs.Lines.{Line, line_text}
@@ -13,9 +13,10 @@ use Rattle.verdicts.specs.Places.{Place, AtNothing, Standing, start, wanted}
 use Rattle.verdicts.specs.declared.refusals.Refusal.{Refusal}
 use Rattle.verdicts.specs.declared.refusals.Refusal.TheVariants.{Form}
 use Rattle.verdicts.specs.Faults.{fault_of}
-use Rattle.verdicts.specs.FirstFault.{Told, Good, Refused}
-use Rattle.verdicts.specs.Judge.{advance, read_line, judge_from, judge, ended, pieces, front, final, Confirmed, at_end, conclude, answer}
+use Rattle.verdicts.specs.FirstFault.{Told, Good, Refused, Confirmed}
+use Rattle.verdicts.specs.Judge.{advance, read_line, judge_from, judge, ended, pieces, front, final, at_end, conclude, answer}
 use Rattle.verdicts.proofs.FirstFaultLaws.{all_read}
+use Rattle.verdicts.proofs.WholeTextLaws.{whole_pieces}
 use Rattle.verdicts.proofs.LineLaws.{wanted_read}
 use Rattle.verdicts.proofs.FitLaws.{Fits, wanted_fits}
 use Rattle.verdicts.proofs.SoundLaws.{Holds, printed, IsIdle, HasRead, step_read_so}
@@ -65,17 +66,6 @@ pub conclude_is : (n : ℕ) (rest : List ℕ) (told : Told Standing Refusal) (v 
 conclude_is n rest (Refused line word) v e = absurd (cc)
 conclude_is n rest (Good s) v e = let r = at_end_is n rest s.place v e in (s, refl, r.0, r.1)
 
-pub joined_pieces : (ps : List (List ℕ)) → 0 < length ps → join_with_byte 10 ps ≡ ended (front ps) ++ final ps
-joined_pieces [] h = absurd (omega (arith, h))
-joined_pieces (x ∷ []) h = refl
-joined_pieces (x ∷ y ∷ ps) h =
-    ap (λ l. x ++ 10 ∷ l) (joined_pieces (y ∷ ps) (omega arith))
-    ∙ sym (append_assoc x (10 ∷ []) (ended (front (y ∷ ps)) ++ final (y ∷ ps)))
-    ∙ sym (append_assoc (x ++ 10 ∷ []) (ended (front (y ∷ ps))) (final (y ∷ ps)))
-
-pub text_pieces : (text : List ℕ) → text ≡ ended (front (pieces text)) ++ final (pieces text)
-text_pieces text = sym (join_with_byte-slice_split 10 text) ∙ joined_pieces (pieces text) (omega (arith, length-slice_split (λ b. b == 10) text))
-
 pub ended_map : (study : Question) (ls : List Line) → ended (map (line_text study) ls) ≡ flat_map (λ line. line_text study line ++ 10 ∷ []) ls
 ended_map study [] = refl
 ended_map study (l ∷ ls) = ap (λ t. (line_text study l ++ 10 ∷ []) ++ t) (ended_map study ls)
@@ -106,9 +96,7 @@ module _ (study : Question) where
 pub judge_sound : (study : Question) (text : List ℕ) (v : Verdict) → answer study text ≡ Confirmed v → IsReport study v text
 judge_sound study text v e =
     let c = conclude_is (length (pieces text)) (final (pieces text)) (judge study (front (pieces text))) v e in
-    let whole : text ≡ ended (front (pieces text)) =
-    text_pieces text ∙ ap (λ rest. ended (front (pieces text)) ++ rest) c.2 ∙ append-nil (ended (front (pieces text))) in
-    subst (λ (t : List ℕ). IsReport study v t) (sym whole) (lines_sound study (front (pieces text)) c.0 v c.1 c.3)
+    subst (λ (t : List ℕ). IsReport study v t) (sym (whole_pieces text c.2)) (lines_sound study (front (pieces text)) c.0 v c.1 c.3)
 
 -- what holds of the parts after lines without a fault
 pub good_holds : (study : Question) (s : Standing) (texts : List (List ℕ)) → judge study texts ≡ Good s → Holds study s.place s

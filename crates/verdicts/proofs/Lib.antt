@@ -9,6 +9,7 @@ pub mod FitLaws
 pub mod ReadLaws
 pub mod TableLaws
 pub mod FirstFaultLaws
+pub mod WholeTextLaws
 pub mod FaultLaws
 pub mod SoundLaws
 pub mod VersionLaws

@@ -7,25 +7,11 @@ use Rattle.verdicts.specs.declared.verdicts.Verdict.{Verdict}
 use Rattle.verdicts.specs.declared.verdicts.Verdict.TheVariants.{Possible, Impossible, Undecided}
 use Rattle.verdicts.specs.Lines.{Line, SaysImpossible, CoreIs, LemmasAre, End, line_text, name_at}
 use Rattle.verdicts.specs.Report.{lemma_count, lemma_lines, story_lines, all_witness_lines, verdict_lines, head_lines, report_lines, IsReport}
-use Rattle.verdicts.specs.Judge.{judge, has_no_end, ended, pieces, front, final, Confirmed, conclude, answer}
+use Rattle.verdicts.specs.FirstFault.{Confirmed}
+use Rattle.verdicts.specs.Judge.{judge, has_no_end, ended, pieces, front, conclude}
 use Rattle.verdicts.specs.Laws.{IsReportable}
-use Rattle.verdicts.proofs.WordLaws.{split_ended}
-use Rattle.verdicts.proofs.ReportLaws.{front_snoc, final_snoc, report_pieces, right_is_confirmed}
-
--- ---- the pieces of a text of lines
-
-pub ended_pieces : (lines : List (List ℕ)) → list_all has_no_end lines ≡ true → pieces (ended lines) ≡ lines ++ [] ∷ []
-ended_pieces lines h = ap pieces (sym (append-nil (ended lines))) ∙ split_ended 10 lines [] h
-
-one_more : (lines : List (List ℕ)) → length (lines ++ [] ∷ []) ≡ length lines + 1
-one_more lines = length-append lines ([] ∷ [])
-
-pub lines_answered : (study : Question) (lines : List (List ℕ)) → list_all has_no_end lines ≡ true → answer study (ended lines) ≡ conclude (length lines + 1) [] (judge study lines)
-lines_answered study lines h =
-    ap (λ ps. conclude (length ps) (final ps) (judge study (front ps))) (ended_pieces lines h)
-    ∙ ap (λ n. conclude n (final (lines ++ [] ∷ [])) (judge study (front (lines ++ [] ∷ [])))) (one_more lines)
-    ∙ ap (λ rest. conclude (length lines + 1) rest (judge study (front (lines ++ [] ∷ [])))) (final_snoc lines [])
-    ∙ ap (λ ls. conclude (length lines + 1) [] (judge study ls)) (front_snoc lines [])
+use Rattle.verdicts.proofs.WholeTextLaws.{front_snoc, ended_pieces, lines_answered}
+use Rattle.verdicts.proofs.ReportLaws.{report_pieces, right_is_confirmed}
 
 -- ---- a report has at least as many lines as lemmas
 
@@ -100,4 +86,4 @@ module _ (study : Question) (is : IsReportable study) (listed : HasFewAxioms stu
       let many : length lines ≡ length (report_lines study r.version v) = as_many v r in
       let lemmas : lemma_count v ≤ length (report_lines study r.version v) =
       lemmas_in_lines study r.version v in
-      sym (lines_answered study lines h) ∙ right_is_confirmed study is listed (ended lines) v r (omega (arith, many, lemmas, few))
+      sym (lines_answered conclude (judge study) lines h) ∙ right_is_confirmed study is listed (ended lines) v r (omega (arith, many, lemmas, few))

@@ -1,8 +1,7 @@
 -- The judge confirms the reports of right verdicts and nothing else.
 use Rattle.std.proofs.Common.{◌≡◌, refl, sym, ap, ◌∙◌, subst, ℕ, ◌+◌, ◌^◌, ◌<◌, ◌≢◌, inl, inr, Bool, true, false, not, List, [], ◌∷◌, ◌++◌, map, length, Some, None, arith, true≢false, cond, append-nil}
-use Rattle.std.specs.Prelude.{◌==◌, nat_lt}
-use Rattle.std.specs.List.{list_all, join_with_byte, onto_first}
-use Rattle.std.proofs.lemmas.List.Splits.{join_with_byte-slice_split, length-slice_split, slice_split-cons_no}
+use Rattle.std.specs.Prelude.{nat_lt}
+use Rattle.std.specs.List.{list_all}
 use Rattle.std.proofs.lemmas.Bool.{and_parts, and_from, cases_lt, not-true}
 use Rattle.vocab.specs.Size.{is_full}
 use Rattle.vocab.specs.Study.{Question, HasFewAxioms}
@@ -11,9 +10,9 @@ use Rattle.verdicts.specs.Lines.{Line, line_text, is_version}
 use Rattle.verdicts.specs.declared.verdicts.Verdict.{Verdict}
 use Rattle.verdicts.specs.declared.refusals.Refusal.TheVariants.{Form}
 use Rattle.verdicts.specs.Report.{lemma_count, report_lines, report_text_in, own_version, report_text, has_text, is_right, is_claim, IsReport, IsSomeReport}
-use Rattle.verdicts.specs.Places.{Place, AtTitle, AtKind, AtVoters, AtAlternatives, AtBallots, AtAbsent, AtAxioms, AtVerdict, AtLimit, AtRule, AtRow, AtCore, AtLemmas, AtLemma, AtSuppose, AtStep, AtWitness, AtWitnessRow, AtEnd, AtNothing, Standing, start, wanted}
-use Rattle.verdicts.specs.FirstFault.{Good}
-use Rattle.verdicts.specs.Judge.{advance, read_line, judge_from, judge, ended, pieces, front, final, Confirmed, Faulty, at_end, conclude, answer}
+use Rattle.verdicts.specs.Places.{Place, AtNothing, Standing, start, wanted}
+use Rattle.verdicts.specs.FirstFault.{Good, Confirmed, Faulty}
+use Rattle.verdicts.specs.Judge.{advance, read_line, judge_from, judge, ended, pieces, front, final, at_end, conclude, answer}
 use Rattle.verdicts.specs.Laws.{IsReportable, IsVersion, HasShortLines}
 use Rattle.verdicts.proofs.RightLaws.{right_has_text}
 use Rattle.verdicts.proofs.WordLaws.{IsIn, lacks, split_ended}
@@ -22,6 +21,7 @@ use Rattle.verdicts.proofs.FitLaws.{Fits}
 use Rattle.verdicts.proofs.ReadLaws.{is_plain, wanted_is, words_are, line_lacks}
 use Rattle.verdicts.proofs.JudgeLaws.{ended_map}
 use Rattle.verdicts.proofs.CompleteLaws.{Runs, Ends, allowed_known, report_run}
+use Rattle.verdicts.proofs.WholeTextLaws.{front_snoc, only_piece, cut_lines, all_answered}
 use Rattle.verdicts.proofs.FaultLaws.{past}
 use Rattle.verdicts.proofs.ShortLaws.{is_short, report_short}
 use Rattle.meaning.proofs.SpaceLaws.{list_all-map_of}
@@ -29,21 +29,6 @@ use Rattle.meaning.proofs.TestLaws.{list_all-both}
 
 abbrev pub short : List ℕ → Bool
 short line = not (nat_lt 4096 (length line))
-
-pub front_snoc : (xs : List (List ℕ)) (y : List ℕ) → front (xs ++ y ∷ []) ≡ xs
-front_snoc [] y = refl
-front_snoc (x ∷ []) y = refl
-front_snoc (x ∷ z ∷ xs) y = ap (λ ws. x ∷ ws) (front_snoc (z ∷ xs) y)
-
-pub front_more : (xs : List (List ℕ)) (q y : List ℕ) (ys : List (List ℕ)) → front (xs ++ q ∷ y ∷ ys) ≡ xs ++ q ∷ front (y ∷ ys)
-front_more [] q y ys = refl
-front_more (x ∷ []) q y ys = refl
-front_more (x ∷ z ∷ xs) q y ys = ap (λ ws. x ∷ ws) (front_more (z ∷ xs) q y ys)
-
-pub final_snoc : (xs : List (List ℕ)) (y : List ℕ) → final (xs ++ y ∷ []) ≡ y
-final_snoc [] y = refl
-final_snoc (x ∷ []) y = refl
-final_snoc (x ∷ z ∷ xs) y = final_snoc (z ∷ xs) y
 
 pub all_left : (t : List ℕ → Bool) (xs ys : List (List ℕ)) → list_all t (xs ++ ys) ≡ true → list_all t xs ≡ true
 all_left t [] ys h = refl
@@ -102,14 +87,12 @@ module _ (study : Question) (is : IsReportable study) where
   complete : (text : List ℕ) (v : Verdict) → HasShortLines text → IsReport study v text → answer study text ≡ Confirmed v
   complete text v h r =
       let lines = texts_of study r.version v in
-      let n = length (lines ++ [] ∷ []) in
       let e : pieces text ≡ texts_of study r.version v ++ [] ∷ [] =
       ap pieces (sym (append-nil text)) ∙ report_pieces text [] v r in
       let short_ones = all_left short lines ([] ∷ []) (ap (list_all short) (sym e) ∙ h) in
       let j = report_judged text v [] r short_ones in
-      ap (λ ps. conclude (length ps) (final ps) (judge study (front ps))) e
-      ∙ ap (λ xs. conclude n (final (lines ++ [] ∷ [])) (judge study xs)) (front_snoc lines [])
-      ∙ ap (λ y. conclude n y (judge study lines)) (final_snoc lines [])
+      let n = length lines + 1 in
+      all_answered conclude (judge study) text lines e
       ∙ ap (λ xs. conclude n [] (judge study xs)) (sym (append-nil lines))
       ∙ ap (conclude n []) j.2
       ∙ ap (at_end n []) j.3
@@ -198,16 +181,6 @@ module _ (study : Question) (is : IsReportable study) where
       let same = same_line study is s.place (length s.earlier + 1) l k r.0 r.1 q.0 q.1 c.0 in
       no_more (advance study s k) t u ls ks more v (subst (λ (x : Line). Runs study is false (advance study s x) ls t) same r.3) q.3 p c.1
 
-  pub only_piece : (rest : List ℕ) (xs ys ps : List (List ℕ)) → pieces rest ≡ ps → xs ++ ps ≡ ys ++ [] ∷ [] → (xs ++ front ps ≡ ys → front ps ≡ []) → rest ≡ []
-  only_piece rest xs ys [] e f more = absurd (omega (arith, length-slice_split (λ b. b == 10) rest, ap length e))
-  only_piece rest xs ys (q ∷ []) e f more =
-      let none : q ≡ [] = sym (final_snoc xs q) ∙ ap final f ∙ final_snoc ys [] in
-      sym (join_with_byte-slice_split 10 rest) ∙ ap (join_with_byte 10) e ∙ none
-  only_piece rest xs ys (q ∷ y ∷ ps) e f more = absurd (cons_none q (front (y ∷ ps)) (more (sym (front_more xs q y ps) ∙ ap front f ∙ front_snoc ys [])))
-    where
-      cons_none : (q : List ℕ) (qs : List (List ℕ)) → q ∷ qs ≡ [] → ⊥
-      cons_none q qs e = cc
-
   no_prefix : (m n : ℕ) → IsIn versions m → IsIn versions n
       → (v w : Verdict) (rest : List ℕ) → has_text study v ≡ true → has_text study w ≡ true
       → report_text_in study m v ++ rest ≡ report_text_in study n w → rest ≡ []
@@ -241,41 +214,11 @@ no_confirmed_prefix study is text rest a b =
 
 -- ---- short lines, and reports that are cut
 
--- what stands after a text goes on its last piece
-pub pieces_append : (text rest : List ℕ) → pieces (text ++ rest) ≡ front (pieces text) ++ pieces (final (pieces text) ++ rest)
-pieces_append [] rest = refl
-pieces_append (b ∷ text) rest = by_test (b == 10) refl (pieces text) (omega (arith, length-slice_split (λ b. b == 10) text)) (pieces_append text rest)
-  where
-    by_test : (c : Bool) → (b == 10) ≡ c → (ps : List (List ℕ)) → 0 < length ps → pieces (text ++ rest) ≡ front ps ++ pieces (final ps ++ rest) →
-        cond c ([] ∷ pieces (text ++ rest)) (onto_first b (pieces (text ++ rest))) ≡ front (cond c ([] ∷ ps) (onto_first b ps)) ++ pieces (final (cond c ([] ∷ ps) (onto_first b ps)) ++ rest)
-    by_test c e [] some h = absurd (omega (arith, some))
-    by_test true e (x ∷ ps) some h = ap (λ qs. [] ∷ qs) h
-    by_test false e (x ∷ []) some h = ap (onto_first b) h ∙ sym (slice_split-cons_no (λ b. b == 10) b (x ++ rest) e)
-    by_test false e (x ∷ y ∷ ps) some h = ap (onto_first b) h
-
 -- a place that is not past the end
 at_end_other : (n : ℕ) (rest : List ℕ) (p : Place) → ((v : Verdict) → p ≡ AtNothing v → ⊥) → at_end n rest p ≡ Faulty n Form
 at_end_other n (c ∷ rest) p h = refl
 at_end_other n [] (AtNothing v) h = absurd (h v refl)
-at_end_other n [] AtTitle h = refl
-at_end_other n [] AtKind h = refl
-at_end_other n [] AtVoters h = refl
-at_end_other n [] AtAlternatives h = refl
-at_end_other n [] AtBallots h = refl
-at_end_other n [] AtAbsent h = refl
-at_end_other n [] AtAxioms h = refl
-at_end_other n [] AtVerdict h = refl
-at_end_other n [] AtLimit h = refl
-at_end_other n [] AtRule h = refl
-at_end_other n [] AtRow h = refl
-at_end_other n [] AtCore h = refl
-at_end_other n [] AtLemmas h = refl
-at_end_other n [] AtLemma h = refl
-at_end_other n [] AtSuppose h = refl
-at_end_other n [] AtStep h = refl
-at_end_other n [] AtWitness h = refl
-at_end_other n [] AtWitnessRow h = refl
-at_end_other n [] (AtEnd v) h = refl
+at_end_other n [] p h = refl
 
 few_versions : (version : ℕ) → IsIn versions version → version < 2 ^ 64
 few_versions version (inl e) = subst (λ n. n < 2 ^ 64) e (omega arith)
@@ -317,36 +260,13 @@ module _ (study : Question) (is : IsReportable study) where
       (later.0, past study n s b before l read (r.2 refl) ∙ later.1, later.2)
 
   cut_here : (v : Verdict) (text rest : List ℕ) (r : IsReport study v (text ++ rest))
-      → list_all short (texts_of study r.version v) ≡ true
-      → (qs : List (List ℕ)) → pieces (final (pieces text) ++ rest) ≡ qs → rest ≢ []
+      → list_all short (texts_of study r.version v) ≡ true → rest ≢ []
       → answer study text ≡ Faulty (length (pieces text)) Form
-  cut_here v text rest r h [] e some =
-      absurd (omega (arith, length-slice_split (λ b. b == 10) (final (pieces text) ++ rest), ap length e))
-  cut_here v text rest r h (q ∷ []) e some =
-      let lines = texts_of study r.version v in
-      let all : front (pieces text) ++ q ∷ [] ≡ texts_of study r.version v ++ [] ∷ [] =
-      sym (pieces_append text rest ∙ ap (λ ps. front (pieces text) ++ ps) e) ∙ whole_pieces in
-      let none : q ≡ [] = sym (final_snoc (front (pieces text)) q) ∙ ap final all ∙ final_snoc lines [] in
-      let empty : final (pieces text) ++ rest ≡ [] =
-      sym (join_with_byte-slice_split 10 (final (pieces text) ++ rest)) ∙ ap (join_with_byte 10) e ∙ none in
-      absurd (some (right_empty (final (pieces text)) rest empty))
-    where
-      right_empty : (xs ys : List ℕ) → xs ++ ys ≡ [] → ys ≡ []
-      right_empty [] ys e = e
-      right_empty (x ∷ xs) ys e = absurd (cc)
-
-      whole_pieces : pieces (text ++ rest) ≡ texts_of study r.version v ++ [] ∷ []
-      whole_pieces = ap pieces (sym (append-nil (text ++ rest))) ∙ report_pieces study is (text ++ rest) [] v r
-  cut_here v text rest r h (q ∷ y ∷ ps) e some =
-      let all : front (pieces text) ++ q ∷ y ∷ ps ≡ texts_of study r.version v ++ [] ∷ [] =
-      sym (pieces_append text rest ∙ ap (λ ps. front (pieces text) ++ ps) e)
-      ∙ ap pieces (sym (append-nil (text ++ rest))) ∙ report_pieces study is (text ++ rest) [] v r in
-      let lines : texts_of study r.version v ≡ front (pieces text) ++ q ∷ front (y ∷ ps) =
-      sym (front_snoc (texts_of study r.version v) [])
-      ∙ ap front (sym all) ∙ front_more (front (pieces text)) q y ps in
+  cut_here v text rest r h some =
+      let whole = ap pieces (sym (append-nil (text ++ rest))) ∙ report_pieces study is (text ++ rest) [] v r in
+      let cut = cut_lines text rest (texts_of study r.version v) whole some in
       let run = read_run study is (text ++ rest) v r in
-      let said = report_lines study r.version v in
-      let stop = stops_before 1 start run.0 said (front (pieces text)) q (front (y ∷ ps)) run.1 h lines in
+      let stop = stops_before 1 start run.0 (report_lines study r.version v) (front (pieces text)) cut.0 cut.1 run.1 h cut.2 in
       ap (conclude (length (pieces text)) (final (pieces text))) stop.1
       ∙ at_end_other (length (pieces text)) (final (pieces text)) stop.0.place stop.2
 
@@ -369,7 +289,7 @@ pub cut_is_form : (study : Question) → IsReportable study → HasFewAxioms stu
     → answer study text ≡ Faulty (length (pieces text)) Form
 cut_is_form study is listed v text rest r few some =
     let lines = shorts study is listed r.version r.allowed v r.right few in
-    cut_here study is v text rest r lines (pieces (final (pieces text) ++ rest)) refl some
+    cut_here study is v text rest r lines some
 
 -- ---- what is printed
 

@@ -12,11 +12,13 @@ use Rattle.meaning.specs.declared.cores.Witness.TheVariants.{Rule, Open}
 use Rattle.meaning.specs.declared.stories.Reason.TheVariants.{Axiom as ByAxiom, Outcome as ByOutcome, Lemma as ByLemma}
 use Rattle.meaning.specs.Space.{below}
 use Rattle.meaning.proofs.WorkedExamples.{choice, ranked, unanimity, independence, anonymity, neutrality, step, a_does_not_win, nothing_wins, non_dictatorship, pareto, right_of}
+use Rattle.verdicts.specs.declared.refusals.Refusal.{Refusal}
 use Rattle.verdicts.specs.declared.refusals.Refusal.TheVariants as refusal
 use Rattle.verdicts.specs.declared.verdicts.Verdict.{Verdict}
 use Rattle.verdicts.specs.declared.verdicts.Verdict.TheVariants.{Possible, Impossible}
 use Rattle.verdicts.specs.Report.{report_text_in, report_text, has_text, is_right}
-use Rattle.verdicts.specs.Judge.{Judgement, Confirmed, Faulty, TooLong, answer, answer_within}
+use Rattle.verdicts.specs.FirstFault.{Judgement, Confirmed, Faulty, TooLong}
+use Rattle.verdicts.specs.Judge.{answer, answer_within}
 use Rattle.verdicts.specs.Words.{answer_text}
 
 -- lines, each with its end
@@ -46,7 +48,7 @@ rule_of_one_voter_is_confirmed : answer unanimous (text_of best_is_chosen) ≡ C
 rule_of_one_voter_is_confirmed = refl
 
 -- the answer where a line of the report, numbered from 1, is another
-abbrev with_rule_line : ℕ → List ℕ → Judgement
+abbrev with_rule_line : ℕ → List ℕ → Judgement Verdict Refusal
 with_rule_line n line = answer unanimous (text_of (slice_set best_is_chosen (n - 1) line))
 
 -- profile 1 and alternative 1 of two: 1 * 2 + 1
@@ -130,7 +132,7 @@ both_versions_are_confirmed :
 both_versions_are_confirmed = refl
 
 -- the answer where a line of the report 2, numbered from 1, is another
-abbrev with_line_2 : ℕ → List ℕ → Judgement
+abbrev with_line_2 : ℕ → List ℕ → Judgement Verdict Refusal
 with_line_2 n line = answer unanimous (text_of (slice_set best_is_chosen_2 (n - 1) line))
 
 -- one too few, another order, one twice
@@ -220,10 +222,10 @@ confirmation_is_printed : answer_text (answer symmetric (text_of no_symmetric_ru
 confirmation_is_printed = refl
 
 -- the answer where a line of the report, numbered from 1, is another, or another one stands before it
-abbrev with_line : ℕ → List ℕ → Judgement
+abbrev with_line : ℕ → List ℕ → Judgement Verdict Refusal
 with_line n line = answer symmetric (text_of (slice_set no_symmetric_rule_report (n - 1) line))
 
-abbrev with_more : ℕ → List (List ℕ) → Judgement
+abbrev with_more : ℕ → List (List ℕ) → Judgement Verdict Refusal
 with_more n more = answer symmetric (text_of (take (n - 1) no_symmetric_rule_report ++ (more ++ drop (n - 1) no_symmetric_rule_report)))
 
 -- ---- faults of a story
@@ -386,11 +388,11 @@ abbrev many_names : ℕ → List ℕ
 many_names k = codes "axioms" ++ (flat_map (λ name. 32 ∷ name) (replicate 123 (replicate 32 97)) ++ 32 ∷ replicate k 97)
 
 -- without the line end
-line_has_4096_bytes_at_most : map {A = ℕ} {B = ℕ × Judgement} (λ k. (length (many_names k), with_line 5 (many_names k))) (30 ∷ 31 ∷ []) ≡ (4096, Faulty 5 refusal.StudyDiffers) ∷ (4097, Faulty 5 refusal.Form) ∷ []
+line_has_4096_bytes_at_most : map {A = ℕ} {B = ℕ × Judgement Verdict Refusal} (λ k. (length (many_names k), with_line 5 (many_names k))) (30 ∷ 31 ∷ []) ≡ (4096, Faulty 5 refusal.StudyDiffers) ∷ (4097, Faulty 5 refusal.Form) ∷ []
 line_has_4096_bytes_at_most = refl
 
 -- the report has 106 bytes: the lines are judged that end within the limit, and its last line does only where all is read
-abbrev within : ℕ → List (List ℕ) → Judgement
+abbrev within : ℕ → List (List ℕ) → Judgement Verdict Refusal
 within limit lines = answer_within limit unanimous (text_of lines)
 
 report_within_the_limit_is_confirmed : map (λ limit. within limit best_is_chosen) (105 ∷ 106 ∷ 107 ∷ []) ≡ TooLong ∷ Confirmed (Possible (0 ∷ 1 ∷ [])) ∷ Confirmed (Possible (0 ∷ 1 ∷ [])) ∷ []

@@ -14,7 +14,7 @@ use Rattle.verdicts.specs.Texts.{words_of}
 use Rattle.verdicts.specs.Lines.{Line, Title, KindIs, VotersAre, AlternativesAre, BallotsAre, AbsentIs, AxiomsAre, SaysPossible, SaysImpossible, SaysUndecided, LimitIs, RuleOf, Row, CoreIs, LemmasAre, Heading, Suppose, So, Clash, WithRule, WithOpen, End}
 use Rattle.verdicts.specs.Places.{Place, AtKind, AtVoters, AtAlternatives, AtBallots, AtAbsent, AtAxioms, AtVerdict, AtLimit, AtRule, AtRow, AtCore, AtLemmas, AtLemma, AtSuppose, AtStep, AtWitness, AtWitnessRow, AtEnd, AtNothing, Standing, start, wanted}
 use Rattle.verdicts.specs.Faults.{named_places, next_core, fault_of}
-use Rattle.verdicts.specs.FirstFault.{Told, Good, Refused, judge_lines}
+use Rattle.verdicts.specs.FirstFault.{Told, judge_lines, Judgement, Confirmed, Faulty, concluded, beyond}
 
 -- ---- where the reader stands after a line
 
@@ -116,40 +116,40 @@ final [] = []
 final (x ∷ []) = x
 final (x ∷ y ∷ xs) = final (y ∷ xs)
 
--- a report is confirmed, or has a first faulty line, or is longer than what is read of it
-pub data Judgement : Type 0 where
-  Confirmed : Verdict → Judgement
-  Faulty : (line : ℕ) → Refusal → Judgement
-  TooLong : Judgement
+-- over what is answered with the number of the last piece, the piece and what the judge tells of the lines before it
+module _ {S V R : Type 0} (conclude : ℕ → List ℕ → Told S R → Judgement V R) (judge : List (List ℕ) → Told S R) where
+  -- the answer to a text
+  abbrev pub answered : List ℕ → Judgement V R
+  answered text = conclude (length (pieces text)) (final (pieces text)) (judge (front (pieces text)))
+
+  -- the answer to a text of which so many bytes are read: of a longer one the lines are judged that end within them
+  abbrev pub answered_within : ℕ → List ℕ → Judgement V R
+  answered_within limit text = if nat_lt limit (length text) then beyond (judge (front (pieces (take limit text)))) else answered text
+
+-- ---- reports
 
 -- where no line is faulty: the end must be read, and no byte may follow it
-abbrev pub at_end : ℕ → List ℕ → Place → Judgement
+abbrev pub at_end : ℕ → List ℕ → Place → Judgement Verdict Refusal
 at_end n [] (AtNothing verdict) = Confirmed verdict
 at_end n rest place = Faulty n refusal.Form
 
 -- with the number of the last piece, and the piece
-abbrev pub conclude : ℕ → List ℕ → Told Standing Refusal → Judgement
-conclude n rest (Refused line word) = Faulty line word
-conclude n rest (Good s) = at_end n rest s.place
+abbrev pub conclude : ℕ → List ℕ → Told Standing Refusal → Judgement Verdict Refusal
+conclude = concluded (λ n rest s. at_end n rest s.place)
 
 -- the answer to a text
-abbrev pub answer : Question → List ℕ → Judgement
-answer study text = conclude (length (pieces text)) (final (pieces text)) (judge study (front (pieces text)))
+abbrev pub answer : Question → List ℕ → Judgement Verdict Refusal
+answer study = answered conclude (judge study)
 
--- where no line that ends within the limit is faulty
-abbrev pub beyond : Told Standing Refusal → Judgement
-beyond (Refused line word) = Faulty line word
-beyond (Good s) = TooLong
-
--- the answer to a text of which so many bytes are read: of a longer one the lines are judged that end within them
-abbrev pub answer_within : ℕ → Question → List ℕ → Judgement
-answer_within limit study text = if nat_lt limit (length text) then beyond (judge study (front (pieces (take limit text)))) else answer study text
+-- the answer to a text of which so many bytes are read
+abbrev pub answer_within : ℕ → Question → List ℕ → Judgement Verdict Refusal
+answer_within limit study = answered_within conclude (judge study) limit
 
 -- the rule of a verdict that has one, and that of a report that is confirmed
 abbrev pub rule_in : Verdict → Option (List ℕ)
 rule_in (Possible table) = Some table
 rule_in _ = None
 
-abbrev pub rule_of : Judgement → Option (List ℕ)
+abbrev pub rule_of : Judgement Verdict Refusal → Option (List ℕ)
 rule_of (Confirmed verdict) = rule_in verdict
 rule_of _ = None

@@ -22,8 +22,8 @@ use Rattle.verdicts.specs.Claims.{IsClaimed, ClaimHolds}
 use Rattle.verdicts.specs.Places.{Standing}
 use Rattle.verdicts.specs.Lines.{is_version}
 use Rattle.verdicts.specs.Faults.{table_fault}
-use Rattle.verdicts.specs.FirstFault.{Good, Refused}
-use Rattle.verdicts.specs.Judge.{line_fault, judge, has_no_end, ended, Confirmed, Faulty, conclude, answer, answer_within, pieces}
+use Rattle.verdicts.specs.FirstFault.{Good, Refused, Confirmed, Faulty}
+use Rattle.verdicts.specs.Judge.{line_fault, judge, has_no_end, ended, conclude, answer, answer_within, pieces}
 
 -- what the laws ask of a study: the bench takes it, at a size, and its axioms have names
 pub record IsReportable (study : Question) : Type 0 where

@@ -5,7 +5,7 @@ use Rattle.verdicts.specs.declared.refusals.Refusal.TheVariants.{Form, StudyDiff
 use Rattle.verdicts.specs.declared.verdicts.Verdict.{Verdict}
 use Rattle.verdicts.specs.declared.verdicts.Verdict.TheVariants.{Possible, Impossible, Undecided as NoClaim}
 use Rattle.verdicts.specs.Numbers.{number_text}
-use Rattle.verdicts.specs.Judge.{Judgement, Confirmed, Faulty, TooLong}
+use Rattle.verdicts.specs.FirstFault.{Judgement, Confirmed, Faulty, TooLong}
 
 -- the word of a refusal; `fails` has the name of the axiom and the number of the instance
 abbrev pub refusal_text : Refusal → List ℕ
@@ -28,8 +28,12 @@ claim_text (Possible table) = codes "possible"
 claim_text (Impossible core story witnesses) = codes "impossible"
 claim_text NoClaim = codes "undecided"
 
--- the line of an answer, with its line end
-abbrev pub answer_text : Judgement → List ℕ
-answer_text (Confirmed verdict) = codes "confirmed " ++ (claim_text verdict ++ 10 ∷ [])
-answer_text (Faulty line word) = codes "refused line " ++ (number_text line ++ codes ": " ++ refusal_text word ++ 10 ∷ [])
-answer_text TooLong = codes "refused: too long\n"
+-- the line of an answer, with its line end, by the words of what is confirmed and of a refusal
+abbrev pub judgement_text : {V R : Type 0} → (V → List ℕ) → (R → List ℕ) → Judgement V R → List ℕ
+judgement_text said refused (Confirmed v) = codes "confirmed " ++ (said v ++ 10 ∷ [])
+judgement_text said refused (Faulty line word) = codes "refused line " ++ (number_text line ++ codes ": " ++ refused word ++ 10 ∷ [])
+judgement_text said refused TooLong = codes "refused: too long\n"
+
+-- the line of an answer to a report
+abbrev pub answer_text : Judgement Verdict Refusal → List ℕ
+answer_text = judgement_text claim_text refusal_text

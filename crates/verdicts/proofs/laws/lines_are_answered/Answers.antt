@@ -1,5 +1,6 @@
-use Rattle.verdicts.proofs.LineEndLaws.{lines_answered}
+use Rattle.verdicts.specs.Judge.{judge, conclude}
+use Rattle.verdicts.proofs.WholeTextLaws.{lines_answered}
 use Rattle.verdicts.proofs.laws.lines_are_answered.Goals as goal
 
 pub returns : goal.returns
-returns c = lines_answered
+returns c study = lines_answered conclude (judge study)
