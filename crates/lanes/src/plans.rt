@@ -94,35 +94,15 @@ pub(crate) fn part_of<K: OutcomeKind>(
             let part = part_of(alloc, setting, f, counts)?;
             one(alloc, part)
         }
-        Formula::Both(f, g) => {
+        Formula::Both(f, g)
+        | Formula::Either(f, g)
+        | Formula::Implies(f, g)
+        | Formula::Same(f, g) => {
             let part = part_of(alloc, setting, f, counts)?;
             let other = part_of(alloc, setting, g, counts)?;
             two(alloc, part, other)
         }
-        Formula::Either(f, g) => {
-            let part = part_of(alloc, setting, f, counts)?;
-            let other = part_of(alloc, setting, g, counts)?;
-            two(alloc, part, other)
-        }
-        Formula::Implies(f, g) => {
-            let part = part_of(alloc, setting, f, counts)?;
-            let other = part_of(alloc, setting, g, counts)?;
-            two(alloc, part, other)
-        }
-        Formula::Same(f, g) => {
-            let part = part_of(alloc, setting, f, counts)?;
-            let other = part_of(alloc, setting, g, counts)?;
-            two(alloc, part, other)
-        }
-        Formula::All(sort, f) => {
-            if counts.len() >= 12 {
-                return nothing_there(alloc);
-            }
-            let more = counts.with(setting.kind.space().size().sort_len(*sort));
-            let part = part_of(alloc, setting, f, &more)?;
-            one(alloc, part)
-        }
-        Formula::Exists(sort, f) => {
+        Formula::All(sort, f) | Formula::Exists(sort, f) => {
             if counts.len() >= 12 {
                 return nothing_there(alloc);
             }
