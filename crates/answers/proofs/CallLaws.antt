@@ -59,6 +59,10 @@ no_read_cause : (request : Option Request) (d : Devices) (names : List (List ℕ
 no_read_cause request d names quiet (at_first name others is rose stay) = (subst (λ (xs : List (List ℕ)). AreQuiet d xs) is quiet).0 rose
 no_read_cause request d names quiet (at_second name second is rose taken) = (subst (λ (xs : List (List ℕ)). AreQuiet d xs) is quiet).1.0 rose
 
+-- a count that is 0 before and after did not rise
+pub not_rose : (before now : ℕ) → before ≡ 0 → now ≡ 0 → ¬ Rose before now
+not_rose before now e f rose = let none : Rose 0 0 = subst (λ (b : ℕ). Rose b 0) e (subst (λ (n : ℕ). Rose before n) f rose) in omega (arith, none)
+
 -- where no count rose, none of some files did
 pub all_quiet : (d : Devices) → ((name : List ℕ) → ¬ Rose (d.faults_before name) (d.faults_now name)) → (names : List (List ℕ)) → AreQuiet d names
 all_quiet d none [] = tt

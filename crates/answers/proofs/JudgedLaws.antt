@@ -2,9 +2,8 @@
 use Rattle.std.proofs.Common.{◌≡◌, ◌∙◌, refl, sym, ap, ℕ, ◌<◌, ◌≤◌, ◌⊎◌, inl, inr, Bool, true, false, cond, List, [], ◌∷◌, ◌++◌, length, take, drop, arith}
 use Rattle.std.specs.Prelude.{codes, nat_lt, ◌==◌}
 use Rattle.std.specs.Str.{bytes_eq}
-use Rattle.std.proofs.lemmas.List.{take-append-drop, take-take}
+use Rattle.std.proofs.lemmas.List.{take-take}
 use Rattle.std.proofs.lemmas.List.Splits.{length-slice_split}
-use Rattle.std.proofs.lemmas.Slice.Eq.{bytes_eq-Decides}
 use Rattle.vocab.specs.Study.{Question, HasFewAxioms}
 use Rattle.verdicts.specs.declared.refusals.Refusal.{Refusal}
 use Rattle.verdicts.specs.declared.refusals.Refusal.TheVariants.{Form}
@@ -20,7 +19,7 @@ use Rattle.sharp_verdicts.specs.SharpJudge.{sharp_answer_within}
 use Rattle.sharp_verdicts.specs.SharpLines.{sharp_text}
 use Rattle.sharp_laws.specs.Laws.{IsSharpText}
 use Rattle.sharp_laws.proofs.AnswerLaws.{texts_confirmed}
-use Rattle.sharp_laws.proofs.ApartLaws.{no_report, report_given, sharp_given}
+use Rattle.sharp_laws.proofs.ApartLaws.{no_report, report_given, sharp_given, titled_is}
 use Rattle.sharp_laws.proofs.FaultLaws.{within_limit as sharp_within_limit}
 use Rattle.sharp_laws.proofs.JudgeLaws.{judge_sound as sharp_judge_sound}
 use Rattle.answers.specs.FileLimits.{most_report_bytes}
@@ -31,12 +30,7 @@ use Rattle.answers.proofs.FitLemmas.{right_judged}
 text_titled : (study : Question) (v : Pointed) → has_sharp_title (sharp_text study v) ≡ true
 text_titled study v = refl
 
--- what follows that title
-titled_split : (text : List ℕ) → has_sharp_title text ≡ true → text ≡ sharp_title ++ drop (length sharp_title) text
-titled_split text e =
-    sym (take-append-drop (length sharp_title) text) ∙ ap (λ start. start ++ drop (length sharp_title) text) ((bytes_eq-Decides _ sharp_title).0 e)
-
--- the judge of reports refuses it, whatever lines follow
+-- the judge of reports refuses a text that begins with that title, whatever follows
 title_refused : (study : Question) (rest : List ℕ) → judge study (front (pieces (sharp_title ++ rest))) ≡ Refused 1 Form
 title_refused study rest =
     ap (λ ps. judge study (front ps)) (split_ended 10 (codes "bench sharp 1" ∷ []) rest refl)
@@ -55,9 +49,9 @@ titled_within limit study text fits e = by (nat_lt limit (length text))
 
     by : (long : Bool) → cond long (beyond (judge study (front (pieces (take limit text))))) (answer study text) ≡ Faulty 1 Form
     by true =
-        ap (λ read. beyond (judge study (front (pieces read)))) (titled_split (take limit text) begins)
+        ap (λ read. beyond (judge study (front (pieces read)))) (titled_is (take limit text) begins)
         ∙ ap beyond (title_refused study (drop (length sharp_title) (take limit text)))
-    by false = no_report study text (drop (length sharp_title) text) (titled_split text e)
+    by false = no_report study text (drop (length sharp_title) text) (titled_is text e)
 
 module _ (study : Question) (text : List ℕ) where
   -- a text with that title is no report

@@ -1,9 +1,8 @@
 -- Clauses that are not refused are within the limits of a list, over few variables.
-use Rattle.std.proofs.Common.{◌≡◌, refl, sym, ◌∙◌, ap, subst, ℕ, ◌+◌, ◌*◌, ◌≤◌, Bool, true, false, List, [], ◌∷◌, ◌++◌, map, length, length-append, append-nil, append_assoc, Option, None, Some, arith, le-ltb, ltb-false}
+use Rattle.std.proofs.Common.{◌≡◌, refl, sym, ◌∙◌, ap, subst, ℕ, ◌+◌, ◌*◌, ◌≤◌, Bool, true, false, List, [], ◌∷◌, ◌++◌, map, length, length-append, append-nil, append_assoc, None, Some, arith, ltb-false}
 use Rattle.std.specs.Prelude.{nat_lt, sum_by, if◌then◌else◌}
 use Rattle.std.specs.List.{flat_map}
-use Rattle.std.specs.Option.{option_or}
-use Rattle.std.proofs.lemmas.Bool.{or_parts, or_from}
+use Rattle.std.proofs.lemmas.Bool.{or_parts}
 use Rattle.std.proofs.lemmas.List.{map-append}
 use Rattle.std.proofs.lemmas.List.Sums.{sum_by-append}
 use Rattle.std.proofs.lemmas.Nat.{mul-le}
@@ -17,25 +16,21 @@ use Rattle.meaning.specs.Space.{below}
 use Rattle.meaning.specs.StudyClauses.{Sourced, clauses_of, frame_of, from_frame, clauses_for}
 use Rattle.meaning.specs.Variables.{bits, variable_count}
 use Rattle.meaning.proofs.SpaceLaws.{length-up_from}
-use Rattle.clause_form.specs.declared.refusals.GroundFault.{GroundFault}
 use Rattle.clause_form.specs.declared.refusals.GroundFault.TheVariants.{Full}
 use Rattle.clause_form.specs.Refusals.{is_over_limits, first_wide, first_full}
 use Rattle.outcomes.specs.Laws.{AreFramesSmall}
 use Rattle.outcomes.proofs.SmallFrames.{frames_small}
 use Rattle.search_logs.specs.Spent.{all_places}
 use Rattle.answers.specs.Grounding.{all_clauses, clauses_fault}
+use Rattle.lists.proofs.OptionLaws.{none_of_either}
 
 -- a clause list is within its limits
 pub record AreFew (clauses : List Clause) : Type 0 where
   pub short : length clauses ≤ 4000000
   pub light : sum_by length clauses ≤ 60000000
 
-few_not_over : (clauses : List Clause) → AreFew clauses → is_over_limits clauses ≡ false
-few_not_over clauses few =
-    or_from (nat_lt 4000000 (length clauses)) (nat_lt 60000000 (sum_by length clauses)) (le-ltb 4000000 (length clauses) few.short) (le-ltb 60000000 (sum_by length clauses) few.light)
-
-few_at : (clauses : List Clause) → is_over_limits clauses ≡ false → AreFew clauses
-few_at clauses h =
+few_from_test : (clauses : List Clause) → is_over_limits clauses ≡ false → AreFew clauses
+few_from_test clauses h =
     let p = or_parts (nat_lt 4000000 (length clauses)) (nat_lt 60000000 (sum_by length clauses)) h in
     record { short = ltb-false 4000000 (length clauses) p.0; light = ltb-false 60000000 (sum_by length clauses) p.1 }
 
@@ -84,18 +79,14 @@ module _ (size : Extent) (axioms : List Titled) where
           → (b : Bool) → is_over_limits (clauses_for size axioms (before ++ place ∷ [])) ≡ b → (if b then Some (Full place) else first_full size axioms (before ++ place ∷ []) chosen) ≡ None
           → AreFew (clauses_for size axioms ((before ++ place ∷ []) ++ chosen))
       by_test further true over none = absurd (cc)
-      by_test further false over none = further (few_at (clauses_for size axioms (before ++ place ∷ [])) over) none
-
-second_none : (first second : Option GroundFault) → option_or first second ≡ None → second ≡ None
-second_none None second h = h
-second_none (Some fault) second h = absurd (cc)
+      by_test further false over none = further (few_from_test (clauses_for size axioms (before ++ place ∷ [])) over) none
 
 -- clauses that are not refused are within the limits of a list
 pub clauses_few : (study : Question) → IsSize study.size → clauses_fault study ≡ None → AreFew (all_clauses study)
 clauses_few study size none =
     let small = frames_small study.size size in
     full_nowhere study.size study.axioms [] (all_places study) (all_frames study.size small study.axioms size.few_profiles)
-    (second_none (first_wide study.size study.axioms (all_places study)) (first_full study.size study.axioms [] (all_places study)) none)
+    (none_of_either (first_wide study.size study.axioms (all_places study)) (first_full study.size study.axioms [] (all_places study)) none).1
 
 -- there are few variables
 pub variables_few : (size : Extent) → IsSize size → variable_count size ≤ 200000

@@ -1,5 +1,5 @@
--- A file gives one study, and is not refused where it gives one.
-use Rattle.std.proofs.Common.{◌≡◌, ◌∙◌, sym, ap, subst, ℕ, ◌<◌, ◌≤◌, List, length, Option, None, Some, Result, Ok, Err, arith}
+-- A file gives one study, and is not refused where it gives one; and the clauses of a study are made, or have one refusal.
+use Rattle.std.proofs.Common.{◌≡◌, ◌∙◌, sym, ap, subst, ℕ, ◌<◌, ◌≤◌, List, length, Option, None, Some, Result, Ok, Err, arith, refl, ◌≢◌}
 use Rattle.edge.specs.Shelf.{Files}
 use Rattle.vocab.specs.Study.{Question}
 use Rattle.study.specs.declared.faults.StudyFault.{StudyFault}
@@ -15,6 +15,8 @@ use Rattle.answers.specs.Runs.{IsBare}
 use Rattle.answers.specs.Grounding.{clauses_fault, refusal_line, OverClauses, clauses_refused, clauses_made}
 use Rattle.answers.specs.Lrat.{GivesFormula}
 use Rattle.answers.specs.Lawful.{IsBenchAnswer, Lawful}
+use Rattle.clause_form.specs.declared.refusals.GroundFault.TheVariants.{Full, NoMemory, Wide}
+use Rattle.clause_form.specs.Refusals.{IsRefused}
 
 pub some_same : {A : Type 0} (o : Option A) (x y : A) → o ≡ Some x → o ≡ Some y → x ≡ y
 some_same o x y h k = cc
@@ -71,3 +73,9 @@ one_formula files name f f' g g' =
     let same : g.bytes ≡ g'.bytes = some_same (files name) g.bytes g'.bytes g.holds.held g'.holds.held in
     let both : Ok f ≡ Ok f' = sym g.read ∙ ap read_dimacs same ∙ g'.read in
     cc
+
+-- a refusal other than want of memory is the one of the clauses
+pub refusal_is : (fault : GroundFault) (wanted : Option GroundFault) → fault ≢ NoMemory → IsRefused fault wanted → wanted ≡ Some fault
+refusal_is (Wide place instance counts) wanted known is = is
+refusal_is (Full place) wanted known is = is
+refusal_is NoMemory wanted known is = absurd (known refl)

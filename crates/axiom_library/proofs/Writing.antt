@@ -16,10 +16,8 @@ is_free_word n = (not (bytes_eq n (codes "all")) && not (bytes_eq n (codes "some
 abbrev mutual
   pub is_writable_term : NamedTermTree → Bool
   is_writable_term (tree.Var n) = is_free_word n
-  is_writable_term (tree.Voter n) = false
-  is_writable_term (tree.Alt a) = false
-  is_writable_term (tree.Ballot b) = false
   is_writable_term (tree.Call n ts) = is_free_word n && is_writable_list ts
+  is_writable_term p = false
 
   pub is_writable_list : NamedTermTrees → Bool
   is_writable_list tree.NoArguments = false
@@ -53,10 +51,8 @@ free_word n h =
 mutual
   term_by_test : (t : NamedTermTree) → is_writable_term t ≡ true → IsWritableTerm t
   term_by_test (tree.Var n) h = free_word n h
-  term_by_test (tree.Voter n) h = absurd (false≢true h)
-  term_by_test (tree.Alt a) h = absurd (false≢true h)
-  term_by_test (tree.Ballot b) h = absurd (false≢true h)
   term_by_test (tree.Call n ts) h = let (w, more) = and_parts (is_free_word n) (is_writable_list ts) h in let (free, word) = free_word n w in (free, word, list_by_test ts more)
+  term_by_test p h = absurd (false≢true h)
 
   list_by_test : (ts : NamedTermTrees) → is_writable_list ts ≡ true → IsWritableList ts
   list_by_test tree.NoArguments h = absurd (false≢true h)

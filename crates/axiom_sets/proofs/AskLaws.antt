@@ -1,5 +1,6 @@
 -- The clauses of the sets that a map does not cover.
-use Rattle.std.proofs.Common.{◌≡◌, refl, sym, ◌∙◌, ap, ap₂, subst, ℕ, zero, suc, ◌+◌, ◌-◌, ◌<◌, ◌≤◌, Bool, true, false, not, ◌&&◌, ◌||◌, cond, List, [], ◌∷◌, ◌++◌, map, filter, take, drop, append_assoc, length, length-append, inl, inr, ◌⊎◌, arith, true≢false, eqb-true, eq-eqb, ltb-true, ltb-false, lt-ltb, le-leb, leb-true, get_or, All}
+use mathlib.Core.Bool.{not-not}
+use Rattle.std.proofs.Common.{◌≡◌, refl, sym, ◌∙◌, ap, ap₂, subst, ℕ, zero, suc, ◌+◌, ◌-◌, ◌<◌, ◌≤◌, Bool, true, false, not, ◌&&◌, ◌||◌, cond, List, [], ◌∷◌, ◌++◌, map, filter, take, drop, append_assoc, length, length-append, inl, inr, ◌⊎◌, arith, true≢false, eqb-true, eq-eqb, ltb-true, lt-ltb, le-leb, leb-true, get_or, All}
 use Rattle.std.specs.Prelude.{◌==◌, nat_lt, nat_le, sum_by}
 use Rattle.std.specs.Bool.{beq}
 use Rattle.std.specs.List.{list_all, list_any}
@@ -7,7 +8,7 @@ use Rattle.std.proofs.lemmas.Bool.{and_parts, and_from, and_cases, or_left, or_r
 use Rattle.std.proofs.lemmas.List.Folds.{list_all-append, list_all-map}
 use Rattle.std.proofs.lemmas.List.Elements.{filter-append}
 use Rattle.std.proofs.lemmas.List.Sums.{sum_by-append}
-use Rattle.lists.proofs.TestLaws.{all_read}
+use Rattle.lists.proofs.TestLaws.{all_read, all_weaker}
 use Rattle.vocab.proofs.Ranges.{below_more}
 use Rattle.cnf.specs.ClauseList.{ClauseList, IsFullFor}
 use Rattle.cnf.specs.Derived.{IsAccepted}
@@ -19,15 +20,15 @@ use Rattle.cnf.proofs.SoundLaws.{accepted_unsatisfiable}
 use Rattle.meaning.specs.Cores.{is_core_from}
 use Rattle.meaning.specs.Space.{up_from, below}
 use Rattle.meaning.proofs.SpaceLaws.{any_at, any_from}
-use Rattle.meaning.proofs.TestLaws.{any-agree, list_any-map}
-use Rattle.meaning.proofs.CoreLaws.{core_in_range}
+use Rattle.meaning.proofs.TestLaws.{any-agree, list_any-map, not-and}
+use Rattle.meaning.proofs.CoreLaws.{core_in_range, core_lower}
 use Rattle.search_logs.specs.Spent.{has_place}
 use Rattle.search_logs.proofs.PlaceLaws.{member_passes}
 use Rattle.axiom_sets.specs.declared.maps.AxiomMap.{AxiomMap}
 use Rattle.axiom_sets.specs.Sets.{is_set, is_within, has_part, has_whole}
 use Rattle.axiom_sets.specs.Maps.{covers, IsTidy}
 use Rattle.axiom_sets.specs.Next.{lacks_some, goes_beyond, uncovered_clauses, chosen, AreTooMany}
-use Rattle.axiom_sets.proofs.SetLaws.{all_on}
+use Rattle.meaning.proofs.BitLaws.{beq-false}
 
 -- ---- places of sets
 
@@ -70,21 +71,13 @@ chosen_from keep a (suc n) = cases (keep a) (subst (λ (m : ℕ). is_core_from (
     next : suc a ≡ a + 1
     next = omega arith
 
-    lower : (from at count : ℕ) (set : List ℕ) → from ≤ at → is_core_from at count set ≡ true → is_core_from from count set ≡ true
-    lower from at count [] le h = refl
-    lower from at count (k ∷ set) le h =
-        let p = and_parts (not (nat_lt k at) && nat_lt k count) (is_core_from (k + 1) count set) h in
-        let q = and_parts (not (nat_lt k at)) (nat_lt k count) p.0 in
-        let low = ltb-false k at (not-true _ q.0) in
-        and_from _ _ (and_from _ _ (not_from_false _ (false_from_ne_true (nat_lt k from) (λ e. let l = ltb-true k from e in absurd (omega (arith, l, low, le))))) q.1) p.1
-
     here : (not (nat_lt a a) && nat_lt a (a + suc n)) ≡ true
     here = and_from _ _ (not_from_false _ (false_from_ne_true (nat_lt a a) (λ e. let l = ltb-true a a e in absurd (omega (arith, l))))) (lt-ltb a (a + suc n) (omega arith))
 
     cases : (b : Bool) → is_core_from (suc a) (a + suc n) (filter keep (up_from (suc a) n)) ≡ true
         → is_core_from a (a + suc n) (cond b (a ∷ filter keep (up_from (suc a) n)) (filter keep (up_from (suc a) n))) ≡ true
     cases true ih = and_from _ _ here (subst (λ (m : ℕ). is_core_from m (a + suc n) (filter keep (up_from (suc a) n)) ≡ true) next ih)
-    cases false ih = lower a (suc a) (a + suc n) (filter keep (up_from (suc a) n)) (omega arith) ih
+    cases false ih = core_lower a (suc a) (a + suc n) (filter keep (up_from (suc a) n)) (omega arith) ih
 
 pub chosen_is_set : (v : ℕ → Bool) (count : ℕ) → is_set count (chosen v count) ≡ true
 chosen_is_set v count = let e : 0 + count ≡ count = omega arith in subst (λ (m : ℕ). is_core_from 0 m (chosen v count) ≡ true) e (chosen_from (λ a. not (v (a + 1))) 0 count)
@@ -105,10 +98,6 @@ by_value : (b c r w : Bool) → c ≡ not b → r ≡ not w → (beq b true || r
 by_value true c r w e f = ap (λ (x : Bool). not (x && w)) (sym e)
 by_value false c r w e f = f ∙ ap (λ (x : Bool). not (x && w)) (sym e)
 
-not_or : (a b : Bool) → (not a && not b) ≡ not (a || b)
-not_or true b = refl
-not_or false b = refl
-
 module _ (v : ℕ → Bool) (count : ℕ) (set : List ℕ) (is : is_set count set ≡ true) (same : (a : ℕ) → a < count → has_place set a ≡ not (v (a + 1))) where
   lacks_says : (s : List ℕ) → list_all (λ k. nat_lt k count) s ≡ true → is_clause_true v (lacks_some s) ≡ not (is_within s set)
   lacks_says [] h = refl
@@ -121,13 +110,9 @@ module _ (v : ℕ → Bool) (count : ℕ) (set : List ℕ) (is : is_set count se
       list_any-map (is_lit_true v) (λ a. record { variable = a + 1; positive = false }) (filter (λ a. not (has_place s a)) (below count))
       ∙ any_filter (λ a. beq (v (a + 1)) false) (λ a. not (has_place s a)) (below count)
       ∙ any-agree (λ a. not (has_place s a) && beq (v (a + 1)) false) (λ a. not (has_place s a) && has_place set a) count 0
-      (λ a lt. let l : a < count = omega (arith, lt) in ap (λ (b : Bool). not (has_place s a) && b) (is_false (v (a + 1)) ∙ sym (same a l)))
+      (λ a lt. let l : a < count = omega (arith, lt) in ap (λ (b : Bool). not (has_place s a) && b) (beq-false (v (a + 1)) ∙ sym (same a l)))
       ∙ cases (is_within set s) refl
     where
-      is_false : (b : Bool) → beq b false ≡ not b
-      is_false true = refl
-      is_false false = refl
-
       cases : (b : Bool) → is_within set s ≡ b → list_any (λ a. not (has_place s a) && has_place set a) (below count) ≡ not b
       cases true e = false_from_ne_true _ (λ h.
           let found = any_at (λ a. not (has_place s a) && has_place set a) count 0 h in
@@ -142,11 +127,11 @@ module _ (v : ℕ → Bool) (count : ℕ) (set : List ℕ) (is : is_set count se
   parts_say [] h = refl
   parts_say (s ∷ sets) h =
       let p = and_parts (is_set count s) (list_all (is_set count) sets) h in
-      ap₂ (λ (a b : Bool). a && b) (lacks_says s (places_below count s p.0)) (parts_say sets p.1) ∙ not_or (is_within s set) (has_part sets set)
+      ap₂ (λ (a b : Bool). a && b) (lacks_says s (places_below count s p.0)) (parts_say sets p.1) ∙ not-and (is_within s set) (has_part sets set)
 
   wholes_say : (sets : List (List ℕ)) → is_satisfied v (map (goes_beyond count) sets) ≡ not (has_whole sets set)
   wholes_say [] = refl
-  wholes_say (s ∷ sets) = ap₂ (λ (a b : Bool). a && b) (beyond_says s) (wholes_say sets) ∙ not_or (is_within set s) (has_whole sets set)
+  wholes_say (s ∷ sets) = ap₂ (λ (a b : Bool). a && b) (beyond_says s) (wholes_say sets) ∙ not-and (is_within set s) (has_whole sets set)
 
   -- the assignment that leaves out what is none of a set satisfies the clauses where the map does not cover the set
   pub clauses_say : (sets : AxiomMap) → IsTidy count sets → is_satisfied v (uncovered_clauses count sets) ≡ not (covers sets set)
@@ -158,7 +143,7 @@ module _ (v : ℕ → Bool) (count : ℕ) (set : List ℕ) (is : is_set count se
     where
       three : (a b c : Bool) → (not a && (not b && not c)) ≡ not ((a || b) || c)
       three true b c = refl
-      three false b c = not_or b c
+      three false b c = not-and b c
 
 -- the set of an assignment that satisfies the clauses is one that the map does not cover
 pub found_uncovered : (count : ℕ) (sets : AxiomMap) → IsTidy count sets → (v : ℕ → Bool) → is_satisfied v (uncovered_clauses count sets) ≡ true → covers sets (chosen v count) ≡ false
@@ -172,11 +157,7 @@ refuted_covers count sets tidy lines accepted set is = cases (covers sets set) r
     v i = not (has_place set (i - 1))
 
     same : (a : ℕ) → a < count → has_place set a ≡ not (v (a + 1))
-    same a lt = let e : a ≡ a + 1 - 1 = omega arith in ap (has_place set) e ∙ twice (has_place set (a + 1 - 1))
-      where
-        twice : (b : Bool) → b ≡ not (not b)
-        twice true = refl
-        twice false = refl
+    same a lt = let e : a ≡ a + 1 - 1 = omega arith in ap (has_place set) e ∙ sym (not-not (has_place set (a + 1 - 1)))
 
     cases : (b : Bool) → covers sets set ≡ b → b ≡ true
     cases true e = refl
@@ -190,16 +171,16 @@ over_at count k lt = and_from _ _ (le-leb 1 (k + 1) (omega arith)) (le-leb (k + 
 lacks_over : (count : ℕ) (s : List ℕ) → is_set count s ≡ true → is_over count (lacks_some s) ≡ true
 lacks_over count s h =
     list_all-map (λ (l : Signed). nat_le 1 l.variable && nat_le l.variable count) (λ a. record { variable = a + 1; positive = true }) s
-    ∙ all_on (λ k. nat_lt k count) (λ k. nat_le 1 (k + 1) && nat_le (k + 1) count) s (λ k e. over_at count k (ltb-true k count e)) (places_below count s h)
+    ∙ all_weaker (λ k. nat_lt k count) (λ k. nat_le 1 (k + 1) && nat_le (k + 1) count) (λ k e. over_at count k (ltb-true k count e)) s (places_below count s h)
 
 beyond_over : (count : ℕ) (s : List ℕ) → is_over count (goes_beyond count s) ≡ true
 beyond_over count s =
     list_all-map (λ (l : Signed). nat_le 1 l.variable && nat_le l.variable count) (λ a. record { variable = a + 1; positive = false }) (filter (λ a. not (has_place s a)) (below count))
-    ∙ all_on (λ k. nat_lt k count) (λ k. nat_le 1 (k + 1) && nat_le (k + 1) count) (filter (λ a. not (has_place s a)) (below count)) (λ k e. over_at count k (ltb-true k count e))
+    ∙ all_weaker (λ k. nat_lt k count) (λ k. nat_le 1 (k + 1) && nat_le (k + 1) count) (λ k e. over_at count k (ltb-true k count e)) (filter (λ a. not (has_place s a)) (below count))
     (let e : 0 + count ≡ count = omega arith in core_in_range 0 count (filter (λ a. not (has_place s a)) (below count)) (subst (λ (m : ℕ). is_core_from 0 m (filter (λ a. not (has_place s a)) (below count)) ≡ true) e (chosen_from (λ a. not (has_place s a)) 0 count)))
 
 each_over : (count : ℕ) (sets : List (List ℕ)) (clause_of : List ℕ → Clause) (fits : List ℕ → Bool) → ((s : List ℕ) → fits s ≡ true → is_over count (clause_of s) ≡ true) → list_all fits sets ≡ true → list_all (is_over count) (map clause_of sets) ≡ true
-each_over count sets clause_of fits on h = list_all-map (is_over count) clause_of sets ∙ all_on fits (λ s. is_over count (clause_of s)) sets on h
+each_over count sets clause_of fits on h = list_all-map (is_over count) clause_of sets ∙ all_weaker fits (λ s. is_over count (clause_of s)) on sets h
 
 pub uncovered_over : (count : ℕ) (sets : AxiomMap) → IsTidy count sets → All (λ (clause : Clause). All (λ (l : Signed). l.variable ≤ count) clause) (uncovered_clauses count sets)
 uncovered_over count sets tidy = λ i d lt j e lt'.

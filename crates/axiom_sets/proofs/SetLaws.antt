@@ -23,17 +23,9 @@ within_on a b c h k = each_member (has_place c) a (λ x e. member_passes (has_pl
 pub within_member : (a b : List ℕ) (k : ℕ) → is_within a b ≡ true → has_place a k ≡ true → has_place b k ≡ true
 within_member a b k h m = member_passes (has_place b) a k h m
 
--- where each member of a set is one of another, it lies within that
-pub within_from : (a b : List ℕ) → ((k : ℕ) → has_place a k ≡ true → has_place b k ≡ true) → is_within a b ≡ true
-within_from a b h = each_member (has_place b) a h
-
 -- ---- lists and tests
 
 module _ {X : Type 0} where
-  pub all_on : (p q : X → Bool) (xs : List X) → ((x : X) → p x ≡ true → q x ≡ true) → list_all p xs ≡ true → list_all q xs ≡ true
-  all_on p q [] on h = refl
-  all_on p q (x ∷ xs) on h = let e = and_parts (p x) (list_all p xs) h in and_from _ _ (on x e.0) (all_on p q xs on e.1)
-
   pub all_both : (p q : X → Bool) (xs : List X) → list_all p xs ≡ true → list_all q xs ≡ true → list_all (λ x. p x && q x) xs ≡ true
   all_both p q [] h k = refl
   all_both p q (x ∷ xs) h k =
@@ -44,16 +36,6 @@ module _ {X : Type 0} where
   pub any_on : (p q : X → Bool) (xs : List X) → ((x : X) → p x ≡ true → q x ≡ true) → list_any p xs ≡ true → list_any q xs ≡ true
   any_on p q [] on h = h
   any_on p q (x ∷ xs) on h = elim (or_cases (p x) (list_any p xs) h) [ inl e ↦ or_left _ _ (on x e) | inr e ↦ or_right _ _ (any_on p q xs on e) ]
-
-  -- an item passes a test
-  pub some_item : (p : X → Bool) (xs : List X) → list_any p xs ≡ true → (x : X) × (p x ≡ true)
-  some_item p [] h = absurd (true≢false (sym h))
-  some_item p (x ∷ xs) h = elim (or_cases (p x) (list_any p xs) h) [ inl e ↦ (x, e) | inr e ↦ some_item p xs e ]
-
-  -- what holds of each item of a list and passes with it a test holds of one that passes
-  pub some_with : (P : X → Type 0) (p : X → Bool) (xs : List X) → AllByRecursion P xs → list_any p xs ≡ true → (x : X) × P x × (p x ≡ true)
-  some_with P p [] all h = absurd (true≢false (sym h))
-  some_with P p (x ∷ xs) all h = elim (or_cases (p x) (list_any p xs) h) [ inl e ↦ (x, all.0, e) | inr e ↦ some_with P p xs all.1 e ]
 
   -- ---- of the items that are kept
 

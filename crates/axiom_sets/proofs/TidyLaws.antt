@@ -1,13 +1,13 @@
 -- What a map keeps when a set is added.
-use Rattle.std.proofs.Common.{◌≡◌, refl, ◌∙◌, ap, ap₂, ℕ, Bool, true, false, not, ◌&&◌, ◌||◌, List, filter, inl, inr, ◌⊎◌, true≢false}
+use Rattle.std.proofs.Common.{◌≡◌, ◌∙◌, ap, ap₂, ℕ, Bool, true, false, not, ◌&&◌, ◌||◌, List, filter, inl, inr, ◌⊎◌}
 use Rattle.std.specs.List.{list_all}
-use Rattle.std.proofs.lemmas.Bool.{and_parts, and_left, and_right, or_cases, or_parts, or_from, or_left, or_right, both_ways, not-true, not_from_false, false_from_ne_true}
-use Rattle.lists.proofs.TestLaws.{all_kept, kept_pass}
+use Rattle.std.proofs.lemmas.Bool.{and_parts, and_left, and_right, or_cases, or_parts, or_from, or_left, or_right, both_ways, not-true, not_from_false, false_from_ne_true, not-false}
+use Rattle.lists.proofs.TestLaws.{all_kept, kept_pass, all_weaker}
 use Rattle.meaning.proofs.TestLaws.{none_passes}
 use Rattle.axiom_sets.specs.declared.maps.AxiomMap.{AxiomMap}
 use Rattle.axiom_sets.specs.Sets.{is_set, is_within, has_part, has_whole, is_rising}
 use Rattle.axiom_sets.specs.Maps.{decides, covers, are_apart, IsTidy, HasImpossible, HasPossible, HasOpen}
-use Rattle.axiom_sets.proofs.SetLaws.{all_on, all_both, any_kept, any_split, apart, apart_kept, within_on, within_self, all_put, any_put, apart_put}
+use Rattle.axiom_sets.proofs.SetLaws.{all_both, any_kept, any_split, apart, apart_kept, within_on, within_self, all_put, any_put, apart_put}
 use Rattle.axiom_sets.proofs.OrderLaws.{other_than, rising_kept}
 
 module _ (set : List ℕ) where
@@ -19,10 +19,10 @@ module _ (set : List ℕ) where
   not_smaller s = not (is_within s set)
 
   pub fresh_larger : (sets : List (List ℕ)) → list_all (other_than set) (filter not_larger sets) ≡ true
-  fresh_larger sets = all_on not_larger (other_than set) (filter not_larger sets) (λ s e. not_from_false _ (and_right (is_within s set) (is_within set s) (not-true _ e))) (kept_pass not_larger sets)
+  fresh_larger sets = all_weaker not_larger (other_than set) (λ s e. not_from_false _ (and_right (is_within s set) (is_within set s) (not-true _ e))) (filter not_larger sets) (kept_pass not_larger sets)
 
   pub fresh_smaller : (sets : List (List ℕ)) → list_all (other_than set) (filter not_smaller sets) ≡ true
-  fresh_smaller sets = all_on not_smaller (other_than set) (filter not_smaller sets) (λ s e. not_from_false _ (and_left (is_within s set) (is_within set s) (not-true _ e))) (kept_pass not_smaller sets)
+  fresh_smaller sets = all_weaker not_smaller (other_than set) (λ s e. not_from_false _ (and_left (is_within s set) (is_within set s) (not-true _ e))) (filter not_smaller sets) (kept_pass not_smaller sets)
 
   apart_larger : (sets : List (List ℕ)) → has_part sets set ≡ false → list_all (apart set) (filter not_larger sets) ≡ true
   apart_larger sets h = all_both not_smaller not_larger (filter not_larger sets) (all_kept not_smaller not_larger sets (none_passes (λ s. is_within s set) sets h)) (kept_pass not_larger sets)
@@ -46,11 +46,7 @@ module _ (set : List ℕ) where
           among : (has_part (filter not_larger old.impossible) s ≡ true) ⊎ ((o : List ℕ) × (is_within o s ≡ true) × (not_larger o ≡ false))
               → (has_part (filter not_larger old.impossible) s || is_within set s) ≡ true
           among (inl kept) = or_left _ _ kept
-          among (inr gone) = or_right _ _ (within_on set gone.0 s (not_false _ gone.2) gone.1)
-            where
-              not_false : (b : Bool) → not b ≡ false → b ≡ true
-              not_false true e = refl
-              not_false false e = absurd (true≢false e)
+          among (inr gone) = or_right _ _ (within_on set gone.0 s (not-false _ gone.2) gone.1)
 
       pub decides_new_impossible : decides new set ≡ true
       decides_new_impossible = or_left _ _ (part_impossible set ∙ or_right _ _ (within_self set))
@@ -77,7 +73,7 @@ module _ (set : List ℕ) where
             largest = ap are_apart h.possible ∙ tidy.largest;
             least_open = ap are_apart h.open_sets ∙ apart_kept not_larger old.open tidy.least_open;
             undecided = ap (list_all (λ s. not (decides new s))) h.open_sets
-                ∙ all_on (λ s. not (decides old s) && not_larger s) (λ s. not (decides new s)) (filter not_larger old.open) undecided_impossible
+                ∙ all_weaker (λ s. not (decides old s) && not_larger s) (λ s. not (decides new s)) undecided_impossible (filter not_larger old.open)
                 (all_both (λ s. not (decides old s)) not_larger (filter not_larger old.open) (all_kept (λ s. not (decides old s)) not_larger old.open tidy.undecided) (kept_pass not_larger old.open));
           }
 
@@ -96,11 +92,7 @@ module _ (set : List ℕ) where
           among : (has_whole (filter not_smaller old.possible) s ≡ true) ⊎ ((o : List ℕ) × (is_within s o ≡ true) × (not_smaller o ≡ false))
               → (has_whole (filter not_smaller old.possible) s || is_within s set) ≡ true
           among (inl kept) = or_left _ _ kept
-          among (inr gone) = or_right _ _ (within_on s gone.0 set gone.1 (not_false _ gone.2))
-            where
-              not_false : (b : Bool) → not b ≡ false → b ≡ true
-              not_false true e = refl
-              not_false false e = absurd (true≢false e)
+          among (inr gone) = or_right _ _ (within_on s gone.0 set gone.1 (not-false _ gone.2))
 
       pub decides_new_possible : decides new set ≡ true
       decides_new_possible = or_right (has_part new.impossible set) _ (whole_possible set ∙ or_right _ _ (within_self set))
@@ -127,7 +119,7 @@ module _ (set : List ℕ) where
             largest = apart_put kept new.possible set h.possible (apart_kept not_smaller old.possible tidy.largest) (apart_smaller old.possible none.1);
             least_open = ap are_apart h.open_sets ∙ apart_kept not_smaller old.open tidy.least_open;
             undecided = ap (list_all (λ s. not (decides new s))) h.open_sets
-                ∙ all_on (λ s. not (decides old s) && not_smaller s) (λ s. not (decides new s)) (filter not_smaller old.open) undecided_possible
+                ∙ all_weaker (λ s. not (decides old s) && not_smaller s) (λ s. not (decides new s)) undecided_possible (filter not_smaller old.open)
                 (all_both (λ s. not (decides old s)) not_smaller (filter not_smaller old.open) (all_kept (λ s. not (decides old s)) not_smaller old.open tidy.undecided) (kept_pass not_smaller old.open));
           }
 
@@ -149,11 +141,7 @@ module _ (set : List ℕ) where
           among : (has_part (filter not_larger old.open) s ≡ true) ⊎ ((o : List ℕ) × (is_within o s ≡ true) × (not_larger o ≡ false))
               → (has_part (filter not_larger old.open) s || is_within set s) ≡ true
           among (inl kept) = or_left _ _ kept
-          among (inr gone) = or_right _ _ (within_on set gone.0 s (not_false _ gone.2) gone.1)
-            where
-              not_false : (b : Bool) → not b ≡ false → b ≡ true
-              not_false true e = refl
-              not_false false e = absurd (true≢false e)
+          among (inr gone) = or_right _ _ (within_on set gone.0 s (not-false _ gone.2) gone.1)
 
       pub covers_new_open : covers new set ≡ true
       covers_new_open = or_right (decides new set) _ (part_open set ∙ or_right _ _ (within_self set))
@@ -174,6 +162,6 @@ module _ (set : List ℕ) where
             largest = ap are_apart h.possible ∙ tidy.largest;
             least_open = apart_put kept new.open set h.open_sets (apart_kept not_larger old.open tidy.least_open) (apart_larger old.open none.1);
             undecided = all_put kept new.open set h.open_sets (λ s. not (decides new s))
-                (all_on (λ s. not (decides old s)) (λ s. not (decides new s)) kept same (all_kept (λ s. not (decides old s)) not_larger old.open tidy.undecided))
+                (all_weaker (λ s. not (decides old s)) (λ s. not (decides new s)) same kept (all_kept (λ s. not (decides old s)) not_larger old.open tidy.undecided))
                 (same set (not_from_false _ none.0));
           }

@@ -1,7 +1,7 @@
 -- what is false at level 0 is traced back and left out
-use Rattle.std.proofs.Common.{subst, inl, inr, ◌≡◌, ◌≢◌, ℕ, ◌+◌, ◌-◌, ◌<◌, ◌≤◌, eqb, cond, ◌&&◌, Bool, true, false, not, List, [], ◌∷◌, ◌++◌, length, get_or, set, take, map, reverse, refl, ap, sym, ◌∙◌, arith, Some, None}
+use Rattle.std.proofs.Common.{subst, inl, inr, ◌≡◌, ◌≢◌, ℕ, ◌+◌, ◌-◌, ◌<◌, ◌≤◌, eqb, cond, Bool, true, false, not, List, [], ◌∷◌, ◌++◌, length, get_or, set, take, map, reverse, refl, ap, sym, ◌∙◌, arith, Some, None}
 use Rattle.std.specs.Prelude.{All, ◌⊎◌, is_none}
-use Rattle.std.proofs.lemmas.Bool.{cases_eq, eq-eqb, ne_eqb, and_from, and_left, and_right}
+use Rattle.std.proofs.lemmas.Bool.{cases_eq, eq-eqb, ne_eqb, and_from, and_left, and_right, and_parts}
 use Rattle.std.proofs.lemmas.List.Elements.{All-more, All-weaker, All-push, All-map, All-contains, All-nil, Contains-push, Contains-get_or}
 use Rattle.std.proofs.lemmas.List.{get_or-set_same, get_or-set_other, take_all, take-take, length-take, get_or-take, reverse-append}
 use Rattle.std.proofs.lemmas.List.Sums.{sum_by-take-le, sum_by_more}
@@ -34,15 +34,7 @@ set_more seen i j lt h =
 pub RootHolds-more : (k : List Signed) (t : TrailState) (p : ℕ) (old new : List Bool) → ((i : ℕ) → get_or old i false ≡ true → get_or new i false ≡ true) → RootHolds k t p new → RootHolds k t p old
 RootHolds-more k t p old new more h =
     All-weaker (λ e. is_open_entry new 0 e ≡ true → HoldsIn k e.literal) (λ e. is_open_entry old 0 e ≡ true → HoldsIn k e.literal)
-    (λ e holds o. holds (and_from (is_marked_variable new e.literal.variable) (eqb e.level 0) (more (e.literal.variable - 1) (left _ _ o)) (right _ _ o))) (take p t.entries) h
-  where
-    left : (a b : Bool) → (a && b) ≡ true → a ≡ true
-    left true b o = refl
-    left false b o = absurd (cc)
-
-    right : (a b : Bool) → (a && b) ≡ true → b ≡ true
-    right true b o = o
-    right false b o = absurd (cc)
+    (λ e holds o. let p = and_parts (is_marked_variable old e.literal.variable) (eqb e.level 0) o in holds (and_from (is_marked_variable new e.literal.variable) (eqb e.level 0) (more (e.literal.variable - 1) p.0) p.1)) (take p t.entries) h
 
 RootHolds-extends : (k j : List Signed) (t : TrailState) (p : ℕ) (seen : List Bool) → RootHolds k t p seen → Extends k j → RootHolds j t p seen
 RootHolds-extends k j t p seen h x =

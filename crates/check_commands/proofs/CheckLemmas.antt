@@ -1,5 +1,5 @@
 -- `check`, from what each part promises to what the command does.
-use Rattle.std.proofs.Common.{◌≡◌, sym, refl, subst, ℕ, ◌≤◌, List, [], ◌∷◌, Option, None, Some, IfSome, Result, Ok, Err, IfOk, arith}
+use Rattle.std.proofs.Common.{◌≡◌, sym, refl, subst, ℕ, ◌≤◌, List, [], ◌∷◌, Option, Some, IfSome, Result, Ok, Err, IfOk, arith}
 use Rattle.edge.specs.Shelf.{Files}
 use Rattle.vocab.specs.Study.{Question}
 use Rattle.verdicts.specs.declared.verdicts.Verdict.{Verdict}
@@ -18,7 +18,7 @@ use Rattle.report_files.specs.declared.worths.JudgedWorth.{JudgedWorth}
 use Rattle.report_files.specs.declared.worths.JudgedWorth.TheVariants as judged_worth
 use Rattle.report_files.specs.Files.{IsWorth, IsSharpWorth, IsJudgedWorth, IsJudgedWorthOf}
 use Rattle.words.specs.Words.{Check}
-use Rattle.answers.specs.Studies.{GivesStudy, study_refused, study_given}
+use Rattle.answers.specs.Studies.{study_refused, study_given}
 use Rattle.answers.specs.Check.{IsChecked, IsJudged, judged, judgement_status, judged_status}
 use Rattle.answers.specs.Call.{AreFiles, are_told, none_read}
 use Rattle.command_parts.specs.declared.answer.Answer.{Answer}
@@ -85,15 +85,7 @@ pub check_command : (name report : List ℕ) (workers : ℕ) → IsPairCommand (
 check_command name report workers = record { two = refl; statuses = refl }
 
 module _ (told : Option Files) (name report : List ℕ) where
-  -- a study that was read is taken
-  pub study_taken : (study : Question) → IsStudyRead told name study → IfSome told (λ files. (study : Question) × GivesStudy files name study)
-  study_taken study read = go told refl
-    where
-      go : (o : Option Files) → told ≡ o → IfSome o (λ files. (study : Question) × GivesStudy files name study)
-      go None e = tt
-      go (Some files) e = (study, given told name study files read e)
-
-  -- the report is judged over it
+  -- the report is judged over the study that was read
   pub judged_rows : (study : Question) (result : Result Answer Stop) → IsStudyRead told name study
       → IfOk result (λ answer. (files : Files) → told ≡ Some files → IsJudged files report study (run_of answer) (text_of answer))
       → (files : Files) → AreFiles told (name ∷ report ∷ []) files → IfOk result (λ answer. IsChecked files name report (run_of answer) (text_of answer))

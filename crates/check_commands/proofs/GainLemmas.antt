@@ -1,19 +1,13 @@
 -- `gain`, from what each part promises to what the command does.
 use Rattle.std.proofs.Common.{◌≡◌, ◌≢◌, ◌∙◌, sym, refl, subst, ap, ℕ, List, [], ◌∷◌, Option, None, Some, IfSome, Result, Ok, Err, IfOk}
-use Rattle.std.specs.Prelude.{IsSomeAnd, IsTrue, MatchOption}
-use Rattle.std.proofs.lemmas.Bool.{and_parts}
-use denote.Ref.{Bor}
+use Rattle.std.specs.Prelude.{IsSomeAnd}
 use Rattle.edge.specs.Shelf.{Files}
 use Rattle.vocab.specs.declared.kinds.Kind.TheVariants.{Sets}
-use Rattle.vocab.specs.Size.{Extent}
 use Rattle.vocab.specs.Study.{Question}
-use Rattle.meaning.specs.Truth.{is_rule}
 use Rattle.verdicts.specs.declared.verdicts.Confirmed.{Confirmed as Claim}
 use Rattle.verdicts.specs.declared.verdicts.Verdict.{Verdict}
-use Rattle.verdicts.specs.declared.verdicts.Verdict.TheVariants.{Possible}
 use Rattle.verdicts.specs.declared.refusals.Refusal.{Refusal}
 use Rattle.verdicts.specs.Claims.{claim_of}
-use Rattle.verdicts.specs.Report.{is_right}
 use Rattle.verdicts.specs.FirstFault.{Judgement, Confirmed, Faulty, TooLong}
 use Rattle.verdicts.specs.Judge.{answer, rule_of}
 use Rattle.verdicts.proofs.ClaimLaws.{within_limit}
@@ -95,21 +89,6 @@ pub rules_told : (told : Option Files) (r : ReaderState) (study : Question) (rep
 rules_told None r study report w claim rule same is whole tells = tt
 rules_told (Some files) r study report w claim rule same is whole tells = λ held at.
     subst (λ (q : Question). rule ≡ rule_of (answer q held)) is (tells held (whole claim held same at))
-
--- the table of a right verdict is a rule
-pub right_rule : (q study : Question) (size : Extent) (o : Option (Bor (List ℕ))) → q ≡ study → study.size ≡ size
-    → IfSome o (λ t. IsTrue (is_right q (Possible t.now))) → IfSome o (λ t. IsTrue (is_rule size t.now))
-right_rule q study size o same of right =
-    by_some o (subst (λ (p : Question). IfSome o (λ t. IsTrue (is_right p (Possible t.now)))) same right)
-  where
-    by_some : (o : Option (Bor (List ℕ))) → IfSome o (λ t. IsTrue (is_right study (Possible t.now))) → IfSome o (λ t. IsTrue (is_rule size t.now))
-    by_some None h = tt
-    by_some (Some t) h = subst (λ (s : Extent). IsTrue (is_rule s t.now)) of (and_parts (is_rule study.size t.now) _ h).0
-
--- what is found is there
-pub found_there : {A : Type 0} (P : Type 0) (Q : A → Type 0) (o : Option A) (x : A) → Some x ≡ o → MatchOption o P Q → Q x
-found_there P Q None x e h = absurd (cc)
-found_there P Q (Some y) x e h = let same : y ≡ x = cc in subst Q same h
 
 -- ---- the command
 

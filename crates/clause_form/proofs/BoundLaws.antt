@@ -6,7 +6,7 @@ use Rattle.meaning.specs.Clauses.{Disjunction, for_falsity, for_truth, joined, k
 use Rattle.meaning.specs.declared.clauses.Counts.{Counts}
 use Rattle.meaning.specs.declared.three.Three.{Three}
 use Rattle.meaning.specs.declared.three.Three.TheVariants.{True, False, Unknown}
-use Rattle.meaning.specs.Kleene.{three_and, three_not, three_of, three_or}
+use Rattle.meaning.specs.Kleene.{three_and, three_of, three_or}
 use Rattle.meaning.specs.Measure.{largest, measure_of}
 use Rattle.meaning.specs.Written.{And, Iff, Known as Truth, Neg, Or, Written, and_chain, or_chain}
 use Rattle.meaning.proofs.MeasureLaws.{length-joined, literals-joined}
@@ -15,7 +15,8 @@ use Rattle.clause_form.specs.Wide.{capped_counts}
 use Rattle.clause_form.specs.declared.bounds.Bound.{Bound}
 use Rattle.clause_form.specs.declared.bounds.Bound.TheVariants.{Known, Open}
 use Rattle.clause_form.proofs.CountLaws.{min-product}
-use Rattle.clause_form.proofs.KnownLaws.{SameForm, and_true_left, and_true_right, and_false, or_false_left, or_false_right, or_true, iff_true_left, iff_true_right, iff_false_left, iff_false_right, minus_false, minus_true, plus_false, plus_true, minus-neg, plus-neg}
+use Rattle.clause_form.proofs.KnownLaws.{SameForm, and_true_left, and_true_right, or_false_left, or_false_right, iff_true_left, iff_true_right, iff_false_left, iff_false_right, minus_false, minus_true, plus_false, plus_true}
+use Rattle.meaning.proofs.ThreeLaws.{and_false, or_true}
 
 -- ---- arithmetic that ends at m
 
@@ -55,12 +56,6 @@ multiplied_within a b left right most lits m xs ys e p q r s h k =
       within = record { clauses = subst (λ n. min (length (joined xs ys)) n ≤ most) e c; literals = subst (λ n. min (sum_by length (joined xs ys)) n ≤ lits) e l };
     }
 
-pub greater_within : (a b : Counts) (xs : List Disjunction) → a.clauses ≤ b.clauses → a.literals ≤ b.literals → AreWithin xs a → AreWithin xs b
-greater_within a b xs p q h =
-    let hc = h.within.clauses in
-    let hl = h.within.literals in
-    record { some = omega (arith, h.some); within = record { clauses = omega (arith, hc); literals = omega (arith, hl) } }
-
 -- no clause, and the empty clause, are within what has room for it
 none_within : (most : Counts) → 1 ≤ most.clauses → AreWithin [] most
 none_within most h = record { some = h; within = record { clauses = omega arith; literals = omega arith } }
@@ -94,16 +89,6 @@ known_bound (Open p m) false w v e h = (subst (λ r. AreWithin r p) (sym (plus_f
 pub known_as : (b : Bool) → IsBound Known (Truth b)
 known_as b = (b, refl)
 
-not_of : (t : Bool) (w : Written) → known_truth w ≡ three_of t → (s : Bool) × (known_truth (Neg w) ≡ three_of s)
-not_of true w e = (false, ap three_not e)
-not_of false w e = (true, ap three_not e)
-
-pub negated_bound : (p m : Counts) (x : Written) → IsBound (Open p m) x → IsBound (Open m p) (Neg x)
-negated_bound p m x h = (subst (λ r. AreWithin r m) (sym (plus-neg x)) h.1, subst (λ r. AreWithin r p) (sym (minus-neg x)) h.0)
-
-pub negated_known : (x : Written) → IsBound Known x → IsBound Known (Neg x)
-negated_known x h = not_of h.0 x h.1
-
 pub and_known_left : (b : Bound) (x y : Written) → IsBound Known x → IsBound b y → IsBound b (And x y)
 and_known_left b x y (true, e) k = same_bound b (And x y) y (and_true_left x y e) k
 and_known_left b x y (false, e) k = known_bound b false (And x y) y (ap (λ t. three_and t (known_truth y)) e) k
@@ -112,13 +97,6 @@ pub and_known_right : (b : Bound) (x y : Written) → IsBound b x → IsBound Kn
 and_known_right b x y h (true, e) = same_bound b (And x y) x (and_true_right x y e) h
 and_known_right b x y h (false, e) = known_bound b false (And x y) x (ap (λ t. three_and (known_truth x) t) e ∙ and_false (known_truth x)) h
 
-pub and_bound : (p m q n s t : Counts) (x y : Written) → ((xs ys : List Disjunction) → AreWithin xs p → AreWithin ys q → AreWithin (xs ++ ys) s) →
-    ((xs ys : List Disjunction) → AreWithin xs m → AreWithin ys n → AreWithin (joined xs ys) t) → IsBound (Open p m) x → IsBound (Open q n) y → IsBound (Open s t) (And x y)
-and_bound p m q n s t x y f g h k = (
-  truth_within (known_truth (And x y)) (plus x ++ plus y) s (f (plus x) (plus y) h.0 k.0),
-  falsity_within (known_truth (And x y)) (joined (minus x) (minus y)) t (g (minus x) (minus y) h.1 k.1),
-)
-
 pub or_known_left : (b : Bound) (x y : Written) → IsBound Known x → IsBound b y → IsBound b (Or x y)
 or_known_left b x y (false, e) k = same_bound b (Or x y) y (or_false_left x y e) k
 or_known_left b x y (true, e) k = known_bound b true (Or x y) y (ap (λ t. three_or t (known_truth y)) e) k
@@ -126,13 +104,6 @@ or_known_left b x y (true, e) k = known_bound b true (Or x y) y (ap (λ t. three
 pub or_known_right : (b : Bound) (x y : Written) → IsBound b x → IsBound Known y → IsBound b (Or x y)
 or_known_right b x y h (false, e) = same_bound b (Or x y) x (or_false_right x y e) h
 or_known_right b x y h (true, e) = known_bound b true (Or x y) x (ap (λ t. three_or (known_truth x) t) e ∙ or_true (known_truth x)) h
-
-pub or_bound : (p m q n s t : Counts) (x y : Written) → ((xs ys : List Disjunction) → AreWithin xs p → AreWithin ys q → AreWithin (joined xs ys) s) →
-    ((xs ys : List Disjunction) → AreWithin xs m → AreWithin ys n → AreWithin (xs ++ ys) t) → IsBound (Open p m) x → IsBound (Open q n) y → IsBound (Open s t) (Or x y)
-or_bound p m q n s t x y f g h k = (
-  truth_within (known_truth (Or x y)) (joined (plus x) (plus y)) s (f (plus x) (plus y) h.0 k.0),
-  falsity_within (known_truth (Or x y)) (minus x ++ minus y) t (g (minus x) (minus y) h.1 k.1),
-)
 
 -- of a formula and of its negation
 abbrev pub IsUnsigned : Bound → Written → Type 0
@@ -145,10 +116,6 @@ iff_known_left b x y (false, e) k = same_bound b (Iff x y) (Neg y) (iff_false_le
 pub iff_known_right : (b : Bound) (x y : Written) → IsUnsigned b x → IsBound Known y → IsBound b (Iff x y)
 iff_known_right b x y h (true, e) = same_bound b (Iff x y) x (iff_true_right x y e) h.0
 iff_known_right b x y h (false, e) = same_bound b (Iff x y) (Neg x) (iff_false_right x y e) h.1
-
--- four lists joined crosswise
-Joins : Counts → Counts → Counts → Type 0
-Joins a b c = (xs ys : List Disjunction) → AreWithin xs a → AreWithin ys b → AreWithin (joined xs ys) c
 
 pub iff_bound : (p m q n a b c d s t : Counts) (x y : Written) →
     ((xs ys : List Disjunction) → AreWithin xs m → AreWithin ys q → AreWithin (joined xs ys) a) →

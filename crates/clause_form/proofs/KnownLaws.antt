@@ -1,34 +1,13 @@
 -- The clauses of a formula of which something is known, and what is left of a connective where one side is known.
-use Rattle.std.proofs.Common.{◌≡◌, refl, sym, ◌∙◌, ap, ap₂, true, false, List, [], ◌∷◌, ◌++◌, map}
+use Rattle.std.proofs.Common.{◌≡◌, refl, sym, ◌∙◌, ap, ap₂, List, [], ◌∷◌, ◌++◌, map, false, true}
 use Rattle.std.proofs.lemmas.List.{append-nil}
 use Rattle.meaning.specs.declared.three.Three.{Three}
 use Rattle.meaning.specs.declared.three.Three.TheVariants.{True, False, Unknown}
 use Rattle.meaning.specs.Clauses.{Disjunction, for_falsity, for_truth, joined, known_truth, minus, plus}
 use Rattle.meaning.specs.Kleene.{three_and, three_not, three_or, three_same}
-use Rattle.meaning.specs.Written.{And, Fact, Iff, Known, Neg, Or, Written}
+use Rattle.meaning.specs.Written.{And, Iff, Neg, Or, Written, Fact, Known}
 use Rattle.meaning.proofs.ClauseLaws.{joined-nil}
-
--- ---- three truth values
-
-and_true : (t : Three) → three_and t True ≡ t
-and_true True = refl
-and_true False = refl
-and_true Unknown = refl
-
-pub and_false : (t : Three) → three_and t False ≡ False
-and_false True = refl
-and_false False = refl
-and_false Unknown = refl
-
-or_false : (t : Three) → three_or t False ≡ t
-or_false True = refl
-or_false False = refl
-or_false Unknown = refl
-
-pub or_true : (t : Three) → three_or t True ≡ True
-or_true True = refl
-or_true False = refl
-or_true Unknown = refl
+use Rattle.meaning.proofs.ThreeLaws.{and_true, or_false}
 
 same_true : (t : Three) → three_same t True ≡ t
 same_true True = refl

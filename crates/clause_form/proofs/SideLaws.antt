@@ -6,9 +6,9 @@ use Rattle.vocab.specs.Literal.{opposite_of}
 use Rattle.vocab.specs.Size.{Extent}
 use Rattle.cnf.specs.Sat.{Clause, opposite_lit}
 use Rattle.cnf.specs.Signed.{Signed}
-use Rattle.meaning.specs.Clauses.{Disjunction, joined, known_truth, minus, plus}
+use Rattle.meaning.specs.Clauses.{joined, known_truth, minus, plus}
 use Rattle.meaning.specs.Kleene.{three_and, three_not, three_of, three_or}
-use Rattle.meaning.specs.declared.three.Three.TheVariants.{True, False, Unknown}
+use Rattle.meaning.specs.declared.three.Three.TheVariants.{Unknown}
 use Rattle.meaning.specs.Literals.{is_literal}
 use Rattle.meaning.specs.Variables.{lit_of}
 use Rattle.meaning.specs.Written.{And, Fact, Iff, Neg, Or, Written}
@@ -19,7 +19,7 @@ use Rattle.clause_form.specs.declared.rows.Rows.{Rows}
 use Rattle.clause_form.specs.declared.signed.Short.TheVariants as short
 use Rattle.clause_form.specs.declared.signed.Side.{Side}
 use Rattle.clause_form.specs.declared.signed.Side.TheVariants.{Known, Open}
-use Rattle.clause_form.proofs.KnownLaws.{SameForm, and_false, and_open, iff_open, minus-neg, or_open, or_true, plus-neg}
+use Rattle.clause_form.proofs.KnownLaws.{SameForm, and_open, iff_open, minus-neg, or_open, plus-neg}
 use Rattle.clause_form.proofs.SomeLaws.{some_minus, some_plus}
 
 -- ---- clauses of a sign
@@ -87,24 +87,6 @@ iff_plus size r x y e f h = subst (IsRows size r) (sym (iff_open x y e f).open_p
 
 pub iff_minus : (size : Extent) (r : Rows) (x y : Written) → known_truth x ≡ Unknown → known_truth y ≡ Unknown → IsRows size r (joined (minus x) (minus y) ++ joined (plus x) (plus y)) → IsRows size r (minus (Iff x y))
 iff_minus size r x y e f h = subst (IsRows size r) (sym (iff_open x y e f).open_minus) h
-
--- ---- what decides
-
-pub decided_and : (size : Extent) (positive : Bool) (s : Side) (b : Bool) (x y : Written) → s ≡ Known b → b ≡ false → IsSide size positive s x → IsSide size positive s (And x y) × IsSide size positive s (And y x)
-decided_and size positive s b x y e d h =
-    let s_false : s ≡ Known false = e ∙ ap Known d in
-    let k : known_truth x ≡ False = known_side size positive s b false x e d h in
-    let l : known_truth (And x y) ≡ False = ap (λ t. three_and t (known_truth y)) k in
-    let r : known_truth (And y x) ≡ False = ap (λ t. three_and (known_truth y) t) k ∙ and_false (known_truth y) in
-    (subst (λ u. IsSide size positive u (And x y)) (sym s_false) l, subst (λ u. IsSide size positive u (And y x)) (sym s_false) r)
-
-pub decided_or : (size : Extent) (positive : Bool) (s : Side) (b : Bool) (x y : Written) → s ≡ Known b → b ≡ true → IsSide size positive s x → IsSide size positive s (Or x y) × IsSide size positive s (Or y x)
-decided_or size positive s b x y e d h =
-    let s_true : s ≡ Known true = e ∙ ap Known d in
-    let k : known_truth x ≡ True = known_side size positive s b true x e d h in
-    let l : known_truth (Or x y) ≡ True = ap (λ t. three_or t (known_truth y)) k in
-    let r : known_truth (Or y x) ≡ True = ap (λ t. three_or (known_truth y) t) k ∙ or_true (known_truth y) in
-    (subst (λ u. IsSide size positive u (Or x y)) (sym s_true) l, subst (λ u. IsSide size positive u (Or y x)) (sym s_true) r)
 
 -- ---- two literals
 

@@ -1,29 +1,17 @@
 -- A list with a part that is too wide is too wide.
-use Rattle.std.proofs.Common.{◌≡◌, ℕ, ◌*◌, ◌-◌, ◌^◌, ◌<◌, ◌≤◌, ◌⊎◌, inl, inr, min, Bool, true, false, ◌||◌, nat_lt, List, ◌++◌, length, sum_by, refl, arith, lt-ltb, ltb-true, length-append}
+use Rattle.std.proofs.Common.{◌≡◌, ℕ, ◌*◌, ◌-◌, ◌^◌, ◌<◌, ◌≤◌, ◌⊎◌, inl, inr, min, true, nat_lt, List, length, sum_by, arith, lt-ltb, ltb-true}
 use Rattle.std.proofs.Math.Nat.{mul-le-mul_left}
-use Rattle.std.proofs.lemmas.List.Sums.{sum_by-append}
 use Rattle.meaning.specs.Clauses.{Disjunction, joined}
 use Rattle.meaning.proofs.MeasureLaws.{length-joined, literals-joined}
 use Rattle.clause_form.specs.Wide.{capped_counts, is_wide}
+use Rattle.std.proofs.lemmas.Bool.{or_cases, or_left, or_right}
 
 -- either count passes its limit
 abbrev Passes : List Disjunction → Type 0
 Passes rows = (100000 < length rows) ⊎ (4000000 < sum_by length rows)
 
-either : (a b : Bool) → a || b ≡ true → (a ≡ true) ⊎ (b ≡ true)
-either true b h = inl refl
-either false b h = inr h
-
-or_left : (a b : Bool) → a ≡ true → a || b ≡ true
-or_left true b h = refl
-or_left false b h = absurd (let k : ⊥ = cc in k)
-
-or_right : (a b : Bool) → b ≡ true → a || b ≡ true
-or_right true b h = refl
-or_right false b h = h
-
 passes : (rows : List Disjunction) → is_wide (capped_counts rows) ≡ true → Passes rows
-passes rows h = elim (either _ _ h) [
+passes rows h = elim (or_cases _ _ h) [
   | inl a ↦ (let k = ltb-true 100000 (min (length rows) (2 ^ 64 - 1)) a in inl (omega arith))
   | inr b ↦ (let k = ltb-true 4000000 (min (sum_by length rows) (2 ^ 64 - 1)) b in inr (omega arith))
 ]
@@ -37,12 +25,6 @@ wide rows h = elim h [
 -- as many clauses and literals, or more
 grown : (xs zs : List Disjunction) → length xs ≤ length zs → sum_by length xs ≤ sum_by length zs → is_wide (capped_counts xs) ≡ true → is_wide (capped_counts zs) ≡ true
 grown xs zs a b h = wide zs (elim (passes xs h) [ inl p ↦ inl (omega arith) | inr q ↦ inr (omega arith) ])
-
-pub wide_append_left : (xs ys : List Disjunction) → is_wide (capped_counts xs) ≡ true → is_wide (capped_counts (xs ++ ys)) ≡ true
-wide_append_left xs ys = grown xs (xs ++ ys) (omega (arith, length-append xs ys)) (omega (arith, sum_by-append length xs ys))
-
-pub wide_append_right : (xs ys : List Disjunction) → is_wide (capped_counts ys) ≡ true → is_wide (capped_counts (xs ++ ys)) ≡ true
-wide_append_right xs ys = grown ys (xs ++ ys) (omega (arith, length-append xs ys)) (omega (arith, sum_by-append length xs ys))
 
 times_some : (a b : ℕ) → 1 ≤ b → a ≤ a * b
 times_some a b h = let k = mul-le-mul_left a h in omega (arith, k)

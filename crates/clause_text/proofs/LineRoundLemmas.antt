@@ -1,6 +1,6 @@
 -- What is written of a derivation is read again.
 use Rattle.std.proofs.Common.{◌≡◌, refl, sym, ap, ap₂, ◌∙◌, ℕ, suc, ◌+◌, ◌≤◌, Bool, true, false, not, cond, List, [], ◌∷◌, ◌++◌, length, map, Option, Some, option_map, option_and_then, Ok, ◌≢◌, ne_eqb, append_assoc, arith}
-use Rattle.std.proofs.lemmas.Bool.{false≢true, leb-true, and_from}
+use Rattle.std.proofs.lemmas.Bool.{false≢true, leb-true, and_from, and_parts}
 use Rattle.std.proofs.lemmas.List.Folds.{list_all-append}
 use Rattle.std.specs.Prelude.{◌==◌, ◌&&◌, ◌||◌, nat_le, codes}
 use Rattle.std.specs.List.{list_all, flat_map, slice_split}
@@ -23,7 +23,7 @@ use Rattle.clause_text.specs.ReadLrat.{most_id, id_of, hint_of, hints_of, after_
 use Rattle.clause_text.specs.Left.{saying}
 use Rattle.clause_text.specs.Laws.{is_id, adds_in_range, placed_from}
 use Rattle.clause_text.proofs.WordLemmas.{is_end, said_first}
-use Rattle.clause_text.proofs.RoundLemmas.{and_left, and_right, some_bytes, number_plain, number_some, literal_some, literal_plain, split_off, one_word, plain_line, clause_front, clause_line, literal_token, end_token, digits_say}
+use Rattle.clause_text.proofs.RoundLemmas.{some_bytes, number_plain, number_some, literal_some, literal_plain, split_off, one_word, plain_line, clause_front, clause_line, literal_token, end_token, digits_say}
 
 -- ---- the words of a line
 
@@ -56,15 +56,15 @@ hint_line (h ∷ hs) =
 
 id_again : (n : ℕ) → is_id n ≡ true → id_of (number_text n) ≡ Some n
 id_again n within =
-    let low : 1 ≤ n = leb-true 1 n (and_left (nat_le 1 n) (nat_le n most_id) within) in
-    let high : n ≤ most_id = leb-true n most_id (and_right (nat_le 1 n) (nat_le n most_id) within) in
+    let low : 1 ≤ n = leb-true 1 n (and_parts (nat_le 1 n) (nat_le n most_id) within).0 in
+    let high : n ≤ most_id = leb-true n most_id (and_parts (nat_le 1 n) (nat_le n most_id) within).1 in
     number_again 1 most_id n low high
 
 -- a hint of digits has no sign
 plain_hint : (text : List ℕ) → some_bytes text ≡ true → list_all is_digit text ≡ true → hint_of text ≡ option_map (λ (id : ℕ). (false, id)) (id_of text)
 plain_hint [] some digits = absurd (false≢true some)
 plain_hint (c ∷ cs) some digits =
-    let low : 48 ≤ c = leb-true 48 c (and_left (nat_le 48 c) (nat_le c 57) (and_left (is_digit c) (list_all is_digit cs) digits)) in
+    let low : 48 ≤ c = leb-true 48 c (and_parts (nat_le 48 c) (nat_le c 57) (and_parts (is_digit c) (list_all is_digit cs) digits).0).0 in
     let sign : c ≢ 45 = omega (arith, low) in
     ap (λ (t : Bool). cond t (option_map (λ (id : ℕ). (true, id)) (id_of cs)) (option_map (λ (id : ℕ). (false, id)) (id_of (c ∷ cs)))) (ne_eqb c 45 sign)
 
@@ -79,23 +79,23 @@ one_hint word tail next rest id ids is here more =
 
 hints_again : (hints : List ℕ) → list_all is_id hints ≡ true → hints_of (map number_text hints ++ (48 ∷ []) ∷ []) ≡ Some (false, hints)
 hints_again [] within = refl
-hints_again (h ∷ []) within = one_hint (number_text h) ((48 ∷ []) ∷ []) (48 ∷ []) [] h [] refl (hint_again h (and_left (is_id h) true within)) refl
+hints_again (h ∷ []) within = one_hint (number_text h) ((48 ∷ []) ∷ []) (48 ∷ []) [] h [] refl (hint_again h (and_parts (is_id h) true within).0) refl
 hints_again (h ∷ k ∷ ks) within =
     one_hint (number_text h) (map number_text (k ∷ ks) ++ (48 ∷ []) ∷ []) (number_text k) (map number_text ks ++ (48 ∷ []) ∷ []) h (k ∷ ks) refl
-    (hint_again h (and_left (is_id h) (list_all is_id (k ∷ ks)) within)) (hints_again (k ∷ ks) (and_right (is_id h) (list_all is_id (k ∷ ks)) within))
+    (hint_again h (and_parts (is_id h) (list_all is_id (k ∷ ks)) within).0) (hints_again (k ∷ ks) (and_parts (is_id h) (list_all is_id (k ∷ ks)) within).1)
 
 literals_again : (v : ℕ) (clause : Clause) (rest : List (List ℕ)) → is_over v clause ≡ true → literals_read v (map signed_text clause ++ (48 ∷ []) ∷ rest) ≡ Some (clause, rest)
 literals_again v [] rest over = ap (λ (t : Option Token). after_token t rest (literals_read v rest)) (end_token v)
 literals_again v (l ∷ ls) rest over =
     ap (λ (t : Option Token). after_token t (map signed_text ls ++ (48 ∷ []) ∷ rest) (literals_read v (map signed_text ls ++ (48 ∷ []) ∷ rest)))
-    (literal_token v l (and_left (nat_le 1 l.variable && nat_le l.variable v) (is_over v ls) over))
-    ∙ ap (λ (found : Option (Clause × List (List ℕ))). option_map (λ (found : Clause × List (List ℕ)). (l ∷ found.0, found.1)) found) (literals_again v ls rest (and_right (nat_le 1 l.variable && nat_le l.variable v) (is_over v ls) over))
+    (literal_token v l (and_parts (nat_le 1 l.variable && nat_le l.variable v) (is_over v ls) over).0)
+    ∙ ap (λ (found : Option (Clause × List (List ℕ))). option_map (λ (found : Clause × List (List ℕ)). (l ∷ found.0, found.1)) found) (literals_again v ls rest (and_parts (nat_le 1 l.variable && nat_le l.variable v) (is_over v ls) over).1)
 
 -- a literal is not the word `d`
 digits_no_d : (text : List ℕ) → some_bytes text ≡ true → list_all is_digit text ≡ true → bytes_eq text (codes "d") ≡ false
 digits_no_d [] some digits = absurd (false≢true some)
 digits_no_d (c ∷ cs) some digits =
-    let high : c ≤ 57 = leb-true c 57 (and_right (nat_le 48 c) (nat_le c 57) (and_left (is_digit c) (list_all is_digit cs) digits)) in
+    let high : c ≤ 57 = leb-true c 57 (and_parts (nat_le 48 c) (nat_le c 57) (and_parts (is_digit c) (list_all is_digit cs) digits).0).1 in
     let other : c ≢ 100 = omega (arith, high) in
     ap (λ (t : Bool). t && bytes_eq cs []) (ne_eqb c 100 other)
 
@@ -157,20 +157,20 @@ module _ (v : ℕ) where
       → steps_of v (saying n (slice_split is_end (step_text step ++ lrat_text lines))) ≡ Ok (record { at = n; step = step } ∷ placed_from (n + 1) lines)
   step_read n (Drop ids) lines here later = absurd (false≢true here)
   step_read n (Add id clause hints) lines here later =
-      let fits : is_id id ≡ true = and_left (is_id id) (is_over v clause && list_all is_id hints) here in
-      let rest : (is_over v clause && list_all is_id hints) ≡ true = and_right (is_id id) (is_over v clause && list_all is_id hints) here in
+      let fits : is_id id ≡ true = (and_parts (is_id id) (is_over v clause && list_all is_id hints) here).0 in
+      let rest : (is_over v clause && list_all is_id hints) ≡ true = (and_parts (is_id id) (is_over v clause && list_all is_id hints) here).1 in
       ap (λ (text : List ℕ). steps_of v (saying n (slice_split is_end text))) (regrouped v id clause hints (lrat_text lines))
       ∙ ap (λ (ls : List (List ℕ)). steps_of v (saying n ls)) (split_off is_end (added_line v id clause hints) 10 (lrat_text lines) (added_one_line v id clause hints) refl)
       ∙ ap (steps_of v) (said_first n (added_line v id clause hints) (slice_split is_end (lrat_text lines)) (added_says v id clause hints))
       ∙ ap (λ (t : Told). before_rest n t (steps_of v (saying (n + 1) (slice_split is_end (lrat_text lines)))))
-      (told_again v id clause hints fits (and_left (is_over v clause) (list_all is_id hints) rest) (and_right (is_over v clause) (list_all is_id hints) rest))
+      (told_again v id clause hints fits (and_parts (is_over v clause) (list_all is_id hints) rest).0 (and_parts (is_over v clause) (list_all is_id hints) rest).1)
       ∙ ap (before_rest n (Read (Add id clause hints))) later
 
   lines_read : (n : ℕ) (lines : List Line) → list_all (λ (line : Line). adds_in_range v line.step) lines ≡ true → steps_of v (saying n (slice_split is_end (lrat_text lines))) ≡ Ok (placed_from n lines)
   lines_read n [] within = refl
   lines_read n (line ∷ lines) within =
-      step_read n line.step lines (and_left (adds_in_range v line.step) (list_all (λ (line : Line). adds_in_range v line.step) lines) within)
-      (lines_read (n + 1) lines (and_right (adds_in_range v line.step) (list_all (λ (line : Line). adds_in_range v line.step) lines) within))
+      step_read n line.step lines (and_parts (adds_in_range v line.step) (list_all (λ (line : Line). adds_in_range v line.step) lines) within).0
+      (lines_read (n + 1) lines (and_parts (adds_in_range v line.step) (list_all (λ (line : Line). adds_in_range v line.step) lines) within).1)
 
 -- the lines are read as they were written
 pub written_lines_are_read : (v : ℕ) (lines : List Line) → list_all (λ (line : Line). adds_in_range v line.step) lines ≡ true → read_lrat v (lrat_text lines) ≡ Ok (placed_from 1 lines)

@@ -1,6 +1,6 @@
 -- What is written of clauses is read again.
 use Rattle.std.proofs.Common.{◌≡◌, refl, sym, ap, ◌∙◌, ℕ, suc, ◌+◌, ◌≤◌, Bool, true, false, not, cond, List, [], ◌∷◌, ◌++◌, length, map, filter, Option, Some, None, option_map, option_and_then, Ok, Err, ◌≢◌, ne_eqb, append_assoc, append-nil, arith, le-leb}
-use Rattle.std.proofs.lemmas.Bool.{false≢true, eq-eqb, leb-true, not-true, and_from}
+use Rattle.std.proofs.lemmas.Bool.{false≢true, eq-eqb, leb-true, not-true, and_from, and_parts}
 use Rattle.std.proofs.lemmas.List.Folds.{list_all-append}
 use Rattle.std.proofs.lemmas.List.Sums.{sum_by-append, sum_by-cons}
 use Rattle.std.proofs.lemmas.List.Splits.{slice_split-cons_yes, slice_split-cons_no}
@@ -19,16 +19,7 @@ use Rattle.clause_text.specs.ReadDimacs.{header_of, placed_words, at_word, is_fu
 use Rattle.clause_text.specs.Left.{saying}
 use Rattle.clause_text.proofs.WordLemmas.{is_end, keeps, said_first, unsaid_first}
 use Rattle.clause_text.proofs.ReadingLemmas.{lt_false}
-
--- ---- truth
-
-pub and_left : (a b : Bool) → (a && b) ≡ true → a ≡ true
-and_left true b h = refl
-and_left false b h = h
-
-pub and_right : (a b : Bool) → (a && b) ≡ true → b ≡ true
-and_right true b h = h
-and_right false b h = absurd (false≢true h)
+use Rattle.std.proofs.lemmas.List.{length_push}
 
 -- ---- bytes
 
@@ -39,11 +30,11 @@ is_plain c = not (is_blank c) && not (is_end c)
 module _ (p q : ℕ → Bool) (weaker : (c : ℕ) → p c ≡ true → q c ≡ true) where
   all_weaker : (text : List ℕ) → list_all p text ≡ true → list_all q text ≡ true
   all_weaker [] h = refl
-  all_weaker (c ∷ cs) h = and_from (q c) (list_all q cs) (weaker c (and_left (p c) (list_all p cs) h)) (all_weaker cs (and_right (p c) (list_all p cs) h))
+  all_weaker (c ∷ cs) h = and_from (q c) (list_all q cs) (weaker c (and_parts (p c) (list_all p cs) h).0) (all_weaker cs (and_parts (p c) (list_all p cs) h).1)
 
 digit_plain : (c : ℕ) → is_digit c ≡ true → is_plain c ≡ true
 digit_plain c h =
-    let low : 48 ≤ c = leb-true 48 c (and_left (nat_le 48 c) (nat_le c 57) h) in
+    let low : 48 ≤ c = leb-true 48 c (and_parts (nat_le 48 c) (nat_le c 57) h).0 in
     let tab : c ≢ 9 = omega (arith, low) in
     let ret : c ≢ 13 = omega (arith, low) in
     let space : c ≢ 32 = omega (arith, low) in
@@ -84,20 +75,20 @@ module _ (p : ℕ → Bool) where
   pub split_off : (part : List ℕ) (c : ℕ) (rest : List ℕ) → list_all (λ b. not (p b)) part ≡ true → p c ≡ true → slice_split p (part ++ c ∷ rest) ≡ part ∷ slice_split p rest
   split_off [] c rest h e = slice_split-cons_yes p c rest e
   split_off (b ∷ part) c rest h e =
-      slice_split-cons_no p b (part ++ c ∷ rest) (not-true (p b) (and_left (not (p b)) (list_all (λ b. not (p b)) part) h))
-      ∙ ap (onto_first b) (split_off part c rest (and_right (not (p b)) (list_all (λ b. not (p b)) part) h) e)
+      slice_split-cons_no p b (part ++ c ∷ rest) (not-true (p b) (and_parts (not (p b)) (list_all (λ b. not (p b)) part) h).0)
+      ∙ ap (onto_first b) (split_off part c rest (and_parts (not (p b)) (list_all (λ b. not (p b)) part) h).1 e)
 
   split_last : (part : List ℕ) → list_all (λ b. not (p b)) part ≡ true → slice_split p part ≡ part ∷ []
   split_last [] h = refl
   split_last (b ∷ part) h =
-      slice_split-cons_no p b part (not-true (p b) (and_left (not (p b)) (list_all (λ b. not (p b)) part) h))
-      ∙ ap (onto_first b) (split_last part (and_right (not (p b)) (list_all (λ b. not (p b)) part) h))
+      slice_split-cons_no p b part (not-true (p b) (and_parts (not (p b)) (list_all (λ b. not (p b)) part) h).0)
+      ∙ ap (onto_first b) (split_last part (and_parts (not (p b)) (list_all (λ b. not (p b)) part) h).1)
 
 plain_word : (text : List ℕ) → list_all is_plain text ≡ true → list_all (λ b. not (is_blank b)) text ≡ true
-plain_word text h = all_weaker is_plain (λ b. not (is_blank b)) (λ c e. and_left (not (is_blank c)) (not (is_end c)) e) text h
+plain_word text h = all_weaker is_plain (λ b. not (is_blank b)) (λ c e. (and_parts (not (is_blank c)) (not (is_end c)) e).0) text h
 
 pub plain_line : (text : List ℕ) → list_all is_plain text ≡ true → list_all (λ b. not (is_end b)) text ≡ true
-plain_line text h = all_weaker is_plain (λ b. not (is_end b)) (λ c e. and_right (not (is_blank c)) (not (is_end c)) e) text h
+plain_line text h = all_weaker is_plain (λ b. not (is_end b)) (λ c e. (and_parts (not (is_blank c)) (not (is_end c)) e).1) text h
 
 -- a word with a blank after it
 pub one_word : (word rest : List ℕ) → some_bytes word ≡ true → list_all is_plain word ≡ true → words_in_line (word ++ 32 ∷ rest) ≡ word ∷ words_in_line rest
@@ -138,7 +129,7 @@ clause_line (l ∷ ls) =
 unsigned : (v : ℕ) (text : List ℕ) → some_bytes text ≡ true → list_all is_digit text ≡ true → token_of v text ≡ plain_token (number_within 0 v text)
 unsigned v [] some digits = absurd (false≢true some)
 unsigned v (c ∷ cs) some digits =
-    let low : 48 ≤ c = leb-true 48 c (and_left (nat_le 48 c) (nat_le c 57) (and_left (is_digit c) (list_all is_digit cs) digits)) in
+    let low : 48 ≤ c = leb-true 48 c (and_parts (nat_le 48 c) (nat_le c 57) (and_parts (is_digit c) (list_all is_digit cs) digits).0).0 in
     let sign : c ≢ 45 = omega (arith, low) in
     ap (λ (t : Bool). cond t (minus_token (number_within 0 v cs)) (plain_token (number_within 0 v (c ∷ cs)))) (ne_eqb c 45 sign)
 
@@ -146,10 +137,10 @@ pub literal_token : (v : ℕ) (l : Signed) → (nat_le 1 l.variable && nat_le l.
 literal_token v l within = by_sign l.positive refl
   where
     some : l.variable ≢ 0
-    some = let low : 1 ≤ l.variable = leb-true 1 l.variable (and_left (nat_le 1 l.variable) (nat_le l.variable v) within) in omega (arith, low)
+    some = let low : 1 ≤ l.variable = leb-true 1 l.variable (and_parts (nat_le 1 l.variable) (nat_le l.variable v) within).0 in omega (arith, low)
 
     few : l.variable ≤ v
-    few = leb-true l.variable v (and_right (nat_le 1 l.variable) (nat_le l.variable v) within)
+    few = leb-true l.variable v (and_parts (nat_le 1 l.variable) (nat_le l.variable v) within).1
 
     by_sign : (t : Bool) → l.positive ≡ t → token_of v (cond t (number_text l.variable) (45 ∷ number_text l.variable)) ≡ Some (Says l)
     by_sign true is =
@@ -175,8 +166,8 @@ module _ (v count n : ℕ) (whole : Clause) (done : List Clause) (rest : List (�
       ∙ ap (λ (t : Bool). cond t (Err fault.Full) (clauses_from v count rest (done ++ whole ∷ []) [])) room
   take_clause (l ∷ ls) begun same over =
       ap (λ (t : Option Token). at_word n done begun t (clauses_from v count (map (λ (w : List ℕ). (n, w)) (map signed_text ls ++ (48 ∷ []) ∷ []) ++ rest)))
-      (literal_token v l (and_left (nat_le 1 l.variable && nat_le l.variable v) (is_over v ls) over))
-      ∙ take_clause ls (begun ++ l ∷ []) (same ∙ sym (append_assoc begun (l ∷ []) ls)) (and_right (nat_le 1 l.variable && nat_le l.variable v) (is_over v ls) over)
+      (literal_token v l (and_parts (nat_le 1 l.variable && nat_le l.variable v) (is_over v ls) over).0)
+      ∙ take_clause ls (begun ++ l ∷ []) (same ∙ sym (append_assoc begun (l ∷ []) ls)) (and_parts (nat_le 1 l.variable && nat_le l.variable v) (is_over v ls) over).1
 
 -- ---- lines of clauses
 
@@ -196,7 +187,7 @@ body_lines (c ∷ cs) =
 pub digits_say : (text rest : List ℕ) → some_bytes text ≡ true → list_all is_digit text ≡ true → is_comment (text ++ rest) ≡ false
 digits_say [] rest some digits = absurd (false≢true some)
 digits_say (c ∷ cs) rest some digits =
-    let high : c ≤ 57 = leb-true c 57 (and_right (nat_le 48 c) (nat_le c 57) (and_left (is_digit c) (list_all is_digit cs) digits)) in
+    let high : c ≤ 57 = leb-true c 57 (and_parts (nat_le 48 c) (nat_le c 57) (and_parts (is_digit c) (list_all is_digit cs) digits).0).1 in
     let other : c ≢ 99 = omega (arith, high) in
     ne_eqb c 99 other
 
@@ -225,10 +216,6 @@ room_for done c few short =
     ap (λ (t : Bool). t || nat_lt 60000000 (sum_by length done + length c)) (lt_false 4000000 (length done + 1) (λ h. omega (arith, few, h)))
     ∙ lt_false 60000000 (sum_by length done + length c) (λ h. omega (arith, short, h))
 
-length_more : (done : List Clause) (c : Clause) → length (done ++ c ∷ []) ≡ length done + 1
-length_more [] c = refl
-length_more (d ∷ done) c = let more : length (done ++ c ∷ []) ≡ length done + 1 = length_more done c in omega (arith, more)
-
 sum_more : (done : List Clause) (c : Clause) → sum_by length (done ++ c ∷ []) ≡ sum_by length done + length c
 sum_more done c =
     let one : sum_by length (c ∷ []) ≡ length c + 0 = sum_by-cons length c [] in
@@ -243,7 +230,7 @@ module _ (v count : ℕ) where
       ap (λ (t : Bool). cond t (Ok done) (Err (fault.Count (length done)))) (and_from (length done == count) true (eq-eqb (length done) count all) refl)
       ∙ ap (λ (cs : List Clause). Ok cs) (sym (append-nil done))
   body_read n (c ∷ cs) done over few short is =
-      let more : length (done ++ c ∷ []) ≡ length done + 1 = length_more done c in
+      let more : length (done ++ c ∷ []) ≡ length done + 1 = length_push done c in
       let sum : sum_by length (done ++ c ∷ []) ≡ sum_by length done + length c = sum_more done c in
       let here : sum_by length (c ∷ cs) ≡ length c + sum_by length cs = sum_by-cons length c cs in
       let few' : length (done ++ c ∷ []) + length cs ≤ 4000000 = omega (arith, more, few) in
@@ -253,8 +240,8 @@ module _ (v count : ℕ) where
       let fits : sum_by length done + length c ≤ 60000000 = omega (arith, here, short) in
       ap (λ (ls : List WordedLine). clauses_from v count (placed_words ls) done []) (said_first n (clause_text c) (lines_of cs) (clause_says c))
       ∙ ap (λ (ws : List (List ℕ)). clauses_from v count (map (λ (w : List ℕ). (n, w)) ws ++ placed_words (saying (n + 1) (lines_of cs))) done []) (clause_words c)
-      ∙ take_clause v count n c done (placed_words (saying (n + 1) (lines_of cs))) (room_for done c one fits) c [] refl (and_left (is_over v c) (list_all (is_over v) cs) over)
-      ∙ body_read (n + 1) cs (done ++ c ∷ []) (and_right (is_over v c) (list_all (is_over v) cs) over) few' short' is'
+      ∙ take_clause v count n c done (placed_words (saying (n + 1) (lines_of cs))) (room_for done c one fits) c [] refl (and_parts (is_over v c) (list_all (is_over v) cs) over).0
+      ∙ body_read (n + 1) cs (done ++ c ∷ []) (and_parts (is_over v c) (list_all (is_over v) cs) over).1 few' short' is'
       ∙ ap (λ (all : List Clause). Ok all) (append_assoc done (c ∷ []) cs)
 
 -- ---- the header

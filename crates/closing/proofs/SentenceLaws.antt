@@ -24,6 +24,7 @@ use Rattle.meaning.specs.Written.{Written, write_out}
 use Rattle.closing.specs.Closed.{closed_variable, closed_term, closed_atom, closed, closed_body}
 use Rattle.closing.specs.Laws.{IsOneInstance}
 use Rattle.closing.proofs.ClosedLaws.{body_written, body_true}
+use Rattle.meaning.proofs.TestLaws.{four_parts}
 
 -- ---- no leading universal
 
@@ -33,34 +34,16 @@ leads_not (All s f) = ⊥
 leads_not _ = Unit {0}
 
 body_leads_not : (f : Tree) → leads_not (body_of f)
-body_leads_not (Leaf a) = tt
-body_leads_not (Not f) = tt
-body_leads_not (Both f g) = tt
-body_leads_not (Either f g) = tt
-body_leads_not (Implies f g) = tt
-body_leads_not (Same f g) = tt
 body_leads_not (All s f) = body_leads_not f
-body_leads_not (Exists s f) = tt
+body_leads_not p = tt
 
 no_prefix : (values : List ℕ) (f : Tree) → leads_not f → prefix_of (closed values f) ≡ []
-no_prefix values (Leaf a) h = refl
-no_prefix values (Not f) h = refl
-no_prefix values (Both f g) h = refl
-no_prefix values (Either f g) h = refl
-no_prefix values (Implies f g) h = refl
-no_prefix values (Same f g) h = refl
 no_prefix values (All s f) h = absurd h
-no_prefix values (Exists s f) h = refl
+no_prefix values p h = refl
 
 own_body : (values : List ℕ) (f : Tree) → leads_not f → body_of (closed values f) ≡ closed values f
-own_body values (Leaf a) h = refl
-own_body values (Not f) h = refl
-own_body values (Both f g) h = refl
-own_body values (Either f g) h = refl
-own_body values (Implies f g) h = refl
-own_body values (Same f g) h = refl
 own_body values (All s f) h = absurd h
-own_body values (Exists s f) h = refl
+own_body values p h = refl
 
 pub closed_prefix : (a : Titled) (values : List ℕ) → prefix_of (closed_body a values) ≡ []
 closed_prefix a values = no_prefix values (body_of a.sentence) (body_leads_not a.sentence)
@@ -126,14 +109,6 @@ module _ (size : Extent) where
         cases true e = value_fits outer inner values level s fit (ltb-true level (length values) e) h
         cases false e = others_stay outer inner values level s fit (ltb-false level (length values) e) h
 
-    -- three parts of a test
-    three : (a b c d : Bool) → (a && b && c && d) ≡ true → (a ≡ true) × (b ≡ true) × (c ≡ true) × (d ≡ true)
-    three true true true true h = (refl, refl, refl, refl)
-    three true true true false h = absurd cc
-    three true true false d h = absurd cc
-    three true false c d h = absurd cc
-    three false b c d h = absurd cc
-
     four : (a b c d : Bool) → a ≡ true → b ≡ true → c ≡ true → d ≡ true → (a && b && c && d) ≡ true
     four a b c d e f g h = λ i. e i && f i && g i && h i
 
@@ -141,17 +116,17 @@ module _ (size : Extent) where
     term_sorted inner s (Var level) h = variable_sorted inner s level h
     term_sorted inner s (Const c) h = h
     term_sorted inner s (With p i b) h =
-        let e = three (same_sort s Profile) (is_of_sort size (outer ++ inner) Profile p) (is_of_sort size (outer ++ inner) Voter i) (is_of_sort size (outer ++ inner) Ballot b) h in
+        let e = four_parts (same_sort s Profile) (is_of_sort size (outer ++ inner) Profile p) (is_of_sort size (outer ++ inner) Voter i) (is_of_sort size (outer ++ inner) Ballot b) h in
         four _ _ _ _ e.0 (term_sorted inner Profile p e.1) (term_sorted inner Voter i e.2) (term_sorted inner Ballot b e.3)
     term_sorted inner s (SwapVoters p i j) h =
-        let e = three (same_sort s Profile) (is_of_sort size (outer ++ inner) Profile p) (is_of_sort size (outer ++ inner) Voter i) (is_of_sort size (outer ++ inner) Voter j) h in
+        let e = four_parts (same_sort s Profile) (is_of_sort size (outer ++ inner) Profile p) (is_of_sort size (outer ++ inner) Voter i) (is_of_sort size (outer ++ inner) Voter j) h in
         four _ _ _ _ e.0 (term_sorted inner Profile p e.1) (term_sorted inner Voter i e.2) (term_sorted inner Voter j e.3)
     term_sorted inner s (SwapAlts p x y) h =
         let m = and_parts (same_sort s Profile && is_of_sort size (outer ++ inner) Profile p && is_of_sort size (outer ++ inner) Alt x && is_of_sort size (outer ++ inner) Alt y) (has_all_ballots size) h in
-        let e = three (same_sort s Profile) (is_of_sort size (outer ++ inner) Profile p) (is_of_sort size (outer ++ inner) Alt x) (is_of_sort size (outer ++ inner) Alt y) m.0 in
+        let e = four_parts (same_sort s Profile) (is_of_sort size (outer ++ inner) Profile p) (is_of_sort size (outer ++ inner) Alt x) (is_of_sort size (outer ++ inner) Alt y) m.0 in
         and_from _ _ (four _ _ _ _ e.0 (term_sorted inner Profile p e.1) (term_sorted inner Alt x e.2) (term_sorted inner Alt y e.3)) m.1
     term_sorted inner s (Swap x y z) h =
-        let e = three (same_sort s Alt) (is_of_sort size (outer ++ inner) Alt x) (is_of_sort size (outer ++ inner) Alt y) (is_of_sort size (outer ++ inner) Alt z) h in
+        let e = four_parts (same_sort s Alt) (is_of_sort size (outer ++ inner) Alt x) (is_of_sort size (outer ++ inner) Alt y) (is_of_sort size (outer ++ inner) Alt z) h in
         four _ _ _ _ e.0 (term_sorted inner Alt x e.1) (term_sorted inner Alt y e.2) (term_sorted inner Alt z e.3)
 
     -- some sort fits two terms
@@ -174,7 +149,7 @@ module _ (size : Extent) where
     atom_sorted : (inner : List Sort) (a : AtomTree) → is_atom_sorted size (outer ++ inner) a ≡ true → is_atom_sorted size inner (closed_atom values a) ≡ true
     atom_sorted inner (Equal s t) h = some_sort inner s t all_sorts h
     atom_sorted inner (Prefers i x y p) h =
-        let e = three (is_of_sort size (outer ++ inner) Voter i) (is_of_sort size (outer ++ inner) Alt x) (is_of_sort size (outer ++ inner) Alt y) (is_of_sort size (outer ++ inner) Profile p) h in
+        let e = four_parts (is_of_sort size (outer ++ inner) Voter i) (is_of_sort size (outer ++ inner) Alt x) (is_of_sort size (outer ++ inner) Alt y) (is_of_sort size (outer ++ inner) Profile p) h in
         four _ _ _ _ (term_sorted inner Voter i e.0) (term_sorted inner Alt x e.1) (term_sorted inner Alt y e.2) (term_sorted inner Profile p e.3)
     atom_sorted inner (Better b x y) h = three_terms inner Ballot Alt Alt b x y h
     atom_sorted inner (Casts i b p) h = three_terms inner Voter Ballot Profile i b p h
@@ -184,7 +159,7 @@ module _ (size : Extent) where
         let e = and_parts (has_winners size.kind) (is_of_sort size (outer ++ inner) Alt x) m.0 in
         and_from _ _ (and_from _ _ e.0 (term_sorted inner Alt x e.1)) (term_sorted inner Profile p m.1)
     atom_sorted inner (Ranks x y p) h =
-        let e = three (not (has_winners size.kind)) (is_of_sort size (outer ++ inner) Alt x) (is_of_sort size (outer ++ inner) Alt y) (is_of_sort size (outer ++ inner) Profile p) h in
+        let e = four_parts (not (has_winners size.kind)) (is_of_sort size (outer ++ inner) Alt x) (is_of_sort size (outer ++ inner) Alt y) (is_of_sort size (outer ++ inner) Profile p) h in
         four _ _ _ _ e.0 (term_sorted inner Alt x e.1) (term_sorted inner Alt y e.2) (term_sorted inner Profile p e.3)
 
     pub formula_sorted : (inner : List Sort) (f : Tree) → is_sorted size (outer ++ inner) f ≡ true → is_sorted size inner (closed values f) ≡ true
@@ -252,24 +227,12 @@ module _ (values : List ℕ) where
   atoms size (Exists s f) = ap (λ n. sort_count size s * n) (atoms size f)
 
 body_shallow : (f : Tree) → depth (body_of f) ≤ depth f
-body_shallow (Leaf a) = omega arith
-body_shallow (Not f) = omega arith
-body_shallow (Both f g) = omega arith
-body_shallow (Either f g) = omega arith
-body_shallow (Implies f g) = omega arith
-body_shallow (Same f g) = omega arith
 body_shallow (All s f) = let inner = body_shallow f in omega (arith, inner)
-body_shallow (Exists s f) = omega arith
+body_shallow p = omega arith
 
 body_few : (f : Tree) → quantifier_depth (body_of f) ≤ quantifier_depth f
-body_few (Leaf a) = omega arith
-body_few (Not f) = omega arith
-body_few (Both f g) = omega arith
-body_few (Either f g) = omega arith
-body_few (Implies f g) = omega arith
-body_few (Same f g) = omega arith
 body_few (All s f) = let inner = body_few f in omega (arith, inner)
-body_few (Exists s f) = omega arith
+body_few p = omega arith
 
 -- ---- a sentence of a study
 

@@ -1,5 +1,5 @@
 -- A study that was read, or refused.
-use Rattle.std.proofs.Common.{◌≡◌, subst, ℕ, ◌≤◌, List, length, Option, Some, IfSome, Ok, Err}
+use Rattle.std.proofs.Common.{◌≡◌, subst, ℕ, ◌≤◌, List, length, Option, Some, IfSome, Ok, Err, None, refl}
 use Rattle.edge.specs.Shelf.{Files}
 use Rattle.study.specs.declared.faults.StudyFault.{StudyFault}
 use Rattle.vocab.specs.Study.{Question, HasFewAxioms}
@@ -33,3 +33,8 @@ listed bytes study gives = (studies_whole bytes study gives).3
 -- it is the study that the file of this name gives
 pub given : (told : Option Files) (name : List ℕ) (study : Question) (files : Files) → IsStudyRead told name study → told ≡ Some files → GivesStudy files name study
 given told name study files read e = record { bytes = read.bytes; holds = record { held = read.held files e; fits = read.fits }; read = read.gives }
+
+-- where files were told, the one of this name gives a study
+pub study_taken : (told : Option Files) (name : List ℕ) (study : Question) → IsStudyRead told name study → IfSome told (λ files. (study : Question) × GivesStudy files name study)
+study_taken None name study read = tt
+study_taken (Some files) name study read = (study, given (Some files) name study files read refl)

@@ -71,9 +71,6 @@ module _ (study : Question) where
         or_from (decides sets part) (has_part sets.open part) (or_from (has_part sets.impossible part) (has_whole sets.possible part) (no_part_on sets.impossible part set apart.0 in_set) none)
         (no_part_on sets.open part set apart.2 in_set)
 
-    pub not_possible : has_whole sets.possible set ≡ false
-    not_possible = apart.1
-
   -- ---- one set more
 
   pub right_impossible : (old new : AxiomMap) (set : List ℕ) → IsRight study old → HasImpossible old new set → IsImpossibleSet study set → IsRight study new

@@ -1,4 +1,3 @@
-pub mod FlagLaws
 pub mod SetLaws
 pub mod PassLaws
 pub mod KnownLaws

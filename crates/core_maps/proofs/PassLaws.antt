@@ -1,10 +1,11 @@
 -- The axioms each clause of which is true under the bits of a rule.
-use Rattle.std.proofs.Common.{◌≡◌, refl, sym, ◌∙◌, ap, subst, ℕ, ◌<◌, Bool, true, false, not, ◌&&◌, ◌||◌, inl, inr, cond, List, [], ◌∷◌, filter, length, Some, eqb-true, eq-eqb, true≢false, ltb-true}
-use Rattle.std.specs.Prelude.{◌==◌, nat_lt}
+use mathlib.Core.Bool.{and-true}
+use Rattle.std.proofs.Common.{◌≡◌, refl, sym, ◌∙◌, ap, subst, ℕ, ◌<◌, Bool, true, false, not, ◌&&◌, ◌||◌, inl, inr, cond, List, [], ◌∷◌, filter, length, Some, eqb-true, eq-eqb, true≢false, ltb-true, ap₂, zero, suc, ◌+◌, take, get_or}
+use Rattle.std.specs.Prelude.{◌==◌, nat_lt, slice_get, slice_index_or}
 use Rattle.std.specs.List.{list_all}
 use Rattle.std.proofs.lemmas.Bool.{and_parts, and_from, or_cases, or_left, or_right, not-true, both_ways, false_from_ne_true}
 use Rattle.vocab.specs.Study.{Question, is_sentence}
-use Rattle.cnf.specs.Sat.{is_clause_true, is_satisfied}
+use Rattle.cnf.specs.Sat.{is_clause_true, is_satisfied, Clause}
 use Rattle.meaning.specs.declared.clauses.Origin.{Origin}
 use Rattle.meaning.specs.declared.clauses.Origin.TheVariants.{Frame, Instance}
 use Rattle.meaning.specs.Space.{below}
@@ -12,7 +13,7 @@ use Rattle.meaning.specs.StudyClauses.{Sourced, study_clauses, clauses_for}
 use Rattle.meaning.proofs.RuleLaws.{are_satisfiable}
 use Rattle.meaning.proofs.CoreLaws.{core_in_range}
 use Rattle.clause_form.specs.Cited.{is_of_axiom}
-use Rattle.clause_form.specs.Sources.{clauses_in, is_of, is_left}
+use Rattle.clause_form.specs.Sources.{clauses_in, is_of, is_left, origins_in}
 use Rattle.clause_form.proofs.RestLaws.{rest_is_ground}
 use Rattle.search_logs.specs.Spent.{has_place, all_places}
 use Rattle.search_logs.proofs.PlaceLaws.{core_below, each_member, member_passes}
@@ -20,6 +21,8 @@ use Rattle.axiom_sets.specs.Sets.{is_set}
 use Rattle.core_reduce.proofs.CoreLaws.{core-filter}
 use Rattle.core_maps.specs.Asking.{is_whole_true, IsWider}
 use Rattle.core_maps.proofs.SetLaws.{filter_set, in_below, in_filter, same_below}
+use Rattle.std.proofs.lemmas.List.Folds.{list_all_more}
+use Rattle.core_reduce.proofs.PartLaws.{no_source, origin-at}
 
 module _ (v : ℕ → Bool) where
   -- each clause that is left is true
@@ -107,3 +110,26 @@ module _ (study : Question) (sentences : list_all (is_sentence study.size) study
       → IsWider study set (filter keep (all_places study))
   passed_is_wider keep same =
       subst (IsWider study set) (sym (same_below keep (is_whole_true v (study_clauses study.size study.axioms (all_places study))) (length study.axioms) same)) whole_is_wider
+
+-- ---- one clause more
+
+clause-at : (ss : List Sourced) (k : ℕ) → (get_or ss k no_source).clause ≡ slice_index_or (clauses_in ss) k []
+clause-at [] k = refl
+clause-at (s ∷ ss) zero = refl
+clause-at (s ∷ ss) (suc k) = clause-at ss k
+
+module _ (v : ℕ → Bool) (sources : List Sourced) (k : ℕ) (lt : k < length sources) (clause : Clause) (same : slice_index_or (clauses_in sources) k [] ≡ clause) (a : ℕ) where
+  -- one clause more, which is true
+  pub still_true : is_clause_true v clause ≡ true → is_whole_true v (take (k + 1) sources) a ≡ is_whole_true v (take k sources) a
+  still_true t =
+      list_all_more (λ s. is_clause_true v s.clause || not (is_of_axiom a (Some s.origin))) sources k no_source lt
+      ∙ ap (λ (b : Bool). is_whole_true v (take k sources) a && b) (or_left _ _ (ap (is_clause_true v) (clause-at sources k ∙ same) ∙ t))
+      ∙ and-true (is_whole_true v (take k sources) a)
+
+  -- one clause more, which is false
+  pub now_false : is_clause_true v clause ≡ false → (o : Origin) → slice_get (origins_in sources) k ≡ Some o →
+      is_whole_true v (take (k + 1) sources) a ≡ (is_whole_true v (take k sources) a && not (is_of_axiom a (Some o)))
+  now_false f o e =
+      list_all_more (λ s. is_clause_true v s.clause || not (is_of_axiom a (Some s.origin))) sources k no_source lt
+      ∙ ap (λ (b : Bool). is_whole_true v (take k sources) a && b)
+      (ap₂ (λ (x y : Bool). x || y) (ap (is_clause_true v) (clause-at sources k ∙ same) ∙ f) (ap (λ (x : Origin). not (is_of_axiom a (Some x))) (origin-at sources k o lt e)))

@@ -1,10 +1,9 @@
 -- The rule of bits that satisfy the clauses of some axioms satisfies these.
-use Rattle.std.proofs.Common.{◌≡◌, sym, ◌∙◌, ap, subst, ℕ, zero, suc, ◌+◌, ◌*◌, ◌<◌, ◌≤◌, Bool, true, ◌&&◌, List, [], ◌∷◌, ◌++◌, length, arith, eqb-true, mul-le-mul_right, length-append, ◌⊎◌, inl, inr}
+use Rattle.std.proofs.Common.{◌≡◌, sym, ◌∙◌, ap, subst, ℕ, ◌+◌, ◌<◌, ◌≤◌, Bool, true, ◌&&◌, List, ◌++◌, length, arith, eqb-true}
 use Rattle.std.specs.Prelude.{◌==◌, nat_lt, slice_get, slice_index}
 use Rattle.std.specs.List.{list_all, flat_map}
 use Rattle.std.proofs.lemmas.Bool.{and_parts}
-use Rattle.std.proofs.Math.Seq.{get_or-append_seam}
-use Rattle.std.proofs.lemmas.List.{ext_get_or, get_or_append_left}
+use Rattle.std.proofs.lemmas.List.{ext_get_or}
 use Rattle.std.proofs.lemmas.List.Folds.{list_all-map, list_all-append}
 use Rattle.vocab.specs.declared.kinds.Sort.TheVariants.{Profile}
 use Rattle.vocab.specs.Size.{Extent, sort_count, outcome_count}
@@ -27,10 +26,6 @@ use Rattle.outcomes.specs.Frames.{frame_clauses}
 use Rattle.outcomes.specs.OutcomeBits.{AreBitsAt}
 use Rattle.outcomes.proofs.BitLaws.{variable_in, says_one_outcome}
 use Rattle.core_reduce.specs.Tables.{IsTableOf}
-
--- the variables of a profile are among all
-pub variables_in : (p count n : ℕ) → p < count → (p + 1) * n ≤ count * n
-variables_in p count n h = let next : p + 1 ≤ count = omega (arith, h) in mul-le-mul_right n next
 
 module _ (size : Extent) (axioms : List Titled) (chosen : List ℕ) (v : ℕ → Bool) where
   -- what satisfies the clauses of a study satisfies each frame
@@ -64,28 +59,3 @@ module _ (size : Extent) (v : ℕ → Bool) where
       let in_p : p < sort_count size Profile = omega (arith, lt, of.count) in
       (says_one_outcome size p in_p).one v (slice_index table p) (slice_index found.0 p) (of.in_range p in_p) (outcome_in_range size found.0 rule (let some : 0 < sort_count size Profile = omega (arith, in_p) in some) p) (of.bits p in_p) (bits_at found.0 found.2 p in_p)) in
       subst (λ (t : List ℕ). satisfies size axioms chosen t ≡ true) (sym same) found.1
-
--- one profile more
-pub table_more : (size : Extent) (v : ℕ → Bool) (p o : ℕ) (table : List ℕ) → IsTableOf size v p table → o < outcome_count size.kind size.alternatives → AreBitsAt size p o v → IsTableOf size v (p + 1) (table ++ o ∷ [])
-table_more size v p o table h in_o at = record {
-  count = length-append table (o ∷ []) ∙ omega (arith, h.count);
-  in_range = λ q lt. elim (entry q lt) [
-    | inl a ↦ let Small : ℕ → Type 0 = λ x. x < outcome_count size.kind size.alternatives in subst Small (sym a.1) (h.in_range q a.0)
-    | inr a ↦ let Small : ℕ → Type 0 = λ x. x < outcome_count size.kind size.alternatives in subst Small (sym a.1) in_o
-  ];
-  bits = λ q lt. elim (entry q lt) [
-    | inl a ↦ let Here : ℕ → Type 0 = λ x. AreBitsAt size q x v in subst Here (sym a.1) (h.bits q a.0)
-    | inr a ↦ let Here : ℕ → Type 0 = λ x. AreBitsAt size q x v in let There : ℕ → Type 0 = λ y. AreBitsAt size y o v in subst Here (sym a.1) (subst There (sym a.0) at)
-  ];
-}
-  where
-    le_or : (n m : ℕ) → (n < m) ⊎ (m ≤ n)
-    le_or n zero = inr (omega arith)
-    le_or zero (suc m) = inl (omega arith)
-    le_or (suc n) (suc m) = elim (le_or n m) [ inl a ↦ inl (omega (arith, a)) | inr a ↦ inr (omega (arith, a)) ]
-
-    entry : (q : ℕ) → q < p + 1 → ((q < p) × (slice_index (table ++ o ∷ []) q ≡ slice_index table q)) ⊎ ((q ≡ p) × (slice_index (table ++ o ∷ []) q ≡ o))
-    entry q lt = elim (le_or q p) [
-      | inl a ↦ inl (a, get_or_append_left table (o ∷ []) 0 q (omega (arith, a, h.count)))
-      | inr a ↦ let same : q ≡ p = omega (arith, lt, a) in let here : q ≡ length table = omega (arith, same, h.count) in inr (same, ap (slice_index (table ++ o ∷ [])) here ∙ get_or-append_seam table o [] 0)
-    ]

@@ -37,6 +37,7 @@ use Rattle.explain_answers.proofs.InstanceLaws.{instances_exact}
 use Rattle.explain_answers.proofs.RulesLaws.{rules_exact}
 use Rattle.explain_answers.proofs.CoresLaws.{cores_exact}
 use Rattle.explain_answers.proofs.LookLaws.{looks_exact}
+use Rattle.lists.proofs.PlaceLaws.{head_same}
 
 -- ---- statuses by rows
 
@@ -56,9 +57,6 @@ cut_at Cut open_sets status none e four = refl
 cut_at Whole [] status none e four = absurd (omega (arith, e, four))
 cut_at Whole (set ∷ open_sets) status none e four = absurd (cc)
 
-first_same : (name first : List ℕ) (names others : List (List ℕ)) → name ∷ names ≡ first ∷ others → name ≡ first
-first_same name first names others e = cc
-
 -- a study that is refused has status 3
 over_refused : (files : Files) (name first line text : List ℕ) (status : ℕ) (IsRest : Question → Type 0) → name ≡ first → RefusesStudy files first line
     → OverStudy files name (bare_run status) text IsRest → status ≡ 3
@@ -76,15 +74,15 @@ three_refused : (request : Option ExplainRequest) (files : Files) (first line te
     → RefusesStudy files first line → IsExplanation request files status text → status ≡ 3
 three_refused None files first line text others status named refuses row = absurd (cc)
 three_refused (Some (Story study report workers)) files first line text others status named refuses row =
-    over_refused files study first line text status _ (first_same study first _ others named) refuses row
+    over_refused files study first line text status _ (head_same study first _ others named) refuses row
 three_refused (Some (Instance study axiom_name number)) files first line text others status named refuses row =
-    over_refused files study first line text status _ (first_same study first _ others named) refuses row
+    over_refused files study first line text status _ (head_same study first _ others named) refuses row
 three_refused (Some (Rules study most workers)) files first line text others status named refuses row =
-    over_refused files study first line text status _ (first_same study first _ others named) refuses row
+    over_refused files study first line text status _ (head_same study first _ others named) refuses row
 three_refused (Some (Cores study workers)) files first line text others status named refuses row =
-    over_refused files study first line text status _ (first_same study first _ others named) refuses row
+    over_refused files study first line text status _ (head_same study first _ others named) refuses row
 three_refused (Some (Look study workers)) files first line text others status named refuses row =
-    look_refused files study first line text status (first_same study first _ others named) refuses row
+    look_refused files study first line text status (head_same study first _ others named) refuses row
 
 by_judged : (files : Files) (name report bytes text : List ℕ) (status : ℕ) (study : Question) → GivesStudy files name study → files report ≡ Some bytes
     → IsStoryAnswer files name report status text → status ≡ judged_status (judged study bytes)

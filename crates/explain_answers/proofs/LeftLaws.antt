@@ -13,11 +13,7 @@ use Rattle.explain_answers.specs.Story.{IsStoryAnswer}
 use Rattle.explain_answers.specs.Lawful.{IsExplanation}
 use Rattle.explain_answers.specs.Call.{HasCauseAtFile, IsExplainCall, at_study, at_report, explain_files}
 use Rattle.explain_answers.specs.Completeness.{RefusedExplainLeavesUnopened}
-
--- ---- names
-
-first_same : (name first : List ℕ) (names others : List (List ℕ)) → name ∷ names ≡ first ∷ others → name ≡ first
-first_same name first names others e = cc
+use Rattle.lists.proofs.PlaceLaws.{head_same}
 
 module _ (words : List (List ℕ)) (d : Devices) where
   -- at status 3 the first file alone may be touched
@@ -44,9 +40,9 @@ module _ (words : List (List ℕ)) (d : Devices) where
     by_cause : (names : List (List ℕ)) → names ≡ name ∷ report ∷ [] → HasCauseAtFile d.told d.left_before d.left_now d.faults_before d.faults_now names
         → OthersStay d.left_before d.left_now name
     by_cause names is (at_study first others first_is rose stay) =
-        subst (λ (n : List ℕ). OthersStay d.left_before d.left_now n) (first_same first name others (report ∷ []) (sym first_is ∙ is)) stay
+        subst (λ (n : List ℕ). OthersStay d.left_before d.left_now n) (head_same first name others (report ∷ []) (sym first_is ∙ is)) stay
     by_cause names is (at_report first second both rose given) =
-        let same : first ≡ name = first_same first name (second ∷ []) (report ∷ []) (sym both ∙ is) in
+        let same : first ≡ name = head_same first name (second ∷ []) (report ∷ []) (sym both ∙ is) in
         let taken : (study : Question) × GivesStudy files first study = subst (λ (o : Option Files). IfSome o (λ f. (study : Question) × GivesStudy f first study)) told_files given in
         absurd (none (taken.0, subst (λ (n : List ℕ). GivesStudy files n taken.0) same taken.1))
 

@@ -117,7 +117,3 @@ module _ (words : List (List ℕ)) (d : Devices) where
   -- a file could not be read
   pub unread : d.taken_now ≡ d.taken_before → Promised (Err stop.ReadFault) → IsExplainCall words d 5
   unread same a = silent_call 5 (omega arith) (λ e. absurd (omega (arith, e))) same a.known (λ e. a.read_fault refl) a.untouched a.uncounted
-
-  -- there was no memory for the reply
-  pub wanted : d.taken_now ≡ d.taken_before → Promised (Err stop.NoMemory) → IsExplainCall words d 7
-  wanted same a = silent_call 7 (omega arith) (λ e. absurd (omega (arith, e))) same a.known (λ e. absurd (omega (arith, e))) a.untouched a.uncounted

@@ -1,14 +1,10 @@
 -- Calls over devices that count no fault.
-use Rattle.std.proofs.Common.{◌≡◌, subst, ℕ, List, arith}
-use Rattle.edge.specs.Faults.{Rose}
+use Rattle.std.proofs.Common.{◌≡◌, ℕ, List}
 use Rattle.answers.specs.Devices.{Devices}
-use Rattle.answers.proofs.CallLaws.{all_quiet}
+use Rattle.answers.proofs.CallLaws.{all_quiet, not_rose}
 use Rattle.explain_words.specs.Words.{request_of}
 use Rattle.explain_answers.specs.Call.{IsExplainCall, explain_files}
 use Rattle.explain_answers.specs.Completeness.{AreExplained, ExplainCallsAreComplete}
-
-not_rose : (before now : ℕ) → before ≡ 0 → now ≡ 0 → ¬ Rose before now
-not_rose before now e f rose = let none : Rose 0 0 = subst (λ (b : ℕ). Rose b 0) e (subst (λ (n : ℕ). Rose before n) f rose) in omega (arith, none)
 
 pub calm_call : (words : List (List ℕ)) (d : Devices) (status : ℕ) → ExplainCallsAreComplete → IsExplainCall words d status
     → ((name : List ℕ) → d.faults_before name ≡ 0) → ((name : List ℕ) → d.faults_now name ≡ 0)

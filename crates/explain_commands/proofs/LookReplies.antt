@@ -1,18 +1,16 @@
 -- What is replied to the bytes of a study.
-use Rattle.std.proofs.Common.{◌≡◌, ◌≢◌, refl, sym, subst, ℕ, ◌≤◌, ◌<◌, List, length, Option, None, Some, Result, Ok, Err, IfSome, IfOk, arith}
-use Rattle.std.specs.Prelude.{IsSomeAnd}
+use Rattle.std.proofs.Common.{◌≡◌, ◌≢◌, refl, sym, subst, ℕ, ◌≤◌, List, length, Option, Some, Result, Ok, Err, IfSome, IfOk, arith}
 use Rattle.edge.specs.Shelf.{Files, OthersStay}
 use Rattle.vocab.specs.Study.{Question}
 use Rattle.study.specs.Reading.{IsStudyOf}
 use Rattle.answers.specs.FileLimits.{most_study_bytes}
 use Rattle.answers.specs.Grounding.{OverClauses}
 use Rattle.answers.proofs.AmongLemmas.{found_among}
-use Rattle.command_parts.specs.declared.answer.Answer.TheVariants.{LongStudy}
 use Rattle.command_parts.specs.declared.answer.Stop.{Stop}
 use Rattle.command_parts.specs.declared.answer.Stop.TheVariants as stop
 use Rattle.command_parts.proofs.OpenLemmas.{if_some}
 use Rattle.explain_words.specs.Words.{ExplainRequest, Look}
-use Rattle.explain_answers.specs.Look.{IsLookAt, IsLooked, long, refused, told, within}
+use Rattle.explain_answers.specs.Look.{IsLookAt, IsLooked, refused, told, within}
 use Rattle.explain_answers.specs.Story.{bare_run}
 use Rattle.explain_answers.specs.Call.{explain_statuses}
 use Rattle.explain_parts.specs.declared.reply.Reply.{Reply}
@@ -52,18 +50,6 @@ module _ (name : List ℕ) (workers : ℕ) where
     look_reply bytes (Err stop.ReadFault) held fits said has_text none = absurd (none refl)
     look_reply bytes (Err stop.NoMemory) held fits said has_text none =
         wanting asked_look name reads_look told_files left_before left_now faults_before faults_now others
-
-    too_many : (o : Option (List ℕ)) → IsSomeAnd o (λ bytes. most_study_bytes < length bytes) → (bytes : List ℕ) × (o ≡ Some bytes) × (most_study_bytes < length bytes)
-    too_many (Some bytes) h = (bytes, refl, h)
-    too_many None h = absurd h
-
-    -- the file is too long
-    pub long_reply : IfSome told_files (λ files. IsSomeAnd (files name) (λ bytes. most_study_bytes < length bytes)) → Replied (Ok (reply.Refused LongStudy))
-    long_reply h =
-        ended asked_look name reads_look told_files left_before left_now faults_before faults_now others (reply.Refused LongStudy)
-        (low_at asked_look 3 refl (omega arith)) tt
-        (λ files e. let m = too_many (files name) (if_some told_files (λ files. IsSomeAnd (files name) (λ bytes. most_study_bytes < length bytes)) files h e) in
-        long (record { bytes = m.0; held = m.1; long = m.2 }) refl refl)
 
 -- the row over the clauses of a study that bytes give is what is said of these
 pub told_look : (bytes : List ℕ) (study : Question) (result : Result Reply Stop) → IsStudyOf bytes (Ok study)

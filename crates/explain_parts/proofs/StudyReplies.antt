@@ -6,7 +6,7 @@ use Rattle.edge.specs.Shelf.{Files, OthersStay}
 use Rattle.edge.specs.Faults.{Rose}
 use Rattle.vocab.specs.Study.{Question}
 use Rattle.clause_form.specs.declared.refusals.GroundFault.{GroundFault}
-use Rattle.clause_form.specs.declared.refusals.GroundFault.TheVariants.{Wide, Full, NoMemory}
+use Rattle.clause_form.specs.declared.refusals.GroundFault.TheVariants.{NoMemory}
 use Rattle.clause_form.specs.Refusals.{IsRefused}
 use Rattle.answers.specs.Grounding.{clauses_fault, OverClauses, clauses_refused, clauses_made}
 use Rattle.answers.specs.Studies.{OverStudy, study_refused, study_given}
@@ -27,6 +27,7 @@ use Rattle.explain_answers.specs.Call.{at_study, explain_files, explain_statuses
 use Rattle.explain_parts.specs.declared.reply.Reply.{Reply}
 use Rattle.explain_parts.specs.declared.reply.Reply.TheVariants as reply
 use Rattle.explain_parts.specs.Replies.{HasReplyText, Replies, status_of, reply_text}
+use Rattle.answers.proofs.RowLemmas.{refusal_is}
 
 wants_memory : (request : Option ExplainRequest) → list_any (λ n. n == 7) (explain_statuses request) ≡ true
 wants_memory None = refl
@@ -153,14 +154,8 @@ pub over_clauses : (request : Option ExplainRequest) (study : Question) (status 
 over_clauses request study status text IsRest three low (clauses_refused fault e line bare) = subst (IsLow request) (sym bare.ends) three
 over_clauses request study status text IsRest three low (clauses_made none is) = low is
 
--- a refusal other than want of memory is the one of the clauses
-refused_as : (fault : GroundFault) (wanted : Option GroundFault) → fault ≢ NoMemory → IsRefused fault wanted → wanted ≡ Some fault
-refused_as (Wide place instance counts) wanted known is = is
-refused_as (Full place) wanted known is = is
-refused_as NoMemory wanted known is = absurd (known refl)
-
 -- the clauses are refused
 pub no_clauses : (study : Question) (fault : GroundFault) (P : Type 0) → fault ≢ NoMemory → IsRefused fault (clauses_fault study)
     → OverClauses study (bare_run (status_of (reply.Refused (NoClauses study fault)))) (reply_text (reply.Refused (NoClauses study fault))) P
 no_clauses study fault P known is =
-    clauses_refused fault (refused_as fault (clauses_fault study) known is) refl (record { ends = refl; no_verdict = refl; no_logs = refl; no_sharp = refl })
+    clauses_refused fault (refusal_is fault (clauses_fault study) known is) refl (record { ends = refl; no_verdict = refl; no_logs = refl; no_sharp = refl })

@@ -1,5 +1,5 @@
 -- The command `story`, from what each part promises to what it promises of its reply.
-use Rattle.std.proofs.Common.{◌≡◌, ◌∙◌, sym, refl, subst, ℕ, ◌≤◌, true, List, [], ◌∷◌, Option, None, Some, IfSome, Result, Ok, Err, IfOk, IsErrOf, arith, zero, suc}
+use Rattle.std.proofs.Common.{◌≡◌, ◌∙◌, sym, refl, subst, ℕ, ◌≤◌, true, List, [], ◌∷◌, Option, Some, IfSome, Result, Ok, Err, IfOk, IsErrOf, arith, zero, suc}
 use Rattle.std.specs.Prelude.{◌==◌, Contains}
 use Rattle.std.specs.List.{list_any}
 use Rattle.edge.specs.Shelf.{Files, OthersStay, NoneFell}
@@ -84,15 +84,7 @@ module _ (name report : List ℕ) (workers : ℕ) (told : Option Files) where
   abbrev asked : Option ExplainRequest
   asked = Some (Story name report workers)
 
-  -- a study that was read is given
-  pub study_taken : (study : Question) → IsStudyRead told name study → IfSome told (λ files. (study : Question) × GivesStudy files name study)
-  study_taken study read = go told refl
-    where
-      go : (o : Option Files) → told ≡ o → IfSome o (λ files. (study : Question) × GivesStudy files name study)
-      go None e = tt
-      go (Some files) e = (study, given told name study files read e)
-
-  -- the report is judged over it
+  -- the report is judged over the study that was read
   pub story_rows : (study : Question) (result : Result Reply Stop) → IsStudyRead told name study
       → IfOk result (λ reply. (files : Files) → told ≡ Some files → IsToldOf files name report study (status_of reply) (reply_text reply))
       → (files : Files) → AreFiles told (name ∷ report ∷ []) files → IfOk result (λ reply. IsStoryAnswer files name report (status_of reply) (reply_text reply))

@@ -1,18 +1,15 @@
 -- Axiom after axiom: the first too wide instance, and the first axiom at which the list is full.
-use Rattle.std.proofs.Common.{◌≡◌, ◌<◌, ◌≤◌, ◌+◌, ◌&&◌, ℕ, zero, suc, Bool, true, false, cond, not, List, [], ◌∷◌, ◌++◌, length, take, drop, find, refl, sym, ap, ap₂, ◌∙◌, subst, if◌then◌else◌, arith, inl, inr, append_assoc, append-nil, add-one, drop-cons, Option, Some, None, slice_get, slice_index_or, leb-true, ltb-true, eq-or-lt_of_le}
-use Rattle.std.specs.Prelude.{nat_le, nat_lt, option_and_then, option_map}
+use Rattle.std.proofs.Common.{◌≡◌, ◌<◌, ◌≤◌, ◌+◌, ◌&&◌, ℕ, zero, suc, Bool, true, false, cond, not, List, [], ◌∷◌, ◌++◌, length, take, drop, find, refl, sym, ap, ap₂, ◌∙◌, subst, if◌then◌else◌, arith, inl, inr, append_assoc, append-nil, add-one, drop-cons, Option, Some, None, slice_get, slice_index_or, ltb-true, eq-or-lt_of_le}
+use Rattle.std.specs.Prelude.{nat_lt, option_and_then, option_map}
 use Rattle.std.specs.List.{flat_map}
 use Rattle.std.specs.Option.{option_or}
 use Rattle.std.proofs.lemmas.Bool.{and_parts}
 use Rattle.std.proofs.lemmas.Grind.{flat_map-append}
 use Rattle.std.proofs.lemmas.List.{take_more}
-use Rattle.lists.proofs.TestLaws.{all_get}
 use Rattle.vocab.specs.declared.kinds.Sort.TheVariants.{Profile}
-use Rattle.vocab.specs.Formula.{body_of}
-use Rattle.vocab.specs.Limits.{depth, instance_count, atom_count, is_within_limits}
+use Rattle.vocab.specs.Limits.{instance_count}
 use Rattle.vocab.specs.Range.{below, up_from}
 use Rattle.vocab.specs.Size.{Extent, sort_count}
-use Rattle.vocab.specs.Study.{Question, IsStudy, is_sentence}
 use Rattle.vocab.specs.Titled.{Titled}
 use Rattle.meaning.specs.Cores.{is_core_from}
 use Rattle.meaning.specs.StudyClauses.{Sourced, from_axiom, from_frame, study_clauses}
@@ -23,6 +20,7 @@ use Rattle.clause_form.specs.Sources.{clauses_in}
 use Rattle.clause_form.specs.Wide.{is_wide}
 use Rattle.grounding.specs.declared.parts.WideInstance.{WideInstance}
 use Rattle.grounding.specs.Pieces.{AreNarrow, IsFirstWide, IsLeastWide, measure_at}
+use Rattle.lists.proofs.OptionLaws.{none_of_either, none_of_map}
 
 -- ---- the first number that passes a test
 
@@ -63,18 +61,6 @@ place_below from end (k ∷ chosen) (suc i) h l =
 pub chosen_below : (end : ℕ) (chosen : List ℕ) (i : ℕ) → is_core_from 0 end chosen ≡ true → i < length chosen → slice_index_or chosen i 0 < end
 chosen_below end chosen i h l = place_below 0 end chosen i h l
 
-module _ (study : Question) (place : ℕ) (a : Titled) where
-  pub sentence_at : IsStudy study → slice_get study.axioms place ≡ Some a → is_sentence study.size a ≡ true
-  sentence_at is at = all_get (is_sentence study.size) study.axioms place a is.sentences at
-
-  pub few_at : IsStudy study → slice_get study.axioms place ≡ Some a → instance_count study.size a.sentence ≤ 40000000
-  few_at is at =
-      let within = all_get (λ (x : Titled). is_within_limits study.size x.sentence) study.axioms place a is.limits at in
-      let one = and_parts _ (nat_le (atom_count study.size a.sentence) 200000000) within in
-      let two = and_parts _ (nat_le (atom_count study.size (body_of a.sentence)) 1000000) one.0 in
-      let three = and_parts (nat_le (depth a.sentence) 64) (nat_le (instance_count study.size a.sentence) 40000000) two.0 in
-      leb-true (instance_count study.size a.sentence) 40000000 three.1
-
 -- the places that are left begin with this one
 left : (chosen : List ℕ) (i : ℕ) → i < length chosen → drop i chosen ≡ slice_index_or chosen i 0 ∷ drop (i + 1) chosen
 left chosen i h = rw (add-one, drop-cons chosen i 0) refl
@@ -113,21 +99,9 @@ module _ (size : Extent) (axioms : List Titled) where
       → AreNarrow size a.sentence 0 (instance_count size a.sentence)
   chosen-narrow [] i a none h at = absurd (omega arith)
   chosen-narrow (place ∷ chosen) zero a none h at =
-      let first : wide_instance size axioms place a ≡ None = or-none (wide_instance size axioms place a) (first_wide size axioms chosen) (sym (ap (λ (o : Option Titled). option_or (widest place o) (first_wide size axioms chosen)) at) ∙ none) in
-      λ k low high. none-found (λ k. is_wide (measure_at size a.sentence k)) (instance_count size a.sentence) 0 k (map-none (λ k. Wide place k (measure_at size a.sentence k)) (find (λ k. is_wide (measure_at size a.sentence k)) (below (instance_count size a.sentence))) first) low (omega (arith, high))
-    where
-      or-none : (o p : Option GroundFault) → option_or o p ≡ None → o ≡ None
-      or-none None p e = refl
-      or-none (Some x) p e = absurd (let z : ⊥ = cc in z)
-
-      map-none : (f : ℕ → GroundFault) (o : Option ℕ) → option_map f o ≡ None → o ≡ None
-      map-none f None e = refl
-      map-none f (Some x) e = absurd (let z : ⊥ = cc in z)
-  chosen-narrow (place ∷ chosen) (suc i) a none h at = chosen-narrow chosen i a (rest (widest place (slice_get axioms place)) (first_wide size axioms chosen) none) (omega (arith, h)) at
-    where
-      rest : (o p : Option GroundFault) → option_or o p ≡ None → p ≡ None
-      rest None p e = e
-      rest (Some x) p e = absurd (let z : ⊥ = cc in z)
+      let first : wide_instance size axioms place a ≡ None = (none_of_either (wide_instance size axioms place a) (first_wide size axioms chosen) (sym (ap (λ (o : Option Titled). option_or (widest place o) (first_wide size axioms chosen)) at) ∙ none)).0 in
+      λ k low high. none-found (λ k. is_wide (measure_at size a.sentence k)) (instance_count size a.sentence) 0 k (none_of_map (λ k. Wide place k (measure_at size a.sentence k)) (find (λ k. is_wide (measure_at size a.sentence k)) (below (instance_count size a.sentence))) first) low (omega (arith, high))
+  chosen-narrow (place ∷ chosen) (suc i) a none h at = chosen-narrow chosen i a (none_of_either (widest place (slice_get axioms place)) (first_wide size axioms chosen) none).1 (omega (arith, h)) at
 
   -- ---- a full list
 

@@ -1,21 +1,14 @@
 -- Keeping one clause after the other gives the first of equal ones.
+use mathlib.Core.Bool.{or_comm, or-false}
 use Rattle.std.proofs.Common.{◌≡◌, ◌==◌, ◌&&◌, ◌||◌, ◌+◌, ◌*◌, ℕ, Bool, true, false, List, [], ◌∷◌, ◌++◌, map, fold, refl, sym, ap, ap₂, ◌∙◌, if◌then◌else◌, arith, append-nil, append_assoc}
 use Rattle.std.proofs.lemmas.List.{map-append}
 use Rattle.std.proofs.lemmas.List.Folds.{list_any-append}
 use Rattle.std.specs.Bool.{beq}
-use Rattle.std.specs.List.{list_any}
 use Rattle.std.specs.Cmp.Lexicographic.{pointwise}
 use Rattle.cnf.specs.Signed.{Signed, literal_code}
 use Rattle.cnf.specs.Sat.{Clause, same_lit}
 use Rattle.meaning.specs.StudyClauses.{Sourced, firsts}
-use Rattle.meaning.proofs.TestLaws.{or-false}
 use Rattle.grounding.specs.Distinct.{is_seen, kept_with, same_clause}
-
-or_swap : (a b : Bool) → (a || b) ≡ (b || a)
-or_swap true true = refl
-or_swap true false = refl
-or_swap false true = refl
-or_swap false false = refl
 
 -- two lists have the same clauses
 abbrev pub HaveSame : List Clause → List Clause → Type 0
@@ -36,7 +29,7 @@ kept_are_firsts kept seen (x ∷ xs) h = by (is_seen (map (λ k. k.clause) kept)
         ap (λ ks. is_seen ks c) (map-append (λ (k : Sourced). k.clause) kept (x ∷ []))
         ∙ list_any-append (same_clause c) (map (λ k. k.clause) kept) (x.clause ∷ [])
         ∙ ap₂ (λ u v. u || v) (h c) (or-false (same_clause c x.clause))
-        ∙ or_swap (is_seen seen c) (same_clause c x.clause))
+        ∙ or_comm (is_seen seen c) (same_clause c x.clause))
         ∙ append_assoc kept (x ∷ []) (firsts (x.clause ∷ seen) xs)
 
 -- ---- keys of codes
@@ -58,14 +51,3 @@ pointwise_codes [] [] = refl
 pointwise_codes [] (y ∷ d) = refl
 pointwise_codes (x ∷ c) [] = refl
 pointwise_codes (x ∷ c) (y ∷ d) = ap₂ (λ u v. u && v) (same_codes x y) (pointwise_codes c d)
-
--- a look-up among keys is a look-up among the clauses whose codes they are
-pub keys_seen : {X : Type 0} (h : X → List ℕ) (v : X) (clause : Clause) → h v ≡ map literal_code clause → (ks : List X) (seen : List Clause) → map h ks ≡ map (λ c. map literal_code c) seen →
-    list_any (λ k. pointwise (λ (m n : ℕ). m == n) (h v) (h k)) ks ≡ is_seen seen clause
-keys_seen h v clause e [] [] s = refl
-keys_seen h v clause e [] (c ∷ seen) s = absurd (let k : ⊥ = cc in k)
-keys_seen h v clause e (k ∷ ks) [] s = absurd (let l : ⊥ = cc in l)
-keys_seen h v clause e (k ∷ ks) (c ∷ seen) s =
-    let first : h k ≡ map literal_code c = cc in
-    let rest : map h ks ≡ map (λ d. map literal_code d) seen = cc in
-    ap₂ (λ a b. a || b) (ap₂ (λ (m n : List ℕ). pointwise (λ (i j : ℕ). i == j) m n) e first ∙ pointwise_codes clause c) (keys_seen h v clause e ks seen rest)

@@ -7,7 +7,6 @@ pub mod PieceLaws
 pub mod KeptLaws
 pub mod PartLaws
 pub mod SeenLaws
-pub mod TwoLaws
 pub mod SourceLemmas
 pub mod WideLemmas
 pub mod ChosenLemmas

@@ -113,11 +113,6 @@ same-repeat xs s h kept =
 
 -- ---- codes that are remembered
 
-pub there-more : (clauses : List Clause) (c : Clause) (pair : ℕ × ℕ) → IsThere clauses pair → IsThere (clauses ++ c ∷ []) pair
-there-more clauses c pair h some a b e f =
-    list_any-append (same_clause (a ∷ b ∷ [])) clauses (c ∷ [])
-    ∙ or_left (is_seen clauses (a ∷ b ∷ [])) (is_seen (c ∷ []) (a ∷ b ∷ [])) (h some a b e f)
-
 pub there-last : (clauses : List Clause) (first second : Signed) → IsThere (clauses ++ (first ∷ second ∷ []) ∷ []) (literal_code first, literal_code second)
 there-last clauses first second some a b e f =
     let x : same_lit a first ≡ true = sym (same_codes a first) ∙ (let t : (literal_code a == literal_code first) ≡ true = grind (arith, e) in t) in
@@ -126,9 +121,6 @@ there-last clauses first second some a b e f =
     ∙ or_right (is_seen clauses (a ∷ b ∷ [])) (is_seen ((first ∷ second ∷ []) ∷ []) (a ∷ b ∷ []))
     (or_left (same_clause (a ∷ b ∷ []) (first ∷ second ∷ [])) false
     (and_from (same_lit a first) (same_lit b second && true) x (and_from (same_lit b second) true y refl)))
-
-pub there-none : (clauses : List Clause) → IsThere clauses (0, 0)
-there-none clauses some a b e f = absurd (let z : ⊥ = omega (arith, some) in z)
 
 pub recent-there : (clauses : List Clause) (recent : List (ℕ × ℕ)) (k : ℕ) (pair : ℕ × ℕ) → All (IsThere clauses) recent → k < length recent → slice_get recent k ≡ Some pair → IsThere clauses pair
 recent-there clauses recent k pair all within at =

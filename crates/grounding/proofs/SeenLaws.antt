@@ -1,4 +1,5 @@
 -- A clause more among those that were seen.
+use mathlib.Core.Bool.{and-true, or-false}
 use Rattle.std.proofs.Common.{◌≡◌, ◌==◌, ◌&&◌, ◌||◌, ℕ, suc, Bool, true, false, List, [], ◌∷◌, ◌++◌, length, map, refl, sym, ap, ap₂, ◌∙◌, if◌then◌else◌, arith, true≢false, get_or, subst}
 use Rattle.std.specs.Prelude.{IsFalse}
 use Rattle.std.proofs.lemmas.Bool.{and_parts}
@@ -8,7 +9,7 @@ use Rattle.std.specs.List.{list_any}
 use Rattle.std.specs.Cmp.Lexicographic.{pointwise}
 use Rattle.cnf.specs.Signed.{Signed, literal_code}
 use Rattle.cnf.specs.Sat.{Clause, same_lit}
-use Rattle.meaning.proofs.TestLaws.{and-true, list_any-map, or-false}
+use Rattle.meaning.proofs.TestLaws.{list_any-map}
 use Rattle.grounding.specs.Distinct.{Codes, HasSeen, codes_of, has_codes, has_pair_code, is_seen, same_clause, seen_with}
 use Rattle.grounding.proofs.FirstsLaws.{pointwise_codes, same_codes}
 

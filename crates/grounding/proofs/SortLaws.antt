@@ -1,4 +1,5 @@
 -- A sorted clause has the codes of its row, and rises where no variable has both signs.
+use mathlib.Core.Bool.{or_self_left}
 use Rattle.std.proofs.Common.{◌≡◌, ◌<◌, ◌≤◌, ◌+◌, ◌*◌, ◌/◌, ◌%◌, ◌==◌, ℕ, Bool, true, false, ◌||◌, ◌&&◌, not, nat_eq, nat_lt, List, [], ◌∷◌, map, if◌then◌else◌, refl, sym, ap, ap₂, ◌∙◌, subst, arith, true≢false}
 use Rattle.std.specs.Bool.{beq}
 use Rattle.std.specs.List.{list_any}
@@ -12,18 +13,7 @@ use Rattle.grounding.specs.Distinct.{codes_of}
 use Rattle.grounding.specs.Rising.{ArePositive, RisesFrom, includes, literal_of_code}
 use Rattle.grounding.proofs.FirstsLaws.{same_codes}
 use Rattle.grounding.proofs.RisingLaws.{rising_same}
-
-or_twice : (a c : Bool) → (a || c) ≡ (a || (a || c))
-or_twice true c = refl
-or_twice false c = refl
-
-none_left : (a b : Bool) → (a || b) ≡ false → a ≡ false
-none_left true b e = absurd (true≢false e)
-none_left false b e = refl
-
-none_right : (a b : Bool) → (a || b) ≡ false → b ≡ false
-none_right true b e = absurd (true≢false e)
-none_right false b e = e
+use Rattle.std.proofs.lemmas.Bool.{or_parts}
 
 -- ---- codes
 
@@ -64,7 +54,7 @@ sorted_in_has l (x ∷ xs) k = by (nat_lt l.variable x.variable) (same_lit l x) 
         → includes (codes_of (if b then l ∷ x ∷ xs else (if c then x ∷ xs else x ∷ sorted_in l xs))) k ≡ (nat_eq k (literal_code l) || (nat_eq k (literal_code x) || includes (codes_of xs) k))
     by true c e ih = refl
     by false true e ih =
-        or_twice (nat_eq k (literal_code x)) (includes (codes_of xs) k) ∙ ap (λ (n : ℕ). nat_eq k n || (nat_eq k (literal_code x) || includes (codes_of xs) k)) (sym (code_same l x e))
+        sym (or_self_left (nat_eq k (literal_code x)) (includes (codes_of xs) k)) ∙ ap (λ (n : ℕ). nat_eq k n || (nat_eq k (literal_code x) || includes (codes_of xs) k)) (sym (code_same l x e))
     by false false e ih = ap (λ b. nat_eq k (literal_code x) || b) ih ∙ or_swap (nat_eq k (literal_code x)) (nat_eq k (literal_code l)) (includes (codes_of xs) k)
 
 pub sorted_has : (row : Clause) (k : ℕ) → includes (codes_of (sorted row)) k ≡ includes (codes_of row) k
@@ -76,11 +66,11 @@ sorted_has (l ∷ ls) k = sorted_in_has l (sorted ls) k ∙ ap (λ b. nat_eq k (
 sorted_in_above : (n : ℕ) (l : Signed) (ks : Clause) → RisesFrom n (codes_of ks) → n < literal_code l → includes (codes_of ks) (literal_code (opposite_lit l)) ≡ false → RisesFrom n (codes_of (sorted_in l ks))
 sorted_in_above n l [] h e o = (e, record {})
 sorted_in_above n l (x ∷ xs) h e o =
-    by (nat_lt l.variable x.variable) (same_lit l x) refl refl (λ m g f. sorted_in_above m l xs g f (none_right (nat_eq (literal_code (opposite_lit l)) (literal_code x)) (includes (codes_of xs) (literal_code (opposite_lit l))) o))
+    by (nat_lt l.variable x.variable) (same_lit l x) refl refl (λ m g f. sorted_in_above m l xs g f (or_parts (nat_eq (literal_code (opposite_lit l)) (literal_code x)) (includes (codes_of xs) (literal_code (opposite_lit l))) o).1)
   where
     not_other : literal_code x ≡ literal_code (opposite_lit l) → ⊥
     not_other s = (let t : nat_eq (literal_code (opposite_lit l)) (literal_code x) ≡ true = grind (arith, s) in
-        true≢false (sym t ∙ none_left (nat_eq (literal_code (opposite_lit l)) (literal_code x)) (includes (codes_of xs) (literal_code (opposite_lit l))) o))
+        true≢false (sym t ∙ (or_parts (nat_eq (literal_code (opposite_lit l)) (literal_code x)) (includes (codes_of xs) (literal_code (opposite_lit l))) o).0))
 
     by : (b c : Bool) → nat_lt l.variable x.variable ≡ b → same_lit l x ≡ c
         → ((m : ℕ) → RisesFrom m (codes_of xs) → m < literal_code l → RisesFrom m (codes_of (sorted_in l xs)))
@@ -104,16 +94,16 @@ later_pair : (l : Signed) (row part : Clause) → list_any (λ k. has_lit (l ∷
 later_pair l row [] e = refl
 later_pair l row (k ∷ part) e =
     ap₂ (λ a b. a || b)
-    (none_right (same_lit (opposite_lit k) l) (has_lit row (opposite_lit k)) (none_left (has_lit (l ∷ row) (opposite_lit k)) (list_any (λ j. has_lit (l ∷ row) (opposite_lit j)) part) e))
-    (later_pair l row part (none_right (has_lit (l ∷ row) (opposite_lit k)) (list_any (λ j. has_lit (l ∷ row) (opposite_lit j)) part) e))
+    (or_parts (same_lit (opposite_lit k) l) (has_lit row (opposite_lit k)) (or_parts (has_lit (l ∷ row) (opposite_lit k)) (list_any (λ j. has_lit (l ∷ row) (opposite_lit j)) part) e).0).1
+    (later_pair l row part (or_parts (has_lit (l ∷ row) (opposite_lit k)) (list_any (λ j. has_lit (l ∷ row) (opposite_lit j)) part) e).1)
 
 pub sorted_above : (row : Clause) → ArePositive row → is_tautology row ≡ false → RisesFrom 0 (codes_of (sorted row))
 sorted_above [] p e = record {}
 sorted_above (l ∷ ls) p e =
-    let first : has_lit (l ∷ ls) (opposite_lit l) ≡ false = none_left (has_lit (l ∷ ls) (opposite_lit l)) (list_any (λ k. has_lit (l ∷ ls) (opposite_lit k)) ls) e in
-    let rest : is_tautology ls ≡ false = later_pair l ls ls (none_right (has_lit (l ∷ ls) (opposite_lit l)) (list_any (λ k. has_lit (l ∷ ls) (opposite_lit k)) ls) e) in
+    let first : has_lit (l ∷ ls) (opposite_lit l) ≡ false = (or_parts (has_lit (l ∷ ls) (opposite_lit l)) (list_any (λ k. has_lit (l ∷ ls) (opposite_lit k)) ls) e).0 in
+    let rest : is_tautology ls ≡ false = later_pair l ls ls (or_parts (has_lit (l ∷ ls) (opposite_lit l)) (list_any (λ k. has_lit (l ∷ ls) (opposite_lit k)) ls) e).1 in
     sorted_in_above 0 l (sorted ls) (sorted_above ls p.1 rest) p.0
-    (sorted_has ls (literal_code (opposite_lit l)) ∙ has_codes ls (opposite_lit l) ∙ none_right (same_lit (opposite_lit l) l) (has_lit ls (opposite_lit l)) first)
+    (sorted_has ls (literal_code (opposite_lit l)) ∙ has_codes ls (opposite_lit l) ∙ (or_parts (same_lit (opposite_lit l) l) (has_lit ls (opposite_lit l)) first).1)
 
 -- the one rising list that has the codes of a row is its sorted clause
 pub sorted_same : (row : Clause) (merged : List ℕ) → ArePositive row → is_tautology row ≡ false → RisesFrom 0 merged → ((k : ℕ) → includes merged k ≡ includes (codes_of row) k) → merged ≡ codes_of (sorted row)

@@ -1,11 +1,11 @@
 -- The clauses of the study of some instances are within the limits where those of all instances are.
-use Rattle.std.proofs.Common.{◌≡◌, refl, sym, ◌∙◌, ap, ap₂, subst, ℕ, zero, suc, ◌+◌, ◌<◌, ◌≤◌, Bool, true, false, ◌||◌, ◌⊎◌, not, inl, inr, List, [], ◌∷◌, ◌++◌, map, take, drop, length, get_or, length-append, append-nil, take-append-drop, arith, Option, Some, None, sum_by, ltb-true, eqb-true, nat_eq}
+use Rattle.std.proofs.Common.{◌≡◌, refl, sym, ◌∙◌, ap, ap₂, subst, ℕ, zero, suc, ◌+◌, ◌<◌, ◌≤◌, Bool, true, false, ◌⊎◌, not, inl, inr, List, [], ◌∷◌, ◌++◌, map, take, drop, length, get_or, length-append, append-nil, take-append-drop, arith, Option, Some, None, sum_by, ltb-true, eqb-true, nat_eq}
 use Rattle.std.specs.Prelude.{if◌then◌else◌, nat_lt, slice_get, find, option_map, option_and_then}
 use Rattle.std.specs.Cmp.Lexicographic.{pointwise}
 use Rattle.std.specs.List.{flat_map, list_all, list_any}
 use Rattle.std.specs.Option.{option_map_or, option_or}
 use Rattle.std.proofs.Math.Seq.{take-suc}
-use Rattle.std.proofs.lemmas.Bool.{and_parts, le-ltb, ltb-false, or_cases}
+use Rattle.std.proofs.lemmas.Bool.{and_parts, le-ltb, ltb-false, or_cases, or_parts, or_from}
 use Rattle.std.proofs.lemmas.List.{length-map}
 use Rattle.std.proofs.lemmas.List.Concat.{flat_map-append}
 use Rattle.std.proofs.lemmas.List.Sums.{sum_by-cons, sum_by-append, sum_by_push}
@@ -40,7 +40,7 @@ use Rattle.verdicts.proofs.WordLaws.{IsIn, in_below}
 use Rattle.sharp_verdicts.specs.declared.instances.Cited.{Cited}
 use Rattle.sharp_verdicts.specs.Derived.{axiom_of, axioms_from, derived_study}
 use Rattle.sharp_verdicts.specs.Instances.{count_at, is_present, all_instances}
-use Rattle.instance_studies.proofs.StudyLaws.{length_from}
+use Rattle.instance_studies.proofs.StudyLaws.{length_from, has_axiom}
 use Rattle.instance_stories.specs.Codes.{code_of, AreRisingInstances, HaveAxiomRoom}
 use Rattle.instance_stories.proofs.AllInstances.{cited_of, decoded, all_rise, all_small, all_have, counts_few, present_small, sum_within}
 use Rattle.instance_grounds.proofs.StandLaws.{closed_is}
@@ -157,26 +157,12 @@ module _ (size : Extent) where
 
 -- what a measure that is not too wide counts
 narrow_clauses : (w : Written) → is_wide (measure_of w) ≡ false → length (plus w) ≤ (measure_of w).clauses
-narrow_clauses w h = let few = ltb-false 100000 (measure_of w).clauses (none_left (nat_lt 100000 (measure_of w).clauses) (nat_lt 4000000 (measure_of w).literals) h) in omega (arith, few)
-  where
-    none_left : (a b : Bool) → (a || b) ≡ false → a ≡ false
-    none_left true b e = absurd cc
-    none_left false b e = refl
+narrow_clauses w h = let few = ltb-false 100000 (measure_of w).clauses (or_parts (nat_lt 100000 (measure_of w).clauses) (nat_lt 4000000 (measure_of w).literals) h).0 in omega (arith, few)
 
 narrow_literals : (w : Written) → is_wide (measure_of w) ≡ false → sum_by length (plus w) ≤ (measure_of w).literals
-narrow_literals w h = let few = ltb-false 4000000 (measure_of w).literals (none_right (nat_lt 100000 (measure_of w).clauses) (nat_lt 4000000 (measure_of w).literals) h) in omega (arith, few)
-  where
-    none_right : (a b : Bool) → (a || b) ≡ false → b ≡ false
-    none_right true b e = absurd cc
-    none_right false b e = e
+narrow_literals w h = let few = ltb-false 4000000 (measure_of w).literals (or_parts (nat_lt 100000 (measure_of w).clauses) (nat_lt 4000000 (measure_of w).literals) h).1 in omega (arith, few)
 
 -- ---- the study of some instances
-
--- an axiom that has an instance is one of the study
-has_axiom : (study : Question) (c : Cited) (o : Option Titled) → slice_get study.axioms c.«axiom» ≡ o → nat_lt c.number (option_map_or (λ (a : Titled). instance_count study.size a.sentence) o 0) ≡ true
-    → (a : Titled) × (slice_get study.axioms c.«axiom» ≡ Some a) × (c.number < instance_count study.size a.sentence)
-has_axiom study c None e h = absurd (let l = ltb-true c.number 0 h in omega (arith, l))
-has_axiom study c (Some a) e h = (a, e, ltb-true c.number (instance_count study.size a.sentence) h)
 
 module _ (study : Question) (taken : IsStudy study) (total : IsWithinTotal study) where
   none_each : (chosen : List ℕ) → first_wide study.size study.axioms chosen ≡ None → (p : ℕ) → IsIn chosen p → option_and_then (wide_instance study.size study.axioms p) (slice_get study.axioms p) ≡ None
@@ -351,11 +337,8 @@ module _ (study : Question) (taken : IsStudy study) (total : IsWithinTotal study
         let small' = front_within li m in
         let most = all_within cl in
         let most' = all_within li in
-        both (le-ltb 4000000 (length (clauses_for study.size daxioms (below m))) (omega (arith, count, few, few', most, frame_count, total.clauses)))
+        or_from _ _ (le-ltb 4000000 (length (clauses_for study.size daxioms (below m))) (omega (arith, count, few, few', most, frame_count, total.clauses)))
         (le-ltb 60000000 (sum_by length (clauses_for study.size daxioms (below m))) (omega (arith, sum, small, small', most', frame_lits, total.literals)))
-      where
-        both : {a b : Bool} → a ≡ false → b ≡ false → (a || b) ≡ false
-        both e f = λ i. e i || f i
 
     none_full : (n m : ℕ) → m + n ≡ length instances → first_full study.size daxioms (below m) (up_from m n) ≡ None
     none_full zero m e = refl

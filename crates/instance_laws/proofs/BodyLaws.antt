@@ -6,7 +6,7 @@ use Rattle.std.specs.Bool.{beq}
 use Rattle.std.specs.Cmp.Lexicographic.{pointwise}
 use Rattle.std.specs.List.{list_all, list_any}
 use Rattle.std.specs.Option.{unwrap_or}
-use Rattle.std.proofs.lemmas.Bool.{and_from, and_parts, le-leb, lt-ltb, ltb-true}
+use Rattle.std.proofs.lemmas.Bool.{and_from, and_parts, le-leb, lt-ltb, ltb-true, not-true}
 use Rattle.std.proofs.lemmas.List.{get_or_append_left}
 use Rattle.std.proofs.lemmas.Option.{get_or_from_slice_get, slice_get_within}
 use Rattle.vocab.specs.declared.kinds.Sort.{Sort}
@@ -156,11 +156,7 @@ module _ (size : Extent) (sized : IsSize size) where
       term_is s (Var level) h = let b = bound s (slice_get sorts level) h in variable_is level b.0 b.1
       term_is s (Const c) h =
           let p = and_parts (not (same_sort s Profile)) (nat_lt c (sort_count size s)) h in
-          constant_is known s c (is_not (same_sort s Profile) p.0) (ltb-true c (sort_count size s) p.1)
-        where
-          is_not : (b : Bool) → not b ≡ true → b ≡ false
-          is_not true e = sym e
-          is_not false e = refl
+          constant_is known s c (not-true (same_sort s Profile) p.0) (ltb-true c (sort_count size s) p.1)
       term_is s (With p i b) h =
           let one = and_parts (is_term size sorts Profile p) (is_term size sorts Voter i && is_term size sorts Ballot b) h in
           let two = and_parts (is_term size sorts Voter i) (is_term size sorts Ballot b) one.1 in

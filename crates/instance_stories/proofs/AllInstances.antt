@@ -1,4 +1,5 @@
 -- The instances of all axioms rise, and each that is present is among them.
+use mathlib.Core.Bool.{or_assoc}
 use Rattle.std.proofs.Common.{◌≡◌, refl, sym, ◌∙◌, ap, ap₂, subst, ℕ, zero, suc, ◌+◌, ◌*◌, ◌-◌, ◌/◌, ◌%◌, ◌<◌, ◌≤◌, Bool, true, false, ◌||◌, nat_eq, inl, inr, List, [], ◌∷◌, ◌++◌, map, filter, length, arith, Option, Some, None, true≢false, eq-eqb, eqb-true, ltb-true, sum_by}
 use Rattle.std.specs.Prelude.{if◌then◌else◌, nat_lt, slice_get}
 use Rattle.std.specs.List.{flat_map, list_all}
@@ -12,11 +13,11 @@ use Rattle.vocab.specs.Study.{Question, IsStudy}
 use Rattle.vocab.specs.Titled.{Titled}
 use Rattle.meaning.specs.Space.{up_from, below}
 use Rattle.grounding.specs.Rising.{RisesFrom, includes}
-use Rattle.grounding.proofs.RisingLaws.{above_not, first_there, rising_same}
-use Rattle.retell.proofs.CitedLaws.{limit_at}
+use Rattle.grounding.proofs.RisingLaws.{above_not, first_there, rising_same, rises_lower}
 use Rattle.sharp_verdicts.specs.declared.instances.Cited.{Cited}
 use Rattle.sharp_verdicts.specs.Instances.{count_at, is_present, all_instances}
 use Rattle.instance_stories.specs.Codes.{code_of, AreRisingInstances, HaveAxiomRoom}
+use Rattle.vocab.proofs.StudyLaws.{few_at}
 
 -- ---- numbers and instances
 
@@ -42,10 +43,6 @@ rising_lists xs ys sx sy ax ay h = sym (all_decoded xs sx) ∙ ap (map cited_of)
 
 -- ---- what rises
 
-pub above_weaken : (b b' : ℕ) (xs : List ℕ) → b ≤ b' → RisesFrom b' xs → RisesFrom b xs
-above_weaken b b' [] le h = record {}
-above_weaken b b' (x ∷ xs) le h = (omega (arith, le, h.0), h.1)
-
 above_join : (b : ℕ) (xs ys : List ℕ) (m : ℕ) → RisesFrom b xs → b < m → ((k : ℕ) → includes xs k ≡ true → k < m) → ((b' : ℕ) → b' < m → RisesFrom b' ys) → RisesFrom b (xs ++ ys)
 above_join b [] ys m h lt small rest = rest b lt
 above_join b (x ∷ xs) ys m h lt small rest = (h.0, above_join x xs ys m h.1 (small x (first_there x xs)) (λ k e. small k (or_right (nat_eq k x) (includes xs k) e)) rest)
@@ -56,7 +53,7 @@ filter_rises t b (c ∷ cs) h = by (t c) (filter_rises t (code_of c) cs h.1)
   where
     by : (r : Bool) → RisesFrom (code_of c) (map code_of (filter t cs)) → RisesFrom b (map code_of (if r then c ∷ filter t cs else filter t cs))
     by true ih = (h.0, ih)
-    by false ih = above_weaken b (code_of c) (map code_of (filter t cs)) (omega (arith, h.0)) ih
+    by false ih = rises_lower b (code_of c) (map code_of (filter t cs)) (omega (arith, h.0)) ih
 
 pub filter_small : (t : Cited → Bool) (cs : List Cited) → HaveAxiomRoom cs → HaveAxiomRoom (filter t cs)
 filter_small t [] h = tt
@@ -101,10 +98,6 @@ small_join (x ∷ xs) ys h k = (h.0, small_join xs ys h.1 k)
 pub has-append : (xs ys : List ℕ) (k : ℕ) → includes (xs ++ ys) k ≡ (includes xs k || includes ys k)
 has-append [] ys k = refl
 has-append (x ∷ xs) ys k = ap (λ b. nat_eq k x || b) (has-append xs ys k) ∙ sym (or_assoc (nat_eq k x) (includes xs k) (includes ys k))
-  where
-    or_assoc : (a b c : Bool) → ((a || b) || c) ≡ (a || (b || c))
-    or_assoc true b c = refl
-    or_assoc false b c = refl
 
 -- ---- those of all axioms
 
@@ -155,7 +148,7 @@ module _ (study : Question) (few : (k : ℕ) → count_at study k ≤ 4294967296
 -- a study has few instances of each axiom
 count_few : (study : Question) → IsStudy study → (k : ℕ) (o : Option Titled) → slice_get study.axioms k ≡ o → option_map_or (λ (a : Titled). instance_count study.size a.sentence) o 0 ≤ 40000000
 count_few study taken k None e = omega arith
-count_few study taken k (Some a) e = limit_at study.size study.axioms k a taken.limits e
+count_few study taken k (Some a) e = few_at study k a taken e
 
 pub counts_few : (study : Question) → IsStudy study → (k : ℕ) → count_at study k ≤ 4294967296
 counts_few study taken k = let few = count_few study taken k (slice_get study.axioms k) refl in omega (arith, few)

@@ -1,10 +1,10 @@
 -- The study of some instances is a study within the limits.
-use Rattle.std.proofs.Common.{◌≡◌, refl, sym, ap, ◌∙◌, subst, ℕ, suc, ◌+◌, ◌<◌, ◌≤◌, ◌||◌, Bool, true, false, not, List, [], ◌∷◌, ◌++◌, length, length-take, take, take_all, get_or, ap₂, arith, Option, Some, None}
+use Rattle.std.proofs.Common.{◌≡◌, refl, sym, ap, ◌∙◌, subst, ℕ, suc, ◌+◌, ◌<◌, ◌≤◌, true, false, not, List, [], ◌∷◌, ◌++◌, length, length-take, take, take_all, get_or, ap₂, arith, Option, Some, None}
 use Rattle.std.specs.List.{list_all, list_any}
 use Rattle.std.specs.Prelude.{nat_lt, nat_eq, slice_get}
 use Rattle.std.specs.Cmp.Lexicographic.{pointwise}
 use Rattle.std.specs.Option.{option_map_or}
-use Rattle.std.proofs.lemmas.Bool.{and_parts, and_from, false_from_ne_true, ltb-true}
+use Rattle.std.proofs.lemmas.Bool.{and_parts, and_from, false_from_ne_true, ltb-true, or_from}
 use Rattle.std.proofs.Math.Seq.{take-suc}
 use Rattle.std.proofs.lemmas.Slice.Eq.{bytes_eq-Decides}
 use Rattle.lists.proofs.TestLaws.{all_get}
@@ -18,6 +18,12 @@ use Rattle.sharp_verdicts.specs.declared.instances.Cited.{Cited}
 use Rattle.sharp_verdicts.specs.Instances.{count_at, is_present}
 use Rattle.sharp_verdicts.specs.Derived.{instance_name, closed_at, axiom_of, axioms_from, derived_study}
 use Rattle.instance_studies.proofs.NameLaws.{names_differ}
+
+-- of an instance that is present the axiom is there, and its number is one of its instances
+pub has_axiom : (study : Question) (c : Cited) (o : Option Titled) → slice_get study.axioms c.«axiom» ≡ o → nat_lt c.number (option_map_or (λ (a : Titled). instance_count study.size a.sentence) o 0) ≡ true
+    → (a : Titled) × (slice_get study.axioms c.«axiom» ≡ Some a) × (c.number < instance_count study.size a.sentence)
+has_axiom study c None e h = absurd (let l = ltb-true c.number 0 h in omega (arith, l))
+has_axiom study c (Some a) e h = (a, e, ltb-true c.number (instance_count study.size a.sentence) h)
 
 -- how many instances and which values an axiom has, and its closed body
 abbrev count_in : Question → Option Titled → ℕ
@@ -55,11 +61,8 @@ module _ (study : Question) where
   name_is_new : (p q : ℕ) (cs : List Cited) → p < q → list_any (λ (b : Titled). pointwise nat_eq (instance_name p) b.name) (axioms_from study q cs) ≡ false
   name_is_new p q [] lt = refl
   name_is_new p q (c ∷ cs) lt =
-      none (false_from_ne_true _ (λ e. let same = names_differ p q ((bytes_eq-Decides (instance_name p) (instance_name q)).0 e) in absurd (omega (arith, same, lt))))
+      or_from _ _ (false_from_ne_true _ (λ e. let same = names_differ p q ((bytes_eq-Decides (instance_name p) (instance_name q)).0 e) in absurd (omega (arith, same, lt))))
       (name_is_new p (q + 1) cs (omega (arith, lt)))
-    where
-      none : {a b : Bool} → a ≡ false → b ≡ false → (a || b) ≡ false
-      none e f = λ i. e i || f i
 
   pub have_names_from : (place : ℕ) (cs : List Cited) → axioms_have_own_names (axioms_from study place cs) ≡ true
   have_names_from place [] = refl

@@ -1,15 +1,12 @@
 -- The total of a study, axiom after axiom.
-use Rattle.std.proofs.Common.{◌≡◌, refl, sym, ◌∙◌, ap, ℕ, ◌+◌, ◌<◌, ◌≤◌, true, false, List, [], ◌∷◌, ◌++◌, map, length, append-nil, arith, get_or, Option, Some, None, sum_by, ltb-true}
+use Rattle.std.proofs.Common.{◌≡◌, refl, sym, ◌∙◌, ap, ℕ, ◌+◌, ◌<◌, ◌≤◌, true, false, List, [], ◌∷◌, ◌++◌, map, length, append-nil, arith, get_or, None, sum_by, ltb-true}
 use Rattle.std.specs.Prelude.{nat_lt, slice_get}
 use Rattle.std.specs.List.{flat_map}
-use Rattle.std.specs.Option.{option_map_or}
 use Rattle.std.proofs.lemmas.Bool.{and_parts, ltb-false, or_parts}
 use Rattle.std.proofs.lemmas.List.Concat.{flat_map-append}
 use Rattle.std.proofs.lemmas.List.Sums.{sum_by-cons, sum_by-append}
-use Rattle.vocab.specs.Limits.{instance_count}
 use Rattle.vocab.specs.Range.{up_from}
 use Rattle.vocab.specs.Study.{Question}
-use Rattle.vocab.specs.Titled.{Titled}
 use Rattle.vocab.proofs.Ranges.{below_more}
 use Rattle.meaning.specs.declared.clauses.Counts.{Counts}
 use Rattle.meaning.specs.Measure.{measure_of}
@@ -27,6 +24,7 @@ use Rattle.sharp_verdicts.specs.Totals.{counts_of_instance, passes_clause_limits
 use Rattle.instance_totals.specs.Bounds.{HasRoomFor}
 use Rattle.instance_totals.specs.Sums.{instance_at, counts_from, frame_counts, AreAllNarrow}
 use Rattle.instance_totals.proofs.SumLemmas.{counted, sum_few}
+use Rattle.instance_studies.proofs.StudyLaws.{has_axiom}
 
 -- ---- limits
 
@@ -39,12 +37,6 @@ within_limits counts h =
     (omega (arith, few), omega (arith, small))
 
 -- ---- narrow instances
-
--- an axiom that has an instance is one of the study
-has_axiom : (study : Question) (c : Cited) (o : Option Titled) → slice_get study.axioms c.«axiom» ≡ o → nat_lt c.number (option_map_or (λ (a : Titled). instance_count study.size a.sentence) o 0) ≡ true
-    → (a : Titled) × (slice_get study.axioms c.«axiom» ≡ Some a) × (c.number < instance_count study.size a.sentence)
-has_axiom study c None e h = absurd (let l = ltb-true c.number 0 h in omega (arith, l))
-has_axiom study c (Some a) e h = (a, e, ltb-true c.number (instance_count study.size a.sentence) h)
 
 module _ (study : Question) where
   -- where none is found, no instance is too wide

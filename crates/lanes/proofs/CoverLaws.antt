@@ -3,7 +3,7 @@ use Rattle.std.proofs.Common.{◌≡◌, refl, sym, ◌∙◌, ap, ap₂, ℕ, B
 use Rattle.std.specs.Prelude.{◌&&◌, ◌==◌, slice_index, if◌then◌else◌}
 use Rattle.std.proofs.lemmas.Bool.{and_parts}
 use Rattle.vocab.specs.Size.{Extent}
-use Rattle.vocab.specs.Tree.{TermTree, AtomTree, Tree, Var, Const, With, SwapVoters, SwapAlts, Swap, Equal, Prefers, Better, Casts, Majority, WinsAt, Ranks, Leaf, Not, Both, Either, Implies, Same, All, Exists}
+use Rattle.vocab.specs.Tree.{TermTree, AtomTree, Tree, Var, Const, With, SwapVoters, SwapAlts, Swap, Equal, Prefers, Better, Casts, Majority, WinsAt, Ranks, Leaf}
 use Rattle.meaning.specs.Clauses.{known_truth}
 use Rattle.meaning.specs.Space.{exchanged, prefers, better, casts, majority, with_ballot, with_voters_swapped, with_alts_swapped}
 use Rattle.meaning.specs.Truth.{value}
@@ -72,10 +72,4 @@ module _ (size : Extent) (shape : Shape) (skip : ℕ) (levels : List ℕ) (e e' 
 
   pub same_known : (f : Tree) → covers_leaf shape skip levels f ≡ true → known_truth (write_out size f e) ≡ known_truth (write_out size f e')
   same_known (Leaf a) h = same_atom a h
-  same_known (Not f) h = absurd (true≢false (sym h))
-  same_known (Both f g) h = absurd (true≢false (sym h))
-  same_known (Either f g) h = absurd (true≢false (sym h))
-  same_known (Implies f g) h = absurd (true≢false (sym h))
-  same_known (Same f g) h = absurd (true≢false (sym h))
-  same_known (All s f) h = absurd (true≢false (sym h))
-  same_known (Exists s f) h = absurd (true≢false (sym h))
+  same_known p h = absurd (true≢false (sym h))

@@ -3,7 +3,7 @@ use Rattle.std.proofs.Common.{◌≡◌, ◌∙◌, refl, subst, ap, ap₂, ℕ,
 use Rattle.std.specs.Int.{bit_at}
 use Rattle.std.proofs.lemmas.Bool.{cases_lt}
 use Rattle.std.proofs.lemmas.Nat.{pow_below, shl_whole, shr_below}
-use Rattle.std.proofs.lemmas.Nat.Bits.{bit_at_and, bit_at_or, bit_at-pow_other, bit_at-zero}
+use Rattle.std.proofs.lemmas.Nat.Bits.{bit_at_and, bit_at_or, bit_at-pow_other}
 use Rattle.meaning.specs.Clauses.{known_truth}
 use Rattle.meaning.specs.declared.three.Three.{Three}
 use Rattle.meaning.specs.declared.three.Three.TheVariants.{True, False, Unknown}
@@ -86,9 +86,6 @@ with_one word k h j e = elim (or_either word (1 * 2 ^ k % 18446744073709551616) 
         | inr low ↦ omega (arith, high, low)
       ]
     ]
-
-pub none_told : (k : ℕ) (x : Written) → IsTold (record { yes = 0; no = 0 }) k x
-none_told k x = record { yes = λ e. absurd (let z = bit_at-zero k in omega (arith, z, e)); no = λ e. absurd (let z = bit_at-zero k in omega (arith, z, e)) }
 
 -- a number of 64 bits has no bit beyond them
 no_more : (n j : ℕ) → n < 18446744073709551616 → 64 ≤ j → bit_at n j ≡ 0

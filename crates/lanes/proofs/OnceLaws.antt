@@ -35,28 +35,18 @@ module _ (size : Extent) where
   part-once shape (Two' _ p _ q) (Either f g) = hlevel (part-once shape p f, part-once shape q g)
   part-once shape (Two' _ p _ q) (Implies f g) = hlevel (part-once shape p f, part-once shape q g)
   part-once shape (Two' _ p _ q) (Same f g) = hlevel (part-once shape p f, part-once shape q g)
-  part-once shape (One' _ p) (Leaf a) = λ h. absurd h
-  part-once shape (One' _ p) (Both f g) = λ h. absurd h
-  part-once shape (One' _ p) (Either f g) = λ h. absurd h
-  part-once shape (One' _ p) (Implies f g) = λ h. absurd h
-  part-once shape (One' _ p) (Same f g) = λ h. absurd h
   part-once shape (Two' _ p _ q) (Leaf a) = λ h. absurd h
   part-once shape (Two' _ p _ q) (Not f) = λ h. absurd h
   part-once shape (Two' _ p _ q) (All s f) = λ h. absurd h
   part-once shape (Two' _ p _ q) (Exists s f) = λ h. absurd h
+  part-once shape (One' _ p) x = λ h. absurd h
 
   pub plan-once : (sentence : Tree) (plan : Plan) → IsProp (IsPlan size sentence plan)
   plan-once sentence plan = hlevel (part-once, props)
 
   pub premise-once : (f : Tree) (env : List ℕ) → IsProp (HasKnownPremise size f env)
   premise-once (Implies f g) env = three-set _ _
-  premise-once (Leaf a) env = λ h. absurd h
-  premise-once (Not f) env = λ h. absurd h
-  premise-once (Both f g) env = λ h. absurd h
-  premise-once (Either f g) env = λ h. absurd h
-  premise-once (Same f g) env = λ h. absurd h
-  premise-once (All s f) env = λ h. absurd h
-  premise-once (Exists s f) env = λ h. absurd h
+  premise-once p env = λ h. absurd h
 
 -- for a field of a type that says so: `by { Prim.hlevel once }`
 pub ruleset once = (plan-once, premise-once, three-set, props)

@@ -5,9 +5,9 @@ use Rattle.std.proofs.Math.ListN.{drop_of_length-le}
 use Rattle.std.proofs.lemmas.Nat.{mod_below}
 use Rattle.vocab.specs.declared.kinds.Sort.{Sort}
 use Rattle.vocab.specs.Range.{product}
-use Rattle.vocab.specs.Limits.{bases_of, instance_count}
+use Rattle.vocab.specs.Limits.{instance_count}
 use Rattle.vocab.specs.Size.{Extent, IsSize, sort_count}
-use Rattle.vocab.specs.Tree.{Tree, Leaf, Not, Both, Either, Implies, Same, All, Exists}
+use Rattle.vocab.specs.Tree.{Tree}
 use Rattle.meaning.specs.Space.{digits_of}
 use Rattle.meaning.proofs.DigitLaws.{positive_right}
 use Rattle.worlds.proofs.SortLemmas.{sort_has_values}
@@ -60,21 +60,6 @@ module _ (bs : List ℕ) (n k rest : ℕ) (values : List ℕ) (is : AreDigits bs
 
   pub all-digits : length bs ≤ k → values ≡ digits_of bs n
   all-digits h = sym (append-nil values) ∙ ap (λ xs. values ++ digits_of xs rest) (sym (drop_of_length-le bs h)) ∙ is.made
-
--- each sentence has an instance
-some_of : (size : Extent) → IsSize size → (f : Tree) → 1 ≤ instance_count size f
-some_of size is (All s f) =
-    let one = sort_has_values size is s in
-    let more = some_of size is f in
-    let both : 1 * product (bases_of size f) ≤ sort_count size s * product (bases_of size f) = mul-le-mul_right (product (bases_of size f)) one in
-    omega (arith, more, both)
-some_of size is (Leaf a) = omega arith
-some_of size is (Not f) = omega arith
-some_of size is (Both f g) = omega arith
-some_of size is (Either f g) = omega arith
-some_of size is (Implies f g) = omega arith
-some_of size is (Same f g) = omega arith
-some_of size is (Exists s f) = omega arith
 
 -- a value of a universal is worth no more instances than there are
 pub few-inside : (size : Extent) → IsSize size → (s : Sort) (f : Tree) → sort_count size s * instance_count size f ≤ 40000000 → instance_count size f ≤ 40000000

@@ -19,17 +19,7 @@ use Rattle.lanes.specs.declared.tables.Table.{Table}
 use Rattle.lanes.proofs.CoverLaws.{same_known}
 use Rattle.lanes.proofs.PeriodLaws.{low_digits}
 
-module _ (shape : Shape) (first k : ℕ) where
-  front : List ℕ → List ℕ
-  front env = take shape.outer env ++ digits_of shape.bases (first + k)
-
 module _ (shape : Shape) (first k : ℕ) (env : List ℕ) (long : shape.outer + length shape.bases ≤ length env) where
-  o : ℕ
-  o = shape.outer
-
-  ds : List ℕ
-  ds = digits_of shape.bases (first + k)
-
   outer_len : length (take shape.outer env) ≡ shape.outer
   outer_len = length-take-le shape.outer env (omega (arith, long))
 

@@ -1,14 +1,12 @@
 -- What can be evaluated under quantifiers.
-use Rattle.std.proofs.Common.{◌≡◌, sym, subst, ℕ, ◌≤◌, List, [], ◌∷◌, ◌++◌, length, true, true≢false, arith}
+use Rattle.std.proofs.Common.{sym, subst, ℕ, List, [], ◌∷◌, ◌++◌}
 use Rattle.std.proofs.lemmas.List.{append_assoc, append-nil}
 use Rattle.vocab.specs.declared.kinds.Sort.{Sort}
 use Rattle.vocab.specs.Size.{Extent, sort_count}
-use Rattle.vocab.specs.Tree.{Tree, Leaf, Not, Both, Either, Implies, Same, All, Exists}
+use Rattle.vocab.specs.Tree.{Tree, All, Exists}
 use Rattle.meaning.specs.Instances.{instance_values}
-use Rattle.worlds.specs.Conditions.{IsEvaluable, IsFormulaAt}
-use Rattle.lanes.specs.Covers.{covers_leaf}
+use Rattle.worlds.specs.Conditions.{IsEvaluable}
 use Rattle.lanes.specs.Lanes.{AreBelow, IsEvaluableUnder, IsInside}
-use Rattle.lanes.specs.declared.shapes.Shape.{Shape}
 
 module _ (size : Extent) where
   pub under_part : (f g : Tree) → ((env : List ℕ) → IsEvaluable size f env → IsEvaluable size g env) → (cs env : List ℕ) → IsEvaluableUnder size cs f env → IsEvaluableUnder size cs g env
@@ -39,14 +37,3 @@ module _ (size : Extent) where
   under_at f [] (v ∷ vs) env b h = absurd b
   under_at f (c ∷ cs) [] env b h = absurd b
   under_at f (c ∷ cs) (v ∷ vs) env b h = subst (λ e. IsEvaluable size f e) (append_assoc env (v ∷ []) vs) (under_at f cs vs (env ++ v ∷ []) b.1 (h v b.0))
-
-  -- an atom
-  pub leaf_at : (shape : Shape) (skip : ℕ) (levels : List ℕ) (f : Tree) → covers_leaf shape skip levels f ≡ true → (env : List ℕ) → IsEvaluable size f env → length env ≤ 12 → IsFormulaAt size f env
-  leaf_at shape skip levels (Leaf a) c env h l = record { sorts = h.sorts; in_range = h.in_range; sorted = h.sorted; room = omega (arith, l) }
-  leaf_at shape skip levels (Not f) c env h l = absurd (true≢false (sym c))
-  leaf_at shape skip levels (Both f g) c env h l = absurd (true≢false (sym c))
-  leaf_at shape skip levels (Either f g) c env h l = absurd (true≢false (sym c))
-  leaf_at shape skip levels (Implies f g) c env h l = absurd (true≢false (sym c))
-  leaf_at shape skip levels (Same f g) c env h l = absurd (true≢false (sym c))
-  leaf_at shape skip levels (All s f) c env h l = absurd (true≢false (sym c))
-  leaf_at shape skip levels (Exists s f) c env h l = absurd (true≢false (sym c))

@@ -4,3 +4,4 @@ pub mod JoinLaws
 pub mod OptionLaws
 pub mod TextLaws
 pub mod OrderLaws
+pub mod NumberLaws

@@ -5,7 +5,7 @@ pub mod KeptLines
 pub mod Stands
 pub mod Following
 pub mod Assuming
-pub mod TrimRows
+pub mod WorkedExamples
 pub mod StampLaws
 pub mod RangeLaws
 pub mod CodeLaws

@@ -1,5 +1,5 @@
 -- A sentence is true of a rule exactly where the body of each instance is.
-use Rattle.std.proofs.Common.{◌≡◌, refl, sym, ◌∙◌, ap, ap₂, subst, ℕ, suc, ◌+◌, ◌*◌, ◌/◌, ◌%◌, ◌<◌, ◌≤◌, Bool, true, false, List, [], ◌∷◌, ◌++◌, arith, append_assoc, append-nil, mul-le-mul_right, suc-mul}
+use Rattle.std.proofs.Common.{◌≡◌, refl, sym, ◌∙◌, ap, ap₂, subst, ℕ, ◌+◌, ◌*◌, ◌/◌, ◌%◌, ◌<◌, Bool, true, false, List, [], ◌∷◌, ◌++◌, arith, append_assoc, append-nil}
 use Rattle.std.specs.List.{list_all}
 use Rattle.std.proofs.lemmas.Nat.{div-mul-add, mod-mul-add, div_below, mod_below}
 use Rattle.vocab.specs.Formula.{body_of}
@@ -16,15 +16,13 @@ use Rattle.vocab.specs.Tree.{Tree, All}
 use Rattle.vocab.specs.Range.{product}
 use Rattle.vocab.specs.Limits.{bases_of, instance_count}
 use Rattle.meaning.proofs.DigitLaws.{positive_right}
+use lib.Arith.{digits_lt}
 
 -- two tests are the same, where each follows from the other
 pub same_tests : (a b : Bool) → (a ≡ true → b ≡ true) → (b ≡ true → a ≡ true) → a ≡ b
 same_tests true b f g = sym (f refl)
 same_tests false true f g = g refl
 same_tests false false f g = refl
-
-pair_below : (n p v j : ℕ) → v < n → j < p → v * p + j < n * p
-pair_below n p v j in_v in_j = let le : suc v ≤ n = in_v in omega (arith, mul-le-mul_right p le, suc-mul v p)
 
 module _ (size : Extent) (table : List ℕ) where
   pub bodies : (f : Tree) (env : List ℕ) → is_true_at size table f env ≡ list_all (λ k. is_true_at size table (body_of f) (env ++ digits_of (bases_of size f) k)) (below (product (bases_of size f)))
@@ -47,7 +45,7 @@ module _ (size : Extent) (table : List ℕ) where
       let in_v : v < n = omega arith in
       bodies f (env ++ v ∷ []) ∙ all_from (λ j. is_true_at size table (body_of f) ((env ++ v ∷ []) ++ digits_of (bases_of size f) j)) p 0 (λ j low' high'.
       let in_j : j < p = omega arith in
-      let lt : v * p + j < 0 + n * p = omega (arith, pair_below n p v j in_v in_j) in
+      let lt : v * p + j < 0 + n * p = omega (arith, digits_lt in_v in_j) in
       let outer = all_at (λ k. is_true_at size table (body_of f) (env ++ digits_of (bases_of size (All s f)) k)) (n * p) 0 (v * p + j) h (omega arith) lt in
       let digits = ap₂ (λ (a b : ℕ). env ++ (a ∷ digits_of (bases_of size f) b)) (div-mul-add v p j in_j) (mod-mul-add v p j in_j) in
       subst (λ e. is_true_at size table (body_of f) e ≡ true) (digits ∙ sym (append_assoc env (v ∷ []) (digits_of (bases_of size f) j))) outer)))

@@ -5,13 +5,16 @@ use Rattle.std.proofs.lemmas.List.Folds.{list_all-append}
 use Rattle.std.specs.List.{AllByRecursion, flat_map, list_all, list_any}
 use Rattle.meaning.specs.Space.{up_from}
 
-pub and-true : (b : Bool) → (b && true) ≡ b
-and-true true = refl
-and-true false = refl
+pub not-and : (a b : Bool) → (not a && not b) ≡ not (a || b)
+not-and true b = refl
+not-and false b = refl
 
-pub or-false : (b : Bool) → (b || false) ≡ b
-or-false true = refl
-or-false false = refl
+-- four tests that pass together
+abbrev pub four_parts : (a b c d : Bool) → (a && b && c && d) ≡ true → (a ≡ true) × (b ≡ true) × (c ≡ true) × (d ≡ true)
+four_parts a b c d h =
+    let p = and_parts (a && b && c) d h in
+    let q = and_parts (a && b) c p.0 in
+    let r = and_parts a b q.0 in (r.0, r.1, q.1, p.1)
 
 pub or_swap : (a b c : Bool) → (a || (b || c)) ≡ (b || (a || c))
 or_swap true true c = refl

@@ -1,5 +1,5 @@
 -- Tests that items of lists pass.
-use Rattle.std.proofs.Common.{◌≡◌, refl, ap, ℕ, zero, suc, ◌<◌, ◌≤◌, Bool, true, List, [], ◌∷◌, ◌++◌, length, get_or, arith, Some, inl, inr}
+use Rattle.std.proofs.Common.{◌≡◌, refl, ap, ℕ, zero, suc, ◌<◌, ◌≤◌, Bool, true, List, [], ◌∷◌, ◌++◌, length, arith, Some, inl, inr}
 use Rattle.std.specs.Prelude.{slice_get}
 use Rattle.std.specs.List.{list_all, list_any}
 use Rattle.std.proofs.lemmas.Bool.{and_parts, and_from, or_cases, or_left, or_right}
@@ -11,23 +11,12 @@ all_both r s t give (x ∷ xs) h k =
     let q = and_parts (s x) (list_all s xs) k in
     and_from (t x) (list_all t xs) (give x p.0 q.0) (all_both r s t give xs p.1 q.1)
 
--- what all pass, each does
-pub all_pass : {A : Type 0} (t : A → Bool) → ((a : A) → t a ≡ true) → (xs : List A) → list_all t xs ≡ true
-all_pass t give [] = refl
-all_pass t give (x ∷ xs) = and_from (t x) (list_all t xs) (give x) (all_pass t give xs)
-
 pub any_from : {A : Type 0} (s t : A → Bool) → ((a : A) → s a ≡ true → t a ≡ true) → (xs : List A) → list_any s xs ≡ true → list_any t xs ≡ true
 any_from s t give [] h = h
 any_from s t give (x ∷ xs) h = elim (or_cases (s x) (list_any s xs) h) [
   | inl e ↦ or_left (t x) (list_any t xs) (give x e)
   | inr e ↦ or_right (t x) (list_any t xs) (any_from s t give xs e)
 ]
-
--- what stands at a place
-pub read_at : {A : Type 0} (xs : List A) (i : ℕ) (a d : A) → slice_get xs i ≡ Some a → (i < length xs) × (get_or xs i d ≡ a)
-read_at [] i a d h = cc
-read_at (x ∷ xs) zero a d h = (omega arith, cc)
-read_at (x ∷ xs) (suc i) a d h = let r = read_at xs i a d h in (omega arith, r.1)
 
 -- what each item passes, all pass
 pub all_each : {A : Type 0} (t : A → Bool) (xs : List A) → ((i : ℕ) (a : A) → slice_get xs i ≡ Some a → t a ≡ true) → list_all t xs ≡ true

@@ -1,4 +1,5 @@
 -- Bits of outcomes and the literals that hold of them, and frames as clauses.
+use mathlib.Core.Bool.{not-not}
 use Rattle.std.proofs.Common.{◌≡◌, sym, ap, subst, ◌∙◌, ℕ, ◌+◌, ◌*◌, ◌-◌, ◌<◌, ◌≤◌, Bool, true, false, not, arith, mul-le-mul_right}
 use Rattle.std.specs.Bool.{beq}
 use Rattle.std.specs.List.{list_all, list_any}
@@ -8,7 +9,6 @@ use Rattle.vocab.specs.Literal.{opposite_of}
 use Rattle.vocab.specs.Size.{Extent, sort_count, outcome_count}
 use Rattle.cnf.specs.Sat.{is_lit_true, is_satisfied}
 use Rattle.cnf.specs.Signed.{Signed}
-use Rattle.cnf.proofs.LitLaws.{not-not}
 use Rattle.meaning.specs.Laws.{AreOf, literal_under}
 use Rattle.meaning.specs.Literals.{is_literal}
 use Rattle.meaning.specs.StudyClauses.{frame_of}

@@ -196,13 +196,8 @@ winners_of m p few a b c d e is_a is_b is_c is_d is_e =
     ∙ first_of m few (winner_lit m p true)
   where
     first_of : (n : ℕ) → n ≤ 5 → (w : ℕ → Signed) → take n (w 0 ∷ w 1 ∷ w 2 ∷ w 3 ∷ w 4 ∷ []) ≡ map w (below n)
-    first_of zero h w = refl
-    first_of (suc zero) h w = refl
-    first_of (suc (suc zero)) h w = refl
-    first_of (suc (suc (suc zero))) h w = refl
-    first_of (suc (suc (suc (suc zero)))) h w = refl
-    first_of (suc (suc (suc (suc (suc zero))))) h w = refl
     first_of (suc (suc (suc (suc (suc (suc n)))))) h w = absurd (omega (arith, h))
+    first_of p h w = refl
 
 -- the clause of all alternatives in front, and one for each pair
 pub choice_rows-each : (m p : ℕ) → ((some_wins m p ∷ []) ++ flat_map (λ (t : ℕ × ℕ). one_loses m p t ∷ []) (pairs m)) ≡ choice_rows m p

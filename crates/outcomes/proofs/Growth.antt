@@ -1,22 +1,13 @@
 -- Lists of clauses that grow by the rows of one item after another.
-use Rattle.std.proofs.Common.{◌≡◌, sym, ap, ap₂, ◌∙◌, ℕ, ◌+◌, ◌<◌, ◌≤◌, List, [], ◌∷◌, ◌++◌, map, take, drop, length, get_or, arith, inl, inr}
+use Rattle.std.proofs.Common.{◌≡◌, sym, ap, ◌∙◌, ℕ, ◌+◌, ◌<◌, ◌≤◌, List, [], ◌∷◌, ◌++◌, take, drop, length, get_or, arith, inl, inr}
 use Rattle.std.specs.Prelude.{sum_by}
 use Rattle.std.specs.List.{flat_map}
 use Rattle.std.proofs.lemmas.Grind.{flat_map-append}
-use Rattle.std.proofs.lemmas.List.{append_assoc, append-nil, length-append, map-append, take_all, take_more, take-append-drop}
+use Rattle.std.proofs.lemmas.List.{append_assoc, append-nil, length-append, take_more, take-append-drop}
 use Rattle.std.proofs.lemmas.List.Sums.{sum_by-append}
 use Rattle.cnf.specs.Sat.{Clause}
 use Rattle.cnf.specs.ClauseList.{ClauseList}
 use Rattle.outcomes.specs.Frames.{with_clauses, IsFullForAll}
-
-pub with_none : (list : ClauseList) (origin : ℕ) → list ≡ with_clauses list [] origin
-with_none list origin = ap₂ (λ (cs : List Clause) (os : List ℕ). record { clauses = cs; origins = os }) (sym (append-nil list.clauses)) (sym (append-nil list.origins))
-
-with_both : (list : ClauseList) (rows more : List Clause) (origin : ℕ) → with_clauses (with_clauses list rows origin) more origin ≡ with_clauses list (rows ++ more) origin
-with_both list rows more origin =
-    ap₂ (λ (cs : List Clause) (os : List ℕ). record { clauses = cs; origins = os })
-    (append_assoc list.clauses rows more)
-    (append_assoc list.origins (map (λ _. origin) rows) (map (λ _. origin) more) ∙ ap (λ os. list.origins ++ os) (sym (map-append (λ _. origin) rows more)))
 
 -- what is too much after some rows is too much with them
 full_with : (list : ClauseList) (rows more whole : List Clause) (origin : ℕ) → length rows + length more ≤ length whole → sum_by length rows + sum_by length more ≤ sum_by length whole →
@@ -41,12 +32,6 @@ module _ {X : Type 0} (front : List Clause) (f : X → List Clause) (ts : List X
   rows_left k =
       append_assoc front (flat_map f (take k ts)) (flat_map f (drop k ts))
       ∙ ap (λ rows. front ++ rows) (sym (flat_map-append f (take k ts) (drop k ts)) ∙ ap (flat_map f) (take-append-drop k ts))
-
-  pub with_next : (list : ClauseList) (origin k : ℕ) (d : X) → k < length ts → with_clauses (with_clauses list (rows_to k) origin) (f (get_or ts k d)) origin ≡ with_clauses list (rows_to (k + 1)) origin
-  with_next list origin k d l = with_both list (rows_to k) (f (get_or ts k d)) origin ∙ ap (λ rows. with_clauses list rows origin) (rows_next k d l)
-
-  pub with_all : (k : ℕ) → length ts ≤ k → rows_to k ≡ front ++ flat_map f ts
-  with_all k l = ap (λ xs. front ++ flat_map f xs) (take_all k ts l)
 
   pub full_next : (list : ClauseList) (origin k : ℕ) (d : X) → k < length ts → IsFullForAll (with_clauses list (rows_to k) origin) (f (get_or ts k d)) → IsFullForAll list (front ++ flat_map f ts)
   full_next list origin k d l h =

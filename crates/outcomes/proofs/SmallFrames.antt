@@ -1,5 +1,5 @@
 -- Frames are small, and have the variables of their profile alone.
-use Rattle.std.proofs.Common.{◌≡◌, refl, sym, subst, ◌∙◌, ℕ, zero, suc, ◌+◌, ◌*◌, ◌<◌, ◌≤◌, Bool, true, false, ◌&&◌, List, length, arith, lit≤, le-leb}
+use Rattle.std.proofs.Common.{◌≡◌, refl, sym, subst, ◌∙◌, ℕ, suc, ◌+◌, ◌*◌, ◌<◌, ◌≤◌, Bool, true, false, ◌&&◌, List, length, arith, lit≤, le-leb}
 use Rattle.std.specs.Prelude.{nat_le, sum_by}
 use Rattle.std.specs.List.{list_all}
 use Rattle.std.proofs.lemmas.Bool.{and_from}
@@ -27,31 +27,16 @@ abbrev IsSmall : List Clause → Type 0
 IsSmall rows = (length rows ≤ 20) × (sum_by length rows ≤ 60)
 
 choices_small : (m p : ℕ) → m ≤ 5 → IsSmall (choice_rows m p)
-choices_small zero p h = (lit≤ tt, lit≤ tt)
-choices_small (suc zero) p h = (lit≤ tt, lit≤ tt)
-choices_small (suc (suc zero)) p h = (lit≤ tt, lit≤ tt)
-choices_small (suc (suc (suc zero))) p h = (lit≤ tt, lit≤ tt)
-choices_small (suc (suc (suc (suc zero)))) p h = (lit≤ tt, lit≤ tt)
-choices_small (suc (suc (suc (suc (suc zero))))) p h = (lit≤ tt, lit≤ tt)
 choices_small (suc (suc (suc (suc (suc (suc m)))))) p h = absurd (omega (arith, h))
+choices_small x p h = (lit≤ tt, lit≤ tt)
 
 sets_small : (m p : ℕ) → m ≤ 5 → IsSmall (set_rows m p)
-sets_small zero p h = (lit≤ tt, lit≤ tt)
-sets_small (suc zero) p h = (lit≤ tt, lit≤ tt)
-sets_small (suc (suc zero)) p h = (lit≤ tt, lit≤ tt)
-sets_small (suc (suc (suc zero))) p h = (lit≤ tt, lit≤ tt)
-sets_small (suc (suc (suc (suc zero)))) p h = (lit≤ tt, lit≤ tt)
-sets_small (suc (suc (suc (suc (suc zero))))) p h = (lit≤ tt, lit≤ tt)
 sets_small (suc (suc (suc (suc (suc (suc m)))))) p h = absurd (omega (arith, h))
+sets_small x p h = (lit≤ tt, lit≤ tt)
 
 rankings_small : (m p : ℕ) → m ≤ 5 → IsSmall (ranking_rows m p)
-rankings_small zero p h = (lit≤ tt, lit≤ tt)
-rankings_small (suc zero) p h = (lit≤ tt, lit≤ tt)
-rankings_small (suc (suc zero)) p h = (lit≤ tt, lit≤ tt)
-rankings_small (suc (suc (suc zero))) p h = (lit≤ tt, lit≤ tt)
-rankings_small (suc (suc (suc (suc zero)))) p h = (lit≤ tt, lit≤ tt)
-rankings_small (suc (suc (suc (suc (suc zero))))) p h = (lit≤ tt, lit≤ tt)
 rankings_small (suc (suc (suc (suc (suc (suc m)))))) p h = absurd (omega (arith, h))
+rankings_small x p h = (lit≤ tt, lit≤ tt)
 
 -- ---- their variables
 

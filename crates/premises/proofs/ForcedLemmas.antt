@@ -1,29 +1,25 @@
 -- One forced fact more.
-use Rattle.std.proofs.Common.{◌≡◌, refl, sym, ap, ◌∙◌, subst, ℕ, ◌<◌, Bool, true, false, cond, not, ◌&&◌, List, [], ◌∷◌, ◌++◌, length, map, take, get_or, ◌+◌, true≢false}
+use Rattle.std.proofs.Common.{◌≡◌, refl, sym, ap, ◌∙◌, subst, ℕ, ◌<◌, Bool, true, false, List, [], ◌∷◌, ◌++◌, length, map, take, get_or, ◌+◌, true≢false}
 use Rattle.std.specs.List.{list_all}
 use Rattle.std.specs.Prelude.{slice_get}
-use Rattle.std.proofs.lemmas.List.{map-append, take_more}
+use Rattle.std.proofs.lemmas.List.{map-append}
 use Rattle.std.proofs.lemmas.List.Sums.{fold_more}
 use Rattle.vocab.specs.declared.literals.Literal.{Literal}
-use Rattle.vocab.specs.Literal.{has, opposite_of}
+use Rattle.vocab.specs.Literal.{has}
 use Rattle.vocab.specs.Size.{Extent}
 use Rattle.vocab.specs.Titled.{Titled}
 use Rattle.meaning.specs.Literals.{is_literal}
-use Rattle.meaning.specs.Stories.{refutes}
 use Rattle.meaning.specs.declared.stories.Lemma.{Lemma}
-use Rattle.meaning.specs.declared.stories.Reason.{Reason}
-use Rattle.meaning.specs.declared.stories.Reason.TheVariants.{Axiom as ByAxiom, Outcome as ByOutcome, Lemma as ByLemma}
 use Rattle.meaning.specs.declared.stories.StoryStep.{StoryStep}
 use Rattle.worlds.specs.Boards.{are_distinct, Known}
 use Rattle.worlds.proofs.BoardLemmas.{all_has}
-use Rattle.tellings.specs.Tellings.{are_said, facts_of, forced_by, forced_facts, forced_with, is_forced, rests_of, stands_before, AllSay}
+use Rattle.tellings.specs.Tellings.{are_said, facts_of, forced_by, forced_facts, forced_with, rests_of, stands_before, AllSay}
 use Rattle.tellings.specs.declared.tellings.Passage.{Passage}
 use Rattle.tellings.specs.declared.tellings.Placed.{Placed}
-use Rattle.needed_facts.specs.Rests.{are_there}
 use Rattle.premises.specs.declared.forced.Forced.{Forced}
 use Rattle.premises.specs.declared.forced.Gathered.{Gathered}
 use Rattle.premises.specs.Forcing.{AreForced, AreGathered, AreStated}
-use Rattle.premises.specs.SoFar.{bare_steps, unforced, FollowsFrom, IsToldSoFar, Upholds}
+use Rattle.premises.specs.SoFar.{bare_steps, unforced, IsToldSoFar, Upholds}
 
 -- the facts that steps state
 pub facts_are : (ps : List Placed) → facts_of ps ≡ map (λ (step : StoryStep). step.literal) (bare_steps ps)
@@ -43,29 +39,7 @@ unknown_outside given size ls l same ours outside = cases (has ls l) refl
     cases false h = h
     cases true h = absurd (true≢false (sym (all_has (is_literal given) ls l ours h) ∙ ap (λ (s : Extent). is_literal s l) same ∙ outside))
 
--- one step more without its place
-pub bare_next : (ps : List Placed) (i : ℕ) (d : Placed) → i < length ps → bare_steps (take (i + 1) ps) ≡ bare_steps (take i ps) ++ (get_or ps i d).step ∷ []
-bare_next ps i d lt = ap bare_steps (take_more ps i d lt) ∙ map-append (λ (p : Placed). p.step) (take i ps) (get_or ps i d ∷ [])
-
-none_there : (reason : Reason) → are_there reason [] ≡ true
-none_there (ByAxiom k values) = refl
-none_there (ByOutcome p) = refl
-none_there (ByLemma j) = refl
-
 module _ (size : Extent) (axioms : List Titled) (core : List ℕ) (earlier : List Lemma) where
-  -- a fact that its reason forces alone follows from none
-  pub follows_alone : (known : List Literal) (step : StoryStep) → refutes size axioms core earlier (opposite_of step.literal ∷ []) step.reason ≡ true → FollowsFrom size axioms core earlier known step []
-  follows_alone known step h = record { rest = record { kept = refl; refuted = h }; there = none_there step.reason }
-
-  pub gathered_same : (old new : Gathered) → AreGathered size axioms core earlier old → new.board.size ≡ old.board.size → new.board.literals ≡ old.board.literals → new.passage ≡ old.passage → AreGathered size axioms core earlier new
-  gathered_same old new so_far sized literals passage = record {
-    sized = sized ∙ so_far.sized;
-    told =
-        subst (λ (ls : List Literal). IsToldSoFar size axioms core earlier [] [] ls new.passage) (sym literals)
-        (subst (λ (p : Passage). IsToldSoFar size axioms core earlier [] [] old.board.literals p) (sym passage) so_far.told);
-    facts = ap (λ (p : Passage). facts_of p.steps) passage ∙ so_far.facts ∙ sym literals;
-  }
-
   pub gathered_more : (old new : Gathered) (step : StoryStep) → AreGathered size axioms core earlier old → IsToldSoFar size axioms core earlier [] [] (old.board.literals ++ step.literal ∷ []) new.passage →
       bare_steps new.passage.steps ≡ bare_steps old.passage.steps ++ step ∷ [] → new.board.size ≡ old.board.size → new.board.literals ≡ old.board.literals ++ step.literal ∷ [] → AreGathered size axioms core earlier new
   gathered_more old new step so_far told bare same grown = record {
@@ -80,17 +54,6 @@ module _ (size : Extent) (axioms : List Titled) (core : List ℕ) (earlier : Lis
   }
 
   -- ---- which facts these are
-
-  pub with_there : (facts : List Literal) (step : StoryStep) → has facts step.literal ≡ true → forced_with size axioms core earlier facts step ≡ facts
-  with_there facts step h = ap (λ (b : Bool). cond (not b && is_forced size axioms core earlier facts step) (facts ++ step.literal ∷ []) facts) h
-
-  pub with_new : (facts : List Literal) (step : StoryStep) → has facts step.literal ≡ false → is_forced size axioms core earlier facts step ≡ true → forced_with size axioms core earlier facts step ≡ facts ++ step.literal ∷ []
-  with_new facts step h forced =
-      ap (λ (b : Bool). cond (not b && is_forced size axioms core earlier facts step) (facts ++ step.literal ∷ []) facts) h ∙ ap (λ (b : Bool). cond b (facts ++ step.literal ∷ []) facts) forced
-
-  pub with_other : (facts : List Literal) (step : StoryStep) → has facts step.literal ≡ false → is_forced size axioms core earlier facts step ≡ false → forced_with size axioms core earlier facts step ≡ facts
-  with_other facts step h other =
-      ap (λ (b : Bool). cond (not b && is_forced size axioms core earlier facts step) (facts ++ step.literal ∷ []) facts) h ∙ ap (λ (b : Bool). cond b (facts ++ step.literal ∷ []) facts) other
 
   pub steps_next : (facts : List Literal) (steps : List StoryStep) (i : ℕ) (d : StoryStep) → i < length steps →
       forced_by size axioms core earlier facts (take (i + 1) steps) ≡ forced_with size axioms core earlier (forced_by size axioms core earlier facts (take i steps)) (get_or steps i d)

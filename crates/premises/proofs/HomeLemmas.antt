@@ -18,11 +18,7 @@ use Rattle.premises.specs.declared.uses.Use.TheVariants.{Never}
 use Rattle.premises.specs.Uses.{use_of, is_once, takes, AreUses, AreHomesFrom}
 use Rattle.premises.proofs.UseLemmas.{get_set_other, get_set_same, get_replicate, once_is}
 
--- ---- how deep lemmas stand
-
--- one level less
-pub shallow_less : (homes : List (Option ℕ)) (n m j : ℕ) → n ≡ suc m → is_home_shallow (is_shallow homes m) (home_of homes j) ≡ is_shallow homes n j
-shallow_less homes n m j is = ap (λ (k : ℕ). is_shallow homes k j) (sym is)
+-- ---- homes
 
 home_within : (homes : List (Option ℕ)) (j m : ℕ) → home_of homes j ≡ Some m → j < length homes
 home_within homes j m h = cases (slice_get homes j) refl h

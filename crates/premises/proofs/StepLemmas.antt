@@ -21,17 +21,6 @@ use Rattle.premises.specs.SoFar.{unforced}
 is_fresh : (known : List Literal) (l : Literal) → not (is_decided known l) ≡ true → has known l ≡ false
 is_fresh known l h = (or_parts (has known l) (has known (opposite_of l)) (not-true (is_decided known l) h)).0
 
--- the next supposition is new, and so are those after it
-pub record NextNew (known : List Literal) (l : Literal) (rest : List Literal) : Type 0 where
-  pub fresh : has known l ≡ false
-  pub others : are_new (known ++ l ∷ []) rest ≡ true
-
-pub next_new : (known literals : List Literal) (i : ℕ) (d : Literal) → i < length literals → are_new known (drop i literals) ≡ true → NextNew known (get_or literals i d) (drop (i + 1) literals)
-next_new known literals i d lt h =
-    let l = get_or literals i d in
-    let p = and_parts (not (is_decided known l)) (are_new (known ++ l ∷ []) (drop (i + 1) literals)) (subst (λ (ls : List Literal). are_new known ls ≡ true) (drop_more literals i d lt) h) in
-    record { fresh = is_fresh known l p.0; others = p.1 }
-
 module _ (size : Extent) (axioms : List Titled) (core : List ℕ) (earlier : List Lemma) (last : Reason) where
   -- the next step is new and forced, and so are those after it
   pub record NextForced (known : List Literal) (step : StoryStep) (rest : List StoryStep) : Type 0 where

@@ -3,7 +3,6 @@ use Rattle.std.proofs.Common.{◌≡◌, refl, sym, ap, ◌∙◌, subst, ℕ, �
 use Rattle.std.specs.Prelude.{◌==◌, nat_lt, slice_get}
 use Rattle.std.specs.List.{list_all, list_any}
 use Rattle.std.proofs.lemmas.Bool.{and_parts, and_from, or_cases, or_left, or_right, cases_lt}
-use Rattle.std.proofs.lemmas.List.{map-append}
 use Rattle.std.proofs.lemmas.List.Folds.{list_any-append}
 use Rattle.std.proofs.lemmas.Option.{slice_get_past}
 use Rattle.lists.proofs.TestLaws.{all_snoc, all_weaker}
@@ -24,7 +23,7 @@ use Rattle.tellings.specs.declared.tellings.Sentence.{Sentence}
 use Rattle.meaning.proofs.LiteralLaws.{same_literal-refl}
 use Rattle.needed_facts.specs.Rests.{are_there, RestsOn}
 use Rattle.joined_sentences.specs.Joined.{IsJoined, IsSentenceBy}
-use Rattle.premises.specs.SoFar.{are_numbered, bare_steps, IsToldSoFar}
+use Rattle.premises.specs.SoFar.{are_numbered, IsToldSoFar}
 use Rattle.needed_facts.proofs.RestLemmas.{has_itself, all_among}
 use Rattle.needed_facts.proofs.TestLemmas.{all_both, any_from}
 
@@ -49,9 +48,6 @@ module _ (forced suppose : List Literal) where
   pub supposed_stand : (steps : List Placed) (k : ℕ) → list_all (stands_before forced suppose steps k) suppose ≡ true
   supposed_stand steps k =
       all_weaker (has suppose) (stands_before forced suppose steps k) (λ q h. or_left (has forced q || has suppose q) (list_any (is_stated k q) steps) (or_right (has forced q) (has suppose q) h)) suppose (has_itself suppose)
-
-  pub forced_stands : (steps : List Placed) (k : ℕ) (q : Literal) → has forced q ≡ true → stands_before forced suppose steps k q ≡ true
-  forced_stands steps k q h = or_left (has forced q || has suppose q) (list_any (is_stated k q) steps) (or_left (has forced q) (has suppose q) h)
 
   -- what stands before a sentence stands before later ones, where more is said
   stands_more : (steps : List Placed) (p : Placed) (k m : ℕ) (q : Literal) → k ≤ m → stands_before forced suppose steps k q ≡ true → stands_before forced suppose (steps ++ p ∷ []) m q ≡ true
@@ -186,19 +182,3 @@ module _ (size : Extent) (axioms : List Titled) (core : List ℕ) (earlier : Lis
   -- nothing is told yet
   pub told_none : (forced suppose : List Literal) → IsToldSoFar size axioms core earlier forced suppose suppose (record { sentences = []; steps = [] })
   told_none forced suppose = record { numbered = refl; said = refl; all_say = λ k lt. absurd (omega (arith, lt)); grounded = λ k. refl; stands = supposed_stand forced suppose [] 0 }
-
-  -- a step whose fact is forced need not be told
-  pub told_forced : (forced suppose known : List Literal) (passage : Passage) (l : Literal) → IsToldSoFar size axioms core earlier forced suppose known passage → has forced l ≡ true →
-      IsToldSoFar size axioms core earlier forced suppose (known ++ l ∷ []) passage
-  told_forced forced suppose known passage l so_far h = record {
-    numbered = so_far.numbered;
-    said = so_far.said;
-    all_say = so_far.all_say;
-    grounded = so_far.grounded;
-    stands =
-        all_snoc (stands_before forced suppose passage.steps (length passage.sentences)) known l so_far.stands (forced_stands forced suppose passage.steps (length passage.sentences) l h);
-  }
-
--- the steps without their places, one more
-pub steps_more : (old new : List Placed) (placed : Placed) → new ≡ old ++ placed ∷ [] → bare_steps new ≡ bare_steps old ++ placed.step ∷ []
-steps_more old new placed is = ap bare_steps is ∙ map-append (λ (p : Placed). p.step) old (placed ∷ [])

@@ -1,15 +1,14 @@
 -- How uses are counted.
-use Rattle.std.proofs.Common.{◌≡◌, ◌≢◌, refl, sym, ap, ◌∙◌, subst, ℕ, zero, suc, ◌+◌, ◌<◌, ◌≤◌, ◌==◌, Bool, true, false, List, [], ◌∷◌, ◌++◌, if◌then◌else◌, length, take, get_or, set, replicate, append-nil, append_assoc, arith, Some, eqb-true, eq-eqb, true≢false}
+use Rattle.std.proofs.Common.{◌≡◌, ◌≢◌, refl, sym, ap, ◌∙◌, ℕ, zero, suc, ◌+◌, ◌<◌, ◌≤◌, List, [], ◌∷◌, ◌++◌, length, take, get_or, set, replicate, append-nil, append_assoc, arith, Some}
 use Rattle.std.specs.Prelude.{slice_get}
 use Rattle.std.specs.List.{flat_map}
-use Rattle.std.proofs.lemmas.Option.{slice_get_within, get_or_from_slice_get}
 use Rattle.vocab.specs.Range.{below}
 use Rattle.vocab.proofs.Ranges.{next_below}
 use Rattle.meaning.specs.declared.stories.Lemma.{Lemma}
 use Rattle.tellings.specs.declared.tellings.Telling.{Telling}
 use Rattle.tellings.specs.Tellings.{is_only, namings}
 use Rattle.premises.specs.declared.uses.Use.{Use}
-use Rattle.premises.specs.Uses.{use_of, also, is_once, AreNamed}
+use Rattle.premises.specs.Uses.{use_of, is_once, AreNamed}
 
 -- ---- an item of a list that is written anew
 
@@ -29,45 +28,6 @@ pub get_replicate : {X : Type 0} (n j : ℕ) (x : X) → j < n → slice_get (re
 get_replicate zero j x lt = absurd (omega arith)
 get_replicate (suc n) zero x lt = refl
 get_replicate (suc n) (suc j) x lt = get_replicate n j x (omega (arith, lt))
-
--- ---- one use more
-
-also_more : (names : List ℕ) (m : ℕ) → also (use_of names) m ≡ use_of (names ++ m ∷ [])
-also_more [] m = refl
-also_more (k ∷ []) m = refl
-also_more (k ∷ l ∷ ls) m = refl
-
-unnamed : (uses : List Use) (j : ℕ) (names : List ℕ) → slice_get uses j ≡ Some (use_of names) → slice_get uses j ≡ Some (use_of (names ++ []))
-unnamed uses j names h = h ∙ ap (λ (ns : List ℕ). Some (use_of ns)) (sym (append-nil names))
-
-pub none_named : (uses : List Use) → AreNamed uses uses (λ j. [])
-none_named uses j names h = unnamed uses j names h
-
-pub one_named : (uses : List Use) (named place : ℕ) (used : Use) → named < length uses → used ≡ get_or uses named used →
-    AreNamed uses (set uses named (also used place)) (λ j. if named == j then place ∷ [] else [])
-one_named uses named place used lt is j names h = cases (named == j) refl
-  where
-    new : List Use
-    new = set uses named (also used place)
-
-    cases : (b : Bool) → (named == j) ≡ b → slice_get new j ≡ Some (use_of (names ++ (if b then place ∷ [] else [])))
-    cases true e =
-        let same : named ≡ j = eqb-true named j e in
-        let this : slice_get uses named ≡ Some (use_of names) = subst (λ (i : ℕ). slice_get uses i ≡ Some (use_of names)) (sym same) h in
-        let was : used ≡ use_of names = is ∙ get_or_from_slice_get uses named (use_of names) used this in
-        subst (λ (i : ℕ). slice_get new i ≡ Some (use_of (names ++ place ∷ []))) same
-        (get_set_same uses named (also used place) lt ∙ ap (λ (u : Use). Some (also u place)) was ∙ ap (λ (u : Use). Some u) (also_more names place))
-    cases false e = get_set_other uses named j (also used place) (λ same. true≢false (sym (eq-eqb named j (sym same)) ∙ e)) ∙ unnamed uses j names h
-
-pub past_named : (uses : List Use) (named place : ℕ) → length uses ≤ named → AreNamed uses uses (λ j. if named == j then place ∷ [] else [])
-past_named uses named place past j names h = cases (named == j) refl
-  where
-    cases : (b : Bool) → (named == j) ≡ b → slice_get uses j ≡ Some (use_of (names ++ (if b then place ∷ [] else [])))
-    cases true e =
-        let within = slice_get_within uses j (use_of names) h in
-        let same : named ≡ j = eqb-true named j e in
-        absurd (omega (arith, within, same, past))
-    cases false e = unnamed uses j names h
 
 -- ---- one after another
 

@@ -129,9 +129,6 @@ next_ballot_below size i rest valid l h =
 pub IsRest-next : (size : Extent) (i rest : ℕ) → IsSize size → i < size.voters → IsRest size (i + 1) (rest % get_or (weights_of size) i 0)
 IsRest-next size i rest valid l = subst (λ (x : ℕ). rest % get_or (weights_of size) i 0 < x) (weight_is size i l) (mod_below rest (get_or (weights_of size) i 0) (weight_positive size i valid l))
 
-pub none_left : (size : Extent) (i rest : ℕ) → i ≡ size.voters → ballots_from size i rest ≡ []
-none_left size i rest e = ap (λ (bases : List ℕ). digits_of bases rest) (drop_all i (cast_bases size) (omega (arith, length-bases size)))
-
 -- a count so far, with the ballots that are left
 pub count_next : (t : ℕ → Bool) (size : Extent) (i rest count total : ℕ) → i < size.voters → count + count_by t (ballots_from size i rest) ≡ total
     → count + cond (t (rest / get_or (weights_of size) i 0)) 1 0 + count_by t (ballots_from size (i + 1) (rest % get_or (weights_of size) i 0)) ≡ total

@@ -1,5 +1,5 @@
 -- The text of a profile, ballot by ballot.
-use Rattle.std.proofs.Common.{◌≡◌, ◌≢◌, inl, inr, sym, ◌∙◌, ap, ap₂, subst, ℕ, zero, suc, ◌+◌, ◌*◌, ◌/◌, ◌%◌, ◌^◌, ◌<◌, ◌≤◌, List, [], ◌∷◌, ◌++◌, map, length, get_or, take, drop, replicate, arith, add-one, append_assoc, mul_assoc, mul_comm, add_assoc, mul-le-mul_right, suc-mul, pow-suc}
+use Rattle.std.proofs.Common.{◌≡◌, ◌≢◌, inl, inr, sym, ◌∙◌, ap, ap₂, subst, ℕ, zero, suc, ◌+◌, ◌*◌, ◌/◌, ◌%◌, ◌^◌, ◌<◌, ◌≤◌, List, [], ◌∷◌, ◌++◌, map, length, get_or, take, drop, replicate, arith, add-one, append_assoc, mul_assoc, mul_comm, add_assoc, pow-suc}
 use Rattle.std.specs.List.{join_with_byte}
 use Rattle.std.proofs.lemmas.List.{length-map, get_or-map, take_more, length-take-le, map-append, length-replicate, drop_all, append-nil, nil_from_length}
 use Rattle.std.proofs.lemmas.Nat.{div-mul-add, mod-mul-add, mod_below}
@@ -21,6 +21,7 @@ use Rattle.profiles.proofs.JoinLemmas.{barred, join-cons, join-push, after_same,
 use Rattle.profiles.specs.Weights.{rank_of}
 use Rattle.profiles.proofs.TableLemmas.{length-ranking, rank-ranking}
 use Rattle.meaning.specs.Space.{ranking}
+use lib.Arith.{digits_lt}
 
 -- rankings have texts of their own
 pub same_place : (size : Extent) → IsSize size → (a b : ℕ) → a < factorial size.alternatives → b < factorial size.alternatives → ranking_text size.alternatives a ≡ ranking_text size.alternatives b → a ≡ b
@@ -119,11 +120,6 @@ text_at size p i h = get_or-map (cast_text size) (casts_of size p) i 0 [] (omega
 
 -- ---- writing
 
-pub first_text : (size : Extent) (p : ℕ) → 0 < size.voters → join_with_byte 124 (take 1 (texts_of size p)) ≡ cast_text size (get_or (casts_of size p) 0 0)
-first_text size p h =
-    let inner : 0 < length (texts_of size p) = omega (arith, length-texts_of size p) in
-    ap (join_with_byte 124) (take_more (texts_of size p) 0 [] inner) ∙ text_at size p 0 h
-
 pub next_text : (size : Extent) (p i : ℕ) → 0 < i → i < size.voters
     → join_with_byte 124 (take (i + 1) (texts_of size p)) ≡ (join_with_byte 124 (take i (texts_of size p)) ++ 124 ∷ []) ++ cast_text size (get_or (casts_of size p) i 0)
 next_text size p i some h =
@@ -141,9 +137,6 @@ front_text size i q = join_with_byte 124 (map (cast_text size) (digits_of (repli
 pub front_first : (size : Extent) (b : ℕ) → front_text size 1 b ≡ cast_text size b
 front_first size b = ap (cast_text size) (div-one b)
 
-next_below : (q f p b : ℕ) → q < p → b < f → q * f + b < p * f
-next_below q f p b h l = let some : suc q ≤ p = h in omega (arith, mul-le-mul_right f some, suc-mul q f)
-
 digits-push : (i f q b : ℕ) → b < f → q < product (replicate i f) → digits_of (replicate (suc i) f) (q * f + b) ≡ digits_of (replicate i f) q ++ b ∷ []
 digits-push zero f q b h l =
     let none : q ≡ 0 = omega arith in
@@ -153,7 +146,7 @@ digits-push (suc i) f q b h l =
     let positive : 0 < product (replicate i f) = subst (λ (x : ℕ). 0 < x) (sym (product-replicate i f)) (pow_positive f i (omega arith)) in
     let low : q % p < p = mod_below q p positive in
     let apart : q * f + b ≡ q / p * (f * p) + (q % p * f + b) = ap (λ (x : ℕ). x * f + b) (sym (div-add-mod' q p)) ∙ ap (λ (x : ℕ). x + b) (add-mul (q / p * p) (q % p) f) ∙ add_assoc (q / p * p * f) (q % p * f) b ∙ ap (λ (x : ℕ). x + (q % p * f + b)) (mul_assoc (q / p) p f ∙ ap (λ (x : ℕ). q / p * x) (mul_comm p f)) in
-    let small : q % p * f + b < f * p = subst (λ (x : ℕ). q % p * f + b < x) (mul_comm p f) (next_below (q % p) f p b low h) in
+    let small : q % p * f + b < f * p = subst (λ (x : ℕ). q % p * f + b < x) (mul_comm p f) (digits_lt low h) in
     ap₂ (λ (x : ℕ) (xs : List ℕ). x ∷ xs) (sym (div-div-eq-div-mul (q * f + b) f p) ∙ ap (λ (x : ℕ). x / p) (div-mul-add q f b h))
     (ap (λ (k : ℕ). digits_of (replicate (suc i) f) (k % (f * p))) apart ∙ ap (digits_of (replicate (suc i) f)) (mod-mul-add (q / p) (f * p) (q % p * f + b) small) ∙ digits-push i f (q % p) b h low)
 
@@ -172,7 +165,7 @@ pub number_first : (f b : ℕ) → b < f → b < f ^ 1
 number_first f b h = subst (λ (x : ℕ). b < x) (sym (pow-suc f 0 ∙ ap (λ (x : ℕ). x * f) (pow-zero f) ∙ one-mul f)) h
 
 pub number_more : (f i q b : ℕ) → q < f ^ i → b < f → q * f + b < f ^ (i + 1)
-number_more f i q b h l = rw (add-one, pow-suc) (next_below q f (f ^ i) b h l)
+number_more f i q b h l = rw (add-one, pow-suc) (digits_lt h l)
 
 pub power_within : (f i n k : ℕ) → i < n → 0 < f → k < f ^ (i + 1) → k < f ^ n
 power_within f i n k l some h = let le : f ^ (i + 1) ≤ f ^ n = pow-le-pow_right some (let next : i + 1 ≤ n = omega arith in next) in omega arith

@@ -16,7 +16,7 @@ use Rattle.meaning.proofs.SpaceLaws.{all_at, length-rankings, factorial_small}
 use Rattle.meaning.proofs.BallotLaws.{ballots_within}
 use Rattle.meaning.proofs.RankingLaws.{are_rankings, same_list}
 use Rattle.profiles.specs.Weights.{places_of, rank_of}
-use Rattle.profiles.specs.declared.tables.TheConstants.{EXCHANGED, PAIRS, PLACES, RANKINGS}
+use Rattle.profiles.specs.declared.tables.TheConstants.{EXCHANGED, PAIRS, PLACES}
 
 -- a test of each row of a list with its number
 abbrev each_row : (ℕ → List ℕ → Bool) → ℕ → List (List ℕ) → Bool
@@ -32,10 +32,6 @@ row_at t k (r ∷ rs) (suc b) h l =
     let parts = and_parts (t k r) (each_row t (suc k) rs) h in
     let same : k + suc b ≡ suc k + b = omega arith in rw same (row_at t (suc k) rs b parts.1 (omega (arith, l)))
 
--- the tables are the rankings of five, and where each alternative stands in them
-rankings-rows : RANKINGS ≡ rankings 5
-rankings-rows = refl
-
 places-rows : PLACES ≡ map (λ r. map (place r) (below 5)) (rankings 5)
 places-rows = refl
 
@@ -43,12 +39,8 @@ pub small_ballot : (m b : ℕ) → m ≤ 5 → b < factorial m → b < 120
 small_ballot m b h l = omega (arith, factorial_small m h, l)
 
 get_or-below : (x : ℕ) → x < 5 → get_or (below 5) x 0 ≡ x
-get_or-below zero h = refl
-get_or-below (suc zero) h = refl
-get_or-below (suc (suc zero)) h = refl
-get_or-below (suc (suc (suc zero))) h = refl
-get_or-below (suc (suc (suc (suc zero)))) h = refl
 get_or-below (suc (suc (suc (suc (suc x))))) h = absurd (omega (arith, h))
+get_or-below p h = refl
 
 -- what the table of places gives
 pub places_at : (b x : ℕ) (d : List ℕ) → b < 120 → x < 5 → get_or (get_or PLACES b d) x 0 ≡ place (ranking 5 b) x

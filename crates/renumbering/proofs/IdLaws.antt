@@ -10,10 +10,11 @@ use Rattle.cnf.specs.declared.derivations.Step.{Step}
 use Rattle.cnf.specs.declared.derivations.Step.TheVariants.{Add, Drop}
 use Rattle.cnf.specs.Signed.{Signed}
 use Rattle.cnf.specs.Sat.{Clause, opposite_lit}
-use Rattle.cnf.specs.Derived.{StandingClauses, clause_under, Effect, Satisfied, Falsified, Forces, Unresolved}
+use Rattle.cnf.specs.Derived.{StandingClauses, clause_under, Effect, Forces}
 use Rattle.cnf.specs.Trimmed.{is_in_option, effect_under, is_falsified_effect, is_used, are_hints_trimmed, is_cited_by, is_empty_clause, is_step_trimmed, is_trimmed_from, is_trimmed}
 use Rattle.renumbering.specs.Renumbered.{HasIdsBelow}
-use Rattle.renumbering.proofs.RenumberedLaws.{none_before, under_suc}
+use Rattle.renumbering.proofs.RenumberedLaws.{under_suc}
+use Rattle.cnf.proofs.StandingLaws.{none_before}
 
 -- each id that stands is below a bound
 abbrev Below : ℕ → StandingClauses → Type 0
@@ -38,9 +39,7 @@ module _ (s : StandingClauses) (n : ℕ) (below : Below n s) where
   -- what a hint forces
   forced : (e : Effect) (ids : List ℕ) (go : Signed → Bool) → is_used s ids e go ≡ true → (l : Signed) × (go l ≡ true)
   forced (Forces l) ids go h = (l, (and_parts (list_any (λ id. is_in_option (opposite_lit l) (clause_under s id)) ids) (go l) h).1)
-  forced Satisfied ids go h = absurd cc
-  forced Falsified ids go h = absurd cc
-  forced Unresolved ids go h = absurd cc
+  forced p ids go h = absurd cc
 
   first_below : (id : ℕ) (known : List Signed) (ids : List ℕ) (go : Signed → Bool) (o : Option Clause) → clause_under s id ≡ o → is_used s ids (effect_under known o) go ≡ true → id < n
   first_below id known ids go None e h = absurd cc

@@ -1,8 +1,8 @@
 -- A trimmed derivation is trimmed over another list in which the clauses stand that its hints name.
-use Rattle.std.proofs.Common.{◌≡◌, refl, sym, ◌∙◌, ap, ap₂, subst, ℕ, zero, suc, ◌+◌, ◌-◌, ◌<◌, ◌≤◌, Bool, true, false, not, ◌&&◌, ◌||◌, inl, inr, cond, List, [], ◌∷◌, map, length, arith, Option, Some, None, eqb-true, eq-eqb, lt-ltb}
+use Rattle.std.proofs.Common.{◌≡◌, refl, sym, ◌∙◌, ap, ap₂, subst, ℕ, zero, suc, ◌+◌, ◌-◌, ◌<◌, ◌≤◌, Bool, true, not, ◌&&◌, ◌||◌, inl, inr, cond, List, [], ◌∷◌, map, length, arith, Option, Some, eqb-true, eq-eqb, lt-ltb}
 use Rattle.std.specs.Prelude.{◌==◌, slice_get, slice_index}
 use Rattle.std.specs.List.{list_any, enumerate_from}
-use Rattle.std.proofs.lemmas.Bool.{and_parts, and_from, false_from_ne_true, both_ways, or_cases, or_left, or_right, cases_lt, le-ltb}
+use Rattle.std.proofs.lemmas.Bool.{and_parts, and_from, or_cases, or_left, or_right, cases_lt, le-ltb}
 use Rattle.std.proofs.lemmas.Option.{slice_get_past}
 use Rattle.cnf.specs.declared.derivations.Line.{Line}
 use Rattle.cnf.specs.declared.derivations.Step.{Step}
@@ -12,32 +12,8 @@ use Rattle.cnf.specs.Sat.{Clause, opposite_lit}
 use Rattle.cnf.specs.Derived.{StandingClauses, clause_under, Effect, Satisfied, Falsified, Forces, Unresolved}
 use Rattle.cnf.specs.Trimmed.{is_in_option, effect_under, is_falsified_effect, is_used, are_hints_trimmed, is_cited_by, is_cited_in, is_empty_clause, is_step_trimmed, is_trimmed_from, is_trimmed}
 use Rattle.renumbering.specs.Renumbered.{new_place, new_id, renumbered_step, renumbered_line, IsClausePlace, AreClausePlaces}
-
--- tests of numbers that are equal together
-same_test : (a b c d : ℕ) → (a ≡ b → c ≡ d) → (c ≡ d → a ≡ b) → (a == b) ≡ (c == d)
-same_test a b c d f g = cases (a == b) refl
-  where
-    cases : (t : Bool) → (a == b) ≡ t → t ≡ (c == d)
-    cases true e = sym (eq-eqb c d (f (eqb-true a b e)))
-    cases false e = sym (false_from_ne_true (c == d) (λ h. both_ways (a == b) e (eq-eqb a b (g (eqb-true c d h)))))
-
--- the clause of an id, by its place
-pub none_before : (n : ℕ) (cs : List Clause) (id : ℕ) → id < n → clause_under (enumerate_from n cs) id ≡ None
-none_before n [] id lt = refl
-none_before n (c ∷ cs) id lt =
-    ap (λ b. cond b (Some c) (clause_under (enumerate_from (n + 1) cs) id)) (false_from_ne_true (n == id) (λ h. let e = eqb-true n id h in absurd (omega (arith, e, lt))))
-    ∙ none_before (n + 1) cs id (omega (arith, lt))
-
-under_place : (n : ℕ) (cs : List Clause) (j : ℕ) → clause_under (enumerate_from n cs) (n + j) ≡ slice_get cs j
-under_place n [] j = refl
-under_place n (c ∷ cs) zero =
-    let e : n ≡ n + 0 = omega arith in
-    ap (λ b. cond b (Some c) (clause_under (enumerate_from (n + 1) cs) (n + 0))) (eq-eqb n (n + 0) e)
-under_place n (c ∷ cs) (suc j) =
-    let e : n + suc j ≡ (n + 1) + j = omega arith in
-    ap (λ b. cond b (Some c) (clause_under (enumerate_from (n + 1) cs) (n + suc j))) (false_from_ne_true (n == n + suc j) (λ h. let k = eqb-true n (n + suc j) h in absurd (omega (arith, k))))
-    ∙ ap (clause_under (enumerate_from (n + 1) cs)) e
-    ∙ under_place (n + 1) cs j
+use Rattle.lists.proofs.NumberLaws.{same_test}
+use Rattle.cnf.proofs.StandingLaws.{none_before, under_place}
 
 pub under_suc : (cs : List Clause) (j : ℕ) → clause_under (enumerate_from 1 cs) (suc j) ≡ slice_get cs j
 under_suc cs j = let e : suc j ≡ 1 + j = omega arith in ap (clause_under (enumerate_from 1 cs)) e ∙ under_place 1 cs j

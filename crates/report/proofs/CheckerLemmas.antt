@@ -4,7 +4,6 @@ use Rattle.std.specs.Prelude.{MatchResult, OnOk}
 use Rattle.std.specs.Option.{option_map_or}
 use Rattle.lists.specs.declared.memory.NoMemory.{NoMemory as Wanting}
 use Rattle.vocab.specs.Study.{Question}
-use Rattle.meaning.specs.declared.stories.Lemma.{Lemma}
 use Rattle.verdicts.specs.declared.refusals.Refusal.{Refusal}
 use Rattle.verdicts.specs.declared.refusals.Refusal.TheVariants.{Form}
 use Rattle.verdicts.specs.Lines.{Line}
@@ -20,16 +19,11 @@ use Rattle.report.specs.declared.faults.ReportFault.{ReportFault}
 use Rattle.report.specs.declared.faults.ReportFault.TheVariants.{Line as AtLine, NoMemory}
 use Rattle.report.specs.declared.progress.Progress.{Progress}
 use Rattle.report.specs.declared.judging.Judging.{Judging}
-use Rattle.report.specs.Stands.{supposed, Stands, StandsAs, StandsFor, StandsForSome}
+use Rattle.report.specs.Stands.{Stands, StandsAs, StandsFor, StandsForSome}
 use Rattle.report.specs.Taken.{Took, IsTaken}
+use Rattle.verdicts.proofs.StepLaws.{lengths_same}
 
 -- ---- one line
-
-same_length : (es bs : List Lemma) → supposed es ≡ supposed bs → length es ≡ length bs
-same_length [] [] e = refl
-same_length [] (b ∷ bs) e = absurd (cc)
-same_length (a ∷ es) [] e = absurd (cc)
-same_length (a ∷ es) (b ∷ bs) e = let t : supposed es ≡ supposed bs = cc in let rest = same_length es bs t in omega (arith, rest)
 
 -- memory was wanting, or was not
 is_wanting : (fault : Option ReportFault) → (fault ≡ Some NoMemory) ⊎ (fault ≢ Some NoMemory)
@@ -49,7 +43,7 @@ at n fault r = record { judging = r; lines = n; fault = fault }
 module _ (study : Question) where
   -- the number of the lemma that comes next
   pub next_number : (r : Judging) (s : Standing) (n k : ℕ) → Stands study r s → n ≡ k + 1 → k ≡ length r.earlier → n ≡ length s.earlier + 1
-  next_number r s n k h e f = let same = same_length r.earlier s.earlier h.earlier in omega (arith, e, f, same)
+  next_number r s n k h e f = let same = lengths_same study r.earlier s.earlier h.earlier in omega (arith, e, f, same)
 
   -- what is held of a line is what the grammar wants
   pub line_of : (o : Option Line) (line : HeldLine) → Some line ≡ option_map (held_line study) o → (w : Line) × (o ≡ Some w) × (line ≡ held_line study w)

@@ -5,7 +5,7 @@ use Rattle.std.specs.Option.{option_or}
 use Rattle.std.specs.List.{list_all}
 use Rattle.std.proofs.lemmas.Bool.{and_parts, and_from, cases_lt}
 use Rattle.std.proofs.lemmas.Bool.Decides.{Decides-eqb}
-use Rattle.std.proofs.lemmas.List.{map-append}
+use Rattle.std.proofs.lemmas.List.{map-append, nil_from_length}
 use Rattle.std.proofs.lemmas.Option.{slice_get_past}
 use Rattle.verdicts.specs.Numbers.{saturated}
 use Rattle.vocab.specs.declared.literals.Literal.{Literal}
@@ -38,11 +38,7 @@ use Rattle.worlds.specs.Boards.{Known}
 use Rattle.report.specs.declared.judging.Judging.{Judging}
 use Rattle.report.specs.Stands.{Stands, IsRead, supposed}
 
--- ---- numbers and lists
-
-none_left : (xs : List Literal) → length xs ≡ 0 → xs ≡ []
-none_left [] e = refl
-none_left (x ∷ xs) e = absurd (omega (arith, e))
+-- ---- numbers
 
 -- whether a lemma was the last
 was_last : (n m k c : ℕ) → n ≡ m → n ≤ 4294967295 → k ≡ saturated c → n ≡ k → (m == c) ≡ true
@@ -141,7 +137,7 @@ module _ (study : Question) (r : Judging) where
         let same : known_of t ≡ known_of s = sym i.stands.known ∙ h.known in
         let left : t.suppose ≡ s.suppose = sym i.stands.suppose ∙ h.suppose in
         let count : length (t.suppose ++ []) ≡ length (s.suppose ++ map (λ (step : StoryStep). step.literal) s.steps) = ap (λ (ls : List Literal). length (t.suppose ++ ls)) (sym none) ∙ ap length same in
-        none_left _ (omega (arith, count, length-append t.suppose [], length-append s.suppose (map (λ (step : StoryStep). step.literal) s.steps), ap length left))
+        nil_from_length _ (omega (arith, count, length-append t.suppose [], length-append s.suppose (map (λ (step : StoryStep). step.literal) s.steps), ap length left))
 
     pub with_supposed : (l : Literal) (xs : List Literal) (b : Known) → map (λ step. step.literal) s.steps ≡ [] → xs ≡ r.suppose ++ l ∷ [] → b.size ≡ r.board.size → b.literals ≡ r.board.literals ++ l ∷ [] →
         Stands study (record r { suppose = xs; board = b }) (advance study s (Suppose l))

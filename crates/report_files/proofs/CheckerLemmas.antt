@@ -1,7 +1,6 @@
 -- What a checker of lines stands for after one more line.
-use Rattle.std.proofs.Common.{◌≡◌, refl, sym, ap, ◌∙◌, subst, ℕ, Bool, true, false, true≢false, List, [], ◌∷◌, ◌++◌, length, arith, cond, Option, Some, None, is_some}
-use Rattle.std.proofs.lemmas.Bool.{and_parts, and_from, eqb-true}
-use Rattle.std.specs.Prelude.{◌&&◌, ◌==◌, is_none, codes, if◌then◌else◌}
+use Rattle.std.proofs.Common.{◌≡◌, refl, sym, ap, ◌∙◌, subst, ℕ, Bool, true, false, true≢false, List, [], ◌∷◌, ◌++◌, cond, Option, Some, None, is_some}
+use Rattle.std.specs.Prelude.{◌&&◌, codes, if◌then◌else◌}
 use Rattle.std.specs.Str.{bytes_eq}
 use Rattle.std.specs.Option.{option_map_or}
 use Rattle.vocab.specs.Study.{Question}
@@ -10,7 +9,7 @@ use Rattle.sharp_verdicts.specs.SharpLines.{SharpTitle}
 use Rattle.sharp_verdicts.specs.SharpPlaces.{read_title}
 use Rattle.sharp_report.specs.declared.progress.SharpProgress.{SharpProgress}
 use Rattle.sharp_report.specs.SharpStands.{SharpStandsFor}
-use Rattle.report_files.specs.Lines.{CheckerState, lines_given, has_fault, sharp_fault_of, has_title, StandsBy, StandsForLines, StandsBefore, is_undecided, begins}
+use Rattle.report_files.specs.Lines.{CheckerState, lines_given, has_fault, sharp_fault_of, has_title, StandsBy, StandsForLines}
 use Rattle.report_files.specs.Pieces.{head_of}
 use Rattle.report_files.proofs.LineLemmas.{head_stands}
 use Rattle.report_files.proofs.SharpLineLemmas.{head_sharp_stands}
@@ -33,15 +32,6 @@ stands_as_report c lines e h = (subst (StandsBy c.study c.report (c.admits && ha
 -- or for those of a sharp text
 pub stands_as_sharp : (c : CheckerState) (p : SharpProgress) (lines : List (List ℕ)) → c.sharp ≡ Some p → StandsForLines c lines → SharpStandsFor c.study p lines
 stands_as_sharp c p lines e h = (subst (StandsBy c.study c.report (c.admits && has_title lines) lines) e h).0
-
--- whose first line is the title
-pub is_titled : (c : CheckerState) (p : SharpProgress) (lines : List (List ℕ)) → c.sharp ≡ Some p → StandsForLines c lines → has_title lines ≡ true
-is_titled c p lines e h = (and_parts c.admits (has_title lines) (subst (StandsBy c.study c.report (c.admits && has_title lines) lines) e h).1).1
-
--- and where it admits sharp texts, the first line of a report is not
-pub is_untitled : (c : CheckerState) (lines : List (List ℕ)) → c.admits ≡ true → c.sharp ≡ None → StandsForLines c lines → has_title lines ≡ false
-is_untitled c lines admits e h =
-    sym (ap (λ a. a && has_title lines) admits) ∙ (subst (StandsBy c.study c.report (c.admits && has_title lines) lines) e h).1
 
 pub no_sharp_of : (o : Option SharpProgress) → is_some o ≡ false → o ≡ None
 no_sharp_of None e = refl
@@ -87,54 +77,6 @@ is_title_told study b line e = by_tests b (bytes_eq line (codes "bench sharp 1")
     by_tests false false e = refl
     by_tests true false e = absurd (cc)
     by_tests false true e = absurd (cc)
-
-module _ (c : CheckerState) (line : List ℕ) where
-  no_lines : (n : ℕ) (lines : List (List ℕ)) → n ≡ 0 → n ≡ length lines → lines ≡ []
-  no_lines n [] e h = refl
-  no_lines n (x ∷ lines) e h = absurd (let bad : ⊥ = omega (arith, e, h) in bad)
-
-  none_of : (o : Option SharpProgress) → is_none o ≡ true → o ≡ None
-  none_of None e = refl
-  none_of (Some p) e = absurd (true≢false (sym e))
-
-  -- a sharp text begins here: nothing was read
-  pub begun_parts : begins c line ≡ true → (c.admits ≡ true) × (c.sharp ≡ None) × (c.report.lines ≡ 0) × (has_title (line ∷ []) ≡ true)
-  begun_parts e =
-      let one = and_parts (is_undecided c) (has_title (line ∷ [])) e in
-      let two = and_parts c.admits (is_none c.sharp && c.report.lines == 0) one.0 in
-      let three = and_parts (is_none c.sharp) (c.report.lines == 0) two.1 in
-      (two.0, none_of c.sharp three.0, eqb-true c.report.lines 0 three.1, one.1)
-
-  -- the checker of sharp texts that is made then stands for what was read
-  pub begun : begins c line ≡ true → (p : SharpProgress) → SharpStandsFor c.study p []
-      → (lines : List (List ℕ)) → StandsForLines c lines → StandsBy c.study c.report (c.admits && has_title (lines ++ line ∷ [])) lines (Some p)
-  begun e p unread lines h =
-      let parts = begun_parts e in
-      let none : lines ≡ [] = no_lines c.report.lines lines parts.2 (stands_as_report c lines parts.1 h).0 in
-      subst (λ (ls : List (List ℕ)). StandsBy c.study c.report (c.admits && has_title (ls ++ line ∷ [])) ls (Some p)) (sym none)
-      (unread, and_from c.admits (has_title (line ∷ [])) parts.0 parts.3)
-
-  and_true : (b : Bool) → (b && true) ≡ b
-  and_true true = refl
-  and_true false = refl
-
-  -- where none begins, the checker is the one that it was
-  pub not_begun : begins c line ≡ false → (lines : List (List ℕ)) → StandsForLines c lines → StandsBefore c lines line
-  not_begun e lines h = by_sharp c.sharp refl lines h
-    where
-      by_sharp : (o : Option SharpProgress) → c.sharp ≡ o → (lines : List (List ℕ)) → StandsBy c.study c.report (c.admits && has_title lines) lines o
-          → StandsBy c.study c.report (c.admits && has_title (lines ++ line ∷ [])) lines o
-      by_sharp (Some p) same [] h = absurd (true≢false (sym (and_parts c.admits false h.1).1))
-      by_sharp (Some p) same (x ∷ xs) h = h
-      by_sharp None same [] h =
-          let unread : (c.report.lines == 0) ≡ true = ap (λ n. n == 0) h.0.0 in
-          let none : is_none c.sharp ≡ true = ap is_none same in
-          let told : begins c line ≡ (c.admits && has_title (line ∷ [])) =
-          ap (λ b. (c.admits && (b && c.report.lines == 0)) && has_title (line ∷ [])) none
-          ∙ ap (λ b. (c.admits && b) && has_title (line ∷ [])) unread
-          ∙ ap (λ b. b && has_title (line ∷ [])) (and_true c.admits) in
-          (h.0, sym told ∙ e)
-      by_sharp None same (x ∷ xs) h = h
 
 -- ---- a line that is too long
 

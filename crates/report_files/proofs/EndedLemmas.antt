@@ -9,6 +9,7 @@ use Rattle.report_files.specs.declared.files.Ending.{Ending}
 use Rattle.report_files.specs.declared.files.Ending.TheVariants as ending
 use Rattle.report_files.specs.Files.{IsEndedAt, most_verdict_bytes}
 use Rattle.report_files.proofs.PieceLemmas.{front_more}
+use Rattle.std.proofs.lemmas.List.{take_at}
 
 -- ---- where the reading ended
 
@@ -39,11 +40,7 @@ limit_is known left faulty bytes held ended k =
     let split : held ≡ bytes ++ (ended.0 ++ f.0) = f.1 ∙ append_assoc bytes ended.0 f.0 in
     let sum : length held ≡ length bytes + length (ended.0 ++ f.0) = ap length split ∙ length-append bytes (ended.0 ++ f.0) in
     let more : length (ended.0 ++ f.0) ≡ length ended.0 + length f.0 = length-append ended.0 f.0 in
-    (omega (arith, sum, more, ended.2, ended.3), ap (take most_verdict_bytes) split ∙ take_whole bytes (ended.0 ++ f.0) most_verdict_bytes ended.3)
-  where
-    take_whole : (xs ys : List ℕ) (k : ℕ) → length xs ≡ k → take k (xs ++ ys) ≡ xs
-    take_whole [] ys k e = ap (λ i. take i ys) (sym e)
-    take_whole (x ∷ xs) ys k e = ap (λ i. take i (x ∷ (xs ++ ys))) (sym e) ∙ ap (λ zs. x ∷ zs) (take_whole xs ys (length xs) refl)
+    (omega (arith, sum, more, ended.2, ended.3), ap (take most_verdict_bytes) split ∙ take_at bytes (ended.0 ++ f.0) most_verdict_bytes ended.3)
 
 -- ---- what is answered
 

@@ -18,7 +18,7 @@ use Rattle.sharp_verdicts.specs.Judged.{AsReport, AsSharp, has_sharp_title, judg
 use Rattle.sharp_verdicts.specs.SharpJudge.{sharp_answer_within}
 use Rattle.sharp_verdicts.specs.SharpLines.{sharp_text}
 use Rattle.sharp_laws.proofs.AnswerLaws.{texts_confirmed}
-use Rattle.sharp_laws.proofs.ApartLaws.{no_report}
+use Rattle.sharp_laws.proofs.ApartLaws.{no_report, titled_is}
 use Rattle.sharp_report.specs.declared.progress.SharpProgress.{SharpProgress}
 use Rattle.report_files.specs.declared.files.Ending.{Ending}
 use Rattle.report_files.specs.declared.files.Ending.TheVariants as ending
@@ -35,7 +35,7 @@ use Rattle.report_files.specs.Pieces.{ReaderState, StandsForText}
 use Rattle.report_files.proofs.CheckerLemmas.{sharp_told}
 use Rattle.report_files.proofs.EndedLemmas.{whole_is, prefix_is}
 use Rattle.report_files.proofs.SharpWorthLemmas.{sharp_in}
-use Rattle.report_files.proofs.TitleLemmas.{title_told, titled_is, title_within, title_after}
+use Rattle.report_files.proofs.TitleLemmas.{title_told, title_within, title_after}
 use Rattle.report_files.proofs.WorthLemmas.{claimed_in, confirmed_some}
 
 -- ---- which judge it is

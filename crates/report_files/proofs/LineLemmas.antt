@@ -1,22 +1,21 @@
 -- Lines of a report: a faulty one stays the first faulty one, and of a line that is too long the front tells as much.
 use Rattle.std.proofs.Common.{◌≡◌, refl, sym, ap, ◌∙◌, subst, ℕ, suc, ◌+◌, inl, inr, true, false, true≢false, List, [], ◌∷◌, ◌++◌, length, arith, cond, None, lt-ltb}
 use Rattle.std.proofs.lemmas.Bool.{cases_lt}
-use Rattle.std.proofs.lemmas.Slice.Eq.{bytes_eq-Decides}
-use Rattle.std.specs.Prelude.{◌==◌, nat_lt, codes}
+use Rattle.std.specs.Prelude.{◌==◌, nat_lt}
 use Rattle.vocab.specs.Study.{Question}
 use Rattle.verdicts.specs.declared.refusals.Refusal.{Refusal}
 use Rattle.verdicts.specs.declared.refusals.Refusal.TheVariants.{Form}
 use Rattle.verdicts.specs.Faults.{fault_of}
 use Rattle.verdicts.specs.Texts.{words_of}
 use Rattle.verdicts.specs.Places.{Place, Standing, start, wanted}
-use Rattle.verdicts.specs.FirstFault.{Told, Good, Refused, Faulty}
+use Rattle.verdicts.specs.FirstFault.{Told, Good, Refused}
 use Rattle.verdicts.specs.Judge.{advance, read_line, line_fault, after, judge, pieces, front, final, at_end, conclude, answer, rule_of}
 use Rattle.verdicts.proofs.FirstFaultLaws.{after_refused, same_last}
 use Rattle.report.specs.declared.progress.Progress.{Progress}
 use Rattle.report.specs.Stands.{StandsAt, StandsFor}
-use Rattle.report_files.specs.Lines.{has_title}
 use Rattle.report_files.specs.Pieces.{head_of}
-use Rattle.report_files.proofs.PieceLemmas.{length_take, take_all, pieces_count}
+use Rattle.report_files.proofs.PieceLemmas.{pieces_count}
+use Rattle.std.proofs.lemmas.List.{length-take-le, take_all}
 
 -- ---- a line that is too long
 
@@ -24,7 +23,7 @@ use Rattle.report_files.proofs.PieceLemmas.{length_take, take_all, pieces_count}
 pub head_read : (study : Question) (s : Standing) (line : List ℕ) → read_line study s (head_of line) ≡ read_line study s line
 head_read study s line = elim (cases_lt 4096 (length line)) [
   | inl long ↦
-      let same : length (head_of line) ≡ 4097 = length_take 4097 line (omega (arith, long)) in
+      let same : length (head_of line) ≡ 4097 = length-take-le 4097 line (omega (arith, long)) in
       let cut : nat_lt 4096 (length (head_of line)) ≡ true = lt-ltb 4096 (length (head_of line)) (omega (arith, same)) in
       ap (λ b. cond b None (wanted study s.place (length s.earlier + 1) (words_of (head_of line)))) cut
       ∙ sym (ap (λ b. cond b None (wanted study s.place (length s.earlier + 1) (words_of line))) (lt-ltb 4096 (length line) long))
@@ -49,16 +48,6 @@ pub refused_more : (study : Question) (lines more : List (List ℕ)) (m : ℕ) (
 refused_more study lines more m word e = after_refused (line_fault study) (after study) 1 start lines more m word e
 
 -- ---- the end of a text
-
--- the title of a sharp text is no line of a report
-pub titled_refused : (study : Question) (lines : List (List ℕ)) (n : ℕ) (rest : List ℕ) → has_title lines ≡ true → conclude n rest (judge study lines) ≡ Faulty 1 Form
-titled_refused study [] n rest e = absurd (true≢false (sym e))
-titled_refused study (line ∷ lines) n rest e =
-    let same : line ≡ codes "bench sharp 1" = (bytes_eq-Decides line (codes "bench sharp 1")).0 e in
-    ap (λ t. conclude n rest (judge study (t ∷ lines))) same ∙ at_title
-  where
-    at_title : conclude n rest (judge study (codes "bench sharp 1" ∷ lines)) ≡ Faulty 1 Form
-    at_title = refl
 
 -- the end of a text is judged by the front of its last piece
 pub head_concludes : (study : Question) (text held : List ℕ) → held ≡ head_of (final (pieces text)) → conclude (length (front (pieces text)) + 1) held (judge study (front (pieces text))) ≡ answer study text

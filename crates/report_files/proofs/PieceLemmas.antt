@@ -32,17 +32,6 @@ take_room n c (x ∷ xs) ys h e = by_room n h e (λ m l d. take_room m c xs ys l
     by_room zero h e later = absurd (let bad : ⊥ = omega (arith, h) in bad)
     by_room (suc m) h e later = let same : m - length xs ≡ suc m - length (x ∷ xs) = omega arith in ap (λ zs. x ∷ zs) (later m (omega (arith, h)) (e ∙ ap (λ k. min (length ys) k) (sym same)))
 
-pub length_take : {A : Type 0} (n : ℕ) (xs : List A) → n ≤ length xs → length (take n xs) ≡ n
-length_take zero xs h = refl
-length_take (suc n) [] h = absurd (let bad : ⊥ = omega (arith, h) in bad)
-length_take (suc n) (x ∷ xs) h = ap suc (length_take n xs (omega (arith, h)))
-
-pub take_all : {A : Type 0} (n : ℕ) (xs : List A) → length xs ≤ n → take n xs ≡ xs
-take_all zero [] h = refl
-take_all zero (x ∷ xs) h = absurd (let bad : ⊥ = omega (arith, h) in bad)
-take_all (suc n) [] h = refl
-take_all (suc n) (x ∷ xs) h = ap (λ ys. x ∷ ys) (take_all n xs (omega (arith, h)))
-
 -- ---- pieces
 
 -- pieces after pieces: the last of the one and the first of the other are one

@@ -1,5 +1,5 @@
 -- What a reader stands for after more bytes.
-use Rattle.std.proofs.Common.{◌≡◌, sym, ap, ◌∙◌, subst, ℕ, zero, suc, ◌+◌, ◌≤◌, true, List, [], ◌∷◌, ◌++◌, length, take, arith, append_assoc, length-append, Result, Ok, Err, refl}
+use Rattle.std.proofs.Common.{◌≡◌, sym, ap, ◌∙◌, subst, ℕ, suc, ◌+◌, true, List, [], ◌∷◌, ◌++◌, length, take, arith, append_assoc, length-append, Result, Ok, Err, refl}
 use Rattle.std.proofs.lemmas.Bool.{eqb-true}
 use Rattle.std.specs.Prelude.{◌==◌, OnOk}
 use Rattle.verdicts.specs.Judge.{has_no_end, pieces, front, final}
@@ -67,14 +67,6 @@ pub cut_shorter : (rest line after : List ℕ) → rest ≡ line ++ 10 ∷ after
 cut_shorter rest line after h =
     let parts : length rest ≡ length line + suc (length after) = ap length h ∙ length-append line (10 ∷ after) in
     omega (arith, parts)
-
-pub length_head : (text : List ℕ) → length (head_of text) ≤ 4097
-length_head text = at_most 4097 text
-  where
-    at_most : (n : ℕ) (xs : List ℕ) → length (take n xs) ≤ n
-    at_most zero xs = omega arith
-    at_most (suc n) [] = omega arith
-    at_most (suc n) (x ∷ xs) = let less : length (take n xs) ≤ n = at_most n xs in omega (arith, less)
 
 -- what holds at `Ok`, and what follows from it
 pub on_ok : {T E P Q : Type 0} (result : Result T E) → OnOk result P → (P → Q) → OnOk result Q

@@ -1,14 +1,13 @@
 -- Lines of a sharp text: a faulty one stays the first faulty one, and of a line that is too long the front tells as much.
-use Rattle.std.proofs.Common.{◌≡◌, refl, sym, ap, ◌∙◌, subst, ℕ, ◌+◌, inl, inr, true, false, List, [], ◌∷◌, ◌++◌, length, arith, cond, Some, None, lt-ltb}
+use Rattle.std.proofs.Common.{◌≡◌, refl, sym, ap, ◌∙◌, subst, ℕ, ◌+◌, inl, inr, true, List, [], ◌∷◌, ◌++◌, length, arith, cond, Some, None, lt-ltb}
 use Rattle.std.proofs.lemmas.Bool.{cases_lt}
 use Rattle.std.specs.Prelude.{nat_lt}
-use Rattle.std.specs.Option.{option_map_or}
 use Rattle.vocab.specs.Study.{Question}
 use Rattle.verdicts.specs.Texts.{words_of}
 use Rattle.verdicts.specs.declared.refusals.Refusal.TheVariants.{Form}
-use Rattle.verdicts.specs.FirstFault.{Told, Good, Refused, Faulty}
+use Rattle.verdicts.specs.FirstFault.{Told, Good, Refused}
 use Rattle.verdicts.specs.Judge.{pieces, front, final}
-use Rattle.verdicts.proofs.FirstFaultLaws.{stops, after_refused, same_last}
+use Rattle.verdicts.proofs.FirstFaultLaws.{after_refused, same_last}
 use Rattle.sharp_verdicts.specs.declared.refusals.SharpRefusal.{SharpRefusal}
 use Rattle.sharp_verdicts.specs.declared.refusals.SharpRefusal.TheVariants.{Report}
 use Rattle.sharp_verdicts.specs.SharpLines.{SharpTitle}
@@ -17,11 +16,11 @@ use Rattle.sharp_verdicts.specs.SharpFaults.{sharp_fault}
 use Rattle.sharp_verdicts.specs.SharpJudge.{advance_sharp, sharp_line_fault, sharp_after, sharp_judge_from, sharp_judge, at_sharp_end, sharp_conclude, sharp_answer}
 use Rattle.sharp_report.specs.declared.progress.SharpProgress.{SharpProgress}
 use Rattle.sharp_report.specs.SharpStands.{SharpStandsAs, SharpStandsFor}
-use Rattle.report_files.specs.Lines.{has_title}
 use Rattle.report_files.specs.Pieces.{head_of}
-use Rattle.report_files.proofs.PieceLemmas.{length_take, take_all, pieces_count}
+use Rattle.report_files.proofs.PieceLemmas.{pieces_count}
 use Rattle.report_files.proofs.LineLemmas.{head_read, same_length}
 use Rattle.report_files.proofs.TitleLemmas.{head_title}
+use Rattle.std.proofs.lemmas.List.{length-take-le, take_all}
 
 module _ (study : Question) where
   -- ---- a line that is too long
@@ -29,7 +28,7 @@ module _ (study : Question) where
   head_past : (p : SharpPlace) (line : List ℕ) → read_past study p (head_of line) ≡ read_past study p line
   head_past p line = elim (cases_lt 4096 (length line)) [
     | inl long ↦
-        let same : length (head_of line) ≡ 4097 = length_take 4097 line (omega (arith, long)) in
+        let same : length (head_of line) ≡ 4097 = length-take-le 4097 line (omega (arith, long)) in
         let cut : nat_lt 4096 (length (head_of line)) ≡ true = lt-ltb 4096 (length (head_of line)) (omega (arith, same)) in
         ap (λ b. cond b None (wanted_past study p (words_of (head_of line)))) cut
         ∙ sym (ap (λ b. cond b None (wanted_past study p (words_of line))) (lt-ltb 4096 (length line) long))
@@ -67,15 +66,6 @@ module _ (study : Question) where
   sharp_refused_more lines more m word e = after_refused (sharp_line_fault study) (sharp_after study) 1 sharp_start lines more m word e
 
   -- ---- the end of a text
-
-  -- a text whose first line is not the title, or has not ended
-  pub untitled_refused : (lines : List (List ℕ)) (rest : List ℕ) → has_title lines ≡ false → sharp_conclude study (length lines + 1) rest (sharp_judge study lines) ≡ Faulty 1 (Report Form)
-  untitled_refused [] [] e = refl
-  untitled_refused [] (x ∷ rest) e = refl
-  untitled_refused (line ∷ lines) rest e =
-      let wrong : sharp_line_fault study sharp_start line ≡ Some (Report Form) =
-      ap (λ b. option_map_or (sharp_fault study sharp_start) (cond b (Some SharpTitle) None) (Some (Report Form))) e in
-      ap (sharp_conclude study (length (line ∷ lines) + 1) rest) (stops (sharp_line_fault study) (sharp_after study) 1 sharp_start line lines (Report Form) wrong)
 
   -- the end of a text is judged by the front of its last piece
   pub head_sharp_concludes : (text held : List ℕ) → held ≡ head_of (final (pieces text)) → sharp_conclude study (length (front (pieces text)) + 1) held (sharp_judge study (front (pieces text))) ≡ sharp_answer study text

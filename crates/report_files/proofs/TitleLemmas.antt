@@ -1,5 +1,6 @@
 -- The title of a sharp text: a text has it exactly where its first line that ends is it.
-use Rattle.std.proofs.Common.{◌≡◌, refl, sym, ap, ◌∙◌, ℕ, zero, suc, ◌<◌, ◌≤◌, inl, inr, Bool, true, false, true≢false, not, List, [], ◌∷◌, ◌++◌, length, take, drop, arith, cond, take-append-drop}
+use mathlib.Core.Bool.{and-false}
+use Rattle.std.proofs.Common.{◌≡◌, refl, sym, ap, ◌∙◌, ℕ, suc, ◌<◌, ◌≤◌, inl, inr, Bool, true, false, true≢false, not, List, [], ◌∷◌, ◌++◌, length, take, arith, cond}
 use Rattle.std.proofs.lemmas.Bool.{and_parts, cases_Bool, cases_lt, eqb-true, not-true}
 use Rattle.std.proofs.lemmas.Slice.Eq.{bytes_eq-Decides}
 use Rattle.std.specs.List.{onto_first}
@@ -9,13 +10,10 @@ use Rattle.verdicts.specs.Judge.{has_no_end, pieces, front}
 use Rattle.sharp_verdicts.specs.Judged.{sharp_title, has_sharp_title}
 use Rattle.report_files.specs.Lines.{has_title}
 use Rattle.report_files.specs.Pieces.{head_of}
-use Rattle.report_files.proofs.PieceLemmas.{IsSome, some_pieces, front_more, length_take, take_all}
+use Rattle.report_files.proofs.PieceLemmas.{IsSome, some_pieces, front_more}
+use Rattle.std.proofs.lemmas.List.{length-take-le, take_all, take-append-le}
 
 -- ---- texts that differ
-
-and_false : (b : Bool) → (b && false) ≡ false
-and_false true = refl
-and_false false = refl
 
 -- of another number of bytes
 differ_by_length : (xs ys : List ℕ) → length ys < length xs → bytes_eq xs ys ≡ false
@@ -30,7 +28,7 @@ differ_by_length xs ys longer = elim (cases_Bool (bytes_eq xs ys)) [
 pub head_title : (line : List ℕ) → bytes_eq (head_of line) (codes "bench sharp 1") ≡ bytes_eq line (codes "bench sharp 1")
 head_title line = elim (cases_lt 4096 (length line)) [
   | inl long ↦
-      let cut : length (head_of line) ≡ 4097 = length_take 4097 line (omega (arith, long)) in
+      let cut : length (head_of line) ≡ 4097 = length-take-le 4097 line (omega (arith, long)) in
       differ_by_length (head_of line) (codes "bench sharp 1") (omega (arith, cut))
       ∙ sym (differ_by_length line (codes "bench sharp 1") (omega (arith, long)))
   | inr short ↦ ap (λ t. bytes_eq t (codes "bench sharp 1")) (take_all 4097 line (omega (arith, short)))
@@ -67,8 +65,8 @@ first_told (c ∷ t) (b ∷ text) h =
     by_test (b == 10) refl (not-true (c == 10) p.0) (first_told t text p.1)
   where
     by_pieces : (m : Bool) (ps : List (List ℕ)) → m ≡ first_is t ps → ((b == c) && m) ≡ first_is (c ∷ t) (onto_first b ps)
-    by_pieces m [] e = ap (λ x. (b == c) && x) e ∙ and_false (b == c)
-    by_pieces m (p ∷ []) e = ap (λ x. (b == c) && x) e ∙ and_false (b == c)
+    by_pieces m [] e = ap (λ x. (b == c) && x) e ∙ and-false (b == c)
+    by_pieces m (p ∷ []) e = ap (λ x. (b == c) && x) e ∙ and-false (b == c)
     by_pieces m (p ∷ q ∷ ps) e = ap (λ x. (b == c) && x) e
 
     by_none : (ps : List (List ℕ)) → false ≡ first_is (c ∷ t) ([] ∷ ps)
@@ -98,20 +96,9 @@ title_told text = first_told (codes "bench sharp 1") text refl ∙ by_pieces (pi
     by_pieces (p ∷ []) = refl
     by_pieces (p ∷ q ∷ ps) = refl
 
--- a text with the title
-pub titled_is : (text : List ℕ) → has_sharp_title text ≡ true → text ≡ codes "bench sharp 1" ++ 10 ∷ drop 14 text
-titled_is text e =
-    let same : take 14 text ≡ sharp_title = (bytes_eq-Decides (take 14 text) sharp_title).0 e in
-    sym (take-append-drop 14 text) ∙ ap (λ t. t ++ drop 14 text) same
-
 -- enough bytes of a text tell whether it has the title
 pub title_within : (bytes rest : List ℕ) → 14 ≤ length bytes → has_sharp_title (bytes ++ rest) ≡ has_sharp_title bytes
-title_within bytes rest h = ap (λ t. bytes_eq t sharp_title) (take_front 14 bytes rest h)
-  where
-    take_front : (n : ℕ) (xs ys : List ℕ) → n ≤ length xs → take n (xs ++ ys) ≡ take n xs
-    take_front zero xs ys h = refl
-    take_front (suc n) [] ys h = absurd (let bad : ⊥ = omega (arith, h) in bad)
-    take_front (suc n) (x ∷ xs) ys h = ap (λ zs. x ∷ zs) (take_front n xs ys (omega (arith, h)))
+title_within bytes rest h = ap (λ t. bytes_eq t sharp_title) (take-append-le 14 bytes rest h)
 
 -- and so does a first line that has ended
 pub title_after : (bytes rest : List ℕ) (line : List ℕ) (lines : List (List ℕ)) → front (pieces bytes) ≡ line ∷ lines → has_sharp_title (bytes ++ rest) ≡ has_title (front (pieces bytes))

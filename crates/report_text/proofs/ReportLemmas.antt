@@ -139,12 +139,6 @@ witness_there f [] (w ∷ witnesses) i d h less = absurd (false≢true h)
 witness_there f (k ∷ core) (w ∷ witnesses) zero d h less = (and_parts (f k w) (pointwise f core witnesses) h).0
 witness_there f (k ∷ core) (w ∷ witnesses) (suc i) d h less = witness_there f core witnesses i d (and_parts (f k w) (pointwise f core witnesses) h).1 (omega arith)
 
-pub as_many : (f : ℕ → Witness → Bool) (core : List ℕ) (witnesses : List Witness) → pointwise f core witnesses ≡ true → length core ≡ length witnesses
-as_many f [] [] h = refl
-as_many f [] (w ∷ witnesses) h = absurd (false≢true h)
-as_many f (k ∷ core) [] h = absurd (false≢true h)
-as_many f (k ∷ core) (w ∷ witnesses) h = ap suc (as_many f core witnesses (and_parts (f k w) (pointwise f core witnesses) h).1)
-
 -- ---- reports
 
 -- what the study is, in the version that is printed

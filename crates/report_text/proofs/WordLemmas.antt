@@ -1,5 +1,5 @@
 -- The words of reasons, one after another.
-use Rattle.std.proofs.Common.{◌≡◌, refl, sym, ap, ◌∙◌, ℕ, ◌+◌, ◌<◌, length, List, [], ◌∷◌, ◌++◌, drop, slice_get, codes, Option, Some, add-one, append-nil, drop-cons}
+use Rattle.std.proofs.Common.{◌≡◌, refl, sym, ap, ◌∙◌, ℕ, ◌+◌, ◌<◌, length, List, [], ◌∷◌, ◌++◌, drop, slice_get, Option, Some, add-one, append-nil, drop-cons}
 use Rattle.std.specs.Prelude.{slice_index}
 use Rattle.vocab.specs.declared.kinds.Sort.{Sort}
 use Rattle.vocab.specs.Formula.{prefix_of}
@@ -7,10 +7,9 @@ use Rattle.vocab.specs.Size.{Extent}
 use Rattle.vocab.specs.Study.{Question}
 use Rattle.vocab.specs.Titled.{Titled}
 use Rattle.vocab.specs.Tree.{Tree, All}
-use Rattle.meaning.specs.declared.stories.Reason.TheVariants.{Axiom as ByAxiom}
-use Rattle.verdicts.specs.Lines.{value_words, name_at, sorts_of, title_of}
+use Rattle.verdicts.specs.Lines.{value_words, sorts_of, title_of}
 use Rattle.verdicts.specs.Texts.{value_text, joined_words}
-use Rattle.report_text.specs.Pieces.{instance_text, spaced, reason_text}
+use Rattle.report_text.specs.Pieces.{instance_text, spaced}
 
 -- a blank stands before each word but the first
 pub joined_spaced : (word : List ℕ) (words : List (List ℕ)) → joined_words (word ∷ words) ≡ word ++ spaced words
@@ -28,7 +27,3 @@ next_value study size tree s rest values level v same is within at =
 pub named_instance : (study : Question) (k : ℕ) (values : List ℕ) (a : Titled) → slice_get study.axioms k ≡ Some a → a.name ++ spaced (value_words study (prefix_of a.sentence) values) ≡ instance_text study k values
 named_instance study k values a at =
     sym (ap (λ (found : Option Titled). joined_words (title_of found ∷ value_words study (sorts_of found) values)) at ∙ joined_spaced a.name (value_words study (prefix_of a.sentence) values))
-
--- as a reason
-pub axiom_text : (study : Question) (k : ℕ) (values : List ℕ) → codes "axiom " ++ instance_text study k values ≡ reason_text study (ByAxiom k values)
-axiom_text study k values = refl

@@ -1,12 +1,10 @@
 -- Axiom after axiom, up to the first that a rule does not satisfy.
-use Rattle.std.proofs.Common.{◌≡◌, ap, sym, ◌∙◌, ℕ, zero, suc, ◌+◌, ◌<◌, ◌≤◌, cond, Bool, true, List, [], ◌∷◌, length, drop, slice_get, slice_index_or, Some, None, refl, add-one, drop-cons, arith, leb-true}
-use Rattle.std.specs.Prelude.{nat_lt, nat_le}
+use Rattle.std.proofs.Common.{◌≡◌, ap, sym, ◌∙◌, ℕ, zero, suc, ◌+◌, ◌<◌, cond, Bool, true, List, [], ◌∷◌, length, drop, slice_get, slice_index_or, Some, None, refl, add-one, drop-cons, arith}
+use Rattle.std.specs.Prelude.{nat_lt}
 use Rattle.std.specs.List.{list_all}
 use Rattle.std.proofs.lemmas.Bool.{and_parts}
-use Rattle.lists.proofs.TestLaws.{all_get}
-use Rattle.vocab.specs.Formula.{body_of}
-use Rattle.vocab.specs.Limits.{depth, instance_count, atom_count, is_within_limits}
-use Rattle.vocab.specs.Study.{Question, IsStudy, is_sentence}
+use Rattle.vocab.specs.Limits.{instance_count}
+use Rattle.vocab.specs.Study.{Question}
 use Rattle.vocab.specs.Titled.{Titled}
 use Rattle.meaning.specs.Instances.{is_instance_true}
 use Rattle.meaning.specs.Truth.{is_axiom_true}
@@ -18,17 +16,6 @@ use Rattle.verdicts.proofs.TableLaws.{table_faults}
 use Rattle.rule_check.specs.Pieces.{IsLeastFalse}
 
 module _ (study : Question) (place : ℕ) (a : Titled) where
-  pub sentence_at : IsStudy study → slice_get study.axioms place ≡ Some a → is_sentence study.size a ≡ true
-  sentence_at is at = all_get (is_sentence study.size) study.axioms place a is.sentences at
-
-  pub few_at : IsStudy study → slice_get study.axioms place ≡ Some a → instance_count study.size a.sentence ≤ 40000000
-  few_at is at =
-      let within = all_get (λ (x : Titled). is_within_limits study.size x.sentence) study.axioms place a is.limits at in
-      let one = and_parts _ (nat_le (atom_count study.size a.sentence) 200000000) within in
-      let two = and_parts _ (nat_le (atom_count study.size (body_of a.sentence)) 1000000) one.0 in
-      let three = and_parts (nat_le (depth a.sentence) 64) (nat_le (instance_count study.size a.sentence) 40000000) two.0 in
-      leb-true (instance_count study.size a.sentence) 40000000 three.1
-
   -- an axiom without a false instance leaves the fault to those after it
   pub goes_on : (table places : List ℕ) → slice_get study.axioms place ≡ Some a → IsLeastFalse study.size table a 0 (instance_count study.size a.sentence) None → table_fault study table (place ∷ places) ≡ table_fault study table places
   goes_on table places at all =

@@ -1,5 +1,5 @@
 -- What is found, one rule more, and at the end.
-use Rattle.std.proofs.Common.{◌≡◌, refl, sym, ◌∙◌, ap, subst, ℕ, ◌+◌, ◌≤◌, Bool, true, false, ◌||◌, List, [], ◌∷◌, ◌++◌, length, length-append, append_assoc, append-nil, inl, inr, arith}
+use Rattle.std.proofs.Common.{◌≡◌, refl, sym, ◌∙◌, ap, subst, ℕ, ◌+◌, ◌≤◌, Bool, true, false, ◌||◌, List, [], ◌∷◌, ◌++◌, length, length-append, append_assoc, append-nil, inr, arith}
 use Rattle.std.specs.Prelude.{nat_lt}
 use Rattle.std.specs.List.{list_all, AllByRecursion}
 use Rattle.std.specs.Str.{bytes_eq}
@@ -11,7 +11,7 @@ use Rattle.vocab.specs.Study.{Question, is_sentence}
 use Rattle.cnf.specs.declared.derivations.Line.{Line}
 use Rattle.cnf.specs.ClauseList.{ClauseList, IsFullFor}
 use Rattle.cnf.specs.Derived.{IsAccepted}
-use Rattle.cnf.specs.Fresh.{is_over, IsSpent}
+use Rattle.cnf.specs.Fresh.{is_over}
 use Rattle.cnf.specs.Sat.{Clause, is_clause_true, is_satisfied}
 use Rattle.cnf.proofs.SoundLaws.{accepted_unsatisfiable}
 use Rattle.meaning.specs.StudyClauses.{clauses_for}
@@ -118,16 +118,6 @@ module _ (study : Question) (sentences : list_all (is_sentence study.size) study
         ap length put.new_is ∙ length-append put.before (table ∷ put.after)
         ∙ (let both : length tables ≡ length put.before + length put.after = ap length put.old_is ∙ length-append put.before put.after in
         let more : length put.before + length (table ∷ put.after) ≡ length tables + 1 = omega (arith, both) in more)
-
-    -- a search that spent its limit, or a list without room, cuts the list short
-    pub cut_by_search : (lines : List Line) → IsSpent (variable_count study.size) clauses study.conflicts lines → IsListCutShort study tables
-    cut_by_search lines spent = record {
-      found = f.found;
-      same = f.same;
-      left_out = f.left_out;
-      each = f.each;
-      cause = inl (lines, subst (λ (cs : List Clause). IsSpent (variable_count study.size) cs study.conflicts lines) f.is spent);
-    }
 
     pub cut_by_room : (list : ClauseList) → list.clauses ≡ clauses → (v : ℕ → Bool) (clause : Clause) → clause ≡ denial v (variable_count study.size) → IsFullFor list (length clause) → IsListCutShort study tables
     cut_by_room list same v clause is full = record {

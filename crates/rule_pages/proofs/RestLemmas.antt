@@ -1,5 +1,5 @@
 -- The numbers from one on, below another.
-use Rattle.std.proofs.Common.{◌≡◌, sym, ◌∙◌, ap, ℕ, suc, ◌+◌, ◌-◌, ◌<◌, ◌≤◌, Bool, true, false, ◌&&◌, cond, Option, None, Some, List, [], ◌∷◌, arith}
+use Rattle.std.proofs.Common.{◌≡◌, sym, ◌∙◌, ap, ℕ, suc, ◌+◌, ◌-◌, ◌<◌, Bool, true, false, ◌&&◌, cond, Option, Some, List, ◌∷◌, arith}
 use Rattle.std.specs.List.{find, list_all}
 use Rattle.vocab.specs.Range.{below, up_from}
 
@@ -14,9 +14,6 @@ module _ (t : ℕ → Bool) (n : ℕ) where
       let next : suc k ≡ k + 1 = omega arith in
       ap (up_from k) more ∙ ap (λ (j : ℕ). k ∷ up_from j (n - (k + 1))) next
 
-  end : (k : ℕ) → n ≤ k → rest k ≡ []
-  end k le = let no_more : n - k ≡ 0 = omega (arith, le) in ap (up_from k) no_more
-
   start : rest 0 ≡ below n
   start = let all : n - 0 ≡ n = omega arith in ap (up_from 0) all
 
@@ -24,17 +21,8 @@ module _ (t : ℕ → Bool) (n : ℕ) where
   abbrev pub all_from : ℕ → Bool
   all_from k = list_all t (rest k)
 
-  pub all_fails : (k : ℕ) → k < n → t k ≡ false → all_from k ≡ false
-  all_fails k lt no_ = ap (list_all t) (here k lt) ∙ ap (λ b. b && all_from (k + 1)) no_
-
   pub all_passed : (k : ℕ) → k < n → t k ≡ true → all_from (k + 1) ≡ all_from k
   all_passed k lt h = sym (ap (list_all t) (here k lt) ∙ ap (λ b. b && all_from (k + 1)) h)
-
-  pub all_ended : (k : ℕ) → n ≤ k → all_from k ≡ true
-  all_ended k le = ap (list_all t) (end k le)
-
-  pub all_start : all_from 0 ≡ list_all t (below n)
-  all_start = ap (list_all t) start
 
   -- the first number from k on that does
   abbrev pub first_from : ℕ → Option ℕ
@@ -45,9 +33,6 @@ module _ (t : ℕ → Bool) (n : ℕ) where
 
   pub first_passed : (k : ℕ) → k < n → t k ≡ false → first_from (k + 1) ≡ first_from k
   first_passed k lt h = sym (ap (find t) (here k lt) ∙ ap (λ b. cond b (Some k) (first_from (k + 1))) h)
-
-  pub first_ended : (k : ℕ) → n ≤ k → first_from k ≡ None
-  first_ended k le = ap (find t) (end k le)
 
   pub first_start : first_from 0 ≡ find t (below n)
   first_start = ap (find t) start

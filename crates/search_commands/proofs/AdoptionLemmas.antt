@@ -20,7 +20,7 @@ use Rattle.answers.specs.Studies.{GivesStudy, study_refused, study_given}
 use Rattle.answers.specs.Grounding.{all_clauses, clauses_fault, clauses_made}
 use Rattle.answers.specs.Export.{exported_formula}
 use Rattle.answers.specs.Lrat.{Said, said_of, of_derivation}
-use Rattle.answers.specs.Adopt.{IsRetold, Adopts, proof_refused, proof_retold, IsAdoption}
+use Rattle.answers.specs.Adopt.{Adopts, proof_refused, proof_retold, IsAdoption}
 use Rattle.answers.specs.Call.{AreFiles, are_told, none_read}
 use Rattle.command_parts.specs.declared.answer.Answer.{Answer}
 use Rattle.command_parts.specs.declared.answer.Answer.TheVariants as answer
@@ -47,16 +47,6 @@ module _ (study : Question) (lines : List Line) (a : Adopted) (taken : IsAdopted
 
   right : is_right study (Impossible a.core a.story a.witnesses) ≡ true
   right = and_from _ _ taken.told.accepted taken.told.core
-
-  pub report_retold : IsRetold study lines (run_of report) (text_of report)
-  report_retold = record {
-    core = a.core;
-    story = a.story;
-    witnesses = a.witnesses;
-    found = record { ends = refl; told = refl; claims_some = refl; right = right; backed = (taken.told.tidy, taken.told.logged); logs = taken.told.logs; no_sharp = refl };
-    cited = taken.cited;
-    is = refl;
-  }
 
   pub report_text : IsReportable study → HasText report
   report_text whole = reported_text study a.logs (Impossible a.core a.story a.witnesses) whole (right, (taken.told.tidy, taken.told.logged))

@@ -1,47 +1,25 @@
 -- Commands over the clauses of all axioms: the clauses are refused, or written.
-use Rattle.std.proofs.Common.{◌≡◌, ◌≢◌, ◌∙◌, refl, ap, ℕ, List, Option, Some, None, arith}
+use Rattle.std.proofs.Common.{◌≢◌, refl, ℕ, List, Some, arith}
 use Rattle.vocab.specs.Study.{Question}
 use Rattle.words.specs.Words.{Export}
-use Rattle.meaning.specs.StudyClauses.{Sourced, study_clauses}
-use Rattle.meaning.specs.Variables.{variable_count}
 use Rattle.clause_form.specs.declared.refusals.GroundFault.{GroundFault}
-use Rattle.clause_form.specs.declared.refusals.GroundFault.TheVariants.{Wide, Full, NoMemory}
+use Rattle.clause_form.specs.declared.refusals.GroundFault.TheVariants.{NoMemory}
 use Rattle.clause_form.specs.Refusals.{IsRefused}
-use Rattle.clause_form.specs.Sources.{clauses_in}
-use Rattle.clause_text.specs.Dimacs.{dimacs_text, size_text}
-use Rattle.search_logs.specs.Spent.{all_places}
 use Rattle.answers.specs.declared.runs.Run.{Run}
 use Rattle.answers.specs.Export.{IsWritten}
-use Rattle.answers.specs.Grounding.{clauses_fault, OverClauses, clauses_refused, clauses_made}
+use Rattle.answers.specs.Grounding.{clauses_fault, OverClauses, clauses_refused}
 use Rattle.answers.specs.Call.{statuses_of}
 use Rattle.answers.proofs.AmongLemmas.{found_among}
 use Rattle.command_parts.specs.declared.answer.Answer.TheVariants as answer
 use Rattle.command_parts.specs.Answers.{run_of, text_of}
 use Rattle.command_parts.proofs.StudyLemmas.{IsStudyCommand, low_among, low_at, over_low}
-
--- a refusal other than want of memory is the one of the clauses
-refused_as : (fault : GroundFault) (wanted : Option GroundFault) → fault ≢ NoMemory → IsRefused fault wanted → wanted ≡ Some fault
-refused_as (Wide place instance counts) wanted known is = is
-refused_as (Full place) wanted known is = is
-refused_as NoMemory wanted known is = absurd (known refl)
+use Rattle.answers.proofs.RowLemmas.{refusal_is}
 
 -- the clauses are refused
 pub no_clauses : (study : Question) (fault : GroundFault) (P : Type 0) → fault ≢ NoMemory → IsRefused fault (clauses_fault study)
     → OverClauses study (run_of (answer.NoClauses study fault)) (text_of (answer.NoClauses study fault)) P
 no_clauses study fault P known is =
-    clauses_refused fault (refused_as fault (clauses_fault study) known is) refl (record { ends = refl; no_verdict = refl; no_logs = refl; no_sharp = refl })
-
--- the clauses are written
-pub clauses_written : (study : Question) (clauses : List Sourced) (variables : ℕ) → clauses_fault study ≡ None
-    → clauses ≡ study_clauses study.size study.axioms (all_places study) → variables ≡ variable_count study.size
-    → OverClauses study (run_of (answer.Clauses study.size variables clauses)) (text_of (answer.Clauses study.size variables clauses))
-    (IsWritten study (run_of (answer.Clauses study.size variables clauses)) (text_of (answer.Clauses study.size variables clauses)))
-clauses_written study clauses variables none are count =
-    clauses_made none (
-      record { ends = refl; no_verdict = refl; no_logs = refl; no_sharp = refl },
-      ap (λ (n : ℕ). dimacs_text (size_text study.size) n (clauses_in clauses)) count
-          ∙ ap (λ (made : List Sourced). dimacs_text (size_text study.size) (variable_count study.size) (clauses_in made)) are,
-    )
+    clauses_refused fault (refusal_is fault (clauses_fault study) known is) refl (record { ends = refl; no_verdict = refl; no_logs = refl; no_sharp = refl })
 
 -- `export` is a command over a study
 abbrev IsRest : Question → Run → List ℕ → Type 0

@@ -5,7 +5,7 @@ use Rattle.vocab.specs.Study.{Question}
 use Rattle.words.specs.Words.{Request, Proof}
 use Rattle.search_logs.specs.declared.logs.SearchLog.{SearchLog}
 use Rattle.search_logs.specs.Spent.{AreSpentLogs}
-use Rattle.verdicts.specs.declared.verdicts.Verdict.TheVariants.{Possible, Undecided}
+use Rattle.verdicts.specs.declared.verdicts.Verdict.TheVariants.{Possible}
 use Rattle.core_reduce.specs.declared.answers.Shown.TheVariants as found
 use Rattle.core_reduce.specs.Proofs.{IsShown}
 use Rattle.answers.specs.declared.runs.Run.{Run}
@@ -27,10 +27,6 @@ module _ (study : Question) where
       → Proves study (run_of (answer.Refutation lines)) (text_of (answer.Refutation lines))
   refutation_shown lines logs right =
       refuted lines (record { trimmed = right.0; over = right.1 }) (record { ends = refl; no_verdict = refl; no_logs = refl; no_sharp = refl }) refl
-
-  pub limit_shown : (logs : List SearchLog) → IsShown study logs found.Undecided → AreSpentLogs study logs
-      → Proves study (run_of (answer.Claim Undecided logs)) (text_of (answer.Claim Undecided logs))
-  limit_shown logs among spent = undecided (record { ends = refl; told = refl; spent = among; logs = spent; no_sharp = refl }) refl
 
 -- `proof` is a command over a study
 abbrev IsRest : Question → Run → List ℕ → Type 0

@@ -1,11 +1,9 @@
 -- `sharpen`, from what a search found to what is written.
 use Rattle.std.proofs.Common.{◌≡◌, refl, ap, subst, ℕ, List, Option, Some, None, arith, le-ltb}
 use Rattle.std.specs.Prelude.{IsTrue, IsFalse, nat_lt}
-use Rattle.std.specs.Option.{option_or}
 use Rattle.std.proofs.lemmas.Bool.{or_from}
 use Rattle.vocab.specs.Study.{Question}
 use Rattle.meaning.specs.declared.clauses.Counts.{Counts}
-use Rattle.clause_form.specs.declared.refusals.GroundFault.{GroundFault}
 use Rattle.clause_form.specs.Refusals.{first_wide}
 use Rattle.search_logs.specs.declared.logs.SearchLog.{SearchLog}
 use Rattle.search_logs.specs.Spent.{all_places, AreSpentLogs}
@@ -26,16 +24,12 @@ use Rattle.command_parts.specs.Answers.{run_of, text_of}
 use Rattle.command_parts.proofs.StudyLemmas.{IsStudyCommand, IsLow, low_among, low_at, over_low}
 use Rattle.search_commands.specs.Found.{IsVerdict}
 use Rattle.search_commands.proofs.DecideLemmas.{decided as verdict_decided, decides_low}
+use Rattle.lists.proofs.OptionLaws.{none_of_either}
 
 -- ---- the total
 
--- clauses that are not refused have no instance that is too wide
-none_first : (first second : Option GroundFault) → option_or first second ≡ None → first ≡ None
-none_first None second none = refl
-none_first (Some fault) second none = absurd (cc)
-
 pub narrow : (study : Question) → clauses_fault study ≡ None → first_wide study.size study.axioms (all_places study) ≡ None
-narrow study none = none_first _ _ none
+narrow study none = (none_of_either _ _ none).0
 
 -- a total within the limits passes none
 not_over : (study : Question) → IsWithinTotal study → IsFalse (passes_clause_limits (total study))

@@ -1,5 +1,5 @@
 -- What a stack says of the sentences that begin with some lexemes.
-use Rattle.std.proofs.Common.{◌≡◌, ◌≢◌, ℕ, true, false, List, [], ◌∷◌, ◌++◌, refl, sym, ◌∙◌, subst, append_assoc, append-nil, ◌+◌, ◌≤◌, ◌<◌, length, take, get_or}
+use Rattle.std.proofs.Common.{◌≡◌, ℕ, true, false, List, [], ◌∷◌, ◌++◌, refl, sym, ◌∙◌, subst, append_assoc, append-nil, ◌+◌, ◌≤◌, ◌<◌, length, take, get_or}
 use Rattle.std.specs.List.{list_all}
 use Rattle.std.proofs.lemmas.List.{take_more, take_all}
 use Rattle.vocab.specs.NamedTree.{NamedTree}
@@ -10,8 +10,8 @@ use Rattle.sentence_fronts.specs.declared.expected.Symbol.TheVariants as symbol
 use Rattle.sentence_fronts.specs.declared.lexeme_kinds.LexemeKind.{LexemeKind}
 use Rattle.sentence_fronts.specs.declared.lexeme_kinds.LexemeKind.TheVariants as kind
 use Rattle.sentence_fronts.specs.LexemeKinds.{kind_of}
-use Rattle.sentence_fronts.specs.Expected.{Derives, a_formula, may_end, RefusesKind, Leads, Expects}
-use Rattle.sentence_fronts.specs.Fronts.{IsFront, EachMay, NoneMay, IsKindTold, IsPassed, TellsKinds, no_more, told, passed}
+use Rattle.sentence_fronts.specs.Expected.{Derives, a_formula, may_end, Leads, Expects}
+use Rattle.sentence_fronts.specs.Fronts.{IsFront, EachMay, IsKindTold, IsPassed, TellsKinds, no_more, told, passed}
 use Rattle.sentence_fronts.proofs.Moves.{one}
 use Rattle.sentence_fronts.proofs.Backs.{one_of}
 use Rattle.sentence_fronts.proofs.Hopes.{formula_of}
@@ -42,25 +42,11 @@ front_of before stack x = let r = x.back x.some.0 x.some.1 in record { rest = x.
 pub each_may : (before : List Lexeme) (stack new : List Symbol) (k : LexemeKind) → Expects before stack → Leads stack k new → EachMay before k
 each_may before stack new k x leads l e = front_of (before ++ l ∷ []) new (expects_more before stack new l k x e leads)
 
-pub none_may : (before : List Lexeme) (stack : List Symbol) (k : LexemeKind) → Expects before stack → RefusesKind stack k → NoneMay before k
-none_may before stack k x refuses l e front =
-    refuses l front.rest e (x.on (l ∷ front.rest) front.tree (subst (λ m. Reads m front.tree) (append_assoc before (l ∷ []) front.rest) front.reads))
-
 pub may_end_there : (before : List Lexeme) (stack : List Symbol) → Expects before stack → list_all may_end stack ≡ true → (f : NamedTree) × Reads before f
 may_end_there before stack x h = let r = x.back [] (complete_of stack h) in (r.0, subst (λ m. Reads m r.0) (append-nil before) r.1)
 
 pub may_not_end_there : (before : List Lexeme) (stack : List Symbol) → Expects before stack → list_all may_end stack ≡ false → (f : NamedTree) → Reads before f → ⊥
 may_not_end_there before stack x h f r = let e = completes_ends stack (x.on [] f (subst (λ m. Reads m f) (sym (append-nil before)) r)) in cc
-
-pub plain_told : (before : List Lexeme) (k : LexemeKind) → k ≢ kind.End → k ≢ kind.Sort → EachMay before k → IsKindTold before k
-plain_told before kind.End a b h = absurd (a refl)
-plain_told before kind.Sort a b h = absurd (b refl)
-plain_told before _ a b h = h
-
-pub plain_passed : (before : List Lexeme) (k : LexemeKind) → k ≢ kind.End → k ≢ kind.Sort → NoneMay before k → IsPassed before k
-plain_passed before kind.End a b h = absurd (a refl)
-plain_passed before kind.Sort a b h = absurd (b refl)
-plain_passed before _ a b h = h
 
 pub tells_told : (before : List Lexeme) (ks ts : List LexemeKind) (k : LexemeKind) → TellsKinds before ks ts → IsKindTold before k → TellsKinds before (ks ++ k ∷ []) (ts ++ k ∷ [])
 tells_told before [] [] k no_more t = told t no_more

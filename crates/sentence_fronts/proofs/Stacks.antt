@@ -1,5 +1,5 @@
 -- What a lexeme makes of a stack.
-use Rattle.std.proofs.Common.{◌≡◌, Bool, true, false, not, ◌||◌, List, [], ◌∷◌, ◌++◌, length, take, arith, refl, sym, ap, ◌∙◌, subst, Option, Some, None, append_assoc, append-nil}
+use Rattle.std.proofs.Common.{◌≡◌, Bool, true, false, not, ◌||◌, List, [], ◌∷◌, ◌++◌, length, take, refl, sym, ap, ◌∙◌, subst, Option, Some, None, append_assoc}
 use Rattle.std.specs.List.{list_all}
 use Rattle.std.proofs.Math.Seq.{take-append_seam}
 use Rattle.std.proofs.lemmas.Bool.{and_from, and_parts}
@@ -204,9 +204,6 @@ pub record Passes (stack : List Symbol) (k : LexemeKind) (rest : List Symbol) : 
   pub some : (ls : List Lexeme) → Completes stack ls → (ms : List Lexeme) × Completes rest ms
   pub settled : is_settled rest ≡ true
 
-pub passes_none : (stack : List Symbol) (k : LexemeKind) → is_settled stack ≡ true → Passes stack k stack
-passes_none stack k h = record { above = []; whole = sym (append-nil stack); on = λ l ls e g. g; back = λ l ls e g. g; some = λ ls g. (ls, g); settled = h }
-
 only_ends : (below : List Symbol) (top : Symbol) (k : LexemeKind) (l : Lexeme) (ls : List Lexeme) → expected_after top k ≡ None → kind_of l ≡ k → Completes (below ++ top ∷ []) (l ∷ ls) → (may_end top ≡ true) × Completes below (l ∷ ls)
 only_ends below top k l ls h e g =
     let s = top_split below top (l ∷ ls) g in
@@ -241,15 +238,6 @@ pub step_refused : (stack rest below : List Symbol) (top : Symbol) (k : LexemeKi
 step_refused stack rest below top k p e h t l ls i g =
     let o = only_ends below top k l ls h i (subst (λ x. Completes x (l ∷ ls)) e (p.on l ls i g)) in
     let a = o.0 in
-    cc
-
-empty_symbols : (xs : List Symbol) → length xs ≡ 0 → xs ≡ []
-empty_symbols [] h = refl
-empty_symbols (x ∷ xs) h = absurd (omega arith)
-
-pub step_empty : (stack rest : List Symbol) (k : LexemeKind) → Passes stack k rest → length rest ≡ 0 → RefusesKind stack k
-step_empty stack rest k p e l ls i g =
-    let n : l ∷ ls ≡ [] = subst (λ x. Completes x (l ∷ ls)) (empty_symbols rest e) (p.on l ls i g) in
     cc
 
 -- ---- where a sentence may end

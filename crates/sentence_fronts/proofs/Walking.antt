@@ -1,11 +1,11 @@
 -- How far a sentence goes along with a text.
-use Rattle.std.proofs.Common.{◌≡◌, ℕ, ◌-◌, ◌≤◌, ◌<◌, true, false, not, List, [], ◌∷◌, ◌++◌, length, refl, sym, ap, ◌∙◌, subst, arith, None, append_assoc, append-nil}
+use Rattle.std.proofs.Common.{◌≡◌, ℕ, ◌-◌, ◌≤◌, ◌<◌, true, not, List, [], ◌∷◌, ◌++◌, length, refl, sym, ap, ◌∙◌, subst, arith, None, append_assoc, append-nil}
 use Rattle.syntax.specs.declared.lexemes.Lexeme.{Lexeme}
 use Rattle.syntax.specs.Grammar.{Reads}
 use Rattle.syntax.specs.Lexemes.{Starts, Lexes, no_more, blank, one_more, is_white_space, starts_without}
 use Rattle.syntax.specs.Scanning.{lexeme_at}
 use Rattle.syntax.proofs.Starting.{none_starts, one_start}
-use Rattle.syntax.proofs.Lexings.{starts_longer, empty_of, starts_not_blank}
+use Rattle.syntax.proofs.Lexings.{starts_longer, starts_not_blank}
 use Rattle.sentence_fronts.specs.declared.expected.Symbol.{Symbol}
 use Rattle.sentence_fronts.specs.declared.expected.Symbol.TheVariants as symbol
 use Rattle.sentence_fronts.specs.declared.lexeme_kinds.LexemeKind.{LexemeKind}
@@ -21,20 +21,11 @@ pub record Skips (text rest : List ℕ) : Type 0 where
   pub lexed : (ls : List Lexeme) (end : List ℕ) → Lexes rest ls end → Lexes text ls end
   pub within : length rest ≤ length text
 
-pub skips_none : (text : List ℕ) → Skips text text
-skips_none text = record { lexed = λ ls end d. d; within = omega arith }
-
 pub skips_more : (text rest more : List ℕ) (c : ℕ) → Skips text rest → rest ≡ c ∷ more → is_white_space c ≡ true → Skips text more
 skips_more text rest more c s e b = record {
   lexed = λ ls end d. s.lexed ls end (subst (λ r. Lexes r ls end) (sym e) (blank b d));
   within = (let w = s.within in let n = ap length e in omega arith);
 }
-
-pub bare_at : (rest more : List ℕ) (c : ℕ) → rest ≡ c ∷ more → is_white_space c ≡ false → starts_without is_white_space rest ≡ true
-bare_at rest more c e b = rw (e, b) refl
-
-pub bare_end : (rest : List ℕ) → length rest ≡ 0 → starts_without is_white_space rest ≡ true
-bare_end rest h = rw (empty_of rest h) refl
 
 bare_not_blank : (c : ℕ) (bytes : List ℕ) → starts_without is_white_space (c ∷ bytes) ≡ true → is_white_space c ≡ true → ⊥
 bare_not_blank c bytes h b = let k : not true ≡ true = rw b at h in cc

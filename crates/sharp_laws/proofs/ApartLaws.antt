@@ -1,5 +1,5 @@
 -- No text is confirmed both as a report and as a sharp text, and the judge of reports refuses the first line of a sharp text.
-use Rattle.std.proofs.Common.{◌≡◌, refl, sym, ap, ◌∙◌, ℕ, ◌<◌, Bool, true, false, cond, List, [], ◌∷◌, ◌++◌, length, get_or, arith}
+use Rattle.std.proofs.Common.{◌≡◌, refl, sym, ap, ◌∙◌, ℕ, ◌<◌, Bool, true, false, cond, List, [], ◌∷◌, ◌++◌, length, get_or, arith, take-append-drop, drop}
 use Rattle.std.specs.Prelude.{codes, ◌==◌}
 use Rattle.std.proofs.lemmas.List.Splits.{length-slice_split}
 use Rattle.vocab.specs.Study.{Question}
@@ -11,15 +11,22 @@ use Rattle.verdicts.specs.Judge.{judge, pieces, front, final, conclude, answer}
 use Rattle.verdicts.proofs.JudgeLaws.{judge_sound as report_sound}
 use Rattle.verdicts.proofs.WordLaws.{split_ended}
 use Rattle.sharp_verdicts.specs.declared.refusals.SharpRefusal.{SharpRefusal}
-use Rattle.sharp_verdicts.specs.Judged.{AsReport, AsSharp}
+use Rattle.sharp_verdicts.specs.Judged.{AsReport, AsSharp, has_sharp_title, sharp_title}
 use Rattle.sharp_verdicts.specs.Right.{Pointed}
 use Rattle.sharp_verdicts.specs.SharpJudge.{sharp_answer}
 use Rattle.sharp_laws.proofs.JudgeLaws.{judge_sound}
+use Rattle.std.proofs.lemmas.Slice.Eq.{bytes_eq-Decides}
 
 -- the first line of a sharp text
 abbrev title : List ℕ
 title = codes "bench sharp 1"
 
+-- what has the title of a sharp text goes on after it
+pub titled_is : (text : List ℕ) → has_sharp_title text ≡ true → text ≡ sharp_title ++ drop (length sharp_title) text
+titled_is text e =
+    sym (take-append-drop (length sharp_title) text) ∙ ap (λ start. start ++ drop (length sharp_title) text) ((bytes_eq-Decides _ sharp_title).0 e)
+
+-- the judge of reports refuses its first line
 pub no_report : (study : Question) (text rest : List ℕ) → text ≡ codes "bench sharp 1" ++ 10 ∷ rest → answer study text ≡ Faulty 1 Form
 no_report study text rest e =
     ap (λ ps. conclude (length ps) (final ps) (judge study (front ps))) (ap pieces e ∙ split_ended 10 (title ∷ []) rest refl)

@@ -1,5 +1,5 @@
 -- What a right sharp verdict claims holds: its story is accepted over the study of the listed instances, so no rule makes the bodies of all of these true.
-use Rattle.std.proofs.Common.{◌≡◌, refl, sym, ap, ap₂, ◌∙◌, subst, subst₂, ℕ, zero, suc, ◌<◌, ◌⊎◌, inl, inr, Bool, true, false, not, ◌&&◌, List, [], ◌∷◌, ◌++◌, map, length, Option, Some, None, arith, true≢false, cond, eqb-true, eq-eqb, lt-ltb, ltb-true}
+use Rattle.std.proofs.Common.{◌≡◌, refl, sym, ap, ◌∙◌, subst, subst₂, ℕ, zero, suc, ◌<◌, ◌⊎◌, inl, inr, Bool, true, false, not, ◌&&◌, List, [], ◌∷◌, ◌++◌, map, length, Option, Some, None, arith, true≢false, cond, eq-eqb, lt-ltb, ltb-true}
 use Rattle.std.specs.Prelude.{◌==◌, nat_lt, slice_get}
 use Rattle.std.specs.List.{list_all, list_any}
 use Rattle.std.specs.Option.{option_map_or}
@@ -48,13 +48,9 @@ use Rattle.sharp_verdicts.proofs.DerivedLaws.{derived_get}
 use Rattle.sharp_verdicts.specs.SharpJudge.{sharp_answer}
 use Rattle.sharp_laws.specs.Laws.{HasNoRuleOfAll, SharpClaims}
 use Rattle.sharp_laws.proofs.JudgeLaws.{judge_sound}
+use Rattle.sharp_verdicts.proofs.InstanceLaws.{same_is}
 
 -- ---- places of instances
-
-pub same_is : (c d : Cited) → same_instance c d ≡ true → c ≡ d
-same_is c d e =
-    let p = and_parts (c.«axiom» == d.«axiom») (c.number == d.number) e in
-    ap₂ (λ (k n : ℕ). record { «axiom» = k; number = n }) (eqb-true c.«axiom» d.«axiom» p.0) (eqb-true c.number d.number p.1)
 
 is_same : (c d : Cited) → c ≡ d → same_instance c d ≡ true
 is_same c d e = subst (λ x. same_instance c x ≡ true) e (and_from _ _ (eq-eqb c.«axiom» c.«axiom» refl) (eq-eqb c.number c.number refl))

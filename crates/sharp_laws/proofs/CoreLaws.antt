@@ -16,6 +16,7 @@ use Rattle.meaning.specs.Cores.{is_core_from}
 use Rattle.meaning.specs.Space.{up_from}
 use Rattle.meaning.specs.Stories.{is_instance_false, refutes, is_decided, are_new, has_literals, are_forced, is_lemma, is_story_from, is_story}
 use Rattle.sharp_verdicts.specs.Instances.{reasons_of, cites_axiom, is_axiom_told, core_of}
+use Rattle.meaning.proofs.CoreLaws.{core_lower}
 
 -- ---- places that rise
 
@@ -38,10 +39,6 @@ core_above end from (c ∷ core) k h e =
       | inr later ↦ omega (arith, core_above end (c + 1) core k f.2 later, f.0)
     ]
 
-core_weaker : (end from to : ℕ) (core : List ℕ) → to ≤ from → is_core_from from end core ≡ true → is_core_from to end core ≡ true
-core_weaker end from to [] le h = refl
-core_weaker end from to (c ∷ core) le h = let f = first_place end from c core h in from_first end to c core (omega (arith, le, f.0)) f.1 f.2
-
 -- places that pass a test are a core
 filter_core : (t : ℕ → Bool) (n from : ℕ) → is_core_from from (from + n) (filter t (up_from from n)) ≡ true
 filter_core t zero from = refl
@@ -61,7 +58,7 @@ filter_core t (suc n) from = by (t from) (filter_core t n (suc from))
         from_first (from + suc n) from from (filter t (up_from (suc from) n)) (omega arith) (omega arith) rest
     by false ih =
         let moved = subst (λ (end : ℕ). is_core_from (suc from) end (filter t (up_from (suc from) n)) ≡ true) over ih in
-        core_weaker (from + suc n) (suc from) from (filter t (up_from (suc from) n)) (omega arith) moved
+        core_lower from (suc from) (from + suc n) (filter t (up_from (suc from) n)) (omega arith) moved
 
 -- a core that has exactly the places that pass a test is these places
 abbrev HasAll : (ℕ → Bool) → ℕ → ℕ → List ℕ → Type 0

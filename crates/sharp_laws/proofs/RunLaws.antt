@@ -47,6 +47,7 @@ use Rattle.sharp_laws.proofs.CoreLaws.{cited_is_core}
 use Rattle.sharp_laws.proofs.TableLaws.{none_from}
 use Rattle.sharp_laws.proofs.MarkLaws.{reason_cites, next_present}
 use Rattle.sharp_laws.proofs.TextLaws.{is_sharp_plain}
+use Rattle.verdicts.proofs.PrefixLaws.{no_witness}
 
 -- ---- lines up to the last lemma
 
@@ -325,17 +326,13 @@ module _ (study : Question) (is : IsReportable study) where
     lines_run : (ms : List Witness) → list_all (is_axiom_told story) core ≡ true → pointwise (is_mark study cs) cs ms ≡ true
         → SharpRuns sharp_start (sharp_lines study (record { core = core; story = story; instances = cs; marks = ms })) (ended ms)
     lines_run ms cited h =
-        let same : told_lines study core story ++ all_witness_lines study core [] ≡ told_lines study core story = ap (λ ls. told_lines study core story ++ ls) (no_witness core) ∙ append-nil (told_lines study core story) in
+        let same : told_lines study core story ++ all_witness_lines study core [] ≡ told_lines study core story = ap (λ ls. told_lines study core story ++ ls) (no_witness study core) ∙ append-nil (told_lines study core story) in
         let part : map Plain told_part ≡ map Plain (story_part study (record { core = core; story = story; instances = cs; marks = ms })) = ap (λ ls. map Plain (after_first (head_lines study own) ++ ls)) (sym same) in
         let tail = InstancesAre (length cs) ∷ all_mark_lines study cs ms in
         let whole = sharp_append sharp_start (standing_at AtInstances known) (ended ms) (SharpTitle ∷ map Plain told_part) (tail ++ Plain End ∷ []) told_run_sharp (past_run ms cited h) in
         sharp_over sharp_start (ended ms) ((SharpTitle ∷ map Plain told_part) ++ (tail ++ Plain End ∷ [])) (sharp_lines study (record { core = core; story = story; instances = cs; marks = ms }))
         (sym (append_assoc (SharpTitle ∷ map Plain told_part) tail (Plain End ∷ []))
         ∙ ap (λ ls. ((SharpTitle ∷ ls) ++ tail) ++ Plain End ∷ []) part) whole
-      where
-        no_witness : (core : List ℕ) → all_witness_lines study core [] ≡ []
-        no_witness [] = refl
-        no_witness (k ∷ core) = refl
 
   -- the lines of a right sharp verdict lead to its end
   abbrev pub SharpEnds : Pointed → Type 0

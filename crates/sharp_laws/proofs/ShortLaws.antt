@@ -1,6 +1,6 @@
 -- No line of a right sharp text is longer than 4,096 bytes: those up to the last lemma are lines of a right report, and the others have at most 17 words of at most 52 bytes each.
-use Rattle.std.proofs.Common.{◌≡◌, refl, sym, ap, ◌∙◌, subst, ℕ, zero, suc, ◌+◌, ◌*◌, ◌^◌, ◌<◌, ◌≤◌, Bool, true, false, not, ◌&&◌, List, [], ◌∷◌, ◌++◌, map, filter, length, arith, cond, append_assoc, append-nil, length-append, le-ltb, leb-true, eqb-true, inl, inr}
-use Rattle.std.specs.Prelude.{codes, nat_lt, nat_le, slice_get}
+use Rattle.std.proofs.Common.{◌≡◌, refl, sym, ap, ◌∙◌, subst, ℕ, ◌+◌, ◌*◌, ◌^◌, ◌<◌, ◌≤◌, Bool, true, false, not, List, [], ◌∷◌, ◌++◌, map, filter, length, arith, cond, append_assoc, append-nil, length-append, le-ltb, eqb-true, inl, inr, None, Option, Some}
+use Rattle.std.specs.Prelude.{codes, nat_lt, slice_get}
 use Rattle.std.specs.List.{list_all, flat_map}
 use Rattle.std.specs.Option.{option_map_or}
 use Rattle.std.specs.Cmp.Lexicographic.{pointwise}
@@ -8,10 +8,9 @@ use Rattle.std.proofs.lemmas.Bool.{and_parts, and_from}
 use Rattle.std.proofs.lemmas.List.{length-map}
 use Rattle.std.proofs.lemmas.List.Folds.{list_all-append}
 use Rattle.vocab.specs.declared.kinds.Sort.TheVariants.{Profile}
-use Rattle.vocab.specs.Limits.{depth, atom_count, instance_count, is_within_limits}
-use Rattle.vocab.specs.Formula.{body_of}
-use Rattle.vocab.specs.Size.{Extent, is_full, sort_count}
-use Rattle.vocab.specs.Study.{Question, HasFewAxioms}
+use Rattle.vocab.specs.Limits.{instance_count}
+use Rattle.vocab.specs.Size.{is_full, sort_count}
+use Rattle.vocab.specs.Study.{Question, HasFewAxioms, IsStudy}
 use Rattle.vocab.specs.Titled.{Titled}
 use Rattle.meaning.specs.declared.cores.Witness.{Witness}
 use Rattle.meaning.specs.declared.cores.Witness.TheVariants.{Rule, Open}
@@ -34,6 +33,8 @@ use Rattle.sharp_verdicts.specs.Right.{Pointed, is_mark, IsSharpRight}
 use Rattle.sharp_verdicts.specs.SharpLines.{SharpLine, SharpTitle, Plain, InstancesAre, NeedsRule, NeedsOpen, after_first, sharp_words, sharp_line_text, reason_at, mark_lines, all_mark_lines, story_part, sharp_lines}
 use Rattle.sharp_laws.proofs.MarkLaws.{reason_cites, listed_present}
 use Rattle.sharp_laws.proofs.RunLaws.{opens, open_is_right, right_places}
+use Rattle.verdicts.proofs.PrefixLaws.{no_witness}
+use Rattle.vocab.proofs.StudyLaws.{few_at}
 
 list_all-left : {A : Type 0} (t : A → Bool) (xs ys : List A) → list_all t (xs ++ ys) ≡ true → list_all t xs ≡ true
 list_all-left t xs ys h = (and_parts (list_all t xs) (list_all t ys) (sym (list_all-append t xs ys) ∙ h)).0
@@ -52,15 +53,12 @@ flat_within : {A B : Type 0} (f : A → List B) (xs : List A) → ((x : A) → l
 flat_within f [] h = omega arith
 flat_within f (x ∷ xs) h = let rest = flat_within f xs h in let here = h x in omega (arith, rest, here, length-append (f x) (flat_map f xs))
 
-count_within : (size : Extent) (axioms : List Titled) → list_all (λ a. is_within_limits size a.sentence) axioms ≡ true → (k : ℕ)
-    → option_map_or (λ (a : Titled). instance_count size a.sentence) (slice_get axioms k) 0 ≤ 40000000
-count_within size [] h k = omega arith
-count_within size (a ∷ axioms) h zero =
-    let p = and_parts (is_within_limits size a.sentence) (list_all (λ a. is_within_limits size a.sentence) axioms) h in
-    let q = and_parts (nat_le (depth a.sentence) 64 && nat_le (instance_count size a.sentence) 40000000 && nat_le (atom_count size (body_of a.sentence)) 1000000) (nat_le (atom_count size a.sentence) 200000000) p.0 in
-    let r = and_parts (nat_le (depth a.sentence) 64 && nat_le (instance_count size a.sentence) 40000000) (nat_le (atom_count size (body_of a.sentence)) 1000000) q.0 in
-    leb-true (instance_count size a.sentence) 40000000 (and_parts (nat_le (depth a.sentence) 64) (nat_le (instance_count size a.sentence) 40000000) r.0).1
-count_within size (a ∷ axioms) h (suc k) = count_within size axioms (and_parts (is_within_limits size a.sentence) (list_all (λ a. is_within_limits size a.sentence) axioms) h).1 k
+count_within : (study : Question) → IsStudy study → (k : ℕ) → option_map_or (λ (a : Titled). instance_count study.size a.sentence) (slice_get study.axioms k) 0 ≤ 40000000
+count_within study is k = by (slice_get study.axioms k) refl
+  where
+    by : (o : Option Titled) → slice_get study.axioms k ≡ o → option_map_or (λ (a : Titled). instance_count study.size a.sentence) o 0 ≤ 40000000
+    by None e = omega arith
+    by (Some a) e = few_at study k a is e
 
 module _ (study : Question) (is : IsReportable study) where
   abbrev pub is_sharp_short : SharpLine → Bool
@@ -80,7 +78,7 @@ module _ (study : Question) (is : IsReportable study) where
       counts k =
           let a : length (map (λ n. at k n) (below (count_at study k))) ≡ length (below (count_at study k)) = length-map (below (count_at study k)) (λ n. at k n) in
           let b : length (below (count_at study k)) ≡ count_at study k = length-up_from 0 (count_at study k) in
-          let c : count_at study k ≤ 40000000 = count_within study.size study.axioms is.taken.limits k in
+          let c : count_at study k ≤ 40000000 = count_within study is.taken k in
           omega (arith, a, b, c)
 
   few_words : (l : SharpLine) → list_all (within 52) (sharp_words study l) ≡ true → length (sharp_words study l) ≤ 77 → is_sharp_short l ≡ true
@@ -145,12 +143,8 @@ module _ (study : Question) (is : IsReportable study) where
       let front = list_all-left (is_short study is) (head ++ verdict_lines study verdict) (End ∷ []) all in
       let part = list_all-left (is_short study is) (head ++ told) witnesses (subst (λ (ls : List Line). list_all (is_short study is) ls ≡ true) (sym (append_assoc head told witnesses)) front) in
       let rest = (and_parts (is_short study is (Title (own_version study))) (list_all (is_short study is) (after_first head ++ told)) part).1 in
-      let same : told ++ all_witness_lines study v.core [] ≡ told = ap (λ ls. told ++ ls) (no_witness v.core) ∙ append-nil told in
+      let same : told ++ all_witness_lines study v.core [] ≡ told = ap (λ ls. told ++ ls) (no_witness study v.core) ∙ append-nil told in
       subst (λ (ls : List Line). list_all (is_short study is) (after_first head ++ ls) ≡ true) (sym same) rest
-    where
-      no_witness : (core : List ℕ) → all_witness_lines study core [] ≡ []
-      no_witness [] = refl
-      no_witness (k ∷ core) = refl
 
   -- each line of a right sharp text is short
   pub lines_short : HasFewAxioms study → (v : Pointed) → IsSharpRight study v → length v.story < 2 ^ 64 → list_all is_sharp_short (sharp_lines study v) ≡ true

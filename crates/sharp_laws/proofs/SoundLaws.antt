@@ -1,12 +1,12 @@
 -- Lines without a fault are the lines of a sharp verdict that is right so far.
-use Rattle.std.proofs.Common.{◌≡◌, refl, sym, ap, ap₂, ◌∙◌, subst, ℕ, ◌+◌, ◌<◌, ◌≤◌, inl, inr, Bool, true, false, List, [], ◌∷◌, ◌++◌, map, length, Option, Some, None, option_map, arith, true≢false, cond, append_assoc, length-append, lt-ltb, eqb-true, eq-eqb}
+use Rattle.std.proofs.Common.{◌≡◌, refl, sym, ap, ap₂, ◌∙◌, subst, ℕ, ◌+◌, ◌<◌, Bool, true, false, List, [], ◌∷◌, ◌++◌, map, length, Option, Some, None, arith, true≢false, cond, append_assoc, length-append, lt-ltb, eqb-true}
 use Rattle.std.specs.Prelude.{◌==◌, nat_lt, slice_get}
 use Rattle.std.specs.List.{list_all}
-use Rattle.std.specs.Option.{option_or, option_map_or}
-use Rattle.std.proofs.lemmas.Bool.{and_parts, and_from, cases_lt}
+use Rattle.std.specs.Option.{option_map_or}
+use Rattle.std.proofs.lemmas.Bool.{and_parts, and_from}
 use Rattle.std.proofs.lemmas.List.{map-append}
 use Rattle.lists.proofs.TestLaws.{all_snoc}
-use Rattle.lists.proofs.PlaceLaws.{there_is}
+use Rattle.lists.proofs.PlaceLaws.{there_is, head_same}
 use Rattle.vocab.specs.declared.kinds.Sort.TheVariants.{Profile}
 use Rattle.vocab.specs.Size.{outcome_count, sort_count}
 use Rattle.vocab.specs.Study.{Question}
@@ -17,7 +17,6 @@ use Rattle.meaning.specs.declared.stories.Reason.TheVariants.{Axiom as ByAxiom}
 use Rattle.meaning.specs.Cores.{is_core_from}
 use Rattle.meaning.specs.Stories.{is_story}
 use Rattle.meaning.specs.Truth.{is_rule}
-use Rattle.verdicts.specs.declared.refusals.Refusal.{Refusal}
 use Rattle.verdicts.specs.declared.refusals.Refusal.TheVariants as refusal
 use Rattle.verdicts.specs.declared.verdicts.Verdict.TheVariants.{Impossible}
 use Rattle.verdicts.specs.Faults.{fault_of, next_core}
@@ -41,6 +40,8 @@ use Rattle.sharp_laws.proofs.FitLaws.{IsSaid, IsCited, SharpFits}
 use Rattle.sharp_laws.proofs.CoreLaws.{core_is_cited}
 use Rattle.sharp_laws.proofs.TableLaws.{true_from}
 use Rattle.sharp_laws.proofs.MarkLaws.{are_marks, marks_within, marks_snoc, no_marks, lines_snoc, reason_same}
+use Rattle.lists.proofs.NumberLaws.{less_of}
+use Rattle.lists.proofs.OptionLaws.{none_of_either, none_of_map}
 
 -- ---- where there is no fault
 
@@ -48,20 +49,9 @@ pub none_unless : (b : Bool) (w : SharpRefusal) → unless_of b w ≡ None → b
 none_unless true w e = refl
 none_unless false w e = absurd (cc)
 
-none_first : (o p : Option SharpRefusal) → option_or o p ≡ None → (o ≡ None) × (p ≡ None)
-none_first None p e = (refl, e)
-none_first (Some w) p e = absurd (cc)
-
-none_report : (o : Option Refusal) → option_map Report o ≡ None → o ≡ None
-none_report None e = refl
-none_report (Some w) e = absurd (cc)
-
 none_test : (b : Bool) (o : Option SharpRefusal) → cond b o None ≡ None → b ≡ true → o ≡ None
 none_test true o e t = e
 none_test false o e t = absurd (true≢false (sym t))
-
-first_same : (x y : Line) (xs ys : List Line) → x ∷ xs ≡ y ∷ ys → x ≡ y
-first_same x y xs ys e = cc
 
 version_same : (a b : ℕ) → Title a ≡ Title b → a ≡ b
 version_same a b e = cc
@@ -156,7 +146,7 @@ module _ (study : Question) where
   story_at : (p : Place) (s : Standing) (ls : List Line) → Holds study p s → printed study p s ≡ Title (own_version study) ∷ ls → OnStory p s → is_story_read p ≡ true → IsStoryRead s ls
   story_at AtWitness s ls h e on r =
       let told = h.0 in
-      let own : s.version ≡ own_version study = version_same s.version (own_version study) (first_same (Title s.version) (Title (own_version study)) _ ls e) in
+      let own : s.version ≡ own_version study = version_same s.version (own_version study) (head_same (Title s.version) (Title (own_version study)) _ ls e) in
       record {
         accepted = told.story;
         places = told.core;
@@ -168,7 +158,7 @@ module _ (study : Question) where
       }
   story_at (AtEnd v) s ls h e on r =
       let right = and_parts (is_story study.size study.axioms s.core s.earlier) _ (subst (λ w. is_right study w ≡ true) on.1 h.0.0) in
-      let own : s.version ≡ own_version study = version_same s.version (own_version study) (first_same (Title s.version) (Title (own_version study)) _ ls e) in
+      let own : s.version ≡ own_version study = version_same s.version (own_version study) (head_same (Title s.version) (Title (own_version study)) _ ls e) in
       record {
         accepted = right.0;
         places = (and_parts (is_core_from 0 (length study.axioms) s.core) _ right.1).0;
@@ -238,12 +228,6 @@ module _ (study : Question) where
           (r.accepted, r.places, marks, e ∙ ap (λ xs. SharpTitle ∷ map Plain xs) r.lines)
       by_test false t = (ls, h, t, marks, rows, e)
 
-  less_of : (n m : ℕ) → n ≤ m → (n == m) ≡ false → n < m
-  less_of n m h e = elim (cases_lt n m) [
-    | inl l ↦ l
-    | inr ge ↦ absurd (true≢false (sym (eq-eqb n m (omega (arith, h, ge))) ∙ e))
-  ]
-
   -- after a mark, or where none is wanted
   to_mark : (s : SharpStanding) (lines : List SharpLine) → IsMarked s.told s.marks → lines ≡ with_marks s.told s.marks → HasSharpRead (after_mark study s) lines
   to_mark s lines h e = by_test (length s.marks == length (listed_in s.told)) refl
@@ -287,7 +271,7 @@ module _ (study : Question) where
   report_line : (s : SharpStanding) (lines : List SharpLine) (k : Line) → SharpHolds AtReport s lines → SharpFits study AtReport s.told (Plain k)
       → sharp_fault study (stand AtReport s) (Plain k) ≡ None → HasSharpRead (advance_sharp study (stand AtReport s) (Plain k)) (lines ++ Plain k ∷ [])
   report_line s lines k (ls, reading, more_lines, marks, rows, e) f fault =
-      let none = none_report (fault_of study s.told k) fault in
+      let none = none_of_map Report (fault_of study s.told k) fault in
       let more : IsReading (advance study s.told k) (ls ++ k ∷ []) = record {
         read = step_read_so study s.told k (Title (own_version study) ∷ ls) reading.read f.0 none;
         on = story_next s.told.place s.told k reading.on more_lines f.0 f.1 none;
@@ -298,7 +282,7 @@ module _ (study : Question) where
   instances_line : (s : SharpStanding) (lines : List SharpLine) (n : ℕ) → SharpHolds AtInstances s lines
       → sharp_fault study (stand AtInstances s) (InstancesAre n) ≡ None → HasSharpRead (advance_sharp study (stand AtInstances s) (InstancesAre n)) (lines ++ InstancesAre n ∷ [])
   instances_line s lines n (accepted, places, empty, e) fault =
-      let f = none_first (unless_of (list_all (is_axiom_told s.told.earlier) s.told.core) (Report refusal.Core)) _ fault in
+      let f = none_of_either (unless_of (list_all (is_axiom_told s.told.earlier) s.told.core) (Report refusal.Core)) _ fault in
       let told = none_unless (list_all (is_axiom_told s.told.earlier) s.told.core) (Report refusal.Core) f.0 in
       let count : n ≡ length (listed_in s.told) = eqb-true n _ (none_unless (n == length (listed_in s.told)) Instance f.1) in
       let marked : IsMarked s.told s.marks = record {
@@ -323,7 +307,7 @@ module _ (study : Question) where
       → sharp_fault study (stand AtNeed s) (NeedsRule (ByAxiom k values) n) ≡ None
       → HasSharpRead (advance_sharp study (stand AtNeed s) (NeedsRule (ByAxiom k values) n)) (lines ++ NeedsRule (ByAxiom k values) n ∷ [])
   rule_line s lines k values n (marked, empty, c, next, e) f fault =
-      let g = none_first (instance_fault study (next_instance study s) (ByAxiom k values)) _ fault in
+      let g = none_of_either (instance_fault study (next_instance study s) (ByAxiom k values)) _ fault in
       let reason = next_cited (next_instance study s) c k values next f g.0 in
       let count : n ≡ P = eqb-true n P (none_unless (n == P) (Report refusal.Row) g.1) in (
         marked,
@@ -339,7 +323,7 @@ module _ (study : Question) where
       → sharp_fault study (stand AtNeed s) (NeedsOpen (ByAxiom k values) n) ≡ None
       → HasSharpRead (advance_sharp study (stand AtNeed s) (NeedsOpen (ByAxiom k values) n)) (lines ++ NeedsOpen (ByAxiom k values) n ∷ [])
   open_line s lines k values n (marked, empty, c, next, e) f fault =
-      let g = none_first (instance_fault study (next_instance study s) (ByAxiom k values)) _ fault in
+      let g = none_of_either (instance_fault study (next_instance study s) (ByAxiom k values)) _ fault in
       let reason = next_cited (next_instance study s) c k values next f g.0 in
       let limit = none_unless (n == study.conflicts) (Report refusal.OpenMark) g.1 in
       to_mark (record s { place = AtNeed; marks = s.marks ++ Open n ∷ [] }) (lines ++ NeedsOpen (ByAxiom k values) n ∷ []) (marked_more s.told s.marks c (Open n) marked next limit)
@@ -350,7 +334,7 @@ module _ (study : Question) where
   row_line : (s : SharpStanding) (lines : List SharpLine) (p o : ℕ) → SharpHolds AtNeedRow s lines → o < K
       → sharp_fault study (stand AtNeedRow s) (Plain (Row p o)) ≡ None → HasSharpRead (advance_sharp study (stand AtNeedRow s) (Plain (Row p o))) (lines ++ Plain (Row p o) ∷ [])
   row_line s lines p o (marked, inside, c, next, e) l fault =
-      let f = none_first (unless_of (p == length s.rows) (Report refusal.Row)) _ fault in
+      let f = none_of_either (unless_of (p == length s.rows) (Report refusal.Row)) _ fault in
       let same : p ≡ length s.rows = eqb-true p (length s.rows) (none_unless (p == length s.rows) (Report refusal.Row) f.0) in
       let longer : length table ≡ length s.rows + 1 = length-append s.rows (o ∷ []) in
       let rows : map Plain (row_lines 0 s.rows) ++ Plain (Row p o) ∷ [] ≡ map Plain (row_lines 0 table) =

@@ -1,10 +1,9 @@
 -- The words of a line, cut off its end.
-use Rattle.std.proofs.Common.{◌≡◌, ◌≢◌, refl, sym, ap, ◌∙◌, subst, ℕ, suc, ◌+◌, ◌-◌, ◌<◌, ◌≤◌, Bool, true, false, not, List, [], ◌∷◌, ◌++◌, length, take, drop, drop-cons, arith, append_assoc, length-append}
-use Rattle.std.specs.Prelude.{◌==◌, get_or}
+use Rattle.std.proofs.Common.{◌≡◌, refl, sym, ap, ◌∙◌, ℕ, suc, ◌+◌, ◌-◌, ◌≤◌, Bool, true, false, not, List, [], ◌∷◌, ◌++◌, length, take, drop, drop-cons, arith}
+use Rattle.std.specs.Prelude.{◌==◌}
 use Rattle.std.specs.List.{list_all, onto_first}
-use Rattle.std.proofs.lemmas.Bool.{and_parts, and_from, not-true}
-use Rattle.std.proofs.lemmas.Bool.Decides.{Decides-eqb}
-use Rattle.std.proofs.lemmas.List.{take-append-drop, take_all, drop_all, length-drop}
+use Rattle.std.proofs.lemmas.Bool.{and_parts, not-true}
+use Rattle.std.proofs.lemmas.List.{take-append-drop, take_all, length-drop}
 use Rattle.std.proofs.lemmas.List.Splits.{slice_split-cons_yes, slice_split-cons_no}
 use Rattle.verdicts.specs.Texts.{words_of}
 use Rattle.report_lines.specs.Rest.{words_after}
@@ -13,23 +12,6 @@ use Rattle.sharp_lines.specs.Said.{HasNoBlank, IsLastBlank}
 
 abbrev is_blank : ℕ → Bool
 is_blank b = b == 32
-
--- ---- the last blank
-
--- past the end there is none
-pub none_past : (text : List ℕ) (k : ℕ) → k ≡ length text → HasNoBlank (drop k text)
-none_past text k e = subst HasNoBlank (sym (drop_all k text (omega (arith, e)))) refl
-
--- one byte more that is none
-pub one_before : (text : List ℕ) (k : ℕ) → k < length text → get_or text k 0 ≢ 32 → HasNoBlank (drop (k + 1) text) → HasNoBlank (drop k text)
-one_before text k lt other_byte h =
-    let up : suc k ≡ k + 1 = omega arith in
-    let here : drop k text ≡ get_or text k 0 ∷ drop (k + 1) text = drop-cons text k 0 lt ∙ ap (λ (n : ℕ). get_or text k 0 ∷ drop n text) up in
-    subst HasNoBlank (sym here) (and_from _ _ (other (get_or text k 0 == 32) refl) h)
-  where
-    other : (b : Bool) → (get_or text k 0 == 32) ≡ b → not b ≡ true
-    other true e = absurd (other_byte ((Decides-eqb (get_or text k 0) 32).0 e))
-    other false e = refl
 
 -- ---- words
 
@@ -84,11 +66,3 @@ one_at_most (c ∷ t) h =
     let e = and_parts (not (c == 32)) (list_all (λ b. not (b == 32)) t) h in
     let one : length (words_of t) ≡ 1 = ap length (whole t e.1) in
     omega (arith, one)
-
--- ---- two words
-
-pub two_at_most : (words front : List (List ℕ)) (last : List ℕ) → words ≡ front ++ last ∷ [] → length front ≤ 1 → length words ≤ 2
-two_at_most words front last e h = let n : length words ≡ length (front ++ last ∷ []) = ap length e in omega (arith, n, length-append front (last ∷ []), h)
-
-pub two : (words front before : List (List ℕ)) (word last : List ℕ) → words ≡ front ++ last ∷ [] → front ≡ before ++ word ∷ [] → words ≡ before ++ word ∷ last ∷ []
-two words front before word last e f = e ∙ ap (λ (ws : List (List ℕ)). ws ++ last ∷ []) f ∙ append_assoc before (word ∷ []) (last ∷ [])

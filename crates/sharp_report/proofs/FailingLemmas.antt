@@ -1,5 +1,5 @@
 -- The first of some instances whose body is false of a table.
-use Rattle.std.proofs.Common.{◌≡◌, refl, ap, subst, ℕ, zero, suc, ◌+◌, ◌≤◌, Bool, true, List, [], ◌∷◌, length, slice_get, Option, Some, arith, ltb-true, lt-ltb, map, inl, inr}
+use Rattle.std.proofs.Common.{◌≡◌, refl, ap, subst, ℕ, ◌+◌, ◌≤◌, Bool, true, List, [], ◌∷◌, length, slice_get, Option, Some, arith, ltb-true, lt-ltb, map, inl, inr}
 use Rattle.std.specs.Prelude.{nat_lt}
 use Rattle.std.specs.List.{list_all}
 use Rattle.std.specs.Option.{option_map_or}
@@ -44,9 +44,3 @@ module _ (study : Question) where
 
   pub listed_present : (story : List Lemma) → list_all (is_present study) (instances_of study story) ≡ true
   listed_present story = all_by (is_present study) (instances_of study story) (λ c i. there c (in_filter (is_told study story) (all_instances study) c i).0)
-
--- what holds of each holds of the one at a place
-pub one_present : (study : Question) (cs : List Cited) (i : ℕ) (c : Cited) → list_all (is_present study) cs ≡ true → slice_get cs i ≡ Some c → is_present study c ≡ true
-one_present study [] i c h e = absurd (cc)
-one_present study (d ∷ cs) zero c h e = let same : d ≡ c = cc in subst (λ (x : Cited). is_present study x ≡ true) same (and_parts (is_present study d) (list_all (is_present study) cs) h).0
-one_present study (d ∷ cs) (suc i) c h e = one_present study cs i c (and_parts (is_present study d) (list_all (is_present study) cs) h).1 e

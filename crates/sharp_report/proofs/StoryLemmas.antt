@@ -37,6 +37,7 @@ use Rattle.sharp_report.specs.declared.places.SharpPlace.TheVariants as place
 use Rattle.sharp_report.specs.Cited.{codes_of_line, names_of_line, says_possible, has_axiom, Cites}
 use Rattle.sharp_report.specs.SharpStands.{held_sharp_place, own_title, HoldsAt, SharpStands, IsReadWithin, SharpTook, IsSharpTaken}
 use Rattle.sharp_report.proofs.CitedLemmas.{named_line, After, next, core_told}
+use Rattle.lists.proofs.OptionLaws.{same_in_some}
 
 -- a place is held as itself
 pub same_place : (p q : SharpPlace) → held_sharp_place p ≡ held_sharp_place q → p ≡ q
@@ -79,7 +80,7 @@ module _ (study : Question) where
     -- it is taken
     pub title_taken : (told : Judging) (line : HeldLine) → read_title study text ≡ Some SharpTitle → IsTaken study s.told own told (Ok line) → IsSharpTaken study s text (record r { place = place.AtReport; told = told }) (Ok said.Title)
     title_taken told line read h2 =
-        let same : h2.0 ≡ Title (own_version study) = some_same h2.0 (Title (own_version study)) (sym h2.1 ∙ own_line) in
+        let same : h2.0 ≡ Title (own_version study) = same_in_some h2.0 (Title (own_version study)) (sym h2.1 ∙ own_line) in
         let t : Standing = advance study s.told (Title (own_version study)) in
         let stands : Stands study told t = subst (λ (w : Line). Stands study told (advance study s.told w)) same h2.4 in
         let none : r.cited.items ≡ [] = (subst (λ p. HoldsAt study p r s) at h.at).1 in
@@ -91,9 +92,6 @@ module _ (study : Question) where
           record { place = refl; told = stands; marks = h.marks; rows = h.rows; at = (refl, cites) },
           λ n i. record { lines = own_title study ∷ []; few = omega arith; good = own_judged ∙ ap (λ (u : Standing). Good (advance study u (Title (own_version study)))) (sym begins) },
         )
-      where
-        some_same : (v w : Line) → Some v ≡ Some w → v ≡ w
-        some_same v w e = cc
 
     -- and has no fault
     pub title_good : (told : Judging) (word : Refusal) → IsTaken study s.told own told (Err word) → ⊥

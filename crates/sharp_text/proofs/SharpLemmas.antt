@@ -108,12 +108,6 @@ mark_there f [] (m ∷ marks) i c d h less = absurd (false≢true h)
 mark_there f (k ∷ instances) (m ∷ marks) zero c d h less = (and_parts (f k m) (pointwise f instances marks) h).0
 mark_there f (k ∷ instances) (m ∷ marks) (suc i) c d h less = mark_there f instances marks i c d (and_parts (f k m) (pointwise f instances marks) h).1 (omega arith)
 
-pub as_many_marks : (f : Cited → Witness → Bool) (instances : List Cited) (marks : List Witness) → pointwise f instances marks ≡ true → length instances ≡ length marks
-as_many_marks f [] [] h = refl
-as_many_marks f [] (m ∷ marks) h = absurd (false≢true h)
-as_many_marks f (k ∷ instances) [] h = absurd (false≢true h)
-as_many_marks f (k ∷ instances) (m ∷ marks) h = ap suc (as_many_marks f instances marks (and_parts (f k m) (pointwise f instances marks) h).1)
-
 -- ---- all of it
 
 -- what the study is after the title, and the story

@@ -1,11 +1,11 @@
 -- The marks of the instances that a story cites, from the witnesses of the core over which it was told.
-use Rattle.std.proofs.Common.{◌≡◌, refl, sym, ◌∙◌, ap, ap₂, subst, ℕ, zero, suc, ◌+◌, ◌<◌, ◌≤◌, Bool, true, false, ◌||◌, ◌&&◌, ◌==◌, not, ◌⊎◌, inl, inr, List, [], ◌∷◌, ◌++◌, map, filter, take, length, arith, Option, Some, None, All, true≢false, ltb-true, lt-ltb, eqb-true, eq-eqb}
-use Rattle.std.specs.Prelude.{nat_lt, slice_get, Any, if◌then◌else◌}
+use Rattle.std.proofs.Common.{◌≡◌, refl, sym, ◌∙◌, ap, ap₂, subst, ℕ, zero, suc, ◌+◌, ◌<◌, ◌≤◌, Bool, true, false, ◌||◌, ◌&&◌, ◌==◌, not, ◌⊎◌, inl, inr, List, [], ◌∷◌, ◌++◌, map, filter, take, length, arith, Option, Some, None, All, true≢false, ltb-true, eqb-true, eq-eqb}
+use Rattle.std.specs.Prelude.{nat_lt, slice_get, if◌then◌else◌}
 use Rattle.std.specs.Cmp.Lexicographic.{pointwise}
 use Rattle.std.specs.List.{list_all, list_any, AllByRecursion}
 use Rattle.std.proofs.lemmas.List.Elements.{All-from_recursion}
 use Rattle.std.specs.Option.{option_map_or}
-use Rattle.std.proofs.lemmas.Bool.{and_from, and_parts, cases_lt, or_cases, or_left, or_right, or_parts}
+use Rattle.std.proofs.lemmas.Bool.{and_from, and_parts, or_cases, or_left, or_right, or_parts, ltb-false, not-true}
 use Rattle.std.proofs.lemmas.Option.{slice_get_within}
 use Rattle.lists.proofs.TestLaws.{all_get}
 use Rattle.vocab.specs.Size.{Extent}
@@ -37,18 +37,13 @@ use Rattle.sharp_verdicts.proofs.DerivedLaws.{derived_get}
 use Rattle.told_instances.proofs.ToldLaws.{in_has, has_in}
 use Rattle.sharpen.specs.Marks.{derived_instance, marks_kept}
 use Rattle.sharpen.proofs.ToldLaws.{told_in_core}
+use Rattle.sharp_verdicts.proofs.InstanceLaws.{same_is}
+use Rattle.core_reduce.proofs.CoreLaws.{some_map}
 
 -- ---- equal instances
 
 same_self : (c : Cited) → same_instance c c ≡ true
 same_self c = and_from _ _ (eq-eqb c.«axiom» c.«axiom» refl) (eq-eqb c.number c.number refl)
-
-same_equal : (c d : Cited) → same_instance c d ≡ true → c ≡ d
-same_equal c d h =
-    let p = and_parts (c.«axiom» == d.«axiom») (c.number == d.number) h in
-    let k = eqb-true c.«axiom» d.«axiom» p.0 in
-    let n = eqb-true c.number d.number p.1 in
-    λ i. record { «axiom» = k i; number = n i }
 
 -- ---- the instance at a place
 
@@ -170,16 +165,13 @@ rises_at b (x ∷ xs) (suc k) (suc j) h lt in_j = rises_at (code_of x) xs k j h.
 
 -- ---- the evidence of the marks
 
-some_map : (P Q : SearchLog → Type 0) (logs : List SearchLog) → ((log : SearchLog) → P log → Q log) → Any P logs → Any Q logs
-some_map P Q logs f a = (a.0, a.1, a.2, a.3, f a.1 a.4)
-
 module _ (study : Question) (instances : List Cited) (rising : AreRisingInstances instances) where
   apart : (c : Cited) (k p : ℕ) (o : Option Cited) → slice_get instances k ≡ Some c → slice_get instances p ≡ o → (p == k) ≡ false → option_map_or (λ d. same_instance c d) o false ≡ false
   apart c k p None e f differ = refl
   apart c k p (Some d) e f differ = by (same_instance c d) refl
     where
       by : (b : Bool) → same_instance c d ≡ b → same_instance c d ≡ false
-      by true is = absurd (true≢false (sym (eq-eqb p k (one_place 0 instances p k c rising (f ∙ ap (λ (x : Cited). Some x) (sym (same_equal c d is))) e)) ∙ differ))
+      by true is = absurd (true≢false (sym (eq-eqb p k (one_place 0 instances p k c rising (f ∙ ap (λ (x : Cited). Some x) (sym (same_is c d is))) e)) ∙ differ))
       by false is = is
 
   not_chosen : (c : Cited) (k : ℕ) (ps : List ℕ) → slice_get instances k ≡ Some c → has_place ps k ≡ false → list_any (λ j. option_map_or (λ d. same_instance c d) (slice_get instances j) false) ps ≡ false
@@ -255,7 +247,7 @@ in_any (x ∷ xs) c (inr i) = or_right (same_instance c x) (has_instance xs c) (
 any_in : (xs : List Cited) (c : Cited) → has_instance xs c ≡ true → IsIn xs c
 any_in [] c h = absurd (true≢false (sym h))
 any_in (x ∷ xs) c h = elim (or_cases (same_instance c x) (has_instance xs c) h) [
-  | inl e ↦ inl (sym (same_equal c x e))
+  | inl e ↦ inl (sym (same_is c x e))
   | inr e ↦ inr (any_in xs c e)
 ]
 
@@ -276,12 +268,6 @@ core_by from end (k ∷ core) h =
 pub core_within : (end : ℕ) (core : List ℕ) → is_core_from 0 end core ≡ true → All (λ j. j < end) core
 core_within end core h = All-from_recursion (λ j. j < end) core (core_by 0 end core h)
 
-not_before : (k from : ℕ) → not (nat_lt k from) ≡ true → from ≤ k
-not_before k from h = elim (cases_lt k from) [
-  | inl l ↦ absurd (true≢false (sym h ∙ ap not (lt-ltb k from l)))
-  | inr m ↦ omega (arith, m)
-]
-
 core_rises : (instances : List Cited) (b from : ℕ) (core : List ℕ) → AreRisingInstances instances → ((k : ℕ) → from ≤ k → k < length instances → b < code_of (derived_instance instances k)) → is_core_from from (length instances) core ≡ true
     → RisesFrom b (map code_of (map (derived_instance instances) core))
 core_rises instances b from [] rising over h = record {}
@@ -289,7 +275,7 @@ core_rises instances b from (k ∷ core) rising over h =
     let p = and_parts (not (nat_lt k from) && nat_lt k (length instances)) (is_core_from (k + 1) (length instances) core) h in
     let q = and_parts (not (nat_lt k from)) (nat_lt k (length instances)) p.0 in
     let lt = ltb-true k (length instances) q.1 in
-    (over k (not_before k from q.0) lt, core_rises instances (code_of (derived_instance instances k)) (k + 1) core rising (λ j le in_j. rises_at 0 instances k j rising (omega (arith, le)) in_j) p.1)
+    (over k (ltb-false k from (not-true _ q.0)) lt, core_rises instances (code_of (derived_instance instances k)) (k + 1) core rising (λ j le in_j. rises_at 0 instances k j rising (omega (arith, le)) in_j) p.1)
 
 all_there : (study : Question) (instances : List Cited) (ks : List ℕ) → list_all (is_present study) instances ≡ true → AllByRecursion (λ j. j < length instances) ks → list_all (is_present study) (map (derived_instance instances) ks) ≡ true
 all_there study instances [] present h = refl

@@ -12,12 +12,7 @@ use Rattle.cnf.specs.Trimmed.{is_empty_clause}
 use Rattle.cnf.proofs.LitLaws.{all_members}
 use Rattle.cnf.specs.Fresh.{AreOver, added_by, is_over}
 use Rattle.cnf.specs.declared.derivations.Line.{Line}
-use Rattle.propagate.specs.Values.{StaysWithin}
 use Rattle.simpler_proofs.specs.Made.{EachPasses, is_pair, is_part, is_part_of, has_at_most}
-
--- the variables of a clause that is over so many
-pub stays_within : (n : ℕ) (clause : Clause) → is_over n clause ≡ true → StaysWithin n clause
-stays_within n clause h i d lt = leb-true _ _ (and_parts _ _ (all_read (λ (l : Signed). nat_le 1 l.variable && nat_le l.variable n) clause i d lt h)).1
 
 -- what is added at level 0 is empty
 pub over_propagated : (n m : ℕ) (lines more : List Line) → m ≡ n → AreOver n lines → ((test : Clause → Bool) → test [] ≡ true → EachPasses test lines → EachPasses test more) → AreOver m more

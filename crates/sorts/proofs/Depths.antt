@@ -40,16 +40,13 @@ predicate_depth size around Ranks ts are = three_terms size around _ _ _ (λ us.
 
 mutual
   term_as_deep : (size : Extent) (scope : Scope) (t : NamedTermTree) → term_faults size scope t ≡ [] → limits.term_depth (resolved_term size scope t) ≡ term_depth t
-  term_as_deep size scope (tree.Var name) none = refl
-  term_as_deep size scope (tree.Voter i) none = refl
-  term_as_deep size scope (tree.Alt x) none = refl
-  term_as_deep size scope (tree.Ballot letters) none = refl
   term_as_deep size scope (tree.Call name ts) none =
       let right = function_right name (function_of name) (argument_count ts) (λ sorts. argument_faults size scope name 1 sorts ts) none in
       let own = are_right size scope name 1 (function_sorts right.0) ts right.2 right.3 in
       let are = terms_sorted size scope (function_sorts right.0) ts own in
       ap (λ o. limits.term_depth (function_tree o (resolved_terms size scope ts))) right.1
       ∙ function_depth size (outermost_first scope) right.0 (resolved_terms size scope ts) are ∙ ap suc (terms_as_deep size scope (function_sorts right.0) ts own)
+  term_as_deep size scope p none = refl
 
   terms_as_deep : (size : Extent) (scope : Scope) (sorts : List Sort) (ts : NamedTermTrees) → AreRight size scope sorts ts → deepest (resolved_terms size scope ts) ≡ terms_depth ts
   terms_as_deep size scope sorts tree.NoArguments h = refl
@@ -94,11 +91,4 @@ formula_quantified size scope (tree.Exists name s f) = one_as_deep _ _ (formula_
 
 pub formula_leading : (size : Extent) (scope : Scope) (f : NamedTree) → prefix_of (resolved size scope f) ≡ leading_sorts f
 formula_leading size scope (tree.All name s f) = ap (λ l. s ∷ l) (formula_leading size ((name, s) ∷ scope) f)
-formula_leading size scope (tree.Pred name ts) = refl
-formula_leading size scope (tree.Equal s t) = refl
-formula_leading size scope (tree.Not f) = refl
-formula_leading size scope (tree.Both f g) = refl
-formula_leading size scope (tree.Either f g) = refl
-formula_leading size scope (tree.Implies f g) = refl
-formula_leading size scope (tree.Same f g) = refl
-formula_leading size scope (tree.Exists name s f) = refl
+formula_leading size scope p = refl

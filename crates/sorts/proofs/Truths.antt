@@ -50,9 +50,6 @@ module _ (size : Extent) where
         let bound = has_value (sort_in name scope) _ none in
         let found = value_at_level name scope bound.0 assignment same bound.1 in
         found.2 ∙ sym (ap (λ o. unwrap_or o 0) found.1)
-    term_value scope assignment same (tree.Voter i) none = refl
-    term_value scope assignment same (tree.Alt x) none = refl
-    term_value scope assignment same (tree.Ballot letters) none = refl
     term_value scope assignment same (tree.Call name ts) none =
         let right = function_right name (function_of name) (argument_count ts) (λ sorts. argument_faults size scope name 1 sorts ts) none in
         let own = are_right size scope name 1 (function_sorts right.0) ts right.2 right.3 in
@@ -60,6 +57,7 @@ module _ (size : Extent) where
         ap (λ o. value size (outermost_first assignment) (function_tree o (resolved_terms size scope ts))) right.1
         ∙ value_of_function size (outermost_first scope) (outermost_first assignment) right.0 (resolved_terms size scope ts) are
         ∙ ap₂ (function_value size) (sym right.1) (term_values scope assignment same (function_sorts right.0) ts own)
+    term_value scope assignment same p none = refl
 
     term_values : (scope : Scope) (assignment : Assignment) → names_of assignment ≡ names_of scope → (sorts : List Sort) (ts : NamedTermTrees) → AreRight size scope sorts ts
         → map (value size (outermost_first assignment)) (resolved_terms size scope ts) ≡ named_values size assignment ts

@@ -1,12 +1,10 @@
 -- What holds of each item of a list holds at each place.
-use Rattle.std.proofs.Common.{◌≡◌, sym, ap, ap₂, refl, ℕ, zero, suc, ◌<◌, Bool, true, ◌&&◌, inl, inr, List, [], ◌∷◌, map, take, length, arith, true≢false, eqb-true, ltb-true, Some}
-use Rattle.std.specs.Prelude.{◌==◌, nat_lt, slice_get}
+use Rattle.std.proofs.Common.{◌≡◌, sym, ap, ap₂, refl, ℕ, zero, suc, ◌<◌, Bool, true, ◌&&◌, inl, inr, List, [], ◌∷◌, map, take, length, arith, true≢false, eqb-true, ltb-true}
+use Rattle.std.specs.Prelude.{◌==◌, nat_lt}
 use Rattle.std.specs.List.{list_all, list_any}
 use Rattle.std.proofs.lemmas.Bool.{and_parts, and_from, or_cases}
-use Rattle.lists.proofs.TestLaws.{all_get}
 use Rattle.vocab.specs.declared.literals.Literal.{Literal}
 use Rattle.vocab.specs.Literal.{opposite_of, has}
-use Rattle.vocab.specs.Study.{Question, IsStudy, is_sentence}
 use Rattle.vocab.specs.Titled.{Titled}
 use Rattle.meaning.specs.Stories.{are_false}
 use Rattle.meaning.proofs.LiteralLaws.{opposite-opposite}
@@ -27,10 +25,6 @@ core_place axioms (c ∷ core) k h own =
       | inl e ↦ let same : c ≡ k = eqb-true c k e in let lt = ltb-true c (length axioms) p.0 in omega arith
       | inr e ↦ core_place axioms core k e p.1
     ]
-
--- the axiom at a place is a sentence
-pub sentence_at : (study : Question) (place : ℕ) (a : Titled) → IsStudy study → slice_get study.axioms place ≡ Some a → is_sentence study.size a ≡ true
-sentence_at study place a is at = all_get (is_sentence study.size) study.axioms place a is.sentences at
 
 -- the opposites of a lemma's claim are what it supposes
 pub claim_false : (known ls : List Literal) → are_false known (map opposite_of ls) ≡ list_all (has known) ls

@@ -1,4 +1,5 @@
 -- The rankings whose texts are listed, as digits of a number, one text after another.
+use mathlib.Core.Bool.{or-false}
 use Rattle.std.proofs.Common.{◌≡◌, ◌≢◌, refl, sym, ◌∙◌, ap, subst, ℕ, zero, suc, ◌+◌, ◌*◌, ◌^◌, ◌%◌, ◌<◌, ◌≤◌, List, [], ◌∷◌, ◌++◌, length, get_or, take, drop, Bool, true, false, not, ◌&&◌, ◌||◌, if◌then◌else◌, Some, Ok, Err, inl, inr, bit_or, arith}
 use Rattle.std.specs.Prelude.{◌==◌}
 use Rattle.std.specs.Int.{bit_at, w128}
@@ -8,14 +9,13 @@ use Rattle.std.proofs.lemmas.Bool.{and_from, cases_eq, eq-eqb, ne_eqb, not_from_
 use Rattle.std.proofs.lemmas.Slice.Eq.{bytes_eq-Decides}
 use Rattle.std.proofs.lemmas.List.{drop_all, drop_more, take_all, take_more}
 use Rattle.std.proofs.lemmas.List.Folds.{list_any-append}
-use Rattle.std.proofs.lemmas.Nat.{one_shl, or_lt, pow_below, pow_pos}
-use Rattle.std.proofs.lemmas.Nat.Bits.{bit_at-zero, bit_at_set_other, bit_at_set_same}
+use Rattle.std.proofs.lemmas.Nat.{one_shl, or_lt, pow_below}
+use Rattle.std.proofs.lemmas.Nat.Bits.{bit_at_set_other, bit_at_set_same}
 use Rattle.lists.proofs.TextLaws.{differ}
 use Rattle.vocab.specs.Range.{up_from}
 use Rattle.vocab.specs.Size.{factorial, is_digit_set}
 use Rattle.vocab.proofs.DigitNumbers.{same_digits}
 use Rattle.meaning.specs.Texts.{ranking_text}
-use Rattle.meaning.proofs.TestLaws.{or-false}
 use Rattle.meaning.proofs.SpaceLaws.{factorial_small}
 use Rattle.profiles.specs.Weights.{rank_of}
 use Rattle.profiles.proofs.TableLemmas.{rank-ranking}
@@ -24,10 +24,6 @@ use Rattle.study.specs.Ballots.{is_ranking, own_rankings, is_listed, listed_digi
 use Rattle.study.specs.Refusing.{and_then}
 
 -- ---- one more digit
-
-and_none : (b : Bool) → (b && not true) ≡ false
-and_none true = refl
-and_none false = refl
 
 -- one more digit is set
 digit_added : (a place j : ℕ) → place < 128 → is_digit_set (bit_or a (1 * 2 ^ place % 2 ^ 128)) j ≡ (is_digit_set a j || (j == place))
@@ -88,9 +84,6 @@ module _ (m : ℕ) (texts : List (List ℕ)) where
     pub digits : (j : ℕ) → j < factorial m → is_digit_set ballots j ≡ is_listed m (take i texts) j
     pub small : ballots < 2 ^ factorial m
 
-  pub none_taken : AreTaken 0 0
-  none_taken = record { so_far = refl; digits = λ j l. ap (λ d. d == 1) (bit_at-zero j); small = pow_pos (factorial m) }
-
   -- one more text
   abbrev is_own : ℕ → List ℕ → Bool
   is_own i text = is_ranking m text && not (list_any (bytes_eq text) (take i texts))
@@ -111,12 +104,6 @@ module _ (m : ℕ) (texts : List (List ℕ)) where
   pub missed_text : (i ballots : ℕ) (text : List ℕ) → i < length texts → text ≡ get_or texts i text → AreTaken i ballots → ((place : ℕ) → place < factorial m → text ≢ ranking_text m place)
       → ballots_in m (Some texts) ≡ Err (fault.Ballot text)
   missed_text i ballots text within is taken none = stops i ballots text within is taken (ap (λ b. b && not (list_any (bytes_eq text) (take i texts))) (ranking_missed m text none))
-
-  -- that stands earlier
-  pub repeated_text : (i ballots place : ℕ) (text : List ℕ) → i < length texts → text ≡ get_or texts i text → AreTaken i ballots → place < factorial m → text ≡ ranking_text m place → is_digit_set ballots place ≡ true
-      → ballots_in m (Some texts) ≡ Err (fault.Ballot text)
-  repeated_text i ballots place text within is taken h spelled set =
-      stops i ballots text within is taken (ap (λ b. is_ranking m text && not b) (earlier_text i ballots place text taken h spelled ∙ set) ∙ and_none (is_ranking m text))
 
   -- that is a ranking and stands nowhere earlier
   pub taken_more : (i ballots place : ℕ) (text : List ℕ) → 1 ≤ m → m ≤ 5 → i < length texts → text ≡ get_or texts i text → AreTaken i ballots → place < factorial m → text ≡ ranking_text m place → is_digit_set ballots place ≡ false

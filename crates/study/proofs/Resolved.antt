@@ -1,8 +1,6 @@
 -- Sentences, gathered one after another.
-use Rattle.std.proofs.Common.{◌≡◌, ◌<◌, ◌+◌, ℕ, zero, suc, arith, List, [], ◌∷◌, ◌++◌, length, get_or, take, drop, map, true, Result, Ok, Err, refl, sym, ap, ◌∙◌, subst, append_assoc, take-append-drop}
+use Rattle.std.proofs.Common.{◌≡◌, ◌<◌, ◌+◌, ℕ, zero, suc, arith, List, [], ◌∷◌, ◌++◌, length, get_or, take, drop, map, Result, Ok, Err, refl, sym, ap, ◌∙◌, subst, append_assoc, take-append-drop}
 use Rattle.std.proofs.lemmas.List.{append-nil, take_more, drop_more}
-use Rattle.std.proofs.lemmas.Bool.{and_parts, and_from}
-use Rattle.std.specs.List.{list_all}
 use Rattle.vocab.specs.Size.{Extent}
 use Rattle.vocab.specs.Titled.{Titled}
 use Rattle.axiom_library.specs.Library.{Entry}
@@ -10,7 +8,7 @@ use Rattle.study.specs.declared.faults.StudyFault.{StudyFault}
 use Rattle.study.specs.declared.sentences.Unresolved.{Unresolved}
 use Rattle.study.specs.Refusing.{and_then}
 use Rattle.study.specs.Sentences.{AreReadAs, resolved_one, resolved_all}
-use Rattle.study.specs.Unresolved.{worded_of, IsReadAs, IsTextRefused, IsFirstRefused, IsSmall, AreSmall, is_sound}
+use Rattle.study.specs.Unresolved.{worded_of, IsReadAs, IsTextRefused, IsFirstRefused, IsSmall, AreSmall}
 
 -- one more text that reads
 read_more : (before : List Entry) (e : Entry) (ws : List Unresolved) (w : Unresolved) → AreReadAs before (map worded_of ws) → IsReadAs e (worded_of w) → AreReadAs (before ++ e ∷ []) (map worded_of (ws ++ w ∷ []))
@@ -77,10 +75,3 @@ small_at ws place w within is small = subst (λ x. IsSmall (worded_of x)) (sym i
     small_in [] place d within small = absurd (omega arith)
     small_in (w ∷ ws) zero d within small = small.0
     small_in (w ∷ ws) (suc place) d within small = small_in ws place d (omega arith) small.1
-
--- one more axiom that is sound
-pub sound_more : (size : Extent) (axioms : List Titled) (a : Titled) → list_all (is_sound size) axioms ≡ true → is_sound size a ≡ true → list_all (is_sound size) (axioms ++ a ∷ []) ≡ true
-sound_more size [] a all one = and_from _ _ one refl
-sound_more size (x ∷ axioms) a all one =
-    let (first, rest) = and_parts (is_sound size x) (list_all (is_sound size) axioms) all in
-    and_from _ _ first (sound_more size axioms a rest one)

@@ -1,5 +1,5 @@
 -- What is read is a study.
-use Rattle.std.proofs.Common.{◌≡◌, ℕ, suc, List, [], ◌∷◌, length, map, Bool, true, false, not, ◌&&◌, nat_le, if◌then◌else◌, Result, Ok, Err, refl, sym, ap, ◌∙◌, subst, Option, Some, None, arith}
+use Rattle.std.proofs.Common.{◌≡◌, ℕ, List, [], ◌∷◌, length, map, Bool, true, false, not, ◌&&◌, nat_le, if◌then◌else◌, Result, Ok, Err, refl, sym, ap, ◌∙◌, subst, Option, Some, None, arith}
 use Rattle.std.proofs.lemmas.Bool.{and_parts, and_from}
 use Rattle.std.proofs.lemmas.Str.{is_utf8-from_IsUtf8, IsUtf8-from_is_utf8}
 use Rattle.std.specs.List.{list_all, list_any}
@@ -28,6 +28,7 @@ use Rattle.study.specs.Refusing.{and_then, refused_as}
 use Rattle.study.specs.Sentences.{Worded, AreReadAs, resolved_one, resolved_all, told_count, limit_number, count_of, limit_refusal, opened, within}
 use Rattle.study.specs.Unresolved.{AreSmall, IsFirstRefused, is_sound}
 use Rattle.study.proofs.Listings.{came_from, ok_once, listing_whole}
+use Rattle.std.proofs.lemmas.List.{length-map}
 
 -- what reads is small
 pub small_from_read : (entries : List Entry) (ws : List Worded) → AreReadAs entries ws → AreSmall ws
@@ -78,10 +79,6 @@ resolved_names size (w ∷ ws) axioms e =
     let whole : one.value ∷ rest.value ≡ axioms = ok_once rest.after in
     rw (← whole, head, tail) refl
 
-length_names : {A : Type 0} (f : A → List ℕ) (xs : List A) → length (map f xs) ≡ length xs
-length_names f [] = refl
-length_names f (x ∷ xs) = ap suc (length_names f xs)
-
 within_first : (size : Extent) (limit : Limit) (a : Titled) (axioms : List Titled) (b : Bool) → nat_le (count_of size limit a.sentence) (limit_number limit) ≡ b
     → (if b then within size limit axioms else Err (limit_refusal limit a.name (told_count (count_of size limit a.sentence)))) ≡ Ok tt → (b ≡ true) × (within size limit axioms ≡ Ok tt)
 within_first size limit a axioms true is e = (refl, e)
@@ -115,7 +112,7 @@ each_sentence size (a ∷ axioms) sound open_to =
 pub axioms_listed : (listing : Listing) (ws : List Worded) (axioms : List Titled) → AreReadAs listing.axioms ws → resolved_all listing.size ws ≡ Ok axioms → length listing.axioms ≡ length axioms
 axioms_listed listing ws axioms r resolved =
     let names : map (λ a. a.name) axioms ≡ map (λ e. e.name) listing.axioms = resolved_names listing.size ws axioms resolved ∙ read_names listing.axioms ws r in
-    sym (length_names (λ e. e.name) listing.axioms) ∙ ap length (sym names) ∙ length_names (λ a. a.name) axioms
+    sym (length-map listing.axioms (λ e. e.name)) ∙ ap length (sym names) ∙ length-map axioms (λ a. a.name)
 
 -- a listing whose texts read, resolve and are within the limits makes a study
 pub whole_study : (listing : Listing) (ws : List Worded) (axioms : List Titled) → IsListing listing → AreReadAs listing.axioms ws → resolved_all listing.size ws ≡ Ok axioms → list_all (is_sound listing.size) axioms ≡ true → opened listing.size axioms ≡ Ok tt
@@ -138,12 +135,16 @@ document_ok bytes document text parsed = rw (is_utf8-from_IsUtf8 bytes text) par
 pub bytes_listed : (bytes : List ℕ) (document : Members) → IsUtf8 bytes → parse_document bytes ≡ Some document → listing_in (document_of bytes) ≡ and_then listing_of (refused_as fault.Key (draft_of document))
 bytes_listed bytes document text parsed = ap listing_in (document_ok bytes document text parsed)
 
-refused_at : (bytes : List ℕ) (b : Bool) → is_utf8 bytes ≡ b → (IsUtf8 bytes → parse_document bytes ≡ None) → (if b then parse_document bytes else None) ≡ None
-refused_at bytes true is none = none (IsUtf8-from_is_utf8 bytes is)
-refused_at bytes false is none = refl
+-- bytes that are no document
+pub no_document : (bytes : List ℕ) → (IsUtf8 bytes → parse_document bytes ≡ None) → document_of bytes ≡ None
+no_document bytes none = by_test (is_utf8 bytes) refl
+  where
+    by_test : (b : Bool) → is_utf8 bytes ≡ b → (if b then parse_document bytes else None) ≡ None
+    by_test true is = none (IsUtf8-from_is_utf8 bytes is)
+    by_test false is = refl
 
 pub bytes_refused : (bytes : List ℕ) → (IsUtf8 bytes → parse_document bytes ≡ None) → listing_in (document_of bytes) ≡ Err fault.Toml
-bytes_refused bytes none = ap listing_in (refused_at bytes (is_utf8 bytes) refl none)
+bytes_refused bytes none = ap listing_in (no_document bytes none)
 
 -- what bytes list is a listing
 pub listing_in_whole : (document : Option Members) (listing : Listing) → listing_in document ≡ Ok listing → IsListing listing
@@ -155,9 +156,6 @@ listing_in_whole (Some document) listing e =
 -- an answer of a listing is one of bytes that list so
 pub answered : (right : Result Listing StudyFault) (listing : Listing) (answer : Result Question StudyFault) → right ≡ Ok listing → IsListingAnswer listing answer → AnswersListing right answer
 answered right listing answer e h = subst (λ r. AnswersListing r answer) (sym e) h
-
-pub answered_refused : (right : Result Listing StudyFault) (refusal : StudyFault) → right ≡ Err refusal → AnswersListing right (Err refusal)
-answered_refused right refusal e = subst (λ r. AnswersListing r (Err refusal)) (sym e) refl
 
 -- an answer of a listing: the first text that does not read, or the study of what all read as
 pub first_refused : (listing : Listing) (refusal : StudyFault) → IsFirstRefused listing.axioms refusal → IsListingAnswer listing (Err refusal)

@@ -84,7 +84,7 @@ pub fn sort_help_in(alloc: Global, bytes: &[u8], fault: SortFault) -> Result<Byt
 }
 
 /// The axioms that the document of the bytes may list.
-#[tactic(auto, using(crate::proofs::HelpLemmas::no_document))]
+#[tactic(auto, using(study::proofs::Whole::no_document))]
 pub fn axiom_help(alloc: Global, bytes: &[u8]) -> Result<Bytes, NoMemory>
     ensures { IfOk result (λ said. said ≡ axiom_words (document_of bytes.now)) }
 {

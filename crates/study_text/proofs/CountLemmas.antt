@@ -1,17 +1,14 @@
 -- Kept clauses, counted one by one.
-use Rattle.std.proofs.Common.{◌≡◌, ◌∙◌, ap, refl, sym, ℕ, ◌+◌, ◌*◌, ◌^◌, ◌<◌, ◌≤◌, min, Bool, true, false, cond, List, [], ◌∷◌, ◌++◌, Some, slice_get, length, take, arith}
+use Rattle.std.proofs.Common.{◌≡◌, ◌∙◌, ap, refl, sym, ℕ, ◌+◌, ◌*◌, ◌^◌, ◌<◌, ◌≤◌, min, Bool, true, false, cond, List, [], ◌∷◌, ◌++◌, Some, slice_get, take, arith}
 use Rattle.std.specs.List.{count_by, flat_map}
 use Rattle.std.specs.Int.{from_bool}
-use Rattle.std.proofs.lemmas.List.{flat_map_more, length-map, take_more}
+use Rattle.std.proofs.lemmas.List.{flat_map_more, take_more}
 use Rattle.std.proofs.Math.Nat.{mul-le-mul_left}
-use Rattle.std.proofs.Math.Seq.{take-length}
 use Rattle.std.proofs.lemmas.List.Sums.{sum_by_more}
 use Rattle.std.proofs.lemmas.Option.{get_or_from_slice_get, slice_get_within}
 use Rattle.meaning.specs.declared.clauses.Origin.{Origin}
-use Rattle.meaning.specs.StudyClauses.{Sourced}
-use Rattle.clause_form.specs.Sources.{origins_in}
 use Rattle.study.specs.Sentences.{told_count}
-use Rattle.study_text.specs.Shares.{is_from, kept_of}
+use Rattle.study_text.specs.Shares.{is_from}
 
 -- one clause more
 pub count_more : (place : ℕ) (origins : List Origin) (k kept : ℕ) (o : Origin) → slice_get origins k ≡ Some o → kept ≡ count_by (is_from place) (take k origins)
@@ -30,13 +27,6 @@ byte_is false = refl
 pub once : (b : Bool) → cond b 1 0 ≤ 1
 once true = omega arith
 once false = omega arith
-
--- all clauses
-pub count_whole : (place k kept : ℕ) (sources : List Sourced) → k ≡ length sources → kept ≡ count_by (is_from place) (take k (origins_in sources)) → kept ≡ kept_of place sources
-count_whole place k kept sources end so_far =
-    so_far
-    ∙ ap (λ (n : ℕ). count_by (is_from place) (take n (origins_in sources))) (end ∙ sym (length-map sources (λ (s : Sourced). s.origin)))
-    ∙ ap (count_by (is_from place)) (take-length (origins_in sources))
 
 -- a count within the limits is told as it is
 pub told_whole : (r n : ℕ) → r ≡ told_count n → n ≤ 200000000 → r ≡ n

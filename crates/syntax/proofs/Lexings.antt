@@ -16,9 +16,6 @@ pub record SoFar (text : List ℕ) (kept : List Lexeme) (count : ℕ) (rest : Li
   pub all_kept : count ≤ 600 → kept ≡ before
   pub within : count + length rest ≤ length text
 
-pub so_far_none : (text : List ℕ) → SoFar text [] 0 text
-so_far_none text = record { before = []; lexed = λ ls end d. d; counted = refl; all_kept = λ h. refl; within = omega arith }
-
 pub so_far_blank : (text rest more : List ℕ) (kept : List Lexeme) (count c : ℕ) → SoFar text kept count rest → rest ≡ c ∷ more → is_white_space c ≡ true → SoFar text kept count more
 so_far_blank text rest more kept count c s e b = record {
   before = s.before;
@@ -73,11 +70,7 @@ stuck text kept count rest more c s e b h =
       place = omega (arith, ap length e);
     }
 
-pub empty_of : (xs : List ℕ) → length xs ≡ 0 → xs ≡ []
-empty_of [] h = refl
-empty_of (x ∷ xs) h = absurd (omega arith)
-
--- ---- a text has one list of lexemes
+-- ---- a blank begins no lexeme
 
 none_at : (c d : ℕ) (bytes : List ℕ) → (c == d) ≡ true → lexeme_at (d ∷ bytes) ≡ None → lexeme_at (c ∷ bytes) ≡ None
 none_at c d bytes h k = ap (λ b. lexeme_at (b ∷ bytes)) (eqb-true c d h) ∙ k
@@ -94,18 +87,6 @@ none_at_blank c bytes b =
 
 pub starts_not_blank : (c : ℕ) (bytes more : List ℕ) (l : Lexeme) → is_white_space c ≡ true → Starts (c ∷ bytes) l more → ⊥
 starts_not_blank c bytes more l b s = none_starts (c ∷ bytes) (none_at_blank c bytes b) l more s
-
-pub one_lexing : {text : List ℕ} {ks ls : List Lexeme} → Lexes text ks [] → Lexes text ls [] → ks ≡ ls
-one_lexing no_more no_more = refl
-one_lexing no_more (one_more {more = m} {l = l} s d) = absurd (let n = starts_longer [] m l s in omega arith)
-one_lexing (blank {c = c} {bytes = bs} b d) (blank b' e) = one_lexing d e
-one_lexing (blank {c = c} {bytes = bs} b d) (one_more {more = m} {l = l} s e) = absurd (starts_not_blank c bs m l b s)
-one_lexing (one_more {more = m} {l = l} s d) no_more = absurd (let n = starts_longer [] m l s in omega arith)
-one_lexing (one_more {more = m} {l = l} s d) (blank {c = c} {bytes = bs} b e) = absurd (starts_not_blank c bs m l b s)
-one_lexing {text} (one_more {more = m} {l = k} s d) (one_more {more = n} {l = l} {ls = ls} t e) =
-    let same = one_start text m n k l s t in
-    let others = one_lexing d (subst (λ r. Lexes r ls []) (sym same.1) e) in
-    cc
 
 -- ---- a text has one answer
 

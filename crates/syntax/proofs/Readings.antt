@@ -83,17 +83,6 @@ list_more ls rest more end t ts at e d = more_terms (subst (λ l. IsTerm ls t l)
 pub list_last : (ls rest end : List Lexeme) (t : NamedTermTree) → TermAt ls t rest → rest ≡ lexeme.Close ∷ end → IsTerms ls (tree.Argument t tree.NoArguments) end
 list_last ls rest end t at e = last_term (subst (λ l. IsTerm ls t l) e at.spelled)
 
-pub no_list : (ls : List Lexeme) → NoTerm ls → NoTerms ls
-no_list ls never ts rest (last_term {rest = r} {t = t} d) = never t (lexeme.Close ∷ r) d refl
-no_list ls never ts rest (more_terms {ms = m} {t = t} d ds) = never t (lexeme.Comma ∷ m) d refl
-
-pub no_list_more : (ls rest more : List Lexeme) (t : NamedTermTree) → TermAt ls t rest → rest ≡ lexeme.Comma ∷ more → NoTerms more → NoTerms ls
-no_list_more ls rest more t at e never ts ys (last_term {rest = r} {t = u} d) = let same = (at.only u (lexeme.Close ∷ r) d refl).1 in absurd cc
-no_list_more ls rest more t at e never ts ys (more_terms {ms = m} {t = u} {ts = us} d ds) =
-    let same = (at.only u (lexeme.Comma ∷ m) d refl).1 in
-    let lists : m ≡ more = cc in
-    never us ys (subst (λ l. IsTerms l us ys) lists ds)
-
 pub no_list_end : (ls rest : List Lexeme) (t : NamedTermTree) → TermAt ls t rest → ((l : List Lexeme) → rest ≡ lexeme.Comma ∷ l → ⊥) → ((l : List Lexeme) → rest ≡ lexeme.Close ∷ l → ⊥) → NoTerms ls
 no_list_end ls rest t at a b ts ys (last_term {rest = r} {t = u} d) = b r (sym (at.only u (lexeme.Close ∷ r) d refl).1)
 no_list_end ls rest t at a b ts ys (more_terms {ms = m} {t = u} {ts = us} d ds) = a m (sym (at.only u (lexeme.Comma ∷ m) d refl).1)
@@ -116,9 +105,6 @@ pub list_ended : (ls rest end : List Lexeme) (t : NamedTermTree) (old new : Name
 list_ended ls rest end t old new at e pushed = record { terms = tree.Argument t tree.NoArguments; spelled = list_last ls rest end t at e; added = pushed }
 
 -- ---- atoms
-
-call_of_pred : {ls rest : List Lexeme} {name : List ℕ} {ts : NamedTermTrees} → IsAtom ls (tree.Pred name ts) rest → IsTerm ls (tree.Call name ts) rest
-call_of_pred (pred f d) = call f d
 
 pred_of_call : {ls rest : List Lexeme} {name : List ℕ} {ts : NamedTermTrees} → IsTerm ls (tree.Call name ts) rest → IsAtom ls (tree.Pred name ts) rest
 pred_of_call (call f d) = pred f d
@@ -286,10 +272,6 @@ chain_last ls rest end j f at e = last_part (subst (λ l. IsFormula ls f l) e at
 pub chain_more : (ls rest more end : List Lexeme) (mark : Lexeme) (j : Joint) (f g : NamedTree) → FormulaAt ls f rest → Chains j → rest ≡ mark ∷ more → mark ≡ joint_lexeme j → IsChain j more g end → IsChain j ls (joined_by j f g) end
 chain_more ls rest more end mark j f g at o e m c = more_parts o (subst (λ l. IsFormula ls f l) (front e m) at.spelled) c
 
-pub no_chain : (ls : List Lexeme) (j : Joint) → NoFormula ls → NoChain j ls
-no_chain ls j never g ys (last_part {rest = r} {f = k} d) = never k (lexeme.Close ∷ r) d refl
-no_chain ls j never g ys (more_parts {ms = m} {f = k} o d c) = never k (joint_lexeme j ∷ m) d (mark_ends j m)
-
 pub no_chain_end : (ls rest : List Lexeme) (j : Joint) (f : NamedTree) → FormulaAt ls f rest → ((l : List Lexeme) → rest ≡ lexeme.Close ∷ l → ⊥) → (Chains j → (l : List Lexeme) → rest ≡ joint_lexeme j ∷ l → ⊥) → NoChain j ls
 no_chain_end ls rest j f at a b g ys (last_part {rest = r} {f = k} d) = a r (sym (at.only k (lexeme.Close ∷ r) d refl).1)
 no_chain_end ls rest j f at a b g ys (more_parts {ms = m} {f = k} o d c) = b o m (sym (at.only k (joint_lexeme j ∷ m) d (mark_ends j m)).1)
@@ -321,9 +303,6 @@ formula_at_atom ls rest end first f e o at = record {
 pub formula_at_atoms : (r : Result (Box Named Global × Bor (List Lexeme)) Stop) (ls rest : List Lexeme) (first : Lexeme) → ls ≡ first ∷ rest → IsOther first → IfOk r (λ x. AtomAt ls (named_tree x.0.value) x.1.now) → IfOk r (λ x. FormulaAt ls (named_tree x.0.value) x.1.now)
 formula_at_atoms (Ok x) ls rest first e o at = formula_at_atom ls rest x.1.now first (named_tree x.0.value) e o at
 formula_at_atoms (Err x) ls rest first e o at = at
-
-pub no_formula_atom : (ls rest : List Lexeme) (first : Lexeme) → ls ≡ first ∷ rest → IsOther first → NoAtom ls → NoFormula ls
-no_formula_atom ls rest first e o never g ys d h = never g ys (subst (λ l. IsAtom l g ys) (sym e) (other_is_atom o (subst (λ l. IsFormula l g ys) e d))) h
 
 -- lexemes that begin with a mark, as a function that reads what follows the mark says it
 pub formula_at_front : (r : Result (Box Named Global × Bor (List Lexeme)) Stop) (ls rest : List Lexeme) (first mark : Lexeme) → ls ≡ first ∷ rest → first ≡ mark → IfOk r (λ x. FormulaAt (mark ∷ rest) (named_tree x.0.value) x.1.now) → IfOk r (λ x. FormulaAt ls (named_tree x.0.value) x.1.now)

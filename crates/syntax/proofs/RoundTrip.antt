@@ -160,9 +160,6 @@ mutual
 word_lexed : (n tail : List ℕ) (ls : List Lexeme) (end : List ℕ) → IsWord n → starts_without is_name_byte tail ≡ true → Lexes tail ls end → Lexes (n ++ tail) (lexeme.Word n ∷ ls) end
 word_lexed n tail ls end w stop d = one_more (record { text = n; whole = refl; spelled = (refl, w.shape, w.short); longest = stop }) d
 
-negation_lexed : (text tail : List ℕ) (ls : List Lexeme) (end : List ℕ) → Lexes text ls end → Lexes (33 ∷ text) (lexeme.Not ∷ ls) end
-negation_lexed text tail ls end d = one_more (record { text = 33 ∷ []; whole = refl; spelled = refl; longest = tt }) d
-
 joined_writable : (j : Joint) (f g : NamedTree) → IsWritable f → IsWritable g → IsWritable (joined_by j f g)
 joined_writable joint.Both f g w v = (w, v)
 joined_writable joint.Either f g w v = (w, v)
@@ -188,15 +185,9 @@ mutual
 mark_lexed : (l : Lexeme) (text more : List ℕ) (ls : List Lexeme) (end : List ℕ) → IsSpelled l text → IsRunEnd l more → Lexes more ls end → Lexes (text ++ more) (l ∷ ls) end
 mark_lexed l text more ls end spelled stop d = one_more (record { text = text; whole = refl; spelled = spelled; longest = stop }) d
 
-blank_lexed : (more : List ℕ) (ls : List Lexeme) (end : List ℕ) → Lexes more ls end → Lexes (32 ∷ more) ls end
-blank_lexed more ls end d = blank refl d
-
 -- a mark between blanks
 between : (l : Lexeme) (text more : List ℕ) (ls : List Lexeme) (end : List ℕ) → IsSpelled l text → IsRunEnd l (32 ∷ more) → Lexes more ls end → Lexes (32 ∷ (text ++ 32 ∷ more)) (l ∷ ls) end
 between l text more ls end spelled stop d = blank refl (mark_lexed l text (32 ∷ more) ls end spelled stop (blank refl d))
-
-regroup : (a m b tail : List ℕ) → ((((40 ∷ []) ++ a) ++ m) ++ b) ++ (41 ∷ []) ++ tail ≡ 40 ∷ (a ++ (m ++ (b ++ 41 ∷ tail)))
-regroup a m b tail = simp append_assoc
 
 one_digit : (n : ℕ) → n < 10 → IsVoterText n (decimal n)
 one_digit n high =

@@ -91,17 +91,7 @@ starts_computed (lexeme.Alt a) bytes rest s =
     ap lexeme_at (s.whole ∙ ap (λ t. t ++ rest) s.spelled.1) ∙ at
 starts_computed (lexeme.Ballot letters) bytes rest s =
     ap lexeme_at (s.whole ∙ ap (λ t. t ++ rest) s.spelled.0) ∙ ap angle_at (append_assoc letters (62 ∷ []) rest) ∙ ballot_first letters rest s.spelled.1 ∙ ballot_computed letters rest s.spelled.1
-starts_computed lexeme.Open bytes rest s = ap lexeme_at (s.whole ∙ ap (λ t. t ++ rest) s.spelled)
-starts_computed lexeme.Close bytes rest s = ap lexeme_at (s.whole ∙ ap (λ t. t ++ rest) s.spelled)
-starts_computed lexeme.Comma bytes rest s = ap lexeme_at (s.whole ∙ ap (λ t. t ++ rest) s.spelled)
-starts_computed lexeme.Colon bytes rest s = ap lexeme_at (s.whole ∙ ap (λ t. t ++ rest) s.spelled)
-starts_computed lexeme.Dot bytes rest s = ap lexeme_at (s.whole ∙ ap (λ t. t ++ rest) s.spelled)
-starts_computed lexeme.Equals bytes rest s = ap lexeme_at (s.whole ∙ ap (λ t. t ++ rest) s.spelled)
-starts_computed lexeme.Not bytes rest s = ap lexeme_at (s.whole ∙ ap (λ t. t ++ rest) s.spelled)
-starts_computed lexeme.And bytes rest s = ap lexeme_at (s.whole ∙ ap (λ t. t ++ rest) s.spelled)
-starts_computed lexeme.Or bytes rest s = ap lexeme_at (s.whole ∙ ap (λ t. t ++ rest) s.spelled)
-starts_computed lexeme.Implies bytes rest s = ap lexeme_at (s.whole ∙ ap (λ t. t ++ rest) s.spelled)
-starts_computed lexeme.Same bytes rest s = ap lexeme_at (s.whole ∙ ap (λ t. t ++ rest) s.spelled)
+starts_computed p bytes rest s = ap lexeme_at (s.whole ∙ ap (λ t. t ++ rest) s.spelled)
 
 abbrev Found : Type 0
 Found = Option (Lexeme × List ℕ)
@@ -142,9 +132,6 @@ arrow_found m l (c ∷ bs) rest h =
     (λ k. absurd cc)
 
 -- ---- runs
-
-take_run : (p : ℕ → Bool) (bytes : List ℕ) → take_while p bytes ++ drop (run_length p bytes) bytes ≡ bytes
-take_run p bytes = ap (λ k. take_while p bytes ++ drop k bytes) (length-prefix_len p bytes) ∙ take-append-drop (prefix_len p bytes) bytes
 
 after_first : (p : ℕ → Bool) (b : Bool) (c : ℕ) (bytes : List ℕ) → p c ≡ b → starts_without p (drop (prefix_len p bytes) bytes) ≡ true → starts_without p (drop (cond b (1 + prefix_len p bytes) 0) (c ∷ bytes)) ≡ true
 after_first p true c bytes h k = let e : 1 + prefix_len p bytes ≡ suc (prefix_len p bytes) = omega arith in rw e k

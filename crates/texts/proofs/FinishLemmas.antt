@@ -4,14 +4,8 @@ use Rattle.std.specs.Io.KnownBytes.{Appends, Keeps, append_known}
 use Rattle.texts.specs.Page.{Grows, Pours}
 use Rattle.edge.specs.Told.{AppendsPrefix}
 use Rattle.texts.proofs.PageLemmas.{grows_more, appends_kept}
-
-cancel : (x a b : List ℕ) → x ++ a ≡ x ++ b → a ≡ b
-cancel [] a b e = e
-cancel (c ∷ x) a b e = let rest : x ++ a ≡ x ++ b = cc in cancel x a b rest
-
-take_front : (a b : List ℕ) → take (length a) (a ++ b) ≡ a
-take_front [] b = refl
-take_front (c ∷ a) b = ap (λ l. c ∷ l) (take_front a b)
+use Rattle.std.proofs.lemmas.List.{append_cancel_left}
+use lib.Seq.{take-append_seam}
 
 take_twice : (m n : ℕ) (l : List ℕ) → take m (take n l) ≡ take (min m n) l
 take_twice zero n l = rw (none n) refl
@@ -36,19 +30,14 @@ front : (t t' : Option (List ℕ)) (h : List ℕ) (text : List ℕ) → Appends 
 front None t' h text w g = (0, tt)
 front (Some x) None h text w g = (0, absurd w)
 front (Some x) (Some y) h text w g =
-    let same : text ≡ g.0 ++ h = sym (cancel x (g.0 ++ h) text (sym (append_assoc x g.0 h) ∙ ap (λ (l : List ℕ). l ++ h) (sym g.1) ∙ w ∙ ap (λ (l : List ℕ). l ++ text) (append-nil x))) in
-    (length g.0, g.1 ∙ ap (λ (l : List ℕ). x ++ l) (sym (ap (take (length g.0)) same ∙ take_front g.0 h)))
+    let same : text ≡ g.0 ++ h = sym (append_cancel_left x (g.0 ++ h) text (sym (append_assoc x g.0 h) ∙ ap (λ (l : List ℕ). l ++ h) (sym g.1) ∙ w ∙ ap (λ (l : List ℕ). l ++ text) (append-nil x))) in
+    (length g.0, g.1 ∙ ap (λ (l : List ℕ). x ++ l) (sym (ap (take (length g.0)) same ∙ take-append_seam g.0 h)))
 
 front_of_front : (t t' : Option (List ℕ)) (text : List ℕ) (n : ℕ) → AppendsPrefix t t' (take n text) → AppendsPrefix t t' text
 front_of_front t t' text n p = (min p.0 n, subst (λ (l : List ℕ). Appends t t' l) (take_twice p.0 n text) p.1)
 
 broken : {T E : Type 0} (t t' : Option (List ℕ)) (h' : List ℕ) (f f' : ℕ) (e : E) (text : List ℕ) → Pours {T = T} {E = E} t t' [] h' f f' (Err e) text → AppendsPrefix t t' text
 broken t t' h' f f' e text w = front_of_front t t' text w.err.0 (front t t' h' (take w.err.0 text) w.err.1 w.grown)
-
-emptied : (t t' : Option (List ℕ)) (text : List ℕ) → Appends (append_known t []) (append_known t' []) text → Appends t t' text
-emptied None t' text w = tt
-emptied (Some x) None text w = absurd w
-emptied (Some x) (Some y) text w = sym (append-nil y) ∙ w ∙ ap (λ (l : List ℕ). l ++ text) (append-nil x)
 
 kept_all : (a b c : Option (List ℕ)) (text : List ℕ) → Appends a b text → Keeps b c → Appends a c (take (length text) text)
 kept_all None b c text h k = tt

@@ -22,12 +22,6 @@ module _ {X : Type 0} (text : X → List ℕ) where
       ∙ flat_map-append text (take i xs) (drop i xs)
       ∙ ap (λ (rest : List X). flat_map text (take i xs) ++ flat_map text rest) (drop-cons xs i d within)
 
-  whole : (xs : List X) (i : ℕ) → length xs ≤ i → flat_map text (take i xs) ≡ flat_map text xs
-  whole [] zero h = refl
-  whole [] (suc i) h = refl
-  whole (x ∷ xs) zero h = absurd (omega arith)
-  whole (x ∷ xs) (suc i) h = ap (λ rest. text x ++ rest) (whole xs i (omega arith))
-
   module _ {T E : Type 0} (xs : List X) (i : ℕ) (d : X) (t t' : Option (List ℕ)) (h h' : List ℕ) (f f' : ℕ) (so_far : Added t t' h h' f f' (flat_map text (take i xs))) where
     -- the item at a place was not added whole
     pub loop_stops : {T' : Type 0} (t'' : Option (List ℕ)) (h'' : List ℕ) (f'' : ℕ) (e : E) (r : Result T E) (b : List ℕ) → i < length xs → b ≡ text (get_or xs i d) → IsErr r → Pours {T = T'} {E = E} t' t'' h' h'' f' f'' (Err e) b
@@ -41,10 +35,6 @@ module _ {X : Type 0} (text : X → List ℕ) where
     loop_goes_on t'' h'' f'' x b within is =
         goes_on t t' h h' f f' (flat_map text (take i xs)) so_far t'' h'' f'' x b (flat_map text (take (i + 1) xs))
         (ap (λ (here : List ℕ). flat_map text (take i xs) ++ here) is ∙ sym (one_more xs i d within))
-
-    -- all were
-    pub loop_ends : (x : T) → length xs ≤ i → Pours {T = T} {E = E} t t' h h' f f' (Ok x) (flat_map text xs)
-    loop_ends x past = ends t t' h h' f f' (flat_map text (take i xs)) so_far x (flat_map text xs) (whole xs i past)
 
 -- ---- each item has a text by its number
 

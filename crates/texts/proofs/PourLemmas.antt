@@ -7,6 +7,7 @@ use Rattle.texts.specs.Page.{Grows, Pours}
 use Rattle.edge.specs.Told.{TellsAsBefore}
 use Rattle.edge.proofs.Known.{Appends-more}
 use Rattle.texts.proofs.PageLemmas.{grows_nothing, grows_more}
+use lib.Seq.{take-append-add}
 
 -- the first bytes of a text are the first of a longer one
 take_of_more : (n : ℕ) (a b : List ℕ) → take (min n (length a)) (a ++ b) ≡ take n a
@@ -22,16 +23,6 @@ take_of_more (suc n) (x ∷ a) b = rw (least n (length a)) (ap (λ xs. x ∷ xs)
   where
     least : (n k : ℕ) → min (suc n) (suc k) ≡ suc (min n k)
     least n k = omega arith
-
-take_past : (n : ℕ) (a b : List ℕ) → take (length a + n) (a ++ b) ≡ a ++ take n b
-take_past n [] b = rw (nothing n) refl
-  where
-    nothing : (n : ℕ) → 0 + n ≡ n
-    nothing n = omega arith
-take_past n (x ∷ a) b = rw (one_more (length a) n) (ap (λ xs. x ∷ xs) (take_past n a b))
-  where
-    one_more : (k n : ℕ) → suc k + n ≡ suc (k + n)
-    one_more k n = omega arith
 
 -- what was added, in other words
 pub renamed : {T E : Type 0} (t t' : Option (List ℕ)) (h h' : List ℕ) (f f' : ℕ) (r : Result T E) (a b : List ℕ) → a ≡ b → Pours t t' h h' f f' r a → Pours t t' h h' f f' r b
@@ -60,7 +51,7 @@ module _ {T E : Type 0} (t t' : Option (List ℕ)) (h h' : List ℕ) (f f' : ℕ
   }
   followed t'' h'' f'' x (Err d) v w = record {
     ok = tt;
-    err = (length a + w.err.0, rw (take_past w.err.0 a b) (Appends-more (append_known t h) (append_known t' h') (append_known t'' h'') a (take w.err.0 b) v.ok w.err.1));
+    err = (length a + w.err.0, rw (take-append-add a b w.err.0) (Appends-more (append_known t h) (append_known t' h') (append_known t'' h'') a (take w.err.0 b) v.ok w.err.1));
     grown = grows_more t t' t'' v.grown w.grown;
     tells = w.tells ∙ v.tells;
     cause = record { later = omega (arith, v.cause.later, w.cause.later); failed = omega (arith, v.cause.later, w.cause.failed) };

@@ -16,13 +16,13 @@ use Rattle.meaning.specs.Space.{number_of}
 use Rattle.meaning.proofs.DigitLaws.{are_one_to_one}
 use Rattle.meaning.specs.declared.stories.Reason.{Reason}
 use Rattle.meaning.specs.declared.stories.Reason.TheVariants.{Axiom as ByAxiom, Outcome as ByOutcome, Lemma as ByLemma}
-use Rattle.retell.proofs.CitedLaws.{limit_at}
 use Rattle.verdicts.specs.Lines.{sorts_of}
 use Rattle.sharp_verdicts.specs.declared.instances.Cited.{Cited}
 use Rattle.sharp_verdicts.specs.Instances.{number_at}
 use Rattle.instance_stories.specs.Codes.{code_of}
 use Rattle.told_instances.specs.Told.{names_instance, codes_in, cited_instance}
 use Rattle.told_instances.specs.Numbered.{number_from, IsNumbered}
+use Rattle.vocab.proofs.StudyLaws.{few_at}
 
 -- the numbers on the way fit, and the last is that of the values
 pub record HasNumber (size : Extent) (f : Tree) (values : List ℕ) (level : ℕ) : Type 0 where
@@ -77,7 +77,7 @@ pub has_reason : (study : Question) (k : ℕ) (values : List ℕ) (a : Titled) (
 has_reason study k values a f taken h e same =
     let r = and_parts (nat_lt k (length study.axioms)) (pointwise nat_lt values (map (sort_count study.size) (sorts_of (slice_get study.axioms k)))) h in
     let fit : pointwise nat_lt values (bases_of study.size a.sentence) ≡ true = subst (λ o. pointwise nat_lt values (map (sort_count study.size) (sorts_of o)) ≡ true) e r.1 in
-    let few = limit_at study.size study.axioms k a taken.limits e in
+    let few = few_at study k a taken e in
     let n = has_number study.size a.sentence values 0 fit few in
     let at : number_at study k values ≡ number_of (bases_of study.size a.sentence) values = ap (λ o. option_map_or (λ (b : Titled). number_of (bases_of study.size b.sentence) values) o 0) e in
     let under : number_of (bases_of study.size a.sentence) values < instance_count study.size a.sentence = (are_one_to_one (bases_of study.size a.sentence)).number values fit in

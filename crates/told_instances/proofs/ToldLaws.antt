@@ -1,4 +1,5 @@
 -- The instances that a story cites have the numbers of its reasons.
+use mathlib.Core.Bool.{or-false}
 use Rattle.std.proofs.Common.{◌≡◌, refl, sym, ◌∙◌, ap, ap₂, subst, ℕ, zero, suc, ◌+◌, ◌*◌, ◌<◌, Bool, true, false, ◌||◌, nat_eq, inl, inr, List, [], ◌∷◌, ◌++◌, map, filter, length, arith, Option, Some, None, true≢false, eq-eqb, eqb-true, ltb-true, lt-ltb, All, ◌≤◌, append-nil}
 use Rattle.std.specs.Prelude.{◌==◌, if◌then◌else◌, nat_lt, slice_get}
 use Rattle.std.specs.Cmp.Lexicographic.{pointwise}
@@ -16,7 +17,7 @@ use Rattle.meaning.specs.declared.stories.Reason.{Reason}
 use Rattle.meaning.specs.declared.stories.Reason.TheVariants.{Axiom as ByAxiom, Outcome as ByOutcome, Lemma as ByLemma}
 use Rattle.meaning.specs.declared.stories.Lemma.{Lemma}
 use Rattle.meaning.specs.declared.stories.StoryStep.{StoryStep}
-use Rattle.meaning.proofs.TestLaws.{list_any-map, or-false}
+use Rattle.meaning.proofs.TestLaws.{list_any-map}
 use Rattle.meaning.specs.Space.{below, number_of}
 use Rattle.meaning.proofs.DigitLaws.{are_one_to_one}
 use Rattle.meaning.proofs.InstanceLaws.{same_tests}

@@ -2,7 +2,7 @@
 use Rattle.std.proofs.Common.{◌≡◌, ◌≢◌, ◌∙◌, sym, refl, subst, ℕ, ◌≤◌, inl, inr, true, List, [], Option, None, Some, Result, Ok, Err, arith}
 use Rattle.std.specs.Prelude.{◌==◌, Contains}
 use Rattle.std.specs.List.{list_any}
-use Rattle.std.specs.Io.KnownBytes.{Appends, Keeps}
+use Rattle.std.specs.Io.KnownBytes.{Keeps}
 use Rattle.edge.specs.Shelf.{Files}
 use Rattle.edge.specs.Faults.{Rose}
 use Rattle.edge.specs.Told.{AppendsPrefix}
@@ -68,19 +68,6 @@ module _ (words : List (List ℕ)) (d : Devices) where
   abbrev Promised : Result Answer Stop → Type 0
   Promised result = Answers (request_of words) d.told d.left_before d.left_now d.faults_before d.faults_now result
 
-  -- the text was written
-  pub written : (answer : Answer) → Promised (Ok answer) → Appends d.taken_before d.taken_now (text_of answer) → IsCall words d (run_of answer)
-  written answer a bytes = record {
-    status = a.status;
-    lawful = λ files h low. record { text = text_of answer; lawful = a.lawful files h; written = bytes };
-    cut_short = λ files h six. absurd (omega (arith, six, a.low));
-    silent = λ e. elim e [ inl five ↦ absurd (omega (arith, five, a.low)) | inr seven ↦ absurd (omega (arith, seven, a.low)) ];
-    read_fault = λ five. absurd (omega (arith, five, a.low));
-    write_fault = λ six. absurd (omega (arith, six, a.low));
-    untouched = a.untouched;
-    uncounted = a.uncounted;
-  }
-
   -- the front of it was
   pub cut : (answer : Answer) → Promised (Ok answer) → AppendsPrefix d.taken_before d.taken_now (text_of answer) → Rose d.sink_faults_before d.sink_faults_now
       → IsCall words d (with_status 6 (run_of answer))
@@ -114,7 +101,3 @@ module _ (words : List (List ℕ)) (d : Devices) where
   -- a file could not be read
   pub unread : (run : Run) → IsBare run 5 → d.taken_now ≡ d.taken_before → Promised (Err stop.ReadFault) → IsCall words d run
   unread run bare same a = silent_call run 5 bare (omega arith) (λ e. absurd (omega (arith, e))) same a.status (λ e. a.read_fault refl) a.untouched a.uncounted
-
-  -- there was no memory for the answer
-  pub wanted : (run : Run) → IsBare run 7 → d.taken_now ≡ d.taken_before → Promised (Err stop.NoMemory) → IsCall words d run
-  wanted run bare same a = silent_call run 7 bare (omega arith) (λ e. absurd (omega (arith, e))) same a.status (λ e. absurd (omega (arith, e))) a.untouched a.uncounted

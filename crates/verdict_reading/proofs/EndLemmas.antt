@@ -33,6 +33,7 @@ use Rattle.verdict_reading.specs.Collected.{EndsAt, Collects, claim_at, verdict_
 use Rattle.verdict_reading.specs.SharpCollected.{as_read, SharpCollects, is_at_end, sharp_verdict_at}
 use Rattle.verdict_reading.specs.Told.{HasCollected, IsFirstFaulty}
 use Rattle.verdict_reading.specs.Readings.{reading_of, judged_end, judged_lines}
+use Rattle.std.proofs.lemmas.Option.{same_Some}
 
 -- ---- the verdict that is read
 
@@ -150,11 +151,8 @@ module _ (whole ended : Bool) (n : ℕ) (rest : List ℕ) (all : whole ≡ true)
     pub sharp_confirms : (v : SharpVerdict) → Some v ≡ sharp_verdict_at study s.place s → reading.SharpConfirmed v ≡ sharp_end study whole n rest s
     sharp_confirms v e = by_place s.place e ∙ sym at_sharp_last
       where
-        some_same : (w : SharpVerdict) → Some v ≡ Some w → v ≡ w
-        some_same w e = cc
-
         by_place : (p : SharpPlace) → Some v ≡ sharp_verdict_at study p s → reading.SharpConfirmed v ≡ reading_of (AsSharp (at_sharp_end study n [] p s))
-        by_place AtSharpNothing e = ap reading.SharpConfirmed (some_same (as_read (pointed_of study s)) e)
+        by_place AtSharpNothing e = ap reading.SharpConfirmed (same_Some v (as_read (pointed_of study s)) e)
         by_place p e = absurd (cc)
 
     -- the text goes on

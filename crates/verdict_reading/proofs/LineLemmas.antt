@@ -4,12 +4,13 @@ use Rattle.std.proofs.lemmas.Bool.{cases_lt}
 use Rattle.std.specs.Prelude.{◌==◌}
 use Rattle.vocab.specs.Study.{Question}
 use Rattle.verdicts.specs.Judge.{has_no_end, pieces, front, final}
-use Rattle.report_files.proofs.PieceLemmas.{front_ended, final_ended, front_going, final_going, front_more, take_all}
+use Rattle.report_files.proofs.PieceLemmas.{front_ended, final_ended, front_going, final_going, front_more}
 use Rattle.verdict_reading.specs.declared.lines.Told.TheVariants as told
 use Rattle.verdict_reading.specs.declared.text_collector.TextCollector.{TextCollector}
 use Rattle.verdict_reading.specs.declared.text_collector.TextRefusal.{TextRefusal}
 use Rattle.verdict_reading.specs.Told.{HasCollected, IsFirstFaulty, IsAmongLines, IsLineCollected, TellsOf}
 use Rattle.verdict_reading.proofs.TextLemmas.{faulty_more}
+use Rattle.std.proofs.lemmas.List.{take_all}
 
 -- all of a text before some rest of it is read: its lines, of which none is faulty
 pub record HasRead (study : Question) (sharp : Bool) (c : TextCollector) (text rest : List ℕ) (line : ℕ) : Type 0 where

@@ -1,5 +1,5 @@
 -- One more line of a text, which may be a report or a sharp text.
-use Rattle.std.proofs.Common.{◌≡◌, refl, sym, ap, ◌∙◌, subst, ℕ, ◌+◌, Bool, true, false, List, [], ◌∷◌, ◌++◌, length, Option, Some, None, option_map, arith, length-append}
+use Rattle.std.proofs.Common.{◌≡◌, sym, ap, ◌∙◌, subst, ℕ, ◌+◌, Bool, true, false, List, [], ◌∷◌, ◌++◌, length, Option, Some, None, option_map, arith, length-append}
 use Rattle.vocab.specs.Study.{Question}
 use Rattle.verdicts.specs.declared.refusals.Refusal.{Refusal}
 use Rattle.verdicts.specs.Places.{Standing, start}
@@ -11,8 +11,7 @@ use Rattle.sharp_verdicts.specs.declared.refusals.SharpRefusal.{SharpRefusal}
 use Rattle.sharp_laws.proofs.FaultLaws.{past as sharp_past}
 use Rattle.sharp_verdicts.specs.SharpJudge.{advance_sharp, sharp_line_fault, sharp_after, sharp_judge_from, sharp_judge}
 use Rattle.sharp_verdicts.specs.SharpPlaces.{SharpStanding, sharp_start}
-use Rattle.report.specs.Stands.{IsRead}
-use Rattle.sharp_report.specs.SharpStands.{IsReadWithin, IsSharpRead}
+use Rattle.sharp_report.specs.SharpStands.{IsReadWithin}
 use Rattle.report_files.proofs.LineLemmas.{refused_more}
 use Rattle.report_files.proofs.SharpLineLemmas.{sharp_refused_more}
 use Rattle.verdict_reading.specs.declared.collector.Collector.{Collector}
@@ -22,32 +21,7 @@ use Rattle.verdict_reading.specs.declared.text_collector.TextRefusal.{TextRefusa
 use Rattle.verdict_reading.specs.declared.text_collector.TextRefusal.TheVariants as refusal
 use Rattle.verdict_reading.specs.Collected.{Collects, IsCollected}
 use Rattle.verdict_reading.specs.SharpCollected.{SharpCollects, IsSharpCollected}
-use Rattle.verdict_reading.specs.Told.{HasCollected, IsFirstFaulty, IsAmongLines, IsLineCollected}
-
--- ---- no line is read
-
-pub none_of_report : (study : Question) (c : Collector) (sharp : Bool) → sharp ≡ false → Collects study c start → HasCollected study sharp (collector.Report c) []
-none_of_report study c sharp e h = subst (λ (b : Bool). HasCollected study b (collector.Report c) []) (sym e) (start, refl, h)
-
-pub none_of_sharp : (study : Question) (c : SharpCollector) (sharp : Bool) → sharp ≡ true → SharpCollects study c sharp_start → HasCollected study sharp (collector.Sharp c) []
-none_of_sharp study c sharp e h =
-    subst (λ (b : Bool). HasCollected study b (collector.Sharp c) []) (sym e) (sharp_start, refl, h, record { lines = []; few = omega arith; good = refl })
-
--- ---- what a collector holds is of lines that were read
-
-pub report_read : (study : Question) (c : Collector) → IsAmongLines study (collector.Report c) → IsRead study c.told
-report_read study c i = by_form i.sharp i.has
-  where
-    by_form : (sharp : Bool) → HasCollected study sharp (collector.Report c) i.lines → IsRead study c.told
-    by_form false h = record { lines = i.lines; few = i.few; standing = h.0; good = h.1; stands = h.2.told }
-    by_form true h = absurd h
-
-pub sharp_read : (study : Question) (c : SharpCollector) → IsAmongLines study (collector.Sharp c) → IsSharpRead study c.told
-sharp_read study c i = by_form i.sharp i.has
-  where
-    by_form : (sharp : Bool) → HasCollected study sharp (collector.Sharp c) i.lines → IsSharpRead study c.told
-    by_form false h = absurd h
-    by_form true h = record { count = length i.lines; few = i.few; standing = h.0; stands = h.2.told; read = h.3 }
+use Rattle.verdict_reading.specs.Told.{HasCollected, IsFirstFaulty, IsLineCollected}
 
 -- ---- one more line
 

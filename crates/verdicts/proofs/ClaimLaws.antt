@@ -26,6 +26,7 @@ use Rattle.verdicts.specs.Judge.{judge, conclude, answer, answer_within}
 use Rattle.verdicts.specs.Laws.{is_rule_given, IsRuleConfirmed, IsImpossibilityConfirmed, IsCoreConfirmed}
 use Rattle.verdicts.proofs.WholeTextLaws.{confirmed_within}
 use Rattle.verdicts.proofs.JudgeLaws.{judge_sound}
+use Rattle.lists.proofs.OptionLaws.{same_in_some}
 
 -- what holds of all places of a study holds of those of a core
 core_from_all : (t : ℕ → Bool) (n from : ℕ) (core : List ℕ) → list_all t (below n) ≡ true → is_core_from from n core ≡ true → list_all t core ≡ true
@@ -77,19 +78,16 @@ module _ (study : Question) (taken : IsSize study.size) (text : List ℕ) where
 pub within_limit : (limit : ℕ) (study : Question) (text : List ℕ) (verdict : Verdict) → (answer_within limit study text ≡ Confirmed verdict) ↔ ((length text ≤ limit) × (answer study text ≡ Confirmed verdict))
 within_limit limit study = confirmed_within conclude (judge study) limit
 
-same_claim : (a b : Claim) → Some a ≡ Some b → a ≡ b
-same_claim a b e = cc
-
 -- what the report of a right verdict claims holds
 pub right_claims : (study : Question) → IsSize study.size → (text : List ℕ) (claim : Claim) → IsClaimed study text claim → ClaimHolds study claim
 right_claims study taken text claim c = by_verdict c.verdict c.report.right c.claims
   where
     by_verdict : (v : Verdict) → is_right study v ≡ true → claim_of v ≡ Some claim → ClaimHolds study claim
-    by_verdict (Possible table) right e = subst (ClaimHolds study) (same_claim PossibleClaim claim e) (table, right)
+    by_verdict (Possible table) right e = subst (ClaimHolds study) (same_in_some PossibleClaim claim e) (table, right)
     by_verdict (Impossible core story witnesses) right e =
         let p = and_parts (is_story study.size study.axioms core story) _ right in
         let q = and_parts (is_core_from 0 (length study.axioms) core) _ p.1 in
         let none = no_rule study.size taken study.axioms core story p.0 in
         let impossible : IsImpossible study = record { core = core; places = q.0; none = none; none_for_all = none_of_all study core none q.0 } in
-        subst (ClaimHolds study) (same_claim ImpossibleClaim claim e) impossible
+        subst (ClaimHolds study) (same_in_some ImpossibleClaim claim e) impossible
     by_verdict Undecided right e = absurd (cc)

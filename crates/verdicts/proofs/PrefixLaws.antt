@@ -30,14 +30,14 @@ story_snoc n (m ∷ ms) l =
     ∙ sym (append_assoc (lemma_lines n m) (story_lines (n + 1) ms) (lemma_lines (n + length (m ∷ ms)) l))
 
 module _ (study : Question) where
+  pub no_witness : (core : List ℕ) → all_witness_lines study core [] ≡ []
+  no_witness [] = refl
+  no_witness (c ∷ core) = refl
+
   pub witness_snoc : (core : List ℕ) (witnesses : List Witness) (k : ℕ) (witness : Witness) → next_after core witnesses ≡ Some k → all_witness_lines study core (witnesses ++ witness ∷ []) ≡ all_witness_lines study core witnesses ++ witness_lines study k witness
   witness_snoc [] witnesses k witness e = absurd (cc)
   witness_snoc (c ∷ core) [] k witness e = let same : c ≡ k = cc in nothing_after core ∙ ap (λ j. witness_lines study j witness) same
     where
-      no_witness : (core : List ℕ) → all_witness_lines study core [] ≡ []
-      no_witness [] = refl
-      no_witness (c ∷ core) = refl
-
       nothing_after : (core : List ℕ) → witness_lines study c witness ++ all_witness_lines study core [] ≡ witness_lines study c witness
       nothing_after core = ap (λ ls. witness_lines study c witness ++ ls) (no_witness core) ∙ append-nil (witness_lines study c witness)
   witness_snoc (c ∷ core) (m ∷ witnesses) k witness e =

@@ -3,7 +3,7 @@ use Rattle.std.proofs.Common.{◌≡◌, refl, ℕ, ◌+◌, ◌-◌, ◌≤◌,
 use Rattle.std.specs.Prelude.{◌==◌, nat_lt}
 use Rattle.std.specs.List.{list_all}
 use Rattle.std.specs.Option.{unwrap_or}
-use Rattle.std.proofs.lemmas.Bool.{and_parts}
+use Rattle.std.proofs.lemmas.Bool.{and_parts, ltb-false, not-true}
 use Rattle.lists.proofs.TestLaws.{all_snoc}
 use Rattle.meaning.specs.Cores.{is_core_from}
 use Rattle.vocab.specs.declared.kinds.Sort.TheVariants.{Profile}
@@ -31,11 +31,7 @@ core_length end from [] h = omega arith
 core_length end from (k ∷ core) h =
     let p = and_parts (not (nat_lt k from) && nat_lt k end) (is_core_from (k + 1) end core) h in
     let q = and_parts (not (nat_lt k from)) (nat_lt k end) p.0 in
-    omega (arith, not_less (nat_lt k from) refl q.0, ltb-true k end q.1, core_length end (k + 1) core p.1)
-  where
-    not_less : (b : Bool) → nat_lt k from ≡ b → not b ≡ true → from ≤ k
-    not_less true e t = absurd (true≢false (sym t))
-    not_less false e t = ltb-false k from e
+    omega (arith, ltb-false k from (not-true _ q.0), ltb-true k end q.1, core_length end (k + 1) core p.1)
 
 module _ (study : Question) where
   -- what a lemma supposes is in range

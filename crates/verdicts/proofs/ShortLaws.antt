@@ -1,10 +1,10 @@
 -- No line of a right report is longer than 4,096 bytes: it has at most 77 words of at most 52 bytes each, or says
 -- the ballots, which are at most 120 words of at most 5 bytes each.
-use Rattle.std.proofs.Common.{◌≡◌, refl, sym, ap, ◌∙◌, subst, ℕ, zero, suc, ◌+◌, ◌*◌, ◌^◌, ◌<◌, ◌≤◌, inl, inr, Bool, true, false, not, ◌&&◌, List, [], ◌∷◌, ◌++◌, map, length, arith, true≢false, ltb-true, lt-ltb, leb-true, le-leb, le-ltb, length-append, eqb-true, cond}
+use Rattle.std.proofs.Common.{◌≡◌, refl, sym, ap, subst, ℕ, zero, suc, ◌+◌, ◌*◌, ◌^◌, ◌<◌, ◌≤◌, inl, inr, Bool, true, false, not, ◌&&◌, List, [], ◌∷◌, ◌++◌, map, length, arith, ltb-true, leb-true, le-leb, le-ltb, length-append, eqb-true, cond}
 use Rattle.std.specs.Prelude.{◌==◌, nat_lt, nat_le, slice_get, Option, Some, None}
 use Rattle.std.specs.List.{list_all, join_with_byte}
 use Rattle.std.specs.Cmp.Lexicographic.{pointwise}
-use Rattle.std.proofs.lemmas.Bool.{and_parts, and_from, cases_lt}
+use Rattle.std.proofs.lemmas.Bool.{and_parts, and_from, cases_lt, ltb-false, not-true}
 use Rattle.std.proofs.lemmas.List.{length-map, length-replicate, get_or_past}
 use Rattle.std.proofs.lemmas.Fmt.{length-decimal-le}
 use Rattle.vocab.specs.declared.kinds.Kind.{Kind}
@@ -131,10 +131,6 @@ module _ (size : Extent) (is : IsSize size) where
 name_within : (w : List ℕ) → is_name w ≡ true → within 52 w ≡ true
 name_within w h = within_from 52 w (omega (arith, leb-true (length w) 32 (and_parts (has_name_shape w) (nat_le (length w) 32) h).1))
 
-names_within : (ns : List (List ℕ)) → list_all is_name ns ≡ true → list_all (within 52) ns ≡ true
-names_within [] h = refl
-names_within (n ∷ ns) h = let p = and_parts (is_name n) (list_all is_name ns) h in and_from _ _ (name_within n p.0) (names_within ns p.1)
-
 pub name_at_within : (axioms : List Titled) → list_all (λ a. is_name a.name) axioms ≡ true → (k : ℕ) → within 52 (name_at axioms k) ≡ true
 name_at_within [] h k = refl
 name_at_within (a ∷ axioms) h zero = name_within a.name (and_parts (is_name a.name) (list_all (λ a. is_name a.name) axioms) h).0
@@ -155,13 +151,7 @@ few_places from end (k ∷ core) le h =
     let p = and_parts (not (nat_lt k from) && nat_lt k end) (is_core_from (k + 1) end core) h in
     let q = and_parts (not (nat_lt k from)) (nat_lt k end) p.0 in
     let less = ltb-true k end q.1 in
-    omega (arith, not_less k from q.0, less, few_places (k + 1) end core (omega (arith, less)) p.1)
-  where
-    not_less : (a b : ℕ) → not (nat_lt a b) ≡ true → b ≤ a
-    not_less a b e = elim (cases_lt a b) [
-      | inl l ↦ absurd (true≢false (sym (sym (ap not (lt-ltb a b l)) ∙ e)))
-      | inr le ↦ le
-    ]
+    omega (arith, ltb-false k from (not-true _ q.0), less, few_places (k + 1) end core (omega (arith, less)) p.1)
 
 -- an axiom has at most 12 leading universals
 pub few_sorts : (size : Extent) (axioms : List Titled) → list_all (is_sentence size) axioms ≡ true → (k : ℕ) → length (sorts_of (slice_get axioms k)) ≤ 12

@@ -1,14 +1,13 @@
 -- Lines without a fault are the lines of a verdict that is right so far.
 use Rattle.meaning.specs.StoryFaults.{unless}
-use Rattle.std.proofs.Common.{◌≡◌, refl, sym, ap, ◌∙◌, subst, ℕ, ◌+◌, ◌<◌, ◌≤◌, inl, inr, Bool, true, false, not, ◌&&◌, List, [], ◌∷◌, ◌++◌, map, length, Option, Some, None, arith, true≢false, cond, append_assoc, append-nil, length-append, eqb-true, lt-ltb}
+use Rattle.std.proofs.Common.{◌≡◌, refl, sym, ap, ◌∙◌, subst, ℕ, ◌+◌, ◌<◌, Bool, true, false, not, ◌&&◌, List, [], ◌∷◌, ◌++◌, map, length, Option, Some, None, arith, true≢false, cond, append_assoc, append-nil, length-append, eqb-true, lt-ltb}
 use Rattle.std.specs.Prelude.{◌==◌, nat_lt, slice_get}
 use Rattle.std.specs.List.{list_all}
 use Rattle.std.specs.Str.{bytes_eq}
 use Rattle.std.specs.Cmp.Lexicographic.{pointwise}
-use Rattle.std.proofs.lemmas.Bool.{and_parts, and_from, cases_lt}
+use Rattle.std.proofs.lemmas.Bool.{and_parts, and_from}
 use Rattle.std.proofs.lemmas.List.{map-append}
 use Rattle.std.proofs.lemmas.Slice.Eq.{bytes_eq-Decides}
-use Rattle.std.proofs.lemmas.Bool.Decides.{Decides-eqb}
 use Rattle.vocab.specs.declared.kinds.Kind.{Kind}
 use Rattle.vocab.specs.declared.kinds.Kind.TheVariants.{Choice, Ranking, Sets}
 use Rattle.vocab.specs.declared.kinds.Sort.TheVariants.{Profile}
@@ -46,19 +45,14 @@ use Rattle.verdicts.specs.Judge.{witness_place, after_witness, after_lemma, adva
 use Rattle.verdicts.proofs.WordLaws.{text_named}
 use Rattle.verdicts.proofs.LineLaws.{map_is, then_is}
 use Rattle.verdicts.proofs.FitLaws.{Fits}
-use Rattle.verdicts.proofs.PrefixLaws.{rows_snoc, story_snoc, witness_snoc, are_witnesses, witnesses_snoc, witnesses_full, are_lemmas, lemmas_snoc, story_done, new_snoc, are_steps, steps_snoc, forced_from}
+use Rattle.verdicts.proofs.PrefixLaws.{rows_snoc, story_snoc, witness_snoc, are_witnesses, witnesses_snoc, witnesses_full, are_lemmas, lemmas_snoc, story_done, new_snoc, are_steps, steps_snoc, forced_from, no_witness}
 use Rattle.verdicts.specs.declared.refusals.Refusal.TheVariants as refusal
+use Rattle.lists.proofs.NumberLaws.{less_of}
 
 -- where there is no fault
 pub none_unless : (b : Bool) (w : Refusal) → unless_so b w ≡ None → b ≡ true
 none_unless true w e = refl
 none_unless false w e = absurd (cc)
-
-less_of : (n m : ℕ) → n ≤ m → (n == m) ≡ false → n < m
-less_of n m h e = elim (cases_lt n m) [
-  | inl l ↦ l
-  | inr ge ↦ let same : n ≡ m = omega (arith, h, ge) in absurd (true≢false (sym ((Decides-eqb n m).1 same) ∙ e))
-]
 
 none_test : (b : Bool) (o : Option Refusal) → cond b o None ≡ None → b ≡ true → o ≡ None
 none_test true o e t = e
@@ -396,10 +390,6 @@ module _ (study : Question) where
       telling_of : IsTelling s → IsTelling (advance study s (So l r))
       telling_of t = record { core = t.core; rows = t.rows; witnesses = t.witnesses; lemmas = t.lemmas; texts = t.texts; more = t.more }
 
-  no_witness : (core : List ℕ) → all_witness_lines study core [] ≡ []
-  no_witness [] = refl
-  no_witness (c ∷ core) = refl
-
   no_witnesses : (core : List ℕ) → are_witnesses study core core [] ≡ true
   no_witnesses [] = refl
   no_witnesses (c ∷ core) = refl
@@ -442,7 +432,7 @@ module _ (study : Question) where
             texts = texts;
             witnesses = subst (λ (ms : List Witness). are_witnesses study s.core s.core ms ≡ true) (sym h.telling.witnesses) (no_witnesses s.core);
           } in
-          let none : all_witness_lines study s.core s.witnesses ≡ [] = ap (all_witness_lines study s.core) h.telling.witnesses ∙ no_witness s.core in
+          let none : all_witness_lines study s.core s.witnesses ≡ [] = ap (all_witness_lines study s.core) h.telling.witnesses ∙ no_witness study s.core in
           subst (λ b. HasRead (cond b (after_witness next) (record next { place = AtLemma })) (printed AtStep s ++ Clash r ∷ [])) (sym t)
           (to_witness next told h.telling.rows (printed AtStep s ++ Clash r ∷ []) (ap (λ ls. opening next ++ ls) none ∙ append-nil (opening next) ∙ lines))
       by_test false t longer right texts lines =

@@ -9,6 +9,7 @@ use Rattle.std.proofs.lemmas.List.Splits.{slice_split-cons_yes, slice_split-cons
 use Rattle.std.proofs.lemmas.Bool.Decides.{Decides-eqb}
 use Rattle.meaning.specs.Space.{up_from, below}
 use Rattle.verdicts.specs.Texts.{named_by}
+use Rattle.lists.proofs.TextLaws.{same_from_test}
 
 -- no byte of the text is c
 abbrev pub lacks : ℕ → List ℕ → Bool
@@ -47,11 +48,8 @@ IsIn [] a = ⊥
 IsIn (b ∷ items) a = (b ≡ a) ⊎ IsIn items a
 
 module _ {A : Type 0} (text_of : A → List ℕ) where
-  same_text : (s t : List ℕ) → bytes_eq s t ≡ true → s ≡ t
-  same_text s t = (bytes_eq-Decides s t).0
-
   named_by_case : (b : A) (items : List A) (text : List ℕ) (a : A) (r : Bool) → (bytes_eq (text_of b) text ≡ r) → (named_by text_of items text ≡ Some a → text ≡ text_of a) → cond r (Some b) (named_by text_of items text) ≡ Some a → text ≡ text_of a
-  named_by_case b items text a true h later f = let same : b ≡ a = cc in sym (same_text (text_of b) text h) ∙ ap text_of same
+  named_by_case b items text a true h later f = let same : b ≡ a = cc in sym (same_from_test (text_of b) text h) ∙ ap text_of same
   named_by_case b items text a false h later f = later f
 
   -- a text that names an item is its text
@@ -60,7 +58,7 @@ module _ {A : Type 0} (text_of : A → List ℕ) where
   text_named (b ∷ items) text a e = named_by_case b items text a (bytes_eq (text_of b) text) refl (text_named items text a) e
 
   named_text_case : (b : A) (items : List A) (a : A) (r : Bool) → bytes_eq (text_of b) (text_of a) ≡ r → (text_of b ≡ text_of a → b ≡ a) → (b ≡ a) ⊎ (named_by text_of items (text_of a) ≡ Some a) → cond r (Some b) (named_by text_of items (text_of a)) ≡ Some a
-  named_text_case b items a true h own later = ap Some (own (same_text (text_of b) (text_of a) h))
+  named_text_case b items a true h own later = ap Some (own (same_from_test (text_of b) (text_of a) h))
   named_text_case b items a false h own (inl same) = absurd (true≢false (sym ((bytes_eq-Decides (text_of b) (text_of a)).1 (ap text_of same)) ∙ h))
   named_text_case b items a false h own (inr later) = later
 

@@ -25,7 +25,7 @@ abbrev pub concluded : {S V R : Type 0} → (ℕ → List ℕ → S → Judgemen
 concluded at_end n rest (Refused line word) = Faulty line word
 concluded at_end n rest (Good s) = at_end n rest s
 
--- of a longer text: no line that ends within the limit is faulty, or one is
+-- of a text that is longer than what is read of it: a line that ends within that is faulty, or else it is too long
 abbrev pub beyond : {S V R : Type 0} → Told S R → Judgement V R
 beyond (Refused line word) = Faulty line word
 beyond (Good s) = TooLong

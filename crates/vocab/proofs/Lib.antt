@@ -6,3 +6,4 @@ pub mod PrefixLemmas
 pub mod TermLemmas
 pub mod SortLaws
 pub mod DigitLaws
+pub mod StudyLaws

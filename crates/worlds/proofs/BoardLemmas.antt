@@ -1,4 +1,5 @@
 -- Boards: what has a mark is there, and nothing else.
+use mathlib.Core.Bool.{or-true, or-false, or_assoc}
 use Rattle.std.proofs.Common.{◌≡◌, ◌≢◌, refl, sym, ◌∙◌, ap, ap₂, subst, ℕ, zero, suc, ◌+◌, ◌*◌, ◌<◌, ◌≤◌, Bool, true, false, not, cond, ◌||◌, inl, inr, List, [], ◌∷◌, ◌++◌, length, get_or, set, arith, true≢false, length-append, length-set}
 use Rattle.std.specs.Prelude.{sum_by}
 use Rattle.std.specs.List.{list_all, remove}
@@ -13,7 +14,6 @@ use Rattle.vocab.specs.declared.literals.Literal.TheVariants.{Wins, Loses, Above
 use Rattle.vocab.specs.Literal.{same_literal, has}
 use Rattle.vocab.specs.Size.{Extent, IsSize, sort_count}
 use Rattle.meaning.specs.Literals.{is_literal, is_literal_of, is_of_winner}
-use Rattle.meaning.proofs.TestLaws.{or-false}
 use Rattle.meaning.proofs.LiteralLaws.{same_literal-equal, same_literal-refl, winner_in, ranking_in}
 use Rattle.worlds.specs.Boards.{without_literal, are_distinct, mark_of, free, IsBoard}
 
@@ -21,11 +21,7 @@ use Rattle.worlds.specs.Boards.{without_literal, are_distinct, mark_of, free, Is
 
 pub has-append : (ls : List Literal) (k l : Literal) → has (ls ++ l ∷ []) k ≡ (has ls k || same_literal k l)
 has-append [] k l = elim (same_literal k l) as (λ b. (b || false) ≡ (false || b)) [ true ↦ refl | false ↦ refl ]
-has-append (x ∷ ls) k l = ap (λ b. same_literal k x || b) (has-append ls k l) ∙ joined (same_literal k x) (has ls k) (same_literal k l)
-  where
-    joined : (a b c : Bool) → (a || (b || c)) ≡ ((a || b) || c)
-    joined true b c = refl
-    joined false b c = refl
+has-append (x ∷ ls) k l = ap (λ b. same_literal k x || b) (has-append ls k l) ∙ sym (or_assoc (same_literal k x) (has ls k) (same_literal k l))
 
 -- a test that all pass, what is there passes
 pub all_has : (t : Literal → Bool) (ls : List Literal) (l : Literal) → list_all t ls ≡ true → has ls l ≡ true → t l ≡ true
@@ -235,15 +231,6 @@ module _ (size : Extent) (ls : List Literal) (capacity : ℕ) (marks : List Bool
   pub mark_within : (l : Literal) → is_literal size l ≡ true → mark_of l < length marks
   mark_within l h = let lt = mark_below size board.valid l h in omega (arith, board.wide)
 
-  -- there is room for a literal that is not there
-  pub has_room : (l : Literal) → is_literal size l ≡ true → has ls l ≡ false → length ls < capacity
-  has_room l h n =
-      let within = mark_within l h in
-      let unmarked : get_or marks (mark_of l) false ≡ false = board.marked l h ∙ n in
-      let counts : sum_by free (set marks (mark_of l) true) + free (get_or marks (mark_of l) false) ≡ sum_by free marks + free true = sum_by-set free marks (mark_of l) true false within in
-      let one : free (get_or marks (mark_of l) false) ≡ 1 = ap free unmarked in
-      omega (arith, board.room, board.capacious)
-
   pub board_with : (l : Literal) (cap : ℕ) → is_literal size l ≡ true → has ls l ≡ false → capacity ≤ cap → IsBoard size (ls ++ l ∷ []) cap (set marks (mark_of l) true)
   board_with l cap h n more =
       let within = mark_within l h in
@@ -300,11 +287,7 @@ module _ (size : Extent) (ls : List Literal) (capacity : ℕ) (marks : List Bool
 -- what came last goes first
 module _ (size : Extent) (ls : List Literal) (l : Literal) (capacity : ℕ) (marks : List Bool) (board : IsBoard size (ls ++ l ∷ []) capacity marks) where
   last_there : has (ls ++ l ∷ []) l ≡ true
-  last_there = has-append ls l l ∙ ap (λ b. has ls l || b) (same_literal-refl l) ∙ either (has ls l)
-    where
-      either : (b : Bool) → (b || true) ≡ true
-      either true = refl
-      either false = refl
+  last_there = has-append ls l l ∙ ap (λ b. has ls l || b) (same_literal-refl l) ∙ or-true (has ls l)
 
   pub last_mark : mark_of l < length marks
   last_mark = mark_within size (ls ++ l ∷ []) capacity marks board l (all_has (is_literal size) (ls ++ l ∷ []) l board.ours last_there)

@@ -13,7 +13,7 @@ use Rattle.vocab.specs.Study.{is_sentence}
 use Rattle.vocab.specs.Titled.{Titled}
 use Rattle.vocab.specs.Tree.{TermTree, Tree, Var, With, SwapVoters, SwapAlts, Swap, Equal, Prefers, Better, Casts, Majority, WinsAt, Ranks, Leaf, Not, Both, Either, Implies, Same, All, Exists}
 use Rattle.meaning.specs.Literals.{is_literal}
-use Rattle.meaning.specs.Truth.{value, is_rule}
+use Rattle.meaning.specs.Truth.{value}
 use Rattle.meaning.proofs.LiteralLaws.{of_comparison, of_winner}
 use Rattle.meaning.proofs.RangeLaws.{have_values}
 use Rattle.worlds.specs.Conditions.{IsTermAt, HasSort, IsAtomAt, IsFormulaAt, IsEvaluable}
@@ -184,7 +184,7 @@ module _ (size : Extent) where
   }
 
   -- both parts of a formula that joins two
-  two_parts : (f g : Tree) (sorts : List Sort) (env : List ℕ) → are_of_sorts size sorts env ≡ true → is_sorted size sorts f && is_sorted size sorts g ≡ true → length env + max (quantifier_depth f) (quantifier_depth g) ≤ 12
+  pub two_parts : (f g : Tree) (sorts : List Sort) (env : List ℕ) → are_of_sorts size sorts env ≡ true → is_sorted size sorts f && is_sorted size sorts g ≡ true → length env + max (quantifier_depth f) (quantifier_depth g) ≤ 12
       → IsFormulaAt size f env × IsFormulaAt size g env
   two_parts f g sorts env h k room =
       let p = and_parts (is_sorted size sorts f) (is_sorted size sorts g) k in
@@ -200,10 +200,6 @@ module _ (size : Extent) where
   evaluable (Same f g) env h = let p = two_parts f g h.sorts env h.in_range h.sorted h.room in (evaluable f env p.0, evaluable g env p.1)
   evaluable (All s f) env h = (let room : length env + (quantifier_depth f + 1) ≤ 12 = h.room in omega arith, λ v lt. evaluable f (env ++ v ∷ []) (quantified s f h.sorts env v h.in_range h.sorted h.room lt))
   evaluable (Exists s f) env h = (let room : length env + (quantifier_depth f + 1) ≤ 12 = h.room in omega arith, λ v lt. evaluable f (env ++ v ∷ []) (quantified s f h.sorts env v h.in_range h.sorted h.room lt))
-
--- a rule has an outcome at each profile
-pub rule_length : (size : Extent) (table : List ℕ) → is_rule size table ≡ true → length table ≡ sort_count size Profile
-rule_length size table h = eqb-true (length table) (sort_count size Profile) (and_parts (length table == sort_count size Profile) _ h).0
 
 -- an axiom's sentence can be evaluated under no values
 pub evaluable_sentence : (size : Extent) (a : Titled) → is_sentence size a ≡ true → IsEvaluable size a.sentence []

@@ -1,5 +1,5 @@
 -- Known literals at a profile, by the variables of the profile.
-use Rattle.std.proofs.Common.{◌≡◌, refl, sym, ap, subst, ℕ, ◌+◌, ◌*◌, ◌<◌, ◌≤◌, Bool, true, false, not, cond, ◌&&◌, inl, inr, List, [], ◌∷◌, filter, arith, true≢false, eqb-true, eq-eqb, eq-or-lt_of_le, mul-le-mul, mul-le-mul_right}
+use Rattle.std.proofs.Common.{◌≡◌, refl, sym, ap, subst, ℕ, ◌+◌, ◌*◌, ◌<◌, ◌≤◌, Bool, true, false, not, cond, ◌&&◌, inl, inr, List, [], ◌∷◌, filter, arith, true≢false, eqb-true, eq-eqb, eq-or-lt_of_le, mul-le-mul}
 use Rattle.std.specs.Prelude.{◌==◌}
 use Rattle.std.specs.List.{list_all}
 use Rattle.std.proofs.lemmas.Bool.{and_parts, and_from, or_cases, or_left, or_right, both_ways, false_from_ne_true, not-true, cases_Bool}
@@ -55,13 +55,6 @@ module _ (t q : Literal → Bool) where
 
 -- ---- outcomes and variables
 
--- the variables of a profile are among all
-pub variable_within : (p n count place : ℕ) → p < count → place < n → p * n + place + 1 ≤ count * n
-variable_within p n count place lt small =
-    let next : p + 1 ≤ count = omega arith in
-    let all : (p + 1) * n ≤ count * n = mul-le-mul_right n next in
-    omega arith
-
 -- and their numbers fit
 pub numbers_fit : (p n count : ℕ) → p < count → count ≤ 20000 → n ≤ 10 → p * n ≤ 200000
 numbers_fit p n count lt few small =
@@ -85,9 +78,6 @@ module _ (size : Extent) (known : List Literal) (outcome p : ℕ) where
     | inl e ↦ e
     | inr e ↦ absurd (both_ways _ h (and_from _ _ m (ap not e)))
   ]
-
-  pub checked_none : AreChecked (p * bits size.kind size.alternatives)
-  checked_none s low high m = absurd (omega arith)
 
   pub checked_more : (v : ℕ) → AreChecked v → is_failing (record { variable = v + 1; positive = true }) ≡ false → is_failing (record { variable = v + 1; positive = false }) ≡ false → AreChecked (v + 1)
   checked_more v before upright turned s low high m = elim (eq-or-lt_of_le high) [

@@ -1,5 +1,5 @@
 -- Instances block by block: those of one value of the outermost universal after those of the value before it.
-use Rattle.std.proofs.Common.{◌≡◌, refl, sym, ◌∙◌, ap, ap₂, ℕ, zero, suc, ◌+◌, ◌*◌, ◌-◌, ◌/◌, ◌^◌, ◌<◌, ◌≤◌, true, min, inl, inr, List, [], ◌∷◌, ◌++◌, arith, Option, None, Some, MatchOption, append_assoc, append-nil, mul-le-mul_right, suc-mul}
+use Rattle.std.proofs.Common.{◌≡◌, sym, ◌∙◌, ap, ap₂, ℕ, ◌+◌, ◌*◌, ◌-◌, ◌/◌, ◌^◌, ◌<◌, ◌≤◌, true, min, inl, inr, List, [], ◌∷◌, ◌++◌, arith, Option, None, Some, MatchOption, append_assoc, mul-le-mul_right}
 use Rattle.std.proofs.Math.Nat.{mul-le-mul_left, div-mul-le_self, div-eq_of_lt}
 use Rattle.std.proofs.lemmas.Nat.{div-mul-add, mod-mul-add, div_below}
 use Rattle.std.proofs.lemmas.Bool.{cases_lt}
@@ -17,14 +17,6 @@ use Rattle.worlds.specs.Walk.{is_true_in, AreTrueIn, IsFirstFalseIn}
 -- the largest number of 64 bits
 abbrev pub most : ℕ
 most = 2 ^ 64 - 1
-
--- a product whose one factor is cut at the largest number, cut again
-pub product_cut : (a p : ℕ) → min (a * min p most) most ≡ min (a * p) most
-product_cut zero p = omega arith
-product_cut (suc a) p = elim (cases_lt most p) [
-  | inl lt ↦ let cut : min p most ≡ most = omega (arith, lt) in rw cut (omega (arith, lt, suc-mul a p))
-  | inr le ↦ let whole : min p most ≡ p = omega (arith, le) in rw whole refl
-]
 
 -- a block, its instances cut at the largest number: it begins below the end of the walk, where its value says
 pub record IsBlock (n p v start : ℕ) : Type 0 where
@@ -135,11 +127,6 @@ module _ (size : Extent) (table : List ℕ) (s : Sort) (f : Tree) (env : List �
             let in_p : i - start < p = omega (arith, place, next) in
             in_block n v start i is after in_p ∙ all (i - start) (omega arith) (omega arith)
       ]
-
--- a formula that is no universal has the one instance 0
-pub single : (size : Extent) (table : List ℕ) (f : Tree) (env : List ℕ) → body_of f ≡ f → bases_of size f ≡ [] → is_true_in size table f env 0 ≡ is_true_at size table f env
-single size table f env body none =
-    ap (λ (ds : List ℕ). is_true_at size table (body_of f) (env ++ digits_of ds 0)) none ∙ ap₂ (λ (g : Tree) (e : List ℕ). is_true_at size table g e) body (append-nil env)
 
 -- of a sentence, under no values, these are its instances
 pub of_sentence : (size : Extent) (table : List ℕ) (f : Tree) (from to : ℕ) (r : Option ℕ) → MatchOption r (AreTrueIn size table f [] from to) (IsFirstFalseIn size table f [] from to)

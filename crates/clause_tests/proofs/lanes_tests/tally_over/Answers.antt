@@ -1,6 +1,6 @@
 use Rattle.std.proofs.Common.{◌≡◌, Some, slice_get}
-use Rattle.grounding.proofs.ChosenLemmas.{few_at, sentence_at}
 use Rattle.clause_tests.proofs.lanes_tests.tally_over.Goals as goal
+use Rattle.vocab.proofs.StudyLaws.{few_at, sentence_at}
 
 pub tally_of-requires-clause-sentence : goal.tally_of-requires-clause-sentence
 tally_of-requires-clause-sentence g c κs within =

@@ -5,7 +5,7 @@ use Rattle.cnf.specs.Sat.{Clause}
 use Rattle.clause_form.specs.Cited.{is_of_axiom}
 use Rattle.clause_form.specs.Sources.{clauses_in}
 use Rattle.core_reduce.proofs.PartLaws.{count_of}
-use Rattle.core_maps.proofs.FlagLaws.{now_false, still_true}
+use Rattle.core_maps.proofs.PassLaws.{now_false, still_true}
 use Rattle.core_maps.proofs.passing.failing.Goals as goal
 use Rattle.core_maps.proofs.passing.failing.Goals.{then-not-is_true, else-not-is_true}
 

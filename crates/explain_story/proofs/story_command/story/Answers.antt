@@ -1,6 +1,7 @@
 use Rattle.command_parts.specs.declared.studies.Opened.{Opened}
-use Rattle.explain_story.proofs.StoryLemmas.{study_taken, story_rows, report_read, study_refuses, study_stops}
+use Rattle.explain_story.proofs.StoryLemmas.{story_rows, report_read, study_refuses, study_stops}
 use Rattle.explain_story.proofs.story_command.story.Goals as goal
+use Rattle.command_parts.proofs.OpenLemmas.{study_taken}
 
 pub returns-in-Ok-Study : goal.returns-in-Ok-Study
 returns-in-Ok-Study g c =
@@ -10,7 +11,7 @@ returns-in-Ok-Study g c =
     let workers = c.args.crew.now.workers in
     let read = rw c.in-Ok-Study.field-0-is at c.in-Ok-Study.ensures.opened in
     report_read name report workers told _ (g.S.Shelf.left c.open_study.new.shelf) _ (g.S.Shelf.faults c.open_study.new.shelf) c.open_study.ensures.others _ _
-    c.read_story.result (study_taken name report workers told c.in-Ok-Study.whole.study read) c.open_study.ensures.none_fell
+    c.read_story.result (study_taken told name c.in-Ok-Study.whole.study read) c.open_study.ensures.none_fell
     (story_rows name report workers told c.in-Ok-Study.whole.study c.read_story.result read (rw c.open_study.ensures.same at c.read_story.ensures.told))
     c.read_story.ensures.status c.read_story.ensures.has_text c.read_story.ensures.fault c.read_story.ensures.others
 

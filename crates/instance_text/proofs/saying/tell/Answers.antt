@@ -6,16 +6,17 @@ use Rattle.vocab.specs.Size.{Extent, sort_count}
 use Rattle.vocab.specs.Study.{is_sentence}
 use Rattle.meaning.specs.Instances.{instance_values}
 use Rattle.instance_text.specs.Said.{told_instance}
-use Rattle.instance_text.proofs.SaidLemmas.{few_at, is_sentence_at, values_fit}
+use Rattle.instance_text.proofs.SaidLemmas.{values_fit}
 use Rattle.instance_text.proofs.saying.tell.Goals as goal
+use Rattle.vocab.proofs.StudyLaws.{few_at, sentence_at}
 
 pub values_of-values-requires-clause-sentence : goal.values_of-values-requires-clause-sentence
 values_of-values-requires-clause-sentence g c κs within =
-    subst (λ (e : Extent). is_sentence e c.args.named.now ≡ true) c.requires.size (is_sentence_at c.args.study.now c.args.place c.args.named.now c.requires.place c.axioms-axioms.ensures.study)
+    subst (λ (e : Extent). is_sentence e c.args.named.now ≡ true) c.requires.size (sentence_at c.args.study.now c.args.place c.args.named.now c.axioms-axioms.ensures.study c.requires.place)
 
 pub values_of-values-requires-clause-few : goal.values_of-values-requires-clause-few
 values_of-values-requires-clause-few g c κs within =
-    subst (λ (e : Extent). instance_count e c.args.named.now.sentence ≤ 40000000) c.requires.size (few_at c.args.study.now c.args.place c.args.named.now c.requires.place c.axioms-axioms.ensures.study)
+    subst (λ (e : Extent). instance_count e c.args.named.now.sentence ≤ 40000000) c.requires.size (few_at c.args.study.now c.args.place c.args.named.now c.axioms-axioms.ensures.study c.requires.place)
 
 pub put_told-requires-clause-within : goal.put_told-requires-clause-within
 put_told-requires-clause-within g c =

@@ -11,10 +11,10 @@ use Rattle.meaning.specs.Measure.{measure_of}
 use Rattle.meaning.specs.Written.{write_out}
 use Rattle.meaning.proofs.DigitLaws.{are_one_to_one}
 use Rattle.worlds.specs.Conditions.{IsFormulaAt}
-use Rattle.grounding.proofs.ChosenLemmas.{sentence_at}
 use Rattle.instance_studies.proofs.StudyLaws.{number_within}
 use Rattle.instance_totals.proofs.SumLemmas.{counted}
 use Rattle.instance_totals.proofs.pieces.counts_of.Goals as goal
+use Rattle.vocab.proofs.StudyLaws.{sentence_at}
 
 pub measure-requires-after_bounds : goal.measure-requires-after_bounds
 measure-requires-after_bounds g c κs within =

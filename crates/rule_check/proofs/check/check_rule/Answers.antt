@@ -1,8 +1,9 @@
 use Rattle.std.proofs.Common.{◌≡◌, ◌≤◌, slice_get, slice_index_or, Some, subst}
 use Rattle.vocab.specs.Limits.{instance_count}
 use Rattle.vocab.specs.Size.{Extent}
-use Rattle.rule_check.proofs.CheckLemmas.{sentence_at, few_at, further, found}
+use Rattle.rule_check.proofs.CheckLemmas.{further, found}
 use Rattle.rule_check.proofs.check.check_rule.Goals as goal
+use Rattle.vocab.proofs.StudyLaws.{few_at, sentence_at}
 
 pub invariant_of-trial-clause-sentence : goal.invariant_of-trial-clause-sentence
 invariant_of-trial-clause-sentence g c =

@@ -1,8 +1,8 @@
 use Rattle.std.proofs.Common.{◌≡◌, Some, arith}
 use Rattle.std.specs.Prelude.{slice_get}
-use Rattle.rule_check.proofs.CheckLemmas.{sentence_at, few_at}
 use Rattle.sharp_report.proofs.FailingLemmas.{number_within}
 use Rattle.sharp_report.proofs.failing.is_true.Goals as goal
+use Rattle.vocab.proofs.StudyLaws.{few_at, sentence_at}
 
 pub overflow_add-cited : goal.overflow_add-cited
 overflow_add-cited g c =

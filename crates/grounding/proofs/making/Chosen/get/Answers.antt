@@ -1,8 +1,9 @@
 use Rattle.std.proofs.Common.{◌≡◌, ◌<◌, ◌≤◌, Some, arith, length, slice_get, slice_index_or, subst}
 use Rattle.vocab.specs.Limits.{instance_count}
 use Rattle.vocab.specs.Size.{Extent}
-use Rattle.grounding.proofs.ChosenLemmas.{chosen_below, few_at, sentence_at}
+use Rattle.grounding.proofs.ChosenLemmas.{chosen_below}
 use Rattle.grounding.proofs.making.Chosen.get.Goals as goal
+use Rattle.vocab.proofs.StudyLaws.{few_at, sentence_at}
 
 pub get-requires : goal.get-requires
 get-requires g c =

@@ -2,8 +2,8 @@ use Rattle.std.proofs.Common.{◌≡◌, slice_get, Some, true}
 use Rattle.vocab.specs.Formula.{body_of}
 use Rattle.vocab.specs.Study.{is_sentence}
 use Rattle.worlds.specs.Conditions.{IsFormulaAt}
-use Rattle.story.proofs.PlaceLemmas.{sentence_at}
 use Rattle.needed_facts.proofs.facts.Facts.spoken_by.Goals as goal
+use Rattle.vocab.proofs.StudyLaws.{sentence_at}
 
 pub literals_of-requires-clause-body : goal.literals_of-requires-clause-body
 literals_of-requires-clause-body g c =

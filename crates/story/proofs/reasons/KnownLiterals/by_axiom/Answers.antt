@@ -1,6 +1,7 @@
 use Rattle.std.proofs.Common.{◌≡◌, ◌∙◌, sym, slice_get, Some}
-use Rattle.story.proofs.PlaceLemmas.{core_place, sentence_at}
+use Rattle.story.proofs.PlaceLemmas.{core_place}
 use Rattle.story.proofs.reasons.KnownLiterals.by_axiom.Goals as goal
+use Rattle.vocab.proofs.StudyLaws.{sentence_at}
 
 pub get-cited-requires : goal.get-cited-requires
 get-cited-requires g c =
