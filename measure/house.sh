@@ -71,7 +71,8 @@ def unnamed(root): # lemmas that no proof and no function names; worked examples
             if re.match(r" *(abbrev )?(pub )?(record|data) ", above) or (module, name) in named:
                 continue
             others = [it for it in lines[:start] + lines[end:] if not it.startswith(("use ", "pub use ")) and not it.strip().startswith("--")]
-            text = re.sub(r"((?:^|[{;]) *|\.)%s( =|(?=[^\w]))" % re.escape(name), lambda it: it[0] if it[1][-1:] != "." and not it[2] else "", "\n".join(others), flags=re.M)
+            fields = r"\.%s(?![\w'-])|(?:^|[{;]) *%s = " % (re.escape(name), re.escape(name)) # of a record, and what is read off one
+            text = re.sub(fields, " ", "\n".join(others), flags=re.M)
             if name not in re.findall(r"[^\s(){};,:=.\[\]]+", text):
                 yield crate, module.split(".")[-1], name
 def counts(root):
