@@ -1,6 +1,6 @@
 -- The clauses of the sets that a map does not cover.
 use mathlib.Core.Bool.{not-not}
-use Rattle.std.proofs.Common.{◌≡◌, refl, sym, ◌∙◌, ap, ap₂, subst, ℕ, zero, suc, ◌+◌, ◌-◌, ◌<◌, ◌≤◌, Bool, true, false, not, ◌&&◌, ◌||◌, cond, List, [], ◌∷◌, ◌++◌, map, filter, take, drop, append_assoc, length, length-append, inl, inr, ◌⊎◌, arith, true≢false, eqb-true, eq-eqb, ltb-true, lt-ltb, le-leb, leb-true, get_or, All}
+use Rattle.std.proofs.Common.{◌≡◌, refl, sym, ◌∙◌, ap, ap₂, subst, ℕ, zero, suc, ◌+◌, ◌-◌, ◌<◌, ◌≤◌, Bool, true, false, not, ◌&&◌, ◌||◌, cond, List, [], ◌∷◌, ◌++◌, map, filter, take, drop, append_assoc, length, length-append, inl, inr, ◌⊎◌, arith, true≢false, eqb-true, eq-eqb, ltb-true, le-leb, leb-true, get_or, All}
 use Rattle.std.specs.Prelude.{◌==◌, nat_lt, nat_le, sum_by}
 use Rattle.std.specs.Bool.{beq}
 use Rattle.std.specs.List.{list_all, list_any}
@@ -18,10 +18,10 @@ use Rattle.cnf.specs.Signed.{Signed}
 use Rattle.cnf.specs.declared.derivations.Line.{Line}
 use Rattle.cnf.proofs.SoundLaws.{accepted_unsatisfiable}
 use Rattle.meaning.specs.Cores.{is_core_from}
-use Rattle.meaning.specs.Space.{up_from, below}
+use Rattle.meaning.specs.Space.{below}
 use Rattle.meaning.proofs.SpaceLaws.{any_at, any_from}
-use Rattle.meaning.proofs.TestLaws.{any-agree, list_any-map, not-and}
-use Rattle.meaning.proofs.CoreLaws.{core_in_range, core_lower}
+use Rattle.meaning.proofs.TestLaws.{any-agree, list_any-map, not-or}
+use Rattle.meaning.proofs.CoreLaws.{core_in_range, filter_core}
 use Rattle.search_logs.specs.Spent.{has_place}
 use Rattle.search_logs.proofs.PlaceLaws.{member_passes}
 use Rattle.axiom_sets.specs.declared.maps.AxiomMap.{AxiomMap}
@@ -60,27 +60,8 @@ any_filter p keep (x ∷ xs) = cases (keep x) (any_filter p keep xs)
 
 -- ---- the set of an assignment
 
--- the axioms that an assignment does not leave out
-chosen_from : (keep : ℕ → Bool) (a n : ℕ) → is_core_from a (a + n) (filter keep (up_from a n)) ≡ true
-chosen_from keep a zero = refl
-chosen_from keep a (suc n) = cases (keep a) (subst (λ (m : ℕ). is_core_from (suc a) m (filter keep (up_from (suc a) n)) ≡ true) end (chosen_from keep (suc a) n))
-  where
-    end : suc a + n ≡ a + suc n
-    end = omega arith
-
-    next : suc a ≡ a + 1
-    next = omega arith
-
-    here : (not (nat_lt a a) && nat_lt a (a + suc n)) ≡ true
-    here = and_from _ _ (not_from_false _ (false_from_ne_true (nat_lt a a) (λ e. let l = ltb-true a a e in absurd (omega (arith, l))))) (lt-ltb a (a + suc n) (omega arith))
-
-    cases : (b : Bool) → is_core_from (suc a) (a + suc n) (filter keep (up_from (suc a) n)) ≡ true
-        → is_core_from a (a + suc n) (cond b (a ∷ filter keep (up_from (suc a) n)) (filter keep (up_from (suc a) n))) ≡ true
-    cases true ih = and_from _ _ here (subst (λ (m : ℕ). is_core_from m (a + suc n) (filter keep (up_from (suc a) n)) ≡ true) next ih)
-    cases false ih = core_lower a (suc a) (a + suc n) (filter keep (up_from (suc a) n)) (omega arith) ih
-
 pub chosen_is_set : (v : ℕ → Bool) (count : ℕ) → is_set count (chosen v count) ≡ true
-chosen_is_set v count = let e : 0 + count ≡ count = omega arith in subst (λ (m : ℕ). is_core_from 0 m (chosen v count) ≡ true) e (chosen_from (λ a. not (v (a + 1))) 0 count)
+chosen_is_set v count = let e : 0 + count ≡ count = omega arith in subst (λ (m : ℕ). is_core_from 0 m (chosen v count) ≡ true) e (filter_core (λ a. not (v (a + 1))) count 0)
 
 chosen_place : (v : ℕ → Bool) (count a : ℕ) → a < count → has_place (chosen v count) a ≡ not (v (a + 1))
 chosen_place v count a lt = any_filter (λ c. c == a) (λ c. not (v (c + 1))) (below count) ∙ cases (v (a + 1)) refl
@@ -127,11 +108,11 @@ module _ (v : ℕ → Bool) (count : ℕ) (set : List ℕ) (is : is_set count se
   parts_say [] h = refl
   parts_say (s ∷ sets) h =
       let p = and_parts (is_set count s) (list_all (is_set count) sets) h in
-      ap₂ (λ (a b : Bool). a && b) (lacks_says s (places_below count s p.0)) (parts_say sets p.1) ∙ not-and (is_within s set) (has_part sets set)
+      ap₂ (λ (a b : Bool). a && b) (lacks_says s (places_below count s p.0)) (parts_say sets p.1) ∙ not-or (is_within s set) (has_part sets set)
 
   wholes_say : (sets : List (List ℕ)) → is_satisfied v (map (goes_beyond count) sets) ≡ not (has_whole sets set)
   wholes_say [] = refl
-  wholes_say (s ∷ sets) = ap₂ (λ (a b : Bool). a && b) (beyond_says s) (wholes_say sets) ∙ not-and (is_within set s) (has_whole sets set)
+  wholes_say (s ∷ sets) = ap₂ (λ (a b : Bool). a && b) (beyond_says s) (wholes_say sets) ∙ not-or (is_within set s) (has_whole sets set)
 
   -- the assignment that leaves out what is none of a set satisfies the clauses where the map does not cover the set
   pub clauses_say : (sets : AxiomMap) → IsTidy count sets → is_satisfied v (uncovered_clauses count sets) ≡ not (covers sets set)
@@ -143,7 +124,7 @@ module _ (v : ℕ → Bool) (count : ℕ) (set : List ℕ) (is : is_set count se
     where
       three : (a b c : Bool) → (not a && (not b && not c)) ≡ not ((a || b) || c)
       three true b c = refl
-      three false b c = not-and b c
+      three false b c = not-or b c
 
 -- the set of an assignment that satisfies the clauses is one that the map does not cover
 pub found_uncovered : (count : ℕ) (sets : AxiomMap) → IsTidy count sets → (v : ℕ → Bool) → is_satisfied v (uncovered_clauses count sets) ≡ true → covers sets (chosen v count) ≡ false
@@ -177,7 +158,7 @@ beyond_over : (count : ℕ) (s : List ℕ) → is_over count (goes_beyond count 
 beyond_over count s =
     list_all-map (λ (l : Signed). nat_le 1 l.variable && nat_le l.variable count) (λ a. record { variable = a + 1; positive = false }) (filter (λ a. not (has_place s a)) (below count))
     ∙ all_weaker (λ k. nat_lt k count) (λ k. nat_le 1 (k + 1) && nat_le (k + 1) count) (λ k e. over_at count k (ltb-true k count e)) (filter (λ a. not (has_place s a)) (below count))
-    (let e : 0 + count ≡ count = omega arith in core_in_range 0 count (filter (λ a. not (has_place s a)) (below count)) (subst (λ (m : ℕ). is_core_from 0 m (filter (λ a. not (has_place s a)) (below count)) ≡ true) e (chosen_from (λ a. not (has_place s a)) 0 count)))
+    (let e : 0 + count ≡ count = omega arith in core_in_range 0 count (filter (λ a. not (has_place s a)) (below count)) (subst (λ (m : ℕ). is_core_from 0 m (filter (λ a. not (has_place s a)) (below count)) ≡ true) e (filter_core (λ a. not (has_place s a)) count 0)))
 
 each_over : (count : ℕ) (sets : List (List ℕ)) (clause_of : List ℕ → Clause) (fits : List ℕ → Bool) → ((s : List ℕ) → fits s ≡ true → is_over count (clause_of s) ≡ true) → list_all fits sets ≡ true → list_all (is_over count) (map clause_of sets) ≡ true
 each_over count sets clause_of fits on h = list_all-map (is_over count) clause_of sets ∙ all_weaker fits (λ s. is_over count (clause_of s)) on sets h

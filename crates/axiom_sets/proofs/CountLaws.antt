@@ -10,6 +10,7 @@ use Rattle.axiom_sets.specs.Sets.{is_set, has_part, has_whole}
 use Rattle.axiom_sets.specs.Maps.{decides, covers, HasImpossible, HasPossible, HasOpen}
 use Rattle.axiom_sets.specs.Counts.{sets_from, count_failing, left_to_ask}
 use Rattle.axiom_sets.proofs.TidyLaws.{decides_impossible, decides_new_impossible, decides_possible, decides_new_possible, covers_open, covers_new_open}
+use Rattle.lists.proofs.TestLaws.{kept_few}
 
 -- ---- items of lists
 
@@ -63,14 +64,6 @@ module _ {X : Type 0} where
         cases true false f ih = absurd (true≢false (sym (f refl)))
         cases false true f ih = omega (arith, ih)
         cases false false f ih = omega (arith, ih)
-
-  at_most_all : (p : X → Bool) (xs : List X) → length (filter p xs) ≤ length xs
-  at_most_all p [] = omega arith
-  at_most_all p (x ∷ xs) = cases (p x) (at_most_all p xs)
-    where
-      cases : (b : Bool) → length (filter p xs) ≤ length xs → length (cond b (x ∷ filter p xs) (filter p xs)) ≤ length (x ∷ xs)
-      cases true ih = omega (arith, ih)
-      cases false ih = omega (arith, ih)
 
 -- ---- all sets
 
@@ -131,7 +124,7 @@ module _ (count : ℕ) where
   falls_by : (old new : AxiomMap) → count_failing count (decides new) < count_failing count (decides old) → left_to_ask count new < left_to_ask count old
   falls_by old new less =
       falls_first (count_failing count (decides new)) (count_failing count (decides old)) (count_failing count (covers new)) (count_failing count (covers old)) (length (sets_from 0 count)) less
-      (at_most_all (λ set. not (covers new set)) (sets_from 0 count))
+      (kept_few (λ set. not (covers new set)) (sets_from 0 count))
 
   module _ (old new : AxiomMap) (set : List ℕ) (is : is_set count set ≡ true) where
     pub impossible_falls : decides old set ≡ false → HasImpossible old new set → left_to_ask count new < left_to_ask count old

@@ -16,7 +16,7 @@ use Rattle.clause_form.specs.declared.bounds.Bound.{Bound}
 use Rattle.clause_form.specs.declared.bounds.Bound.TheVariants.{Known, Open}
 use Rattle.clause_form.proofs.CountLaws.{min-product}
 use Rattle.clause_form.proofs.KnownLaws.{SameForm, and_true_left, and_true_right, or_false_left, or_false_right, iff_true_left, iff_true_right, iff_false_left, iff_false_right, minus_false, minus_true, plus_false, plus_true}
-use Rattle.meaning.proofs.ThreeLaws.{and_false, or_true}
+use Rattle.meaning.proofs.ThreeLaws.{three_and-false, three_or-true}
 
 -- ---- arithmetic that ends at m
 
@@ -95,7 +95,7 @@ and_known_left b x y (false, e) k = known_bound b false (And x y) y (ap (λ t. t
 
 pub and_known_right : (b : Bound) (x y : Written) → IsBound b x → IsBound Known y → IsBound b (And x y)
 and_known_right b x y h (true, e) = same_bound b (And x y) x (and_true_right x y e) h
-and_known_right b x y h (false, e) = known_bound b false (And x y) x (ap (λ t. three_and (known_truth x) t) e ∙ and_false (known_truth x)) h
+and_known_right b x y h (false, e) = known_bound b false (And x y) x (ap (λ t. three_and (known_truth x) t) e ∙ three_and-false (known_truth x)) h
 
 pub or_known_left : (b : Bound) (x y : Written) → IsBound Known x → IsBound b y → IsBound b (Or x y)
 or_known_left b x y (false, e) k = same_bound b (Or x y) y (or_false_left x y e) k
@@ -103,7 +103,7 @@ or_known_left b x y (true, e) k = known_bound b true (Or x y) y (ap (λ t. three
 
 pub or_known_right : (b : Bound) (x y : Written) → IsBound b x → IsBound Known y → IsBound b (Or x y)
 or_known_right b x y h (false, e) = same_bound b (Or x y) x (or_false_right x y e) h
-or_known_right b x y h (true, e) = known_bound b true (Or x y) x (ap (λ t. three_or (known_truth x) t) e ∙ or_true (known_truth x)) h
+or_known_right b x y h (true, e) = known_bound b true (Or x y) x (ap (λ t. three_or (known_truth x) t) e ∙ three_or-true (known_truth x)) h
 
 -- of a formula and of its negation
 abbrev pub IsUnsigned : Bound → Written → Type 0

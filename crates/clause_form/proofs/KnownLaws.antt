@@ -7,7 +7,7 @@ use Rattle.meaning.specs.Clauses.{Disjunction, for_falsity, for_truth, joined, k
 use Rattle.meaning.specs.Kleene.{three_and, three_not, three_or, three_same}
 use Rattle.meaning.specs.Written.{And, Iff, Neg, Or, Written, Fact, Known}
 use Rattle.meaning.proofs.ClauseLaws.{joined-nil}
-use Rattle.meaning.proofs.ThreeLaws.{and_true, or_false}
+use Rattle.meaning.proofs.ThreeLaws.{three_and-true, three_or-false}
 
 same_true : (t : Three) → three_same t True ≡ t
 same_true True = refl
@@ -108,7 +108,7 @@ and_true_left x y e =
 
 pub and_true_right : (x y : Written) → known_truth y ≡ True → SameForm (And x y) x
 and_true_right x y e =
-    let k : known_truth (And x y) ≡ known_truth x = ap (λ t. three_and (known_truth x) t) e ∙ and_true (known_truth x) in record {
+    let k : known_truth (And x y) ≡ known_truth x = ap (λ t. three_and (known_truth x) t) e ∙ three_and-true (known_truth x) in record {
       known = k;
       plus_same = to_truth (known_truth (And x y)) (plus x ++ plus y) x k (ap (λ r. plus x ++ r) (plus_true y e) ∙ append-nil (plus x));
       minus_same = to_falsity (known_truth (And x y)) (joined (minus x) (minus y)) x k (ap (λ r. joined (minus x) r) (minus_true y e) ∙ joined_one_right (minus x));
@@ -124,7 +124,7 @@ or_false_left x y e =
 
 pub or_false_right : (x y : Written) → known_truth y ≡ False → SameForm (Or x y) x
 or_false_right x y e =
-    let k : known_truth (Or x y) ≡ known_truth x = ap (λ t. three_or (known_truth x) t) e ∙ or_false (known_truth x) in record {
+    let k : known_truth (Or x y) ≡ known_truth x = ap (λ t. three_or (known_truth x) t) e ∙ three_or-false (known_truth x) in record {
       known = k;
       plus_same = to_truth (known_truth (Or x y)) (joined (plus x) (plus y)) x k (ap (λ r. joined (plus x) r) (plus_false y e) ∙ joined_one_right (plus x));
       minus_same = to_falsity (known_truth (Or x y)) (minus x ++ minus y) x k (ap (λ r. minus x ++ r) (minus_false y e) ∙ append-nil (minus x));

@@ -1,15 +1,15 @@
 -- Sets of axioms by their places.
-use Rattle.std.proofs.Common.{◌≡◌, refl, sym, ◌∙◌, ap, ap₂, subst, ℕ, zero, suc, ◌+◌, ◌<◌, ◌≤◌, Bool, true, false, not, ◌&&◌, ◌||◌, ◌⊎◌, inl, inr, cond, List, [], ◌∷◌, filter, length, arith, eqb-true, eq-eqb, true≢false, ltb-true, ltb-false, lt-ltb}
+use Rattle.std.proofs.Common.{◌≡◌, refl, sym, ◌∙◌, ap, ap₂, subst, ℕ, zero, suc, ◌+◌, ◌<◌, ◌≤◌, Bool, true, false, not, ◌&&◌, ◌||◌, ◌⊎◌, inl, inr, cond, List, [], ◌∷◌, filter, length, arith, eqb-true, eq-eqb, true≢false, lt-ltb}
 use Rattle.std.specs.Prelude.{◌==◌, nat_lt, slice_index}
-use Rattle.std.proofs.lemmas.Bool.{and_parts, and_from, or_cases, or_left, or_right, or_from, not-true, ne_eqb, le-ltb, cases_eq}
-use Rattle.lists.proofs.TestLaws.{all_kept}
+use Rattle.std.proofs.lemmas.Bool.{and_from, or_cases, or_left, or_right, or_from, ne_eqb, le-ltb, cases_eq}
+use Rattle.lists.proofs.TestLaws.{all_kept, kept_few}
 use Rattle.meaning.specs.Cores.{is_core_from}
 use Rattle.meaning.specs.Space.{up_from, below}
 use Rattle.search_logs.specs.Spent.{has_place}
 use Rattle.axiom_sets.specs.Sets.{is_set, is_within}
 use Rattle.axiom_sets.proofs.SetLaws.{within_self}
 use Rattle.core_reduce.specs.Reducing.{others}
-use Rattle.core_reduce.proofs.CoreLaws.{length-filter-le}
+use Rattle.meaning.proofs.CoreLaws.{first_of_core}
 
 -- ---- a set without one of its axioms
 
@@ -22,7 +22,7 @@ others_shorter [] at lt = absurd (omega (arith, lt))
 others_shorter (x ∷ xs) zero lt = cases (x == x) (eq-eqb x x refl)
   where
     cases : (b : Bool) → b ≡ true → length (cond (not b) (x ∷ others x xs) (others x xs)) < suc (length xs)
-    cases true e = let l = length-filter-le (λ c. not (c == x)) xs in omega (arith, l)
+    cases true e = let l = kept_few (λ c. not (c == x)) xs in omega (arith, l)
     cases false e = absurd (true≢false (sym e))
 others_shorter (x ∷ xs) (suc j) lt = cases (x == slice_index xs j) (others_shorter xs j (omega (arith, lt)))
   where
@@ -62,27 +62,21 @@ same_below p q n h = same_up p q n n 0 (omega arith) h
 
 -- ---- a set by its members
 
-core_head : (from n k : ℕ) (set : List ℕ) → is_core_from from n (k ∷ set) ≡ true → (from ≤ k) × (k < n) × (is_core_from (k + 1) n set ≡ true)
-core_head from n k set h =
-    let a = and_parts (not (nat_lt k from) && nat_lt k n) (is_core_from (k + 1) n set) h in
-    let b = and_parts (not (nat_lt k from)) (nat_lt k n) a.0 in
-    (ltb-false k from (not-true (nat_lt k from) b.0), ltb-true k n b.1, a.1)
-
 not_before : (from n c : ℕ) (set : List ℕ) → is_core_from from n set ≡ true → c < from → has_place set c ≡ false
 not_before from n c [] h lt = refl
 not_before from n c (k ∷ set) h lt =
-    let r = core_head from n k set h in
+    let r = first_of_core n from k set h in
     let low = r.0 in
     or_from (k == c) (has_place set c) (ne_eqb k c (λ e. omega (arith, low, lt, e))) (not_before (k + 1) n c set r.2 (omega (arith, low, lt)))
 
 filter_up : (test : ℕ → Bool) (n count from : ℕ) (set : List ℕ) → from + count ≡ n → is_core_from from n set ≡ true → ((a : ℕ) → from ≤ a → a < n → test a ≡ has_place set a) → filter test (up_from from count) ≡ set
 filter_up test n zero from [] e h same = refl
-filter_up test n zero from (k ∷ set) e h same = let r = core_head from n k set h in let low = r.0 in let high = r.1 in absurd (omega (arith, e, low, high))
+filter_up test n zero from (k ∷ set) e h same = let r = first_of_core n from k set h in let low = r.0 in let high = r.1 in absurd (omega (arith, e, low, high))
 filter_up test n (suc count) from [] e h same =
     ap (λ (b : Bool). cond b (from ∷ filter test (up_from (suc from) count)) (filter test (up_from (suc from) count))) (same from (omega arith) (omega (arith, e)))
     ∙ filter_up test n count (suc from) [] (omega (arith, e)) refl (λ a low high. same a (omega (arith, low)) high)
 filter_up test n (suc count) from (k ∷ set) e h same =
-    let r = core_head from n k set h in
+    let r = first_of_core n from k set h in
     let low_k = r.0 in
     let rest : List ℕ = filter test (up_from (suc from) count) in
     elim (cases_eq k from) [

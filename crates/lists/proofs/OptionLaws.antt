@@ -1,4 +1,4 @@
--- Options that are none, and what stands in others.
+-- Options that are none.
 use Rattle.std.proofs.Common.{◌≡◌, refl, Option, Some, None}
 use Rattle.std.specs.Option.{option_map, option_or}
 
@@ -9,6 +9,3 @@ none_of_either (Some w) p e = absurd (cc)
 pub none_of_map : {A B : Type 0} (f : A → B) (o : Option A) → option_map f o ≡ None → o ≡ None
 none_of_map f None e = refl
 none_of_map f (Some w) e = absurd (cc)
-
-pub same_in_some : {A : Type 0} (x y : A) → Some x ≡ Some y → x ≡ y
-same_in_some x y e = cc

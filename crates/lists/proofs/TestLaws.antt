@@ -1,5 +1,5 @@
 -- Lists whose items all pass a test.
-use Rattle.std.proofs.Common.{◌≡◌, refl, subst, ℕ, zero, suc, ◌<◌, Bool, true, false, cond, List, [], ◌∷◌, ◌++◌, length, get_or, filter, arith, Some}
+use Rattle.std.proofs.Common.{◌≡◌, refl, subst, ℕ, zero, suc, ◌<◌, Bool, true, false, cond, List, [], ◌∷◌, ◌++◌, length, get_or, filter, arith, Some, ◌≤◌}
 use Rattle.std.specs.Prelude.{slice_get}
 use Rattle.std.specs.List.{list_all}
 use Rattle.std.proofs.lemmas.Bool.{and_parts, and_from}
@@ -43,3 +43,12 @@ kept_pass keep (x ∷ xs) = cases (keep x) refl (kept_pass keep xs)
 pub all_weaker : {A : Type 0} (s t : A → Bool) → ((a : A) → s a ≡ true → t a ≡ true) → (xs : List A) → list_all s xs ≡ true → list_all t xs ≡ true
 all_weaker s t give [] h = refl
 all_weaker s t give (x ∷ xs) h = let p = and_parts (s x) (list_all s xs) h in and_from (t x) (list_all t xs) (give x p.0) (all_weaker s t give xs p.1)
+
+-- what is kept is no longer
+pub kept_few : {X : Type 0} (keep : X → Bool) (xs : List X) → length (filter keep xs) ≤ length xs
+kept_few keep [] = omega arith
+kept_few keep (x ∷ xs) = cases (keep x) (kept_few keep xs)
+  where
+    cases : (b : Bool) → length (filter keep xs) ≤ length xs → length (cond b (x ∷ filter keep xs) (filter keep xs)) ≤ suc (length xs)
+    cases true h = omega (arith, h)
+    cases false h = omega (arith, h)

@@ -5,9 +5,9 @@ use Rattle.std.proofs.lemmas.List.Folds.{list_all-append}
 use Rattle.std.specs.List.{AllByRecursion, flat_map, list_all, list_any}
 use Rattle.meaning.specs.Space.{up_from}
 
-pub not-and : (a b : Bool) → (not a && not b) ≡ not (a || b)
-not-and true b = refl
-not-and false b = refl
+pub not-or : (a b : Bool) → (not a && not b) ≡ not (a || b)
+not-or true b = refl
+not-or false b = refl
 
 -- four tests that pass together
 abbrev pub four_parts : (a b c d : Bool) → (a && b && c && d) ≡ true → (a ≡ true) × (b ≡ true) × (c ≡ true) × (d ≡ true)

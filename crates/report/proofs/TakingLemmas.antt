@@ -27,7 +27,7 @@ use Rattle.verdicts.specs.Judge.{read_line, advance}
 use Rattle.verdicts.proofs.LineLaws.{map_is, keyed_is, test_is}
 use Rattle.verdicts.proofs.FitLaws.{Fits, wanted_fits}
 use Rattle.verdicts.proofs.SoundLaws.{Holds}
-use Rattle.verdicts.proofs.JudgeLaws.{not_long, good_holds}
+use Rattle.verdicts.proofs.JudgeLaws.{not_long, good_holds, read_fits}
 use Rattle.verdicts.proofs.RangeLaws.{good_in_range}
 use Rattle.report_lines.specs.declared.lines.Line.{Line as HeldLine}
 use Rattle.report_lines.specs.declared.lines.Line.TheVariants as held
@@ -90,10 +90,6 @@ module _ (study : Question) where
 
   -- ---- what the grammar has at the place
 
-  pub line_fits : (s : Standing) (text : List ℕ) (w : Line) → read_line study s text ≡ Some w → Fits study s.place (length s.earlier + 1) w
-  line_fits s text w e =
-      wanted_fits study s.place (length s.earlier + 1) (words_of text) w (not_long (nat_lt 4096 (length text)) (wanted study s.place (length s.earlier + 1) (words_of text)) w e)
-
   supposes : (p : Place) (n : ℕ) (l : Literal) → Fits study p n (Suppose l) → (p ≡ AtSuppose) × (is_literal study.size l ≡ true)
   supposes AtSuppose n l h = (refl, h)
   supposes p n l h = absurd h
@@ -118,19 +114,19 @@ module _ (study : Question) where
 
   -- the places of the lines of stories and witnesses
   pub at_suppose : (s : Standing) (text : List ℕ) (w : Line) (l : Literal) → read_line study s text ≡ Some w → w ≡ Suppose l → (s.place ≡ AtSuppose) × (is_literal study.size l ≡ true)
-  at_suppose s text w l e same = supposes s.place (length s.earlier + 1) l (line_fits s text (Suppose l) (e ∙ ap Some same))
+  at_suppose s text w l e same = supposes s.place (length s.earlier + 1) l (read_fits study s text (Suppose l) (e ∙ ap Some same))
 
   pub at_so : (s : Standing) (text : List ℕ) (w : Line) (l : Literal) (r : Reason) → read_line study s text ≡ Some w → w ≡ So l r → IsInStory s.place × (is_literal study.size l ≡ true)
-  at_so s text w l r e same = tells s.place (length s.earlier + 1) l r (line_fits s text (So l r) (e ∙ ap Some same))
+  at_so s text w l r e same = tells s.place (length s.earlier + 1) l r (read_fits study s text (So l r) (e ∙ ap Some same))
 
   pub at_clash : (s : Standing) (text : List ℕ) (w : Line) (r : Reason) → read_line study s text ≡ Some w → w ≡ Clash r → IsInStory s.place
-  at_clash s text w r e same = clashes s.place (length s.earlier + 1) r (line_fits s text (Clash r) (e ∙ ap Some same))
+  at_clash s text w r e same = clashes s.place (length s.earlier + 1) r (read_fits study s text (Clash r) (e ∙ ap Some same))
 
   pub at_rule : (s : Standing) (text : List ℕ) (w : Line) (name : List ℕ) (n : ℕ) → read_line study s text ≡ Some w → w ≡ WithRule name n → s.place ≡ AtWitness
-  at_rule s text w name n e same = has_rule s.place (length s.earlier + 1) name n (line_fits s text (WithRule name n) (e ∙ ap Some same))
+  at_rule s text w name n e same = has_rule s.place (length s.earlier + 1) name n (read_fits study s text (WithRule name n) (e ∙ ap Some same))
 
   pub at_open : (s : Standing) (text : List ℕ) (w : Line) (name : List ℕ) (n : ℕ) → read_line study s text ≡ Some w → w ≡ WithOpen name n → s.place ≡ AtWitness
-  at_open s text w name n e same = has_open s.place (length s.earlier + 1) name n (line_fits s text (WithOpen name n) (e ∙ ap Some same))
+  at_open s text w name n e same = has_open s.place (length s.earlier + 1) name n (read_fits study s text (WithOpen name n) (e ∙ ap Some same))
 
   -- the names of a core are the words after the first
   core_words : (p : Place) (n : ℕ) (words ns : List (List ℕ)) → wanted study p n words ≡ Some (CoreIs ns) → Fits study p n (CoreIs ns) → ns ≡ drop 1 words
@@ -216,7 +212,7 @@ module _ (study : Question) where
       let s = read.standing in
       let l = lines s read.stands in
       let same : l.0 ≡ Row p o = said_of line (held.Row p o) l.0 e l.2 in
-      row_found r s p o (length s.earlier + 1) s.place read.stands refl (line_fits s text (Row p o) (l.1 ∙ ap Some same)) (good_holds study s read.lines read.good) (good_in_range study s read.lines read.good).core
+      row_found r s p o (length s.earlier + 1) s.place read.stands refl (read_fits study s text (Row p o) (l.1 ∙ ap Some same)) (good_holds study s read.lines read.good) (good_in_range study s read.lines read.good).core
 
   -- a literal that a line names is one of the size
   pub suppose_in : (r : Judging) (text : List ℕ) (line : HeldLine) (l : Literal) → line ≡ held.Suppose l → IsRead study r → ((s : Standing) → Stands study r s → IsLine study s text line) → is_literal study.size l ≡ true

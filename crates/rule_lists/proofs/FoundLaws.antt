@@ -29,10 +29,7 @@ use Rattle.rule_lists.specs.declared.answers.RuleList.{RuleList}
 use Rattle.rule_lists.specs.RuleLists.{has_table, are_tables_rising, IsRuleOf, IsListCutShort, IsOtherRule, EndsWith, IsRuleList}
 use Rattle.rule_lists.specs.Finding.{denial, AreFoundRules, PutsTable}
 use Rattle.rule_lists.proofs.LeavingLaws.{denial_leaves_out, denial_length, denial_over, is_fresh, leave_one_more, others_satisfy, rule_of, table_is_rule}
-
-all_append : (P : List ℕ → Type 0) (xs ys : List (List ℕ)) → AllByRecursion P xs → AllByRecursion P ys → AllByRecursion P (xs ++ ys)
-all_append P [] ys h k = k
-all_append P (x ∷ xs) ys h k = (h.0, all_append P xs ys h.1 k)
+use Rattle.meaning.proofs.RankingLaws.{All-append}
 
 all_parts : (P : List ℕ → Type 0) (xs ys : List (List ℕ)) → AllByRecursion P (xs ++ ys) → AllByRecursion P xs × AllByRecursion P ys
 all_parts P [] ys h = (tt, h)
@@ -97,7 +94,7 @@ module _ (study : Question) (sentences : list_all (is_sentence study.size) study
         → AreFoundRules study new (clauses ++ denial v (variable_count study.size) ∷ [])
     found_more v table rule same new put rising =
         let clause = denial v (variable_count study.size) in record {
-          right = subst (AllByRecursion (IsRuleOf study)) (sym put.new_is) (let p = all_parts (IsRuleOf study) put.before put.after (subst (AllByRecursion (IsRuleOf study)) put.old_is f.right) in all_append (IsRuleOf study) put.before (table ∷ put.after) p.0 (rule, p.1));
+          right = subst (AllByRecursion (IsRuleOf study)) (sym put.new_is) (let p = all_parts (IsRuleOf study) put.before put.after (subst (AllByRecursion (IsRuleOf study)) put.old_is f.right) in All-append (IsRuleOf study) put.before (table ∷ put.after) p.0 (rule, p.1));
           rising = rising;
           found = f.found ++ table ∷ [];
           same = λ t.
@@ -106,7 +103,7 @@ module _ (study : Question) (sentences : list_all (is_sentence study.size) study
               ∙ among (has_table put.before t) (has_table put.after t) (bytes_eq t table)
               ∙ sym (list_any-append (bytes_eq t) put.before (table ∷ put.after))
               ∙ ap (λ (ts : List (List ℕ)). has_table ts t) (sym put.new_is);
-          found_right = all_append (IsRuleOf study) f.found (table ∷ []) f.found_right (rule, tt);
+          found_right = All-append (IsRuleOf study) f.found (table ∷ []) f.found_right (rule, tt);
           left_out = f.left_out ++ clause ∷ [];
           each = leave_one_more study f.found f.left_out table clause f.each (denial_leaves_out study table v same);
           is = ap (λ (cs : List Clause). cs ++ clause ∷ []) f.is ∙ append_assoc (clauses_for study.size study.axioms (all_places study)) f.left_out (clause ∷ []);

@@ -16,6 +16,7 @@ use Rattle.sentence_fronts.specs.Expected.{Derives, a_formula, call_whole, no_ca
 use Rattle.sentence_fronts.proofs.Moves.{moves, ends, ahead, one}
 use Rattle.sentence_fronts.proofs.Backs.{GoesOn, one_of, back}
 use Rattle.sentence_fronts.proofs.Hopes.{Hopes, hope}
+use Rattle.std.proofs.lemmas.Option.{same_Some}
 
 -- ---- stacks in two parts
 
@@ -162,16 +163,13 @@ floor_below false c h k = absurd cc
 
 -- ---- the last symbol takes the lexeme
 
-some_same : {xs ys : List Symbol} → ◌≡◌ {A = Option (List Symbol)} (Some xs) (Some ys) → xs ≡ ys
-some_same h = cc
-
 leads_top : (below ps : List Symbol) (top : Symbol) (k : LexemeKind) → is_settled (below ++ top ∷ []) ≡ true → expected_after top k ≡ Some ps → Leads (below ++ top ∷ []) k (below ++ ps)
 leads_top below ps top k settled h = record {
   on = λ l rest e g.
       let s = top_split below top (l ∷ rest) g in
       let at : expected_after top (kind_of l) ≡ Some ps = ap (expected_after top) e ∙ h in
       elim (ahead s.1) [
-        | moves qs q m ↦ goes_append below ps rest s.0 [] (subst (λ x. Goes x rest s.0) (some_same (sym q ∙ at)) m) s.2
+        | moves qs q m ↦ goes_append below ps rest s.0 [] (subst (λ x. Goes x rest s.0) (same_Some _ _ (sym q ∙ at)) m) s.2
         | ends t u ↦ absurd (below_stops below l rest (floor_below (may_be_longer top) _ (ending_longer top t) (floor_of below top settled)) (longer_at top (kind_of l) ps t at) (subst (λ m. Completes below m) u s.2))
       ];
   back = λ l rest e g.

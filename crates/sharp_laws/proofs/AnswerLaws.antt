@@ -27,7 +27,7 @@ use Rattle.sharp_laws.proofs.RunLaws.{SharpRuns, whole_run}
 use Rattle.sharp_laws.proofs.FaultLaws.{past, within_limit}
 use Rattle.sharp_laws.proofs.FewLaws.{lemmas_fit}
 use Rattle.sharp_laws.proofs.ShortLaws.{is_sharp_short, lines_short}
-use Rattle.lists.proofs.OptionLaws.{same_in_some}
+use Rattle.std.proofs.lemmas.Option.{same_Some}
 
 module _ (study : Question) (is : IsReportable study) where
   -- the texts of the lines of a sharp verdict
@@ -93,7 +93,7 @@ module _ (study : Question) (is : IsReportable study) where
       → sharp_line_text study l ≡ sharp_line_text study k → l ≡ k
   same_past place told l k q f a g b e =
       let words = sym (sharp_words_are study is l a) ∙ ap words_of e ∙ sharp_words_are study is k b in
-      same_in_some l k (sym (wanted_again study is place told l q f) ∙ ap (wanted_past study place) words ∙ wanted_again study is place told k q g)
+      same_Some l k (sym (wanted_again study is place told l q f) ∙ ap (wanted_past study place) words ∙ wanted_again study is place told k q g)
 
   same_at : (place : SharpPlace) (told : Standing) (l k : SharpLine) → SharpFits study place told l → is_sharp_plain l ≡ true → SharpFits study place told k → is_sharp_plain k ≡ true
       → sharp_line_text study l ≡ sharp_line_text study k → l ≡ k

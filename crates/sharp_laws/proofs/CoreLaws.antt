@@ -1,8 +1,8 @@
 -- The axioms that an accepted story cites are those of its core, where it cites each of them.
-use Rattle.std.proofs.Common.{◌≡◌, refl, sym, ap, ap₂, ◌∙◌, subst, ℕ, zero, suc, ◌+◌, ◌<◌, ◌≤◌, inl, inr, Bool, true, false, not, ◌&&◌, List, [], ◌∷◌, ◌++◌, map, filter, length, cond, arith, true≢false, eqb-true, ltb-true, ltb-false, lt-ltb, le-ltb}
-use Rattle.std.specs.Prelude.{◌==◌, nat_lt, slice_get}
+use Rattle.std.proofs.Common.{◌≡◌, refl, sym, ap, ap₂, ◌∙◌, subst, ℕ, zero, suc, ◌+◌, ◌<◌, ◌≤◌, inl, inr, Bool, true, false, not, ◌&&◌, List, [], ◌∷◌, ◌++◌, map, filter, length, cond, arith, true≢false, eqb-true}
+use Rattle.std.specs.Prelude.{◌==◌, slice_get}
 use Rattle.std.specs.List.{list_all, list_any}
-use Rattle.std.proofs.lemmas.Bool.{and_parts, and_from, or_cases, not-true, cases_lt}
+use Rattle.std.proofs.lemmas.Bool.{and_parts, or_cases, cases_lt}
 use Rattle.vocab.specs.declared.literals.Literal.{Literal}
 use Rattle.vocab.specs.Literal.{opposite_of}
 use Rattle.vocab.specs.Size.{Extent}
@@ -16,49 +16,18 @@ use Rattle.meaning.specs.Cores.{is_core_from}
 use Rattle.meaning.specs.Space.{up_from}
 use Rattle.meaning.specs.Stories.{is_instance_false, refutes, is_decided, are_new, has_literals, are_forced, is_lemma, is_story_from, is_story}
 use Rattle.sharp_verdicts.specs.Instances.{reasons_of, cites_axiom, is_axiom_told, core_of}
-use Rattle.meaning.proofs.CoreLaws.{core_lower}
+use Rattle.meaning.proofs.CoreLaws.{first_of_core, onto_core, filter_core}
 
 -- ---- places that rise
-
--- the first place of a core is not below where it begins, and is below its end
-first_place : (end from c : ℕ) (core : List ℕ) → is_core_from from end (c ∷ core) ≡ true → (from ≤ c) × (c < end) × (is_core_from (c + 1) end core ≡ true)
-first_place end from c core h =
-    let p = and_parts (not (nat_lt c from) && nat_lt c end) (is_core_from (c + 1) end core) h in
-    let q = and_parts (not (nat_lt c from)) (nat_lt c end) p.0 in
-    (ltb-false c from (not-true _ q.0), ltb-true c end q.1, p.1)
-
-from_first : (end from c : ℕ) (core : List ℕ) → from ≤ c → c < end → is_core_from (c + 1) end core ≡ true → is_core_from from end (c ∷ core) ≡ true
-from_first end from c core low high rest = and_from _ _ (and_from _ _ (ap not (le-ltb c from low)) (lt-ltb c end high)) rest
 
 core_above : (end from : ℕ) (core : List ℕ) (k : ℕ) → is_core_from from end core ≡ true → list_any (λ c. c == k) core ≡ true → from ≤ k
 core_above end from [] k h e = absurd (true≢false (sym e))
 core_above end from (c ∷ core) k h e =
-    let f = first_place end from c core h in
+    let f = first_of_core end from c core h in
     elim (or_cases (c == k) (list_any (λ d. d == k) core) e) [
       | inl same ↦ omega (arith, eqb-true c k same, f.0)
       | inr later ↦ omega (arith, core_above end (c + 1) core k f.2 later, f.0)
     ]
-
--- places that pass a test are a core
-filter_core : (t : ℕ → Bool) (n from : ℕ) → is_core_from from (from + n) (filter t (up_from from n)) ≡ true
-filter_core t zero from = refl
-filter_core t (suc n) from = by (t from) (filter_core t n (suc from))
-  where
-    over : suc from + n ≡ from + suc n
-    over = omega arith
-
-    next : suc from ≡ from + 1
-    next = omega arith
-
-    by : (b : Bool) → is_core_from (suc from) (suc from + n) (filter t (up_from (suc from) n)) ≡ true
-        → is_core_from from (from + suc n) (cond b (from ∷ filter t (up_from (suc from) n)) (filter t (up_from (suc from) n))) ≡ true
-    by true ih =
-        let moved = subst (λ (end : ℕ). is_core_from (suc from) end (filter t (up_from (suc from) n)) ≡ true) over ih in
-        let rest = subst (λ (start : ℕ). is_core_from start (from + suc n) (filter t (up_from (suc from) n)) ≡ true) next moved in
-        from_first (from + suc n) from from (filter t (up_from (suc from) n)) (omega arith) (omega arith) rest
-    by false ih =
-        let moved = subst (λ (end : ℕ). is_core_from (suc from) end (filter t (up_from (suc from) n)) ≡ true) over ih in
-        core_lower from (suc from) (from + suc n) (filter t (up_from (suc from) n)) (omega arith) moved
 
 -- a core that has exactly the places that pass a test is these places
 abbrev HasAll : (ℕ → Bool) → ℕ → ℕ → List ℕ → Type 0
@@ -67,7 +36,7 @@ HasAll t from end core = (k : ℕ) → from ≤ k → k < end → t k ≡ true �
 core_filtered : (t : ℕ → Bool) (n from : ℕ) (core : List ℕ) → is_core_from from (from + n) core ≡ true → list_all t core ≡ true
     → HasAll t from (from + n) core → core ≡ filter t (up_from from n)
 core_filtered t zero from [] h told all = refl
-core_filtered t zero from (c ∷ core) h told all = let f = first_place (from + 0) from c core h in absurd (omega (arith, f.0, f.1))
+core_filtered t zero from (c ∷ core) h told all = let f = first_of_core (from + 0) from c core h in absurd (omega (arith, f.0, f.1))
 core_filtered t (suc n) from core h told all = by (t from) refl core h told all (core_filtered t n (suc from))
   where
     over : from + suc n ≡ suc from + n
@@ -84,10 +53,10 @@ core_filtered t (suc n) from core h told all = by (t from) refl core h told all 
 
     starts_here : (c : ℕ) (core : List ℕ) → t from ≡ true → is_core_from from (from + suc n) (c ∷ core) ≡ true → HasAll t from (from + suc n) (c ∷ core) → c ≡ from
     starts_here c core e h all =
-        let f = first_place (from + suc n) from c core h in
+        let f = first_of_core (from + suc n) from c core h in
         elim (cases_lt from c) [
           | inl less ↦
-              let later = from_first (from + suc n) (suc from) c core less f.1 f.2 in
+              let later = onto_core (from + suc n) (suc from) c core less f.1 f.2 in
               absurd (omega (arith, core_above (from + suc n) (suc from) (c ∷ core) from later (all from (omega arith) (omega arith) e)))
           | inr le ↦ omega (arith, le, f.0)
         ]
@@ -103,17 +72,17 @@ core_filtered t (suc n) from core h told all = by (t from) refl core h told all 
     by true e [] h told all ih = absurd (true≢false (sym (all from (omega arith) (omega arith) e)))
     by true e (c ∷ core) h told all ih =
         let same = starts_here c core e h all in
-        let f = first_place (from + suc n) from c core h in
+        let f = first_of_core (from + suc n) from c core h in
         let next : c + 1 ≡ suc from = omega (arith, same) in
         let later = subst (λ (start : ℕ). is_core_from start (from + suc n) core ≡ true) next f.2 in
         ap₂ (λ (x : ℕ) (xs : List ℕ). x ∷ xs) same (ih core (moved core later) (and_parts (t c) (list_all t core) told).1 (all_later c core same all))
     by false e [] h told all ih = ih [] refl refl (λ k low high a. all k (omega (arith, low)) (omega (arith, high)) a)
     by false e (c ∷ core) h told all ih =
-        let f = first_place (from + suc n) from c core h in
+        let f = first_of_core (from + suc n) from c core h in
         let here = (and_parts (t c) (list_all t core) told).0 in
         elim (cases_lt from c) [
           | inl less ↦
-              ih (c ∷ core) (moved (c ∷ core) (from_first (from + suc n) (suc from) c core less f.1 f.2)) told
+              ih (c ∷ core) (moved (c ∷ core) (onto_core (from + suc n) (suc from) c core less f.1 f.2)) told
               (λ k low high a. all k (omega (arith, low)) (omega (arith, high)) a)
           | inr le ↦ let same : c ≡ from = omega (arith, le, f.0) in absurd (true≢false (sym (ap t (sym same) ∙ here) ∙ e))
         ]

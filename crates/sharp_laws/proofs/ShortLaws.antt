@@ -1,5 +1,5 @@
 -- No line of a right sharp text is longer than 4,096 bytes: those up to the last lemma are lines of a right report, and the others have at most 17 words of at most 52 bytes each.
-use Rattle.std.proofs.Common.{◌≡◌, refl, sym, ap, ◌∙◌, subst, ℕ, ◌+◌, ◌*◌, ◌^◌, ◌<◌, ◌≤◌, Bool, true, false, not, List, [], ◌∷◌, ◌++◌, map, filter, length, arith, cond, append_assoc, append-nil, length-append, le-ltb, eqb-true, inl, inr, None, Option, Some}
+use Rattle.std.proofs.Common.{◌≡◌, refl, sym, ap, ◌∙◌, subst, ℕ, ◌+◌, ◌*◌, ◌^◌, ◌<◌, ◌≤◌, Bool, true, false, not, List, [], ◌∷◌, ◌++◌, map, length, arith, cond, append_assoc, append-nil, length-append, le-ltb, eqb-true, inl, inr, None, Option, Some}
 use Rattle.std.specs.Prelude.{codes, nat_lt, slice_get}
 use Rattle.std.specs.List.{list_all, flat_map}
 use Rattle.std.specs.Option.{option_map_or}
@@ -35,19 +35,12 @@ use Rattle.sharp_laws.proofs.MarkLaws.{reason_cites, listed_present}
 use Rattle.sharp_laws.proofs.RunLaws.{opens, open_is_right, right_places}
 use Rattle.verdicts.proofs.PrefixLaws.{no_witness}
 use Rattle.vocab.proofs.StudyLaws.{few_at}
+use Rattle.lists.proofs.TestLaws.{kept_few}
 
 list_all-left : {A : Type 0} (t : A → Bool) (xs ys : List A) → list_all t (xs ++ ys) ≡ true → list_all t xs ≡ true
 list_all-left t xs ys h = (and_parts (list_all t xs) (list_all t ys) (sym (list_all-append t xs ys) ∙ h)).0
 
 -- ---- how many instances there are
-
-filtered_within : {A : Type 0} (t : A → Bool) (xs : List A) → length (filter t xs) ≤ length xs
-filtered_within t [] = omega arith
-filtered_within t (x ∷ xs) = by (t x) (filtered_within t xs)
-  where
-    by : (b : Bool) → length (filter t xs) ≤ length xs → length (cond b (x ∷ filter t xs) (filter t xs)) ≤ length (x ∷ xs)
-    by true ih = omega (arith, ih)
-    by false ih = omega (arith, ih)
 
 flat_within : {A B : Type 0} (f : A → List B) (xs : List A) → ((x : A) → length (f x) ≤ 40000000) → length (flat_map f xs) ≤ length xs * 40000000
 flat_within f [] h = omega arith
@@ -68,7 +61,7 @@ module _ (study : Question) (is : IsReportable study) where
   few_instances listed story =
       let all = flat_within (λ k. map (λ n. at k n) (below (count_at study k))) (below (length study.axioms)) counts in
       let axioms : length (below (length study.axioms)) ≡ length study.axioms = length-up_from 0 (length study.axioms) in
-      let kept = filtered_within (is_told study story) (all_instances study) in
+      let kept = kept_few (is_told study story) (all_instances study) in
       omega (arith, all, axioms, kept, listed)
     where
       at : ℕ → ℕ → Cited

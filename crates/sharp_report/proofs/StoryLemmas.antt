@@ -1,21 +1,19 @@
 -- The title, the lines of the report, and the number of instances.
 use Rattle.std.proofs.Common.{◌≡◌, refl, sym, ap, ap₂, ◌∙◌, subst, ℕ, ◌+◌, Bool, true, false, cond, List, [], ◌∷◌, ◌++◌, length, Option, Some, None, option_map, Ok, Err, arith, true≢false, length-append}
-use Rattle.std.specs.Prelude.{codes, nat_lt, ◌==◌}
+use Rattle.std.specs.Prelude.{codes, ◌==◌}
 use Rattle.std.specs.List.{list_all}
 use Rattle.std.specs.Option.{option_or, option_map_or}
 use Rattle.vocab.specs.Size.{is_full}
 use Rattle.vocab.specs.Study.{Question}
 use Rattle.verdicts.specs.declared.refusals.Refusal.{Refusal}
 use Rattle.verdicts.specs.declared.refusals.Refusal.TheVariants.{Form, Core, StudyDiffers}
-use Rattle.verdicts.specs.Texts.{words_of}
 use Rattle.verdicts.specs.Lines.{Line, Title, SaysPossible}
-use Rattle.verdicts.specs.Places.{Standing, start, wanted}
+use Rattle.verdicts.specs.Places.{Standing, start}
 use Rattle.verdicts.specs.Faults.{unless_so, fault_of}
 use Rattle.verdicts.specs.FirstFault.{Good}
 use Rattle.verdicts.specs.Judge.{advance, read_line, line_fault, after, judge}
 use Rattle.verdicts.specs.Report.{own_version}
-use Rattle.verdicts.proofs.FitLaws.{Fits, wanted_fits}
-use Rattle.verdicts.proofs.JudgeLaws.{not_long}
+use Rattle.verdicts.proofs.JudgeLaws.{read_fits}
 use Rattle.verdicts.proofs.ReportLaws.{own_allowed}
 use Rattle.verdicts.proofs.FaultLaws.{past}
 use Rattle.verdicts.proofs.FirstFaultLaws.{after_good}
@@ -37,7 +35,7 @@ use Rattle.sharp_report.specs.declared.places.SharpPlace.TheVariants as place
 use Rattle.sharp_report.specs.Cited.{codes_of_line, names_of_line, says_possible, has_axiom, Cites}
 use Rattle.sharp_report.specs.SharpStands.{held_sharp_place, own_title, HoldsAt, SharpStands, IsReadWithin, SharpTook, IsSharpTaken}
 use Rattle.sharp_report.proofs.CitedLemmas.{named_line, After, next, core_told}
-use Rattle.lists.proofs.OptionLaws.{same_in_some}
+use Rattle.std.proofs.lemmas.Option.{same_Some}
 
 -- a place is held as itself
 pub same_place : (p q : SharpPlace) → held_sharp_place p ≡ held_sharp_place q → p ≡ q
@@ -80,7 +78,7 @@ module _ (study : Question) where
     -- it is taken
     pub title_taken : (told : Judging) (line : HeldLine) → read_title study text ≡ Some SharpTitle → IsTaken study s.told own told (Ok line) → IsSharpTaken study s text (record r { place = place.AtReport; told = told }) (Ok said.Title)
     title_taken told line read h2 =
-        let same : h2.0 ≡ Title (own_version study) = same_in_some h2.0 (Title (own_version study)) (sym h2.1 ∙ own_line) in
+        let same : h2.0 ≡ Title (own_version study) = same_Some h2.0 (Title (own_version study)) (sym h2.1 ∙ own_line) in
         let t : Standing = advance study s.told (Title (own_version study)) in
         let stands : Stands study told t = subst (λ (w : Line). Stands study told (advance study s.told w)) same h2.4 in
         let none : r.cited.items ≡ [] = (subst (λ p. HoldsAt study p r s) at h.at).1 in
@@ -107,12 +105,9 @@ module _ (study : Question) where
 
   -- ---- a line of the report
 
-  fits : (t : Standing) (text : List ℕ) (w : Line) → read_line study t text ≡ Some w → Fits study t.place (length t.earlier + 1) w
-  fits t text w e = wanted_fits study t.place (length t.earlier + 1) (words_of text) w (not_long (nat_lt 4096 (length text)) (wanted study t.place (length t.earlier + 1) (words_of text)) w e)
-
   -- what it names is there
   pub line_named : (t : Standing) (text : List ℕ) (told : Judging) (line : HeldLine) → IsTaken study t text told (Ok line) → names_of_line study line ≡ true
-  line_named t text told line h = ap (names_of_line study) h.2 ∙ named_line study t.place (length t.earlier + 1) h.0 (fits t text h.0 h.1)
+  line_named t text told line h = ap (names_of_line study) h.2 ∙ named_line study t.place (length t.earlier + 1) h.0 (read_fits study t text h.0 h.1)
 
   at_next : (b : Bool) (r : SharpJudging) (s : SharpStanding) → After study b s.told r.cited.items → HoldsAt study (cond b AtInstances AtReport) r s
   at_next true r s a = a

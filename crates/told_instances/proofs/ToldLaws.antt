@@ -30,6 +30,7 @@ use Rattle.sharp_verdicts.specs.Instances.{cites_axiom, is_axiom_told, reasons_o
 use Rattle.instance_stories.specs.Codes.{code_of, AreRisingInstances, HaveAxiomRoom}
 use Rattle.instance_stories.proofs.AllInstances.{has-append, all_rise, all_small, filter_rises, filter_small, counts_few, rising_lists}
 use Rattle.told_instances.specs.Told.{codes_in, codes_by, codes_told, names_instance, has_reasons}
+use Rattle.meaning.proofs.RankingLaws.{All-append}
 
 -- ---- numbers that are in a list
 
@@ -216,13 +217,9 @@ codes_high study (ByAxiom k values ∷ rs) = (omega arith, codes_high study rs)
 codes_high study (ByOutcome p ∷ rs) = codes_high study rs
 codes_high study (ByLemma j ∷ rs) = codes_high study rs
 
-all_join : (P : ℕ → Type 0) (xs ys : List ℕ) → AllByRecursion P xs → AllByRecursion P ys → AllByRecursion P (xs ++ ys)
-all_join P [] ys h k = k
-all_join P (x ∷ xs) ys h k = (h.0, all_join P xs ys h.1 k)
-
 told_high : (study : Question) (story : List Lemma) → AllByRecursion (λ n. 4294967296 ≤ n) (codes_told study story)
 told_high study [] = tt
-told_high study (lemma ∷ story) = all_join (λ n. 4294967296 ≤ n) (codes_by study (reasons_of lemma)) (codes_told study story) (codes_high study (reasons_of lemma)) (told_high study story)
+told_high study (lemma ∷ story) = All-append (λ n. 4294967296 ≤ n) (codes_by study (reasons_of lemma)) (codes_told study story) (codes_high study (reasons_of lemma)) (told_high study story)
 
 pub all_high : (study : Question) (story : List Lemma) (codes : List ℕ) → codes ≡ codes_told study story → All (λ n. 4294967296 ≤ n) codes
 all_high study story codes e = subst (All (λ n. 4294967296 ≤ n)) (sym e) (All-from_recursion (λ n. 4294967296 ≤ n) (codes_told study story) (told_high study story))

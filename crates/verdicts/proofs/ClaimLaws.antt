@@ -26,7 +26,7 @@ use Rattle.verdicts.specs.Judge.{judge, conclude, answer, answer_within}
 use Rattle.verdicts.specs.Laws.{is_rule_given, IsRuleConfirmed, IsImpossibilityConfirmed, IsCoreConfirmed}
 use Rattle.verdicts.proofs.WholeTextLaws.{confirmed_within}
 use Rattle.verdicts.proofs.JudgeLaws.{judge_sound}
-use Rattle.lists.proofs.OptionLaws.{same_in_some}
+use Rattle.std.proofs.lemmas.Option.{same_Some}
 
 -- what holds of all places of a study holds of those of a core
 core_from_all : (t : ℕ → Bool) (n from : ℕ) (core : List ℕ) → list_all t (below n) ≡ true → is_core_from from n core ≡ true → list_all t core ≡ true
@@ -83,11 +83,11 @@ pub right_claims : (study : Question) → IsSize study.size → (text : List ℕ
 right_claims study taken text claim c = by_verdict c.verdict c.report.right c.claims
   where
     by_verdict : (v : Verdict) → is_right study v ≡ true → claim_of v ≡ Some claim → ClaimHolds study claim
-    by_verdict (Possible table) right e = subst (ClaimHolds study) (same_in_some PossibleClaim claim e) (table, right)
+    by_verdict (Possible table) right e = subst (ClaimHolds study) (same_Some PossibleClaim claim e) (table, right)
     by_verdict (Impossible core story witnesses) right e =
         let p = and_parts (is_story study.size study.axioms core story) _ right in
         let q = and_parts (is_core_from 0 (length study.axioms) core) _ p.1 in
         let none = no_rule study.size taken study.axioms core story p.0 in
         let impossible : IsImpossible study = record { core = core; places = q.0; none = none; none_for_all = none_of_all study core none q.0 } in
-        subst (ClaimHolds study) (same_in_some ImpossibleClaim claim e) impossible
+        subst (ClaimHolds study) (same_Some ImpossibleClaim claim e) impossible
     by_verdict Undecided right e = absurd (cc)

@@ -26,7 +26,7 @@ use Rattle.verdicts.proofs.FaultLaws.{past}
 use Rattle.verdicts.proofs.ShortLaws.{is_short, report_short}
 use Rattle.meaning.proofs.SpaceLaws.{list_all-map_of}
 use Rattle.meaning.proofs.TestLaws.{list_all-both}
-use Rattle.lists.proofs.OptionLaws.{same_in_some}
+use Rattle.std.proofs.lemmas.Option.{same_Some}
 
 abbrev pub short : List ℕ → Bool
 short line = not (nat_lt 4096 (length line))
@@ -107,7 +107,7 @@ module _ (study : Question) (is : IsReportable study) where
   pub same_line : (p : Place) (n : ℕ) (l k : Line) → Fits study p n l → is_plain l ≡ true → Fits study p n k → is_plain k ≡ true → line_text study l ≡ line_text study k → l ≡ k
   same_line p n l k f a g b e =
       let words = sym (words_are study is l a) ∙ ap words_of e ∙ words_are study is k b in
-      same_in_some l k (sym (wanted_is study is p n l f a) ∙ ap (wanted study p n) words ∙ wanted_is study is p n k g b)
+      same_Some l k (sym (wanted_is study is p n l f a) ∙ ap (wanted study p n) words ∙ wanted_is study is p n k g b)
 
   pub texts_cons : (x y : List ℕ) (xs ys : List (List ℕ)) → x ∷ xs ≡ y ∷ ys → (x ≡ y) × (xs ≡ ys)
   texts_cons x y xs ys e = let h : x ≡ y = cc in let t : xs ≡ ys = cc in (h, t)

@@ -16,6 +16,7 @@ use Rattle.vocab.specs.Size.{Extent, IsSize, sort_count}
 use Rattle.meaning.specs.Literals.{is_literal, is_literal_of, is_of_winner}
 use Rattle.meaning.proofs.LiteralLaws.{same_literal-equal, same_literal-refl, winner_in, ranking_in}
 use Rattle.worlds.specs.Boards.{without_literal, are_distinct, mark_of, free, IsBoard}
+use Rattle.lists.proofs.TestLaws.{all_snoc}
 
 -- ---- lists of literals
 
@@ -85,10 +86,6 @@ all-without t l (x ∷ ls) h =
       | inl e ↦ subst (λ r. list_all t r ≡ true) (sym (without-same l x ls e)) (all-without t l ls p.1)
       | inr e ↦ subst (λ r. list_all t r ≡ true) (sym (without-other l x ls e)) (and_from _ _ p.0 (all-without t l ls p.1))
     ]
-
-pub all-append : (t : Literal → Bool) (l : Literal) (ls : List Literal) → list_all t ls ≡ true → t l ≡ true → list_all t (ls ++ l ∷ []) ≡ true
-all-append t l [] h k = and_from _ _ k refl
-all-append t l (x ∷ ls) h k = let p = and_parts (t x) (list_all t ls) h in and_from _ _ p.0 (all-append t l ls p.1 k)
 
 -- ---- distinct literals
 
@@ -251,7 +248,7 @@ module _ (size : Extent) (ls : List Literal) (capacity : ℕ) (marks : List Bool
               get_or-set_other marks (mark_of l) (mark_of k) true false (other_mark size board.valid k l own h e)
               ∙ board.marked k own ∙ sym (has-append ls k l ∙ ap (λ b. has ls k || b) e ∙ or-false (has ls k))
         ];
-        ours = all-append (is_literal size) l ls board.ours h;
+        ours = all_snoc (is_literal size) ls l board.ours h;
         distinct = distinct-append l ls board.distinct n;
         room = omega (arith, board.room);
         capacious = omega (arith, board.capacious);
