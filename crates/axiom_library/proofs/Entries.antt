@@ -15,12 +15,7 @@ use Rattle.syntax.proofs.OneAnswer.{one_answer}
 use Rattle.axiom_library.specs.Library.{Entry, choice, ranking, sets, library, text_among, text_under}
 use Rattle.axiom_library.specs.Laws.{IsReadable}
 use Rattle.axiom_library.proofs.Reading as reading
-
--- what holds of each entry holds of the one at a place
-pub at_place : (P : Entry → Type 0) (entries : List Entry) → AllByRecursion P entries → (place : ℕ) (e : Entry) → slice_get entries place ≡ Some e → P e
-at_place P [] all place e at = absurd cc
-at_place P (x ∷ entries) all zero e at = subst P (same_Some _ _ at) all.0
-at_place P (x ∷ entries) all (suc place) e at = at_place P entries all.1 place e at
+use Rattle.lists.proofs.PlaceLaws.{each_get}
 
 here_or_later : (P : List ℕ → List ℕ → Type 0) (x : Entry) (name text : List ℕ) (later : Option (List ℕ)) → P x.name x.text → (later ≡ Some text → P name text)
     → (same : Bool) → bytes_eq x.name name ≡ same → (if same then Some x.text else later) ≡ Some text → P name text
@@ -56,7 +51,7 @@ text_readable kind name text found = under_name IsReadable (library kind) (all_r
 
 -- the name at a place is one
 pub name_shaped : (kind : Kind) (place : ℕ) (e : Entry) → slice_get (library kind) place ≡ Some e → IsReadable e.name e.text
-name_shaped kind place e at = at_place (λ e. IsReadable e.name e.text) (library kind) (all_readable kind) place e at
+name_shaped kind place e at = each_get (λ e. IsReadable e.name e.text) (library kind) place e (all_readable kind) at
 
 choice_found : AllByRecursion (λ e. text_under Choice e.name ≡ Some e.text) choice
 unfolding choice
@@ -72,9 +67,9 @@ sets_found = (refl, (refl, (refl, (refl, (refl, (refl, tt))))))
 
 -- each entry is found under its name
 pub entry_found : (kind : Kind) (place : ℕ) (e : Entry) → slice_get (library kind) place ≡ Some e → text_under kind e.name ≡ Some e.text
-entry_found Choice place e at = at_place (λ e. text_under Choice e.name ≡ Some e.text) choice choice_found place e at
-entry_found Ranking place e at = at_place (λ e. text_under Ranking e.name ≡ Some e.text) ranking ranking_found place e at
-entry_found Sets place e at = at_place (λ e. text_under Sets e.name ≡ Some e.text) sets sets_found place e at
+entry_found Choice place e at = each_get (λ e. text_under Choice e.name ≡ Some e.text) choice place e choice_found at
+entry_found Ranking place e at = each_get (λ e. text_under Ranking e.name ≡ Some e.text) ranking place e ranking_found at
+entry_found Sets place e at = each_get (λ e. text_under Sets e.name ≡ Some e.text) sets place e sets_found at
 
 -- the name that was found at a place is one
 pub name_at_place : (kind : Kind) (place : ℕ) (bytes : List ℕ) → Some bytes ≡ option_map (λ e. e.name) (slice_get (library kind) place) → IsTrue (is_name bytes)

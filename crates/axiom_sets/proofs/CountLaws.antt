@@ -1,5 +1,5 @@
 -- How much is left to ask falls with each set that is added.
-use Rattle.std.proofs.Common.{◌≡◌, refl, sym, ◌∙◌, ap, ap₂, subst, ℕ, zero, suc, ◌+◌, ◌*◌, ◌<◌, ◌≤◌, Bool, true, false, not, ◌&&◌, ◌||◌, cond, List, [], ◌∷◌, ◌++◌, map, filter, length, inl, inr, ◌⊎◌, arith, true≢false, eqb-true, ltb-true, ltb-false}
+use Rattle.std.proofs.Common.{◌≡◌, refl, sym, ◌∙◌, ap, ap₂, subst, ℕ, zero, suc, ◌+◌, ◌*◌, ◌<◌, ◌≤◌, Bool, true, false, not, ◌&&◌, ◌||◌, cond, List, [], ◌∷◌, ◌++◌, map, filter, length, inl, inr, arith, true≢false, eqb-true, ltb-true, ltb-false}
 use Rattle.std.specs.Prelude.{◌==◌, nat_lt}
 use Rattle.std.proofs.lemmas.Bool.{eqb-false, and_parts, and_from, not-true, not_from_false, false_from_ne_true}
 use Rattle.std.proofs.lemmas.Nat.{mul-le}
@@ -11,29 +11,11 @@ use Rattle.axiom_sets.specs.Maps.{decides, covers, HasImpossible, HasPossible, H
 use Rattle.axiom_sets.specs.Counts.{sets_from, count_failing, left_to_ask}
 use Rattle.axiom_sets.proofs.TidyLaws.{decides_impossible, decides_new_impossible, decides_possible, decides_new_possible, covers_open, covers_new_open}
 use Rattle.lists.proofs.TestLaws.{kept_few}
+use Rattle.lists.proofs.Members.{IsIn, in_left, in_right, map_in}
 
 -- ---- items of lists
 
 module _ {X : Type 0} where
-  -- an item is one of a list
-  abbrev IsIn : List X → X → Type 0
-  IsIn [] x = ⊥
-  IsIn (y ∷ ys) x = (x ≡ y) ⊎ IsIn ys x
-
-  in_left : (xs ys : List X) (x : X) → IsIn xs x → IsIn (xs ++ ys) x
-  in_left [] ys x h = absurd h
-  in_left (y ∷ xs) ys x (inl e) = inl e
-  in_left (y ∷ xs) ys x (inr e) = inr (in_left xs ys x e)
-
-  in_right : (xs ys : List X) (x : X) → IsIn ys x → IsIn (xs ++ ys) x
-  in_right [] ys x h = h
-  in_right (y ∷ xs) ys x h = inr (in_right xs ys x h)
-
-  in_map : (f : X → X) (xs : List X) (x : X) → IsIn xs x → IsIn (map f xs) (f x)
-  in_map f [] x h = h
-  in_map f (y ∷ xs) x (inl e) = inl (ap f e)
-  in_map f (y ∷ xs) x (inr e) = inr (in_map f xs x e)
-
   -- what fails the second of two tests fails the first, where the second passes all that the first passes
   module _ (p q : X → Bool) (on : (x : X) → p x ≡ true → q x ≡ true) where
     fewer_or_same : (xs : List X) → length (filter (λ x. not (q x)) xs) ≤ length (filter (λ x. not (p x)) xs)
@@ -49,7 +31,7 @@ module _ {X : Type 0} where
 
     fewer : (xs : List X) (x : X) → IsIn xs x → p x ≡ false → q x ≡ true → length (filter (λ y. not (q y)) xs) < length (filter (λ y. not (p y)) xs)
     fewer [] x h fails passes = absurd h
-    fewer (y ∷ xs) x (inl e) fails passes = here (p y) (q y) (ap p (sym e) ∙ fails) (ap q (sym e) ∙ passes) (fewer_or_same xs)
+    fewer (y ∷ xs) x (inl e) fails passes = here (p y) (q y) (ap p e ∙ fails) (ap q e ∙ passes) (fewer_or_same xs)
       where
         here : (a b : Bool) → a ≡ false → b ≡ true → length (filter (λ z. not (q z)) xs) ≤ length (filter (λ z. not (p z)) xs)
             → length (cond (not b) (y ∷ filter (λ z. not (q z)) xs) (filter (λ z. not (q z)) xs)) < length (cond (not a) (y ∷ filter (λ z. not (p z)) xs) (filter (λ z. not (p z)) xs))
@@ -95,7 +77,7 @@ all_sets at (suc n) (k ∷ ks) h =
         let same : k ≡ at = eqb-true k at e in
         let rest : is_core_from (at + 1) (at + 1 + n) ks ≡ true = subst (λ (m : ℕ). is_core_from (at + 1) m ks ≡ true) end (subst (λ (m : ℕ). is_core_from (m + 1) (at + suc n) ks ≡ true) same a.1) in
         subst (λ (m : ℕ). IsIn (sets_from (at + 1) n ++ map (λ set. at ∷ set) (sets_from (at + 1) n)) (m ∷ ks)) (sym same)
-        (in_right (sets_from (at + 1) n) _ (at ∷ ks) (in_map (λ set. at ∷ set) (sets_from (at + 1) n) ks (ih ks rest)))
+        (in_right (sets_from (at + 1) n) _ (at ∷ ks) (map_in (λ set. at ∷ set) (sets_from (at + 1) n) ks (ih ks rest)))
     cases false e ih =
         let low = ltb-false k at (not-true _ b.0) in
         let other = eqb-false k at e in

@@ -1,9 +1,10 @@
 -- Which sets lie within which, and lists of sets that pass a test.
+use mathlib.Core.Bool.{and_comm}
 use Rattle.std.proofs.Common.{◌≡◌, refl, sym, ◌∙◌, ap, subst, ℕ, Bool, true, false, not, ◌&&◌, ◌||◌, cond, List, [], ◌∷◌, ◌++◌, filter, inl, inr, ◌⊎◌, true≢false}
 use Rattle.std.specs.List.{list_all, list_any, AllByRecursion}
 use Rattle.std.proofs.lemmas.Bool.{and_parts, and_from, or_cases, or_left, or_right}
 use Rattle.std.proofs.lemmas.List.Folds.{list_all-append, list_any-append}
-use Rattle.lists.proofs.TestLaws.{all_kept}
+use Rattle.lists.proofs.TestLaws.{all_kept, any_weaker}
 use Rattle.search_logs.specs.Spent.{has_place}
 use Rattle.search_logs.proofs.PlaceLaws.{each_member, member_passes}
 use Rattle.axiom_sets.specs.Sets.{is_within, has_part, has_whole}
@@ -32,10 +33,6 @@ module _ {X : Type 0} where
       let e = and_parts (p x) (list_all p xs) h in
       let f = and_parts (q x) (list_all q xs) k in
       and_from _ _ (and_from _ _ e.0 f.0) (all_both p q xs e.1 f.1)
-
-  pub any_on : (p q : X → Bool) (xs : List X) → ((x : X) → p x ≡ true → q x ≡ true) → list_any p xs ≡ true → list_any q xs ≡ true
-  any_on p q [] on h = h
-  any_on p q (x ∷ xs) on h = elim (or_cases (p x) (list_any p xs) h) [ inl e ↦ or_left _ _ (on x e) | inr e ↦ or_right _ _ (any_on p q xs on e) ]
 
   -- ---- of the items that are kept
 
@@ -76,19 +73,16 @@ module _ {X : Type 0} where
 -- ---- sets within those of a list
 
 pub part_on : (sets : List (List ℕ)) (a b : List ℕ) → is_within a b ≡ true → has_part sets a ≡ true → has_part sets b ≡ true
-part_on sets a b h part = any_on (λ s. is_within s a) (λ s. is_within s b) sets (λ s e. within_on s a b e h) part
+part_on sets a b h part = any_weaker (λ s. is_within s a) (λ s. is_within s b) (λ s e. within_on s a b e h) sets part
 
 pub whole_on : (sets : List (List ℕ)) (a b : List ℕ) → is_within a b ≡ true → has_whole sets b ≡ true → has_whole sets a ≡ true
-whole_on sets a b h whole = any_on (is_within b) (is_within a) sets (λ s e. within_on a b s h e) whole
+whole_on sets a b h whole = any_weaker (is_within b) (is_within a) (λ s e. within_on a b s h e) sets whole
 
 -- ---- a set among others
 
 -- two sets are apart: neither lies within the other
 abbrev pub apart : List ℕ → List ℕ → Bool
 apart set s = not (is_within s set) && not (is_within set s)
-
-turned : (a b : Bool) → (a && b) ≡ true → (b && a) ≡ true
-turned a b h = let e = and_parts a b h in and_from b a e.1 e.0
 
 pub apart_kept : (keep : List ℕ → Bool) (sets : List (List ℕ)) → are_apart sets ≡ true → are_apart (filter keep sets) ≡ true
 apart_kept keep [] h = refl
@@ -105,7 +99,7 @@ apart_inserted set (b ∷ before) after h all =
     let f = and_parts (apart set b) (list_all (apart set) (before ++ after)) all in
     let parts = and_parts (list_all (apart b) before) (list_all (apart b) after) (sym (list_all-append (apart b) before after) ∙ e.0) in
     and_from _ _
-    (list_all-append (apart b) before (set ∷ after) ∙ and_from _ _ parts.0 (and_from _ _ (turned (not (is_within b set)) (not (is_within set b)) f.0) parts.1))
+    (list_all-append (apart b) before (set ∷ after) ∙ and_from _ _ parts.0 (and_from _ _ (and_comm (not (is_within set b)) (not (is_within b set)) ∙ f.0) parts.1))
     (apart_inserted set before after e.1 f.1)
 
 among : (a b c : Bool) → (a || (c || b)) ≡ ((a || b) || c)

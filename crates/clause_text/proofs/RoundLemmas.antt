@@ -20,17 +20,13 @@ use Rattle.clause_text.specs.Left.{saying}
 use Rattle.clause_text.proofs.WordLemmas.{is_end, keeps, said_first, unsaid_first}
 use Rattle.clause_text.proofs.ReadingLemmas.{lt_false}
 use Rattle.std.proofs.lemmas.List.{length_push}
+use Rattle.lists.proofs.TestLaws.{all_weaker}
 
 -- ---- bytes
 
 -- a byte of a word
 abbrev is_plain : ℕ → Bool
 is_plain c = not (is_blank c) && not (is_end c)
-
-module _ (p q : ℕ → Bool) (weaker : (c : ℕ) → p c ≡ true → q c ≡ true) where
-  all_weaker : (text : List ℕ) → list_all p text ≡ true → list_all q text ≡ true
-  all_weaker [] h = refl
-  all_weaker (c ∷ cs) h = and_from (q c) (list_all q cs) (weaker c (and_parts (p c) (list_all p cs) h).0) (all_weaker cs (and_parts (p c) (list_all p cs) h).1)
 
 digit_plain : (c : ℕ) → is_digit c ≡ true → is_plain c ≡ true
 digit_plain c h =

@@ -1,4 +1,5 @@
 -- The instances whose clauses a proof names.
+use mathlib.Core.Bool.{or-false}
 use Rattle.std.proofs.Common.{◌≡◌, refl, sym, ◌∙◌, ap, ap₂, subst, ℕ, zero, suc, ◌+◌, ◌*◌, ◌<◌, ◌≤◌, Bool, true, false, ◌||◌, nat_eq, inl, inr, ◌⊎◌, List, [], ◌∷◌, ◌++◌, map, length, length-append, arith, Option, Some, None, true≢false, eq-eqb, eqb-true, lt-ltb, ltb-true}
 use Rattle.std.specs.Prelude.{nat_lt, slice_get, slice_index_or}
 use Rattle.std.specs.List.{list_all}
@@ -54,14 +55,10 @@ present_few study taken c h =
 
 -- ---- the numbers of the clauses up to a place
 
-or_right_only : (a : Bool) → (a || false) ≡ true → a ≡ true
-or_right_only true h = refl
-or_right_only false h = h
-
 split_has : (xs : List ℕ) (x k : ℕ) → includes (xs ++ x ∷ []) k ≡ true → (includes xs k ≡ true) ⊎ (k ≡ x)
 split_has xs x k h = elim (or_cases (includes xs k) (nat_eq k x || false) (sym (has-append xs (x ∷ []) k) ∙ h)) [
   | inl e ↦ inl e
-  | inr e ↦ inr (eqb-true k x (or_right_only (nat_eq k x) e))
+  | inr e ↦ inr (eqb-true k x (sym (or-false (nat_eq k x)) ∙ e))
 ]
 
 has_old : (xs : List ℕ) (x k : ℕ) → includes xs k ≡ true → includes (xs ++ x ∷ []) k ≡ true

@@ -36,7 +36,7 @@ use Rattle.clause_form.specs.Wide.{is_wide}
 use Rattle.closing.specs.Closed.{closed_body}
 use Rattle.closing.proofs.SentenceLaws.{is_instance}
 use Rattle.search_logs.specs.Spent.{all_places}
-use Rattle.verdicts.proofs.WordLaws.{IsIn, in_below}
+use Rattle.verdicts.proofs.WordLaws.{in_below}
 use Rattle.sharp_verdicts.specs.declared.instances.Cited.{Cited}
 use Rattle.sharp_verdicts.specs.Derived.{axiom_of, axioms_from, derived_study}
 use Rattle.sharp_verdicts.specs.Instances.{count_at, is_present, all_instances}
@@ -47,6 +47,7 @@ use Rattle.instance_grounds.proofs.StandLaws.{closed_is}
 use Rattle.sharp_verdicts.proofs.DerivedLaws.{derived_get}
 use Rattle.sharp_verdicts.specs.Totals.{counts_of_instance, IsWithinTotal}
 use Rattle.grounding.specs.Rising.{includes}
+use Rattle.lists.proofs.Members.{IsIn}
 
 -- ---- nothing found
 
@@ -359,7 +360,3 @@ pub fits_made : (study : Question) (instances : List Cited) (derived : Question)
 fits_made study instances derived all taken total present rising made places =
     let count : all ≡ below (length instances) = places ∙ ap all_places made ∙ ap below (length_from study 0 instances) in
     ap₂ (λ (d : Question) (ps : List ℕ). ground_fault d.size d.axioms ps) made count ∙ clauses_fit study instances taken total present rising
-
-pub never : {A : Type 0} {a : A} (o : Option A) → o ≡ Some a → o ≡ None → ⊥
-never None e f = cc
-never (Some b) e f = cc

@@ -22,8 +22,8 @@ use Rattle.meaning.specs.Space.{below}
 use Rattle.meaning.specs.StudyClauses.{Sourced, firsts, clauses_of, instance_of, from_frame, from_instance, from_axiom, study_clauses}
 use Rattle.closing.specs.Closed.{closed_body}
 use Rattle.closing.proofs.SentenceLaws.{is_instance}
-use Rattle.verdicts.proofs.WordLaws.{IsIn, in_below}
-use Rattle.verdicts.proofs.Members.{in_append, in_left, in_right, in_flat_map, flat_map_in, in_map, map_in, in_at, at_in}
+use Rattle.verdicts.proofs.WordLaws.{in_below}
+use Rattle.lists.proofs.Members.{in_append, in_left, in_right, in_flat_map, flat_map_in, in_map, map_in, in_at, at_in, IsIn}
 use Rattle.sharp_verdicts.specs.declared.instances.Cited.{Cited}
 use Rattle.sharp_verdicts.specs.Derived.{closed_at, axiom_of, axioms_from, instance_name}
 use Rattle.sharp_verdicts.proofs.DerivedLaws.{derived_get}

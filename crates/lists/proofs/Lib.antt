@@ -5,3 +5,4 @@ pub mod OptionLaws
 pub mod TextLaws
 pub mod OrderLaws
 pub mod NumberLaws
+pub mod Members

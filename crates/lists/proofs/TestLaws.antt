@@ -1,8 +1,9 @@
--- Lists whose items all pass a test.
-use Rattle.std.proofs.Common.{◌≡◌, refl, subst, ℕ, zero, suc, ◌<◌, Bool, true, false, cond, List, [], ◌∷◌, ◌++◌, length, get_or, filter, arith, Some, ◌≤◌}
+-- Lists of which all items pass a test, or one does.
+use Rattle.std.proofs.Common.{◌≡◌, refl, subst, ℕ, zero, suc, ◌<◌, Bool, true, false, cond, List, [], ◌∷◌, ◌++◌, length, get_or, filter, arith, Some, ◌≤◌, sym, ◌∙◌, inl, inr}
 use Rattle.std.specs.Prelude.{slice_get}
-use Rattle.std.specs.List.{list_all}
-use Rattle.std.proofs.lemmas.Bool.{and_parts, and_from}
+use Rattle.std.specs.List.{list_all, list_any}
+use Rattle.std.proofs.lemmas.Bool.{and_parts, and_from, or_cases, or_left, or_right}
+use Rattle.std.proofs.lemmas.List.Folds.{list_all-append, list_any-append}
 
 -- a test that each item passes is passed at each place
 pub all_read : {X : Type 0} (t : X → Bool) (xs : List X) (k : ℕ) (d : X) → k < length xs → list_all t xs ≡ true → t (get_or xs k d) ≡ true
@@ -52,3 +53,18 @@ kept_few keep (x ∷ xs) = cases (keep x) (kept_few keep xs)
     cases : (b : Bool) → length (filter keep xs) ≤ length xs → length (cond b (x ∷ filter keep xs) (filter keep xs)) ≤ suc (length xs)
     cases true h = omega (arith, h)
     cases false h = omega (arith, h)
+
+pub all_left : {A : Type 0} (t : A → Bool) (xs ys : List A) → list_all t (xs ++ ys) ≡ true → list_all t xs ≡ true
+all_left t xs ys h = (and_parts (list_all t xs) (list_all t ys) (sym (list_all-append t xs ys) ∙ h)).0
+
+-- ---- lists of which an item passes
+
+pub any_weaker : {A : Type 0} (s t : A → Bool) → ((a : A) → s a ≡ true → t a ≡ true) → (xs : List A) → list_any s xs ≡ true → list_any t xs ≡ true
+any_weaker s t weaker [] h = h
+any_weaker s t weaker (x ∷ xs) h = elim (or_cases (s x) (list_any s xs) h) [ inl e ↦ or_left _ _ (weaker x e) | inr e ↦ or_right _ _ (any_weaker s t weaker xs e) ]
+
+pub any_left : {A : Type 0} (t : A → Bool) (xs ys : List A) → list_any t xs ≡ true → list_any t (xs ++ ys) ≡ true
+any_left t xs ys h = list_any-append t xs ys ∙ or_left (list_any t xs) (list_any t ys) h
+
+pub any_right : {A : Type 0} (t : A → Bool) (xs ys : List A) → list_any t ys ≡ true → list_any t (xs ++ ys) ≡ true
+any_right t xs ys h = list_any-append t xs ys ∙ or_right (list_any t xs) (list_any t ys) h

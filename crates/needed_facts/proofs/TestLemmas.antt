@@ -1,8 +1,8 @@
 -- Tests that items of lists pass.
-use Rattle.std.proofs.Common.{◌≡◌, refl, ap, ℕ, zero, suc, ◌<◌, ◌≤◌, Bool, true, List, [], ◌∷◌, ◌++◌, length, arith, Some, inl, inr}
+use Rattle.std.proofs.Common.{◌≡◌, refl, ap, ℕ, zero, suc, ◌<◌, ◌≤◌, Bool, true, List, [], ◌∷◌, ◌++◌, length, arith, Some}
 use Rattle.std.specs.Prelude.{slice_get}
-use Rattle.std.specs.List.{list_all, list_any}
-use Rattle.std.proofs.lemmas.Bool.{and_parts, and_from, or_cases, or_left, or_right}
+use Rattle.std.specs.List.{list_all}
+use Rattle.std.proofs.lemmas.Bool.{and_parts, and_from}
 
 pub all_both : {A : Type 0} (r s t : A → Bool) → ((a : A) → r a ≡ true → s a ≡ true → t a ≡ true) → (xs : List A) → list_all r xs ≡ true → list_all s xs ≡ true → list_all t xs ≡ true
 all_both r s t give [] h k = refl
@@ -10,13 +10,6 @@ all_both r s t give (x ∷ xs) h k =
     let p = and_parts (r x) (list_all r xs) h in
     let q = and_parts (s x) (list_all s xs) k in
     and_from (t x) (list_all t xs) (give x p.0 q.0) (all_both r s t give xs p.1 q.1)
-
-pub any_from : {A : Type 0} (s t : A → Bool) → ((a : A) → s a ≡ true → t a ≡ true) → (xs : List A) → list_any s xs ≡ true → list_any t xs ≡ true
-any_from s t give [] h = h
-any_from s t give (x ∷ xs) h = elim (or_cases (s x) (list_any s xs) h) [
-  | inl e ↦ or_left (t x) (list_any t xs) (give x e)
-  | inr e ↦ or_right (t x) (list_any t xs) (any_from s t give xs e)
-]
 
 -- what each item passes, all pass
 pub all_each : {A : Type 0} (t : A → Bool) (xs : List A) → ((i : ℕ) (a : A) → slice_get xs i ≡ Some a → t a ≡ true) → list_all t xs ≡ true

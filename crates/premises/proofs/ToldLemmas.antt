@@ -5,7 +5,7 @@ use Rattle.std.specs.List.{list_all, list_any}
 use Rattle.std.proofs.lemmas.Bool.{and_parts, and_from, or_cases, or_left, or_right, cases_lt}
 use Rattle.std.proofs.lemmas.List.Folds.{list_any-append}
 use Rattle.std.proofs.lemmas.Option.{slice_get_past}
-use Rattle.lists.proofs.TestLaws.{all_snoc, all_weaker}
+use Rattle.lists.proofs.TestLaws.{all_snoc, all_weaker, any_weaker, any_left}
 use Rattle.vocab.specs.declared.literals.Literal.{Literal}
 use Rattle.vocab.specs.declared.literals.Literal.TheVariants.{Wins, Loses, Above}
 use Rattle.vocab.specs.Literal.{has, opposite_of, profile_of, same_literal}
@@ -25,7 +25,7 @@ use Rattle.needed_facts.specs.Rests.{are_there, RestsOn}
 use Rattle.joined_sentences.specs.Joined.{IsJoined, IsSentenceBy}
 use Rattle.premises.specs.SoFar.{are_numbered, IsToldSoFar}
 use Rattle.needed_facts.proofs.RestLemmas.{has_itself, all_among}
-use Rattle.needed_facts.proofs.TestLemmas.{all_both, any_from}
+use Rattle.needed_facts.proofs.TestLemmas.{all_both}
 
 -- a step stands in the sentence of the number
 abbrev pub is_in : ℕ → Placed → Bool
@@ -55,7 +55,7 @@ module _ (forced suppose : List Literal) where
       elim (or_cases (has forced q || has suppose q) (list_any (is_stated k q) steps) h) [
         | inl e ↦ or_left (has forced q || has suppose q) (list_any (is_stated m q) (steps ++ p ∷ [])) e
         | inr e ↦ or_right (has forced q || has suppose q) (list_any (is_stated m q) (steps ++ p ∷ []))
-            (list_any-append (is_stated m q) steps (p ∷ []) ∙ or_left (list_any (is_stated m q) steps) (list_any (is_stated m q) (p ∷ [])) (any_from (is_stated k q) (is_stated m q) later steps e))
+            (any_left (is_stated m q) steps (p ∷ []) (any_weaker (is_stated k q) (is_stated m q) later steps e))
       ]
     where
       later : (a : Placed) → is_stated k q a ≡ true → is_stated m q a ≡ true

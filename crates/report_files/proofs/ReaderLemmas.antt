@@ -1,7 +1,6 @@
 -- What a reader stands for after more bytes.
 use Rattle.std.proofs.Common.{◌≡◌, sym, ap, ◌∙◌, subst, ℕ, suc, ◌+◌, true, List, [], ◌∷◌, ◌++◌, length, take, arith, append_assoc, length-append, Result, Ok, Err, refl}
-use Rattle.std.proofs.lemmas.Bool.{eqb-true}
-use Rattle.std.specs.Prelude.{◌==◌, OnOk}
+use Rattle.std.specs.Prelude.{OnOk}
 use Rattle.verdicts.specs.Judge.{has_no_end, pieces, front, final}
 use Rattle.report_files.specs.Lines.{CheckerState, StandsForLines}
 use Rattle.report_files.specs.Pieces.{head_of, ReaderState, StandsForText}
@@ -23,10 +22,6 @@ pub end_stands : (old new : CheckerState) (lines : List (List ℕ)) (rest w held
     → line ≡ head_of (held ++ w) → held ≡ head_of rest → StandsForLines old lines → StandsForLines new (lines ++ (rest ++ w) ∷ [])
 end_stands old new lines rest w held line taken e h stands =
     head_taken new lines (rest ++ w) (subst (λ t. StandsForLines new (lines ++ t ∷ [])) (e ∙ head_more held rest w h) (taken lines stands))
-
-pub no_items : (xs : List ℕ) → (length xs == 0) ≡ true → xs ≡ []
-no_items [] e = refl
-no_items (x ∷ xs) e = let none : length (x ∷ xs) ≡ 0 = eqb-true (length (x ∷ xs)) 0 e in absurd (let bad : ⊥ = omega (arith, none) in bad)
 
 -- a line of which nothing was held has ended
 pub whole_stands : (old new : CheckerState) (line held : List ℕ) → held ≡ []

@@ -17,13 +17,14 @@ use Rattle.verdicts.specs.Numbers.{number_text, read_number, saturated}
 use Rattle.verdicts.specs.Texts.{joined_words, words_of, kinds, named_by, read_kind, read_literal}
 use Rattle.verdicts.specs.Lines.{Line, Title, KindIs, AbsentIs, SaysPossible, SaysImpossible, SaysUndecided, Heading, So, Clash, WithRule, WithOpen, End}
 use Rattle.verdicts.specs.Reading.{keyed, one_word, no_word, read_version, read_absent, verdict_word, read_heading, read_named, read_witness, read_reason, read_so}
-use Rattle.verdicts.proofs.WordLaws.{IsIn, named_in, text_named}
+use Rattle.verdicts.proofs.WordLaws.{named_in, text_named}
 use Rattle.verdicts.proofs.PrintLaws.{named_nothing, decimal_is}
 use Rattle.verdicts.proofs.LineLaws.{keyed_is, one_is, map_is, none_is}
 use Rattle.report_lines.specs.declared.lines.Line.{Line as HeldLine}
 use Rattle.report_lines.specs.declared.lines.Line.TheVariants as held
 use Rattle.report_lines.specs.Held.{held_reason, held_line}
 use Rattle.report_lines.proofs.WordLemmas.{keyed_then, keyed_one_then}
+use Rattle.lists.proofs.Members.{IsIn}
 
 -- ---- after a key
 

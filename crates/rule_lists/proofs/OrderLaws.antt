@@ -3,12 +3,13 @@ use Rattle.std.proofs.Common.{◌≡◌, refl, sym, ◌∙◌, ap₂, subst, ℕ
 use Rattle.std.specs.Prelude.{◌==◌, nat_lt}
 use Rattle.std.specs.List.{list_all}
 use Rattle.std.specs.Str.{bytes_eq}
-use Rattle.std.proofs.lemmas.Bool.{eqb-false, ne_eqb, and_parts, and_from, or_left, or_right, or_parts}
+use Rattle.std.proofs.lemmas.Bool.{eqb-false, and_parts, and_from, or_left, or_right, or_parts}
 use Rattle.std.proofs.lemmas.List.Folds.{list_all-append}
 use Rattle.lists.proofs.OrderLaws.{IsLexicographic, lexicographic_on}
 use Rattle.lists.proofs.TestLaws.{all_weaker}
 use Rattle.meaning.proofs.TestLaws.{rest_false}
 use Rattle.rule_lists.specs.RuleLists.{has_table, is_table_before, are_tables_rising}
+use Rattle.lists.proofs.NumberLaws.{same_test}
 
 ordered : IsLexicographic is_table_before
 ordered = record { none = refl; more = λ y b. refl; fewer = λ x a. refl; each = λ x y a b. refl }
@@ -36,18 +37,11 @@ one_before (x ∷ a) (y ∷ b) other h = cases (x == y) refl (one_before a b)
 all_after : (x b : List ℕ) (tables : List (List ℕ)) → is_table_before x b ≡ true → list_all (is_table_before b) tables ≡ true → list_all (is_table_before x) tables ≡ true
 all_after x b tables h all = all_weaker (is_table_before b) (is_table_before x) (λ t. before_on x b t h) tables all
 
-turned : (x y : ℕ) → (y == x) ≡ (x == y)
-turned x y = cases (x == y) refl
-  where
-    cases : (b : Bool) → (x == y) ≡ b → (y == x) ≡ b
-    cases true e = subst (λ (n : ℕ). (n == x) ≡ true) (eqb-true x y e) (subst (λ (n : ℕ). (x == n) ≡ true) (sym (eqb-true x y e)) e)
-    cases false e = ne_eqb y x (λ same. eqb-false x y e (sym same))
-
 flipped : (a b : List ℕ) → bytes_eq b a ≡ bytes_eq a b
 flipped [] [] = refl
 flipped [] (y ∷ b) = refl
 flipped (x ∷ a) [] = refl
-flipped (x ∷ a) (y ∷ b) = ap₂ (λ (p q : Bool). p && q) (turned x y) (flipped a b)
+flipped (x ∷ a) (y ∷ b) = ap₂ (λ (p q : Bool). p && q) (same_test y x x y (λ e. sym e) (λ e. sym e)) (flipped a b)
 
 rising_rest : (table : List ℕ) (after : List (List ℕ)) → are_tables_rising after ≡ true → has_table after table ≡ false → (first : (t : List ℕ) (rest : List (List ℕ)) → after ≡ t ∷ rest → is_table_before t table ≡ false)
     → are_tables_rising (table ∷ after) ≡ true

@@ -13,7 +13,7 @@ use Rattle.verdicts.specs.Places.{Standing}
 use Rattle.verdicts.specs.Texts.{words_of}
 use Rattle.verdicts.proofs.WordLaws.{lacks, split_ended}
 use Rattle.verdicts.proofs.WholeTextLaws.{front_snoc, only_piece, cut_lines, all_answered}
-use Rattle.verdicts.proofs.ReportLaws.{short, texts_cons, same_line}
+use Rattle.verdicts.proofs.ReportLaws.{short, same_line}
 use Rattle.sharp_verdicts.specs.declared.refusals.SharpRefusal.TheVariants.{Report}
 use Rattle.sharp_verdicts.specs.Right.{Pointed, IsSharpRight}
 use Rattle.sharp_verdicts.specs.SharpLines.{SharpLine, SharpTitle, Plain, sharp_line_text, sharp_lines, sharp_text}
@@ -28,6 +28,7 @@ use Rattle.sharp_laws.proofs.FaultLaws.{past, within_limit}
 use Rattle.sharp_laws.proofs.FewLaws.{lemmas_fit}
 use Rattle.sharp_laws.proofs.ShortLaws.{is_sharp_short, lines_short}
 use Rattle.std.proofs.lemmas.Option.{same_Some}
+use Rattle.lists.proofs.PlaceLaws.{cons_same}
 
 module _ (study : Question) (is : IsReportable study) where
   -- the texts of the lines of a sharp verdict
@@ -114,7 +115,7 @@ module _ (study : Question) (is : IsReportable study) where
   same_runs s t u [] (k ∷ ks) r q e = absurd (cc)
   same_runs s t u (l ∷ ls) [] r q e = absurd (cc)
   same_runs s t u (l ∷ ls) (k ∷ ks) r q e =
-      let c = texts_cons study is (sharp_line_text study l) (sharp_line_text study k) (map (sharp_line_text study) ls) (map (sharp_line_text study) ks) e in
+      let c = cons_same (sharp_line_text study l) (sharp_line_text study k) (map (sharp_line_text study) ls) (map (sharp_line_text study) ks) e in
       let same = same_at s.place s.told l k r.0 r.1 q.0 q.1 c.0 in
       same_runs (advance_sharp study s k) t u ls ks (subst (λ (x : SharpLine). Runs (advance_sharp study s x) ls t) same r.3) q.3 c.1
 
@@ -138,7 +139,7 @@ module _ (study : Question) (is : IsReportable study) where
   no_more s t u [] (k ∷ ks) more r q p e = absurd (nothing_fits s.place s.told k (ap (λ (x : SharpStanding). x.place) r ∙ p) q.0)
   no_more s t u (l ∷ ls) [] more r q p e = absurd (cc)
   no_more s t u (l ∷ ls) (k ∷ ks) more r q p e =
-      let c = texts_cons study is (sharp_line_text study l) (sharp_line_text study k) (map (sharp_line_text study) ls ++ more) (map (sharp_line_text study) ks) e in
+      let c = cons_same (sharp_line_text study l) (sharp_line_text study k) (map (sharp_line_text study) ls ++ more) (map (sharp_line_text study) ks) e in
       let same = same_at s.place s.told l k r.0 r.1 q.0 q.1 c.0 in
       no_more (advance_sharp study s k) t u ls ks more (subst (λ (x : SharpLine). Runs (advance_sharp study s x) ls t) same r.3) q.3 p c.1
 
@@ -173,7 +174,7 @@ module _ (study : Question) (is : IsReportable study) where
   stops_before n s t (l ∷ ls) [] line more r h e = (s, refl, λ p. nothing_fits s.place s.told l p r.0)
   stops_before n s t (l ∷ ls) (b ∷ before) line more r h e =
       let p = and_parts (short (sharp_line_text study l)) (list_all short (map (sharp_line_text study) ls)) h in
-      let c = texts_cons study is (sharp_line_text study l) b (map (sharp_line_text study) ls) (before ++ line ∷ more) e in
+      let c = cons_same (sharp_line_text study l) b (map (sharp_line_text study) ls) (before ++ line ∷ more) e in
       let later = stops_before (n + 1) (advance_sharp study s l) t ls before line more r.3 p.1 c.1 in
       let read = ap (read_sharp_line study s) (sym c.0) ∙ line_read s l r.0 r.1 p.0 in
       (later.0, past study n s b before l read r.2 ∙ later.1, later.2)

@@ -38,8 +38,8 @@ use Rattle.closing.proofs.SentenceLaws.{closed_prefix, closed_own_body}
 use Rattle.verdicts.specs.Claims.{HasNoRule}
 use Rattle.verdicts.specs.FirstFault.{Confirmed}
 use Rattle.verdicts.specs.Laws.{is_rule_given}
-use Rattle.verdicts.proofs.WordLaws.{IsIn, in_below}
-use Rattle.verdicts.proofs.Members.{flat_map_in, map_in, filter_in}
+use Rattle.verdicts.proofs.WordLaws.{in_below}
+use Rattle.lists.proofs.Members.{flat_map_in, map_in, filter_in, IsIn}
 use Rattle.sharp_verdicts.specs.declared.instances.Cited.{Cited}
 use Rattle.sharp_verdicts.specs.Derived.{instance_name, closed_at, axiom_of, axioms_from}
 use Rattle.sharp_verdicts.specs.Instances.{same_instance, has_instance, others_than, reasons_of, is_axiom_told, core_of, is_present, count_at, values_at, number_at, cites, is_told, all_instances, instances_of, is_true_of}
@@ -48,12 +48,9 @@ use Rattle.sharp_verdicts.proofs.DerivedLaws.{derived_get}
 use Rattle.sharp_verdicts.specs.SharpJudge.{sharp_answer}
 use Rattle.sharp_laws.specs.Laws.{HasNoRuleOfAll, SharpClaims}
 use Rattle.sharp_laws.proofs.JudgeLaws.{judge_sound}
-use Rattle.sharp_verdicts.proofs.InstanceLaws.{same_is}
+use Rattle.sharp_verdicts.proofs.InstanceLaws.{same_is, is_same}
 
 -- ---- places of instances
-
-is_same : (c d : Cited) → c ≡ d → same_instance c d ≡ true
-is_same c d e = subst (λ x. same_instance c x ≡ true) e (and_from _ _ (eq-eqb c.«axiom» c.«axiom» refl) (eq-eqb c.number c.number refl))
 
 -- where an instance stands in a list
 abbrev place_in : List Cited → Cited → ℕ

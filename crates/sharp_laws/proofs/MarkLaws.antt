@@ -1,5 +1,5 @@
 -- The listed instances, and their marks, which are read one after the other.
-use Rattle.std.proofs.Common.{◌≡◌, refl, sym, ap, ap₂, ◌∙◌, subst, ℕ, ◌<◌, ◌≤◌, Bool, true, false, ◌&&◌, List, [], ◌∷◌, ◌++◌, map, length, Option, Some, None, arith, true≢false, eqb-true, eq-eqb, ltb-true, lt-ltb, append_assoc, append-nil}
+use Rattle.std.proofs.Common.{◌≡◌, refl, sym, ap, ap₂, ◌∙◌, subst, ℕ, ◌<◌, ◌≤◌, Bool, true, false, ◌&&◌, List, [], ◌∷◌, ◌++◌, map, length, Option, Some, None, arith, true≢false, eqb-true, eq-eqb, ltb-true, append_assoc, append-nil}
 use Rattle.std.specs.Prelude.{◌==◌, nat_lt, slice_get}
 use Rattle.std.specs.Cmp.Lexicographic.{pointwise}
 use Rattle.std.specs.Option.{option_map_or}
@@ -12,15 +12,15 @@ use Rattle.meaning.specs.declared.cores.Witness.{Witness}
 use Rattle.meaning.specs.declared.stories.Lemma.{Lemma}
 use Rattle.meaning.specs.declared.stories.Reason.TheVariants.{Axiom as ByAxiom}
 use Rattle.meaning.specs.Instances.{instance_values}
-use Rattle.meaning.specs.Space.{below, number_of}
+use Rattle.meaning.specs.Space.{number_of}
 use Rattle.meaning.proofs.DigitLaws.{are_one_to_one}
 use Rattle.verdicts.specs.Lines.{sorts_of}
-use Rattle.verdicts.proofs.WordLaws.{IsIn, from_below}
-use Rattle.verdicts.proofs.Members.{in_flat_map, in_map, in_filter, in_at}
+use Rattle.lists.proofs.Members.{in_filter, in_at, IsIn}
 use Rattle.sharp_verdicts.specs.declared.instances.Cited.{Cited}
 use Rattle.sharp_verdicts.specs.Instances.{count_at, is_present, values_at, number_at, cites, is_told, all_instances, instances_of}
 use Rattle.sharp_verdicts.specs.SharpLines.{reason_at, mark_lines, all_mark_lines}
 use Rattle.sharp_laws.proofs.FitLaws.{IsCited}
+use Rattle.sharp_verdicts.proofs.InstanceLaws.{all_present}
 
 -- ---- marks so far
 
@@ -109,19 +109,8 @@ module _ (study : Question) where
 
   -- ---- listed instances
 
-  pub all_present : (c : Cited) → IsIn (all_instances study) c → is_present study c ≡ true
-  all_present c i =
-      let f = in_flat_map (λ k. map (λ n. at k n) (below (count_at study k))) (below (length study.axioms)) c i in
-      let m = in_map (λ n. at f.0 n) (below (count_at study f.0)) c f.2 in
-      let place = from_below (length study.axioms) f.0 f.1 in
-      let number = from_below (count_at study f.0) m.0 m.1 in
-      subst (λ (d : Cited). is_present study d ≡ true) m.2 (and_from _ _ (lt-ltb f.0 _ place) (lt-ltb m.0 _ number))
-    where
-      at : ℕ → ℕ → Cited
-      at k n = record { «axiom» = k; number = n }
-
   pub listed_present : (story : List Lemma) (c : Cited) → IsIn (instances_of study story) c → is_present study c ≡ true
-  listed_present story c i = all_present c (in_filter (is_told study story) (all_instances study) c i).0
+  listed_present story c i = all_present study c (in_filter (is_told study story) (all_instances study) c i).0
 
   pub next_present : (story : List Lemma) (n : ℕ) (c : Cited) → slice_get (instances_of study story) n ≡ Some c → is_present study c ≡ true
   next_present story n c e = listed_present story c (in_at (instances_of study story) n c e)

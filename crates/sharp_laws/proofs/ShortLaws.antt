@@ -6,7 +6,6 @@ use Rattle.std.specs.Option.{option_map_or}
 use Rattle.std.specs.Cmp.Lexicographic.{pointwise}
 use Rattle.std.proofs.lemmas.Bool.{and_parts, and_from}
 use Rattle.std.proofs.lemmas.List.{length-map}
-use Rattle.std.proofs.lemmas.List.Folds.{list_all-append}
 use Rattle.vocab.specs.declared.kinds.Sort.TheVariants.{Profile}
 use Rattle.vocab.specs.Limits.{instance_count}
 use Rattle.vocab.specs.Size.{is_full, sort_count}
@@ -26,7 +25,6 @@ use Rattle.verdicts.specs.Report.{row_lines, head_lines, all_witness_lines, verd
 use Rattle.verdicts.proofs.ReportLaws.{short}
 use Rattle.verdicts.proofs.ShortLaws.{within, joined_within, is_short, short_number, few_profiles, values_short, rows_short, name_at_within, few_sorts, report_short}
 use Rattle.verdicts.proofs.CompleteLaws.{told_lines}
-use Rattle.verdicts.proofs.WordLaws.{IsIn}
 use Rattle.sharp_verdicts.specs.declared.instances.Cited.{Cited}
 use Rattle.sharp_verdicts.specs.Instances.{is_present, is_told, count_at, values_at, all_instances, instances_of}
 use Rattle.sharp_verdicts.specs.Right.{Pointed, is_mark, IsSharpRight}
@@ -35,10 +33,8 @@ use Rattle.sharp_laws.proofs.MarkLaws.{reason_cites, listed_present}
 use Rattle.sharp_laws.proofs.RunLaws.{opens, open_is_right, right_places}
 use Rattle.verdicts.proofs.PrefixLaws.{no_witness}
 use Rattle.vocab.proofs.StudyLaws.{few_at}
-use Rattle.lists.proofs.TestLaws.{kept_few}
-
-list_all-left : {A : Type 0} (t : A → Bool) (xs ys : List A) → list_all t (xs ++ ys) ≡ true → list_all t xs ≡ true
-list_all-left t xs ys h = (and_parts (list_all t xs) (list_all t ys) (sym (list_all-append t xs ys) ∙ h)).0
+use Rattle.lists.proofs.TestLaws.{kept_few, all_left}
+use Rattle.lists.proofs.Members.{IsIn}
 
 -- ---- how many instances there are
 
@@ -133,8 +129,8 @@ module _ (study : Question) (is : IsReportable study) where
       let told = told_lines study v.core v.story in
       let witnesses = all_witness_lines study v.core (opens study v.core) in
       let all = report_short study is listed (own_version study) verdict few_versions open_right few in
-      let front = list_all-left (is_short study is) (head ++ verdict_lines study verdict) (End ∷ []) all in
-      let part = list_all-left (is_short study is) (head ++ told) witnesses (subst (λ (ls : List Line). list_all (is_short study is) ls ≡ true) (sym (append_assoc head told witnesses)) front) in
+      let front = all_left (is_short study is) (head ++ verdict_lines study verdict) (End ∷ []) all in
+      let part = all_left (is_short study is) (head ++ told) witnesses (subst (λ (ls : List Line). list_all (is_short study is) ls ≡ true) (sym (append_assoc head told witnesses)) front) in
       let rest = (and_parts (is_short study is (Title (own_version study))) (list_all (is_short study is) (after_first head ++ told)) part).1 in
       let same : told ++ all_witness_lines study v.core [] ≡ told = ap (λ ls. told ++ ls) (no_witness study v.core) ∙ append-nil told in
       subst (λ (ls : List Line). list_all (is_short study is) (after_first head ++ ls) ≡ true) (sym same) rest

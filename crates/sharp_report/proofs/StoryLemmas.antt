@@ -136,7 +136,7 @@ module _ (study : Question) where
         let plain : says_possible (held_line study w) ≡ false = ap says_possible (sym h2.2) ∙ other in
         let here = subst (λ p. HoldsAt study p r s) at h.at in
         let collected : After study (is_story_read t.place) t (r.cited.items ++ codes_of_line study (held_line study w)) =
-        next study (length s.told.earlier + 1) s.told w r.cited.items here.0 (fits s.told text w h2.1) h2.3 plain here.1 in
+        next study (length s.told.earlier + 1) s.told w r.cited.items here.0 (read_fits study s.told text w h2.1) h2.3 plain here.1 in
         let same : r.cited.items ++ codes_of_line study (held_line study w) ≡ after.cited.items = ap (λ (l : HeldLine). r.cited.items ++ codes_of_line study l) (sym h2.2) ∙ sym cited in
         let u : SharpStanding = record s { told = t; place = cond (is_story_read t.place) AtInstances AtReport } in
         let stands : SharpStands study after u = record {

@@ -1,5 +1,5 @@
 -- What a right sharp verdict names is in range.
-use Rattle.std.proofs.Common.{◌≡◌, refl, sym, subst, Bool, true, ◌&&◌, List, [], ◌∷◌, length, true≢false, inl, inr}
+use Rattle.std.proofs.Common.{◌≡◌, refl, sym, subst, true, ◌&&◌, List, [], ◌∷◌, length, true≢false}
 use Rattle.std.specs.Prelude.{nat_lt}
 use Rattle.std.specs.List.{list_all}
 use Rattle.std.specs.Cmp.Lexicographic.{pointwise}
@@ -15,10 +15,10 @@ use Rattle.verdicts.proofs.RightLaws.{right_has_text}
 use Rattle.sharp_verdicts.specs.declared.instances.Cited.{Cited}
 use Rattle.sharp_verdicts.specs.Instances.{is_present, instances_of, others_than, is_true_of}
 use Rattle.sharp_verdicts.specs.Right.{Pointed, IsSharpRight, is_mark}
-use Rattle.verdicts.proofs.WordLaws.{IsIn}
 use Rattle.sharp_laws.proofs.MarkLaws.{listed_present}
 use Rattle.sharp_laws.proofs.RunLaws.{opens, open_is_right, right_places}
 use Rattle.sharp_text.specs.Conditions.{is_mark_text, has_sharp_text}
+use Rattle.lists.proofs.Members.{all_in}
 
 module _ (study : Question) where
   rule_or_open : (whole : List Cited) (c : Cited) (m : Witness) → is_mark study whole c m ≡ true → is_witness_text study c.«axiom» m ≡ true
@@ -33,11 +33,6 @@ module _ (study : Question) where
       let p = and_parts (is_mark study whole c m) (pointwise (is_mark study whole) cs marks) h in
       let q = and_parts (is_present study c) (list_all (is_present study) cs) k in
       and_from _ _ (and_from _ _ q.0 (rule_or_open whole c m p.0)) (marks_have_texts whole cs marks p.1 q.1)
-
--- what holds of each item of a list
-all_in : {A : Type 0} (t : A → Bool) (xs : List A) → ((x : A) → IsIn xs x → t x ≡ true) → list_all t xs ≡ true
-all_in t [] h = refl
-all_in t (x ∷ xs) h = and_from _ _ (h x (inl refl)) (all_in t xs (λ y i. h y (inr i)))
 
 -- each right sharp verdict has a text
 pub sharp_has_text : (study : Question) → IsReportable study → (v : Pointed) → IsSharpRight study v → has_sharp_text study v ≡ true

@@ -23,8 +23,7 @@ use Rattle.closing.proofs.SentenceLaws.{is_instance}
 use Rattle.grounding.specs.Rising.{RisesFrom, includes}
 use Rattle.search_logs.specs.declared.logs.SearchLog.{SearchLog}
 use Rattle.search_logs.specs.Spent.{has_place, HasEvidence, HaveEvidence, IsWithout}
-use Rattle.verdicts.proofs.WordLaws.{IsIn}
-use Rattle.verdicts.proofs.Members.{in_filter, filter_in, map_in}
+use Rattle.lists.proofs.Members.{in_filter, filter_in, map_in, IsIn}
 use Rattle.sharp_verdicts.specs.declared.instances.Cited.{Cited}
 use Rattle.sharp_verdicts.specs.Derived.{axioms_from, closed_at}
 use Rattle.sharp_verdicts.specs.Instances.{same_instance, has_instance, others_than, is_present, is_true_of, all_instances, instances_of, is_told}
@@ -37,13 +36,8 @@ use Rattle.sharp_verdicts.proofs.DerivedLaws.{derived_get}
 use Rattle.told_instances.proofs.ToldLaws.{in_has, has_in}
 use Rattle.sharpen.specs.Marks.{derived_instance, marks_kept}
 use Rattle.sharpen.proofs.ToldLaws.{told_in_core}
-use Rattle.sharp_verdicts.proofs.InstanceLaws.{same_is}
+use Rattle.sharp_verdicts.proofs.InstanceLaws.{same_is, is_same}
 use Rattle.core_reduce.proofs.CoreLaws.{some_map}
-
--- ---- equal instances
-
-same_self : (c : Cited) → same_instance c c ≡ true
-same_self c = and_from _ _ (eq-eqb c.«axiom» c.«axiom» refl) (eq-eqb c.number c.number refl)
 
 -- ---- the instance at a place
 
@@ -122,7 +116,7 @@ module _ (study : Question) (instances : List Cited) (present : list_all (is_pre
           → list_all (is_true_of study table) (filter (λ d. not (same_instance d (derived_instance instances k))) (if b then derived_instance instances j ∷ rest else rest)) ≡ true
       by true is b g ih =
           let here = ap (derived_instance instances) (eqb-true j k is) in
-          keep b (λ differ. absurd (true≢false (sym (ap (λ (x : Cited). same_instance x (derived_instance instances k)) here ∙ same_self (derived_instance instances k)) ∙ differ))) (ih g)
+          keep b (λ differ. absurd (true≢false (sym (ap (λ (x : Cited). same_instance x (derived_instance instances k)) here ∙ is_same (derived_instance instances k) (derived_instance instances k) refl) ∙ differ))) (ih g)
       by false is b g ih =
           let p = and_parts (is_axiom_true study.size table (slice_get daxioms j)) (list_all (λ i. is_axiom_true study.size table (slice_get daxioms i)) (filter (λ i. not (i == k)) ks)) g in
           keep b (λ differ. true_back table j (within 0 j (omega arith)) p.0) (ih p.1)
@@ -185,7 +179,7 @@ module _ (study : Question) (instances : List Cited) (rising : AreRisingInstance
   chosen_there d k (p ∷ ps) e h = elim (or_cases (p == k) (has_place ps k) h) [
     | inl s ↦
         or_left (option_map_or (λ x. same_instance d x) (slice_get instances p) false) (list_any (λ j. option_map_or (λ x. same_instance d x) (slice_get instances j) false) ps)
-        (ap (λ (o : Option Cited). option_map_or (λ x. same_instance d x) o false) (ap (slice_get instances) (eqb-true p k s) ∙ e) ∙ same_self d)
+        (ap (λ (o : Option Cited). option_map_or (λ x. same_instance d x) o false) (ap (slice_get instances) (eqb-true p k s) ∙ e) ∙ is_same d d refl)
     | inr s ↦ or_right (option_map_or (λ x. same_instance d x) (slice_get instances p) false) (list_any (λ j. option_map_or (λ x. same_instance d x) (slice_get instances j) false) ps) (chosen_there d k ps e s)
   ]
 
@@ -197,7 +191,7 @@ module _ (study : Question) (instances : List Cited) (rising : AreRisingInstance
       by (t (derived_instance instances j)) (here (or_cases (j == k) (has_place log.chosen j) p.0)) (rest_there log k t ks (λ i x e. within (suc i) x (omega (arith, e))) p.1)
     where
       here : ((j == k) ≡ true) ⊎ (has_place log.chosen j ≡ true) → (same_instance (derived_instance instances j) (derived_instance instances k) || chose instances log (derived_instance instances j)) ≡ true
-      here (inl s) = or_left (same_instance (derived_instance instances j) (derived_instance instances k)) (chose instances log (derived_instance instances j)) (ap (λ (i : ℕ). same_instance (derived_instance instances i) (derived_instance instances k)) (eqb-true j k s) ∙ same_self (derived_instance instances k))
+      here (inl s) = or_left (same_instance (derived_instance instances j) (derived_instance instances k)) (chose instances log (derived_instance instances j)) (ap (λ (i : ℕ). same_instance (derived_instance instances i) (derived_instance instances k)) (eqb-true j k s) ∙ is_same (derived_instance instances k) (derived_instance instances k) refl)
       here (inr s) = or_right (same_instance (derived_instance instances j) (derived_instance instances k)) (chose instances log (derived_instance instances j)) (chosen_there (derived_instance instances j) j log.chosen (instance_there instances j (within 0 j (omega arith))) s)
 
       by : (b : Bool) → (same_instance (derived_instance instances j) (derived_instance instances k) || chose instances log (derived_instance instances j)) ≡ true
@@ -241,7 +235,7 @@ module _ (study : Question) (instances : List Cited) (rising : AreRisingInstance
 
 in_any : (xs : List Cited) (c : Cited) → IsIn xs c → has_instance xs c ≡ true
 in_any [] c i = absurd i
-in_any (x ∷ xs) c (inl e) = or_left (same_instance c x) (has_instance xs c) (ap (same_instance c) e ∙ same_self c)
+in_any (x ∷ xs) c (inl e) = or_left (same_instance c x) (has_instance xs c) (ap (same_instance c) e ∙ is_same c c refl)
 in_any (x ∷ xs) c (inr i) = or_right (same_instance c x) (has_instance xs c) (in_any xs c i)
 
 any_in : (xs : List Cited) (c : Cited) → has_instance xs c ≡ true → IsIn xs c

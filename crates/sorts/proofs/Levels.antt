@@ -1,9 +1,9 @@
 -- Levels: the innermost quantifier of a name, counted from the outermost.
-use Rattle.std.proofs.Common.{◌≡◌, refl, sym, ◌∙◌, ap, ap₂, ℕ, zero, suc, true, false, List, [], ◌∷◌, ◌++◌, length, length-append, cond, arith, Some}
+use Rattle.std.proofs.Common.{◌≡◌, refl, sym, ◌∙◌, ap, ap₂, ℕ, true, false, List, [], ◌∷◌, ◌++◌, length, length-append, cond, arith, Some}
 use Rattle.std.specs.Prelude.{slice_get, slice_index}
 use Rattle.std.specs.Map.{lookup}
 use Rattle.std.specs.Str.{bytes_eq}
-use Rattle.lists.proofs.PlaceLaws.{get_index}
+use Rattle.lists.proofs.PlaceLaws.{get_index, get_last, get_front}
 use Rattle.vocab.specs.declared.kinds.Sort.{Sort}
 use Rattle.sorts.specs.Scope.{Scope, sort_in, level_in, outermost_first, names_of}
 
@@ -23,16 +23,6 @@ count_seconds (q ∷ xs) = let inner = count_seconds xs in let both = length-app
 pub level_is : (name : List ℕ) (scope : Scope) → level_in name scope ≡ level_by_names name (names_of scope)
 level_is name [] = refl
 level_is name (q ∷ outer) = ap₂ (λ a b. cond (bytes_eq name q.0) a b) (sym (count_names outer)) (level_is name outer)
-
-get_last : {A : Type 0} (ys : List A) (x : A) (n : ℕ) → n ≡ length ys → slice_get (ys ++ x ∷ []) n ≡ Some x
-get_last [] x n h = ap (slice_get (x ∷ [])) h
-get_last (y ∷ ys) x zero h = absurd (omega (arith, h))
-get_last (y ∷ ys) x (suc n) h = get_last ys x n (omega (arith, h))
-
-get_front : {A : Type 0} (ys zs : List A) (n : ℕ) (x : A) → slice_get ys n ≡ Some x → slice_get (ys ++ zs) n ≡ Some x
-get_front [] zs n x h = absurd cc
-get_front (y ∷ ys) zs zero x h = h
-get_front (y ∷ ys) zs (suc n) x h = get_front ys zs n x h
 
 -- what the first entry of a name holds stands at the level of the name
 pub at_level : {A : Type 0} (name : List ℕ) (xs : List (List ℕ × A)) (v : A) → lookup (bytes_eq name) xs ≡ Some v

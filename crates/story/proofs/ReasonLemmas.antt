@@ -1,5 +1,5 @@
 -- A reason has no fault exactly where it refutes what is known.
-use Rattle.std.proofs.Common.{◌≡◌, ◌∙◌, sym, ap, ap₂, subst, ℕ, ◌+◌, ◌<◌, ◌≤◌, Bool, true, false, ◌&&◌, List, length, take, true≢false, ltb-true, Option, Some, None, Result, Ok, Err}
+use Rattle.std.proofs.Common.{◌≡◌, ◌∙◌, sym, ap, ap₂, subst, ℕ, ◌+◌, ◌<◌, ◌≤◌, Bool, true, false, ◌&&◌, List, length, take, true≢false, ltb-true, Some, Result, Ok, Err}
 use Rattle.std.specs.Prelude.{nat_lt, get_or, slice_get, OnErr, OnOk}
 use Rattle.std.specs.List.{list_all}
 use Rattle.std.specs.Option.{option_or}
@@ -22,9 +22,7 @@ use Rattle.meaning.specs.StoryFaults.{unless, reason_fault}
 use Rattle.meaning.proofs.StoryFaultLaws.{passes_reason}
 use Rattle.story.specs.Answers.{AnswersFault}
 use Rattle.story.proofs.PlaceLemmas.{claim_false}
-
-not_both : {T : Type 0} (o : Option T) (x : T) → o ≡ Some x → o ≡ None → ⊥
-not_both o x some none = let both : Some x ≡ None = sym some ∙ none in absurd (cc)
+use Rattle.lists.proofs.OptionLaws.{not_both}
 
 module _ {T : Type 0} (size : Extent) (axioms : List Titled) (core : List ℕ) (earlier : List Lemma) (known : List Literal) (reason : Reason) where
   pub ok_refutes : (r : Result T StoryFault) → AnswersFault r (reason_fault size axioms core earlier known reason) → OnOk r (refutes size axioms core earlier known reason ≡ true)

@@ -5,7 +5,7 @@ use Rattle.std.specs.Prelude.{◌==◌}
 use Rattle.std.specs.Int.{bit_at, w128}
 use Rattle.std.specs.List.{list_any}
 use Rattle.std.specs.Str.{bytes_eq}
-use Rattle.std.proofs.lemmas.Bool.{and_from, cases_eq, eq-eqb, ne_eqb, not_from_false, or_from, or_left, or_right}
+use Rattle.std.proofs.lemmas.Bool.{and_from, cases_eq, eq-eqb, ne_eqb, not_from_false, or_from, or_right}
 use Rattle.std.proofs.lemmas.Slice.Eq.{bytes_eq-Decides}
 use Rattle.std.proofs.lemmas.List.{drop_all, drop_more, take_all, take_more}
 use Rattle.std.proofs.lemmas.List.Folds.{list_any-append}
@@ -16,7 +16,7 @@ use Rattle.vocab.specs.Range.{up_from}
 use Rattle.vocab.specs.Size.{factorial, is_digit_set}
 use Rattle.vocab.proofs.DigitNumbers.{same_digits}
 use Rattle.meaning.specs.Texts.{ranking_text}
-use Rattle.meaning.proofs.SpaceLaws.{factorial_small}
+use Rattle.meaning.proofs.SpaceLaws.{factorial_small, any_from}
 use Rattle.profiles.specs.Weights.{rank_of}
 use Rattle.profiles.proofs.TableLemmas.{rank-ranking}
 use Rattle.study.specs.declared.faults.StudyFault.TheVariants as fault
@@ -43,13 +43,6 @@ digit_fits n a place most small h =
 
 -- ---- the rankings of a text
 
-any_below : (p : ℕ → Bool) (n a place : ℕ) → a ≤ place → place < a + n → p place ≡ true → list_any p (up_from a n) ≡ true
-any_below p zero a place low high h = absurd (omega arith)
-any_below p (suc n) a place low high h = elim (cases_eq a place) [
-  | inl same ↦ or_left (p a) (list_any p (up_from (suc a) n)) (ap p same ∙ h)
-  | inr other ↦ or_right (p a) (list_any p (up_from (suc a) n)) (any_below p n (suc a) place (omega arith) (omega arith) h)
-]
-
 none_below : (p : ℕ → Bool) (n a : ℕ) → ((k : ℕ) → k < a + n → p k ≡ false) → list_any p (up_from a n) ≡ false
 none_below p zero a h = refl
 none_below p (suc n) a h = or_from (p a) (list_any p (up_from (suc a) n)) (h a (omega arith)) (none_below p n (suc a) (λ k l. h k (omega arith)))
@@ -60,7 +53,7 @@ text_tested xs ys e = (bytes_eq-Decides xs ys).1 e
 -- a text that is that of a ranking, and one that is that of none
 pub ranking_found : (m place : ℕ) (text : List ℕ) → place < factorial m → text ≡ ranking_text m place → is_ranking m text ≡ true
 ranking_found m place text h e =
-    any_below (λ k. bytes_eq text (ranking_text m k)) (factorial m) 0 place (omega arith) (omega arith) (text_tested text (ranking_text m place) e)
+    any_from (λ k. bytes_eq text (ranking_text m k)) (factorial m) 0 place (text_tested text (ranking_text m place) e) (omega arith) (omega arith)
 
 pub ranking_missed : (m : ℕ) (text : List ℕ) → ((place : ℕ) → place < factorial m → text ≢ ranking_text m place) → is_ranking m text ≡ false
 ranking_missed m text none =

@@ -1,9 +1,9 @@
 -- The lemmas that name one.
 use Rattle.std.proofs.Common.{◌≡◌, refl, sym, ap, ◌∙◌, subst, ℕ, zero, suc, ◌<◌, ◌==◌, Bool, true, false, ◌&&◌, ◌||◌, ◌⊎◌, List, [], ◌∷◌, ◌++◌, length, take, inl, inr, arith, Option, Some, None, slice_get, eqb-true, eq-eqb, lt-ltb, true≢false}
 use Rattle.std.specs.List.{flat_map, list_any}
-use Rattle.std.proofs.lemmas.Bool.{and_parts, or_cases, or_left, or_right}
+use Rattle.std.proofs.lemmas.Bool.{and_parts, or_cases}
 use Rattle.std.proofs.lemmas.Option.{slice_get_within}
-use Rattle.lists.proofs.TestLaws.{all_get}
+use Rattle.lists.proofs.TestLaws.{all_get, any_left, any_right}
 use Rattle.vocab.specs.declared.literals.Literal.{Literal}
 use Rattle.vocab.specs.Literal.{opposite_of}
 use Rattle.vocab.specs.Range.{below}
@@ -31,17 +31,6 @@ is_lemma j (ByOutcome p) h = absurd (true≢false (sym h))
 is_lemma j (ByLemma k) h = ap (λ (i : ℕ). ByLemma i) (eqb-true k j h)
 
 -- ---- a lemma that names one is among those that do
-
-any_left : {A : Type 0} (t : A → Bool) (xs ys : List A) → list_any t xs ≡ true → list_any t (xs ++ ys) ≡ true
-any_left t [] ys h = absurd (true≢false (sym h))
-any_left t (x ∷ xs) ys h = elim (or_cases (t x) (list_any t xs) h) [
-  | inl e ↦ or_left (t x) (list_any t (xs ++ ys)) e
-  | inr e ↦ or_right (t x) (list_any t (xs ++ ys)) (any_left t xs ys e)
-]
-
-any_right : {A : Type 0} (t : A → Bool) (xs ys : List A) → list_any t ys ≡ true → list_any t (xs ++ ys) ≡ true
-any_right t [] ys h = h
-any_right t (x ∷ xs) ys h = or_right (t x) (list_any t (xs ++ ys)) (any_right t xs ys h)
 
 any_flat : {X A : Type 0} (t : A → Bool) (f : X → List A) (xs : List X) (i : ℕ) (x : X) → slice_get xs i ≡ Some x → list_any t (f x) ≡ true → list_any t (flat_map f xs) ≡ true
 any_flat t f [] i x at h = cc

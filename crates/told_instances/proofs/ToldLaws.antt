@@ -22,15 +22,16 @@ use Rattle.meaning.specs.Space.{below, number_of}
 use Rattle.meaning.proofs.DigitLaws.{are_one_to_one}
 use Rattle.meaning.proofs.InstanceLaws.{same_tests}
 use Rattle.verdicts.specs.Lines.{sorts_of}
-use Rattle.verdicts.proofs.WordLaws.{IsIn, in_below}
+use Rattle.verdicts.proofs.WordLaws.{in_below}
 use Rattle.grounding.specs.Rising.{includes}
-use Rattle.verdicts.proofs.Members.{map_in, flat_map_in, in_filter, filter_in}
+use Rattle.lists.proofs.Members.{map_in, flat_map_in, in_filter, filter_in, IsIn}
 use Rattle.sharp_verdicts.specs.declared.instances.Cited.{Cited}
 use Rattle.sharp_verdicts.specs.Instances.{cites_axiom, is_axiom_told, reasons_of, count_at, number_at, is_present, cites, is_told, all_instances, instances_of}
 use Rattle.instance_stories.specs.Codes.{code_of, AreRisingInstances, HaveAxiomRoom}
 use Rattle.instance_stories.proofs.AllInstances.{has-append, all_rise, all_small, filter_rises, filter_small, counts_few, rising_lists}
 use Rattle.told_instances.specs.Told.{codes_in, codes_by, codes_told, names_instance, has_reasons}
 use Rattle.meaning.proofs.RankingLaws.{All-append}
+use Rattle.lists.proofs.TestLaws.{any_weaker}
 
 -- ---- numbers that are in a list
 
@@ -49,10 +50,6 @@ in_has (d ∷ cs) k h = elim (or_cases (nat_eq k (code_of d)) (includes (map cod
 has_flat : {X : Type 0} (f : X → List ℕ) (xs : List X) (k : ℕ) → includes (flat_map f xs) k ≡ list_any (λ x. includes (f x) k) xs
 has_flat f [] k = refl
 has_flat f (x ∷ xs) k = has-append (f x) (flat_map f xs) k ∙ ap (λ b. includes (f x) k || b) (has_flat f xs k)
-
-pub any_mapped : {X : Type 0} (s t : X → Bool) (xs : List X) → ((x : X) → s x ≡ true → t x ≡ true) → list_any s xs ≡ true → list_any t xs ≡ true
-any_mapped s t [] f h = absurd cc
-any_mapped s t (x ∷ xs) f h = elim (or_cases (s x) (list_any s xs) h) [ inl e ↦ or_left _ _ (f x e) | inr e ↦ or_right (t x) _ (any_mapped s t xs f e) ]
 
 pub any_found : {X : Type 0} (t u : X → Bool) (xs : List X) → list_any t xs ≡ true → list_all u xs ≡ true → (x : X) × IsIn xs x × (t x ≡ true) × (u x ≡ true)
 any_found t u [] h k = absurd cc
@@ -86,8 +83,8 @@ module _ (study : Question) where
   told_code : (story : List Lemma) (c : Cited) → is_told study story c ≡ true → includes (codes_told study story) (code_of c) ≡ true
   told_code story c h =
       has_flat (λ (lemma : Lemma). codes_by study (reasons_of lemma)) story (code_of c)
-      ∙ any_mapped (λ (lemma : Lemma). list_any (cites study c) (reasons_of lemma)) (λ (lemma : Lemma). includes (codes_by study (reasons_of lemma)) (code_of c)) story
-      (λ lemma e. has_flat (codes_in study) (reasons_of lemma) (code_of c) ∙ any_mapped (cites study c) (λ r. includes (codes_in study r) (code_of c)) (reasons_of lemma) (reason_code c) e) h
+      ∙ any_weaker (λ (lemma : Lemma). list_any (cites study c) (reasons_of lemma)) (λ (lemma : Lemma). includes (codes_by study (reasons_of lemma)) (code_of c))
+      (λ lemma e. has_flat (codes_in study) (reasons_of lemma) (code_of c) ∙ any_weaker (cites study c) (λ r. includes (codes_in study r) (code_of c)) (reason_code c) (reasons_of lemma) e) story h
 
   -- ---- and what has a number is cited
 
@@ -181,8 +178,8 @@ module _ (study : Question) where
       (λ h.
       let c = any_found (λ (c : Cited). c.«axiom» == k) (λ (c : Cited). true) (instances_of study story) h (all_true (instances_of study story)) in
       let f = in_filter (is_told study story) (all_instances study) c.0 c.1 in
-      any_mapped (λ (lemma : Lemma). list_any (cites study c.0) (reasons_of lemma)) (λ (lemma : Lemma). list_any (cites_axiom k) (reasons_of lemma)) story
-      (λ lemma e. any_mapped (cites study c.0) (cites_axiom k) (reasons_of lemma) (λ r. cites_both k c.0 r (eqb-true c.0.«axiom» k c.2)) e) f.1)
+      any_weaker (λ (lemma : Lemma). list_any (cites study c.0) (reasons_of lemma)) (λ (lemma : Lemma). list_any (cites_axiom k) (reasons_of lemma))
+      (λ lemma e. any_weaker (cites study c.0) (cites_axiom k) (λ r. cites_both k c.0 r (eqb-true c.0.«axiom» k c.2)) (reasons_of lemma) e) story f.1)
       (λ h.
       let l = any_found (λ (lemma : Lemma). list_any (cites_axiom k) (reasons_of lemma)) (λ (lemma : Lemma). list_all (names_instance study) (reasons_of lemma)) story h range in
       let r = any_found (cites_axiom k) (names_instance study) (reasons_of l.0) l.2 l.3 in

@@ -1,5 +1,5 @@
 -- What is read at the end of a text of which no line is faulty, or at its first faulty line.
-use Rattle.std.proofs.Common.{◌≡◌, refl, sym, ap, ◌∙◌, subst, ℕ, ◌+◌, Bool, true, false, true≢false, List, [], ◌∷◌, length, Some, None, arith, Result}
+use Rattle.std.proofs.Common.{◌≡◌, refl, sym, ap, ◌∙◌, subst, ℕ, ◌+◌, Bool, true, false, true≢false, List, [], ◌∷◌, length, Some, None, Result}
 use Rattle.std.proofs.lemmas.Bool.{eqb-true}
 use Rattle.std.specs.Prelude.{◌==◌, IfOk}
 use Rattle.vocab.specs.Study.{Question}
@@ -34,6 +34,7 @@ use Rattle.verdict_reading.specs.SharpCollected.{as_read, SharpCollects, is_at_e
 use Rattle.verdict_reading.specs.Told.{HasCollected, IsFirstFaulty}
 use Rattle.verdict_reading.specs.Readings.{reading_of, judged_end, judged_lines}
 use Rattle.std.proofs.lemmas.Option.{same_Some}
+use Rattle.std.proofs.lemmas.List.{nil_from_length}
 
 -- ---- the verdict that is read
 
@@ -90,10 +91,6 @@ at_nothing p e = absurd (true≢false (sym e))
 
 -- ---- a text of which no line is faulty
 
-no_items : (rest : List ℕ) → true ≡ (length rest == 0) → rest ≡ []
-no_items [] e = refl
-no_items (x ∷ rest) e = let none : length (x ∷ rest) ≡ 0 = eqb-true (length (x ∷ rest)) 0 (sym e) in absurd (let bad : ⊥ = omega (arith, none) in bad)
-
 -- what is read of a report, and of a sharp text
 abbrev report_end : (whole : Bool) → ℕ → List ℕ → Standing → Reading
 report_end whole n rest s = reading_of (AsReport (judged_end conclude whole n rest (Good s)))
@@ -123,7 +120,7 @@ module _ (whole ended : Bool) (n : ℕ) (rest : List ℕ) (all : whole ≡ true)
     at_last : report_end whole n rest s ≡ reading_of (AsReport (at_end n [] s.place))
     at_last =
         ap (λ b. report_end b n rest s) all
-        ∙ ap (λ (xs : List ℕ). reading_of (AsReport (at_end n xs s.place))) (no_items rest (sym last ∙ same))
+        ∙ ap (λ (xs : List ℕ). reading_of (AsReport (at_end n xs s.place))) (nil_from_length rest (eqb-true _ _ (sym same ∙ last)))
 
     -- all of a verdict is read
     pub confirms : (verdict : Verdict) → Some verdict ≡ verdict_at s.place → reading.Confirmed verdict ≡ report_end whole n rest s
@@ -145,7 +142,7 @@ module _ (whole ended : Bool) (n : ℕ) (rest : List ℕ) (all : whole ≡ true)
     at_sharp_last : sharp_end study whole n rest s ≡ reading_of (AsSharp (at_sharp_end study n [] s.place s))
     at_sharp_last =
         ap (λ b. sharp_end study b n rest s) all
-        ∙ ap (λ (xs : List ℕ). reading_of (AsSharp (at_sharp_end study n xs s.place s))) (no_items rest (sym last ∙ same))
+        ∙ ap (λ (xs : List ℕ). reading_of (AsSharp (at_sharp_end study n xs s.place s))) (nil_from_length rest (eqb-true _ _ (sym same ∙ last)))
 
     -- all of a sharp verdict is read
     pub sharp_confirms : (v : SharpVerdict) → Some v ≡ sharp_verdict_at study s.place s → reading.SharpConfirmed v ≡ sharp_end study whole n rest s

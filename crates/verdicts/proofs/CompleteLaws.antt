@@ -42,13 +42,14 @@ use Rattle.verdicts.specs.Places.{Place, AtBallots, AtAxioms, AtVerdict, AtRow, 
 use Rattle.verdicts.specs.declared.refusals.Refusal.{Refusal}
 use Rattle.verdicts.specs.Faults.{refusal_of, unless_so, same_kind, named_places, is_core, next_after, rest_of, failing, table_fault, name_fault, fault_of}
 use Rattle.verdicts.specs.Judge.{witness_place, after_witness, after_lemma, advance}
-use Rattle.verdicts.proofs.WordLaws.{IsIn, named_below}
+use Rattle.verdicts.proofs.WordLaws.{named_below}
 use Rattle.verdicts.proofs.TextLaws.{names_own}
 use Rattle.verdicts.specs.Laws.{IsReportable}
 use Rattle.verdicts.proofs.LineLaws.{versions}
 use Rattle.verdicts.proofs.FitLaws.{Fits, are_places}
 use Rattle.verdicts.proofs.ReadLaws.{is_plain}
 use Rattle.verdicts.specs.declared.refusals.Refusal.TheVariants as refusal
+use Rattle.lists.proofs.Members.{IsIn}
 
 pub so_none : (b : Bool) (w : Refusal) → b ≡ true → unless_so b w ≡ None
 so_none b w e = ap (λ c. unless_so c w) e

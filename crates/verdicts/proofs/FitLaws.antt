@@ -25,9 +25,9 @@ use Rattle.verdicts.specs.Lines.{Line, Title, KindIs, VotersAre, AlternativesAre
 use Rattle.verdicts.specs.Reading.{read_axiom, read_positive, read_version, read_place, read_places, read_absent, keyed, one_word, names, read_values, read_cited, read_reason, read_so, read_suppose, read_step, read_row, verdict_word, read_witness, read_heading}
 use Rattle.verdicts.specs.Report.{is_reason}
 use Rattle.verdicts.specs.Places.{Place, AtTitle, AtKind, AtVoters, AtAlternatives, AtBallots, AtAbsent, AtAxioms, AtVerdict, AtLimit, AtRule, AtRow, AtCore, AtLemmas, AtLemma, AtSuppose, AtStep, AtWitness, AtWitnessRow, AtEnd, AtNothing, wanted}
-use Rattle.verdicts.proofs.WordLaws.{named_in, IsIn, from_below}
+use Rattle.verdicts.proofs.WordLaws.{named_in, from_below}
 use Rattle.verdicts.proofs.LineLaws.{map_is, then_is, or_is, test_is, keyed_is, one_is, none_is, positive_some, verdicts, versions}
-use Rattle.verdicts.proofs.Members.{in_flat_map}
+use Rattle.lists.proofs.Members.{in_flat_map, IsIn}
 
 -- a place stands among those of the rankings of m alternatives
 abbrev pub are_places : ℕ → List ℕ → Bool

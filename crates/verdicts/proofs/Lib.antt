@@ -2,7 +2,6 @@ pub mod WorkedExamples
 pub mod PrefixLaws
 pub mod NumberLaws
 pub mod WordLaws
-pub mod Members
 pub mod TextLaws
 pub mod LineLaws
 pub mod FitLaws

@@ -19,7 +19,8 @@ use Rattle.verdicts.specs.Reading.{read_axiom, read_positive, read_version, read
 use Rattle.std.specs.Option.{option_or}
 use Rattle.verdicts.specs.Places.{Place, AtTitle, AtKind, AtVoters, AtAlternatives, AtBallots, AtAbsent, AtAxioms, AtVerdict, AtLimit, AtRule, AtRow, AtCore, AtLemmas, AtLemma, AtSuppose, AtStep, AtWitness, AtWitnessRow, AtEnd, AtNothing, wanted}
 use Rattle.verdicts.proofs.NumberLaws.{text_read}
-use Rattle.verdicts.proofs.WordLaws.{text_named, named_in, IsIn}
+use Rattle.verdicts.proofs.WordLaws.{text_named, named_in}
+use Rattle.lists.proofs.Members.{IsIn}
 
 pub map_is : {A B : Type 0} (f : A → B) (o : Option A) (b : B) → option_map f o ≡ Some b → (a : A) × (o ≡ Some a) × (f a ≡ b)
 map_is f None b e = absurd (cc)

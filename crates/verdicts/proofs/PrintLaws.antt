@@ -13,7 +13,8 @@ use Rattle.vocab.specs.Name.{is_digit}
 use Rattle.verdicts.specs.Numbers.{number_text, is_number, value_after}
 use Rattle.verdicts.specs.Texts.{named_by}
 use Rattle.verdicts.proofs.NumberLaws.{number_digits, text_is_number, value_of_text}
-use Rattle.verdicts.proofs.WordLaws.{IsIn, named_in, text_named}
+use Rattle.verdicts.proofs.WordLaws.{named_in, text_named}
+use Rattle.lists.proofs.Members.{IsIn}
 
 -- a text that names nothing is the text of no item
 module _ {A : Type 0} (text_of : A → List ℕ) where

@@ -30,11 +30,11 @@ use Rattle.verdicts.specs.Report.{is_reason}
 use Rattle.verdicts.specs.Laws.{IsReportable}
 use Rattle.verdicts.specs.Places.{Place, AtTitle, AtKind, AtVoters, AtAlternatives, AtBallots, AtAbsent, AtAxioms, AtVerdict, AtLimit, AtRule, AtRow, AtCore, AtLemmas, AtLemma, AtSuppose, AtStep, AtWitness, AtWitnessRow, AtEnd, wanted}
 use Rattle.verdicts.proofs.NumberLaws.{read_text}
-use Rattle.verdicts.proofs.WordLaws.{IsIn, named_text, named_below, in_below, lacks, split_joined}
+use Rattle.verdicts.proofs.WordLaws.{named_text, named_below, in_below, lacks, split_joined}
 use Rattle.verdicts.proofs.LineLaws.{versions, absent_text}
 use Rattle.verdicts.proofs.FitLaws.{Fits, are_places, ArePlaces, literal_in}
 use Rattle.verdicts.proofs.TextLaws.{is_word, word_lacks, letters_word, numbers_same, number_word, name_word, profile_word, outcome_word_of, value_word, literal_word, rankings_same, profiles_same, outcomes_same, values_same, literals_same, names_own}
-use Rattle.verdicts.proofs.Members.{flat_map_in}
+use Rattle.lists.proofs.Members.{flat_map_in, IsIn}
 
 test_true : {A : Type 0} (b : Bool) (o : Option A) (a : A) → b ≡ true → o ≡ Some a → cond b o None ≡ Some a
 test_true b o a h e = ap (λ c. cond c o None) h ∙ e

@@ -15,7 +15,7 @@ use Rattle.verdicts.specs.FirstFault.{Good, Confirmed, Faulty}
 use Rattle.verdicts.specs.Judge.{advance, read_line, judge_from, judge, ended, pieces, front, final, at_end, conclude, answer}
 use Rattle.verdicts.specs.Laws.{IsReportable, IsVersion, HasShortLines}
 use Rattle.verdicts.proofs.RightLaws.{right_has_text}
-use Rattle.verdicts.proofs.WordLaws.{IsIn, lacks, split_ended}
+use Rattle.verdicts.proofs.WordLaws.{lacks, split_ended}
 use Rattle.verdicts.proofs.LineLaws.{versions}
 use Rattle.verdicts.proofs.FitLaws.{Fits}
 use Rattle.verdicts.proofs.ReadLaws.{is_plain, wanted_is, words_are, line_lacks}
@@ -27,13 +27,12 @@ use Rattle.verdicts.proofs.ShortLaws.{is_short, report_short}
 use Rattle.meaning.proofs.SpaceLaws.{list_all-map_of}
 use Rattle.meaning.proofs.TestLaws.{list_all-both}
 use Rattle.std.proofs.lemmas.Option.{same_Some}
+use Rattle.lists.proofs.TestLaws.{all_left}
+use Rattle.lists.proofs.PlaceLaws.{cons_same}
+use Rattle.lists.proofs.Members.{IsIn}
 
 abbrev pub short : List ℕ → Bool
 short line = not (nat_lt 4096 (length line))
-
-pub all_left : (t : List ℕ → Bool) (xs ys : List (List ℕ)) → list_all t (xs ++ ys) ≡ true → list_all t xs ≡ true
-all_left t [] ys h = refl
-all_left t (x ∷ xs) ys h = let p = and_parts (t x) (list_all t (xs ++ ys)) h in and_from _ _ p.0 (all_left t xs ys p.1)
 
 -- the texts of the lines of a report
 abbrev texts_of : Question → ℕ → Verdict → List (List ℕ)
@@ -109,16 +108,13 @@ module _ (study : Question) (is : IsReportable study) where
       let words = sym (words_are study is l a) ∙ ap words_of e ∙ words_are study is k b in
       same_Some l k (sym (wanted_is study is p n l f a) ∙ ap (wanted study p n) words ∙ wanted_is study is p n k g b)
 
-  pub texts_cons : (x y : List ℕ) (xs ys : List (List ℕ)) → x ∷ xs ≡ y ∷ ys → (x ≡ y) × (xs ≡ ys)
-  texts_cons x y xs ys e = let h : x ≡ y = cc in let t : xs ≡ ys = cc in (h, t)
-
   -- one standing after lines with one text
   same_runs : (s t u : Standing) (ls ks : List Line) → Runs study is false s ls t → Runs study is false s ks u → map (line_text study) ls ≡ map (line_text study) ks → t ≡ u
   same_runs s t u [] [] r q e = sym r ∙ q
   same_runs s t u [] (k ∷ ks) r q e = absurd (cc)
   same_runs s t u (l ∷ ls) [] r q e = absurd (cc)
   same_runs s t u (l ∷ ls) (k ∷ ks) r q e =
-      let c = texts_cons (line_text study l) (line_text study k) (map (line_text study) ls) (map (line_text study) ks) e in
+      let c = cons_same (line_text study l) (line_text study k) (map (line_text study) ls) (map (line_text study) ks) e in
       let same = same_line s.place (length s.earlier + 1) l k r.0 r.1 q.0 q.1 c.0 in
       same_runs (advance study s k) t u ls ks (subst (λ (x : Line). Runs study is false (advance study s x) ls t) same r.3) q.3 c.1
 
@@ -175,7 +171,7 @@ module _ (study : Question) (is : IsReportable study) where
   no_more s t u [] (k ∷ ks) more v r q p e = absurd (nothing_fits s.place (length s.earlier + 1) k v (ap (λ (x : Standing). x.place) r ∙ p) q.0)
   no_more s t u (l ∷ ls) [] more v r q p e = absurd (cc)
   no_more s t u (l ∷ ls) (k ∷ ks) more v r q p e =
-      let c = texts_cons study is (line_text study l) (line_text study k) (map (line_text study) ls ++ more) (map (line_text study) ks) e in
+      let c = cons_same (line_text study l) (line_text study k) (map (line_text study) ls ++ more) (map (line_text study) ks) e in
       let same = same_line study is s.place (length s.earlier + 1) l k r.0 r.1 q.0 q.1 c.0 in
       no_more (advance study s k) t u ls ks more v (subst (λ (x : Line). Runs study is false (advance study s x) ls t) same r.3) q.3 p c.1
 
@@ -252,7 +248,7 @@ module _ (study : Question) (is : IsReportable study) where
   stops_before n s t (l ∷ ls) [] line more r h e = (s, refl, λ v p. nothing_fits study is s.place (length s.earlier + 1) l v p r.0)
   stops_before n s t (l ∷ ls) (b ∷ before) line more r h e =
       let p = and_parts (short (line_text study l)) (list_all short (map (line_text study) ls)) h in
-      let c = texts_cons study is (line_text study l) b (map (line_text study) ls) (before ++ line ∷ more) e in
+      let c = cons_same (line_text study l) b (map (line_text study) ls) (before ++ line ∷ more) e in
       let later = stops_before (n + 1) (advance study s l) t ls before line more r.3 p.1 c.1 in
       let read = ap (read_line study s) (sym c.0) ∙ line_read study is s l r.0 r.1 p.0 in
       (later.0, past study n s b before l read (r.2 refl) ∙ later.1, later.2)

@@ -23,7 +23,7 @@ use Rattle.meaning.proofs.RankingLaws.{are_rankings}
 use Rattle.meaning.proofs.BallotLaws.{numbered_place, place_below, place_of_ballot, ranking_of_ballot}
 use Rattle.meaning.proofs.DigitLaws.{are_one_to_one, are_profiles, lists_within, length-digits_of}
 use Rattle.std.proofs.lemmas.Option.{slice_get_past}
-use Rattle.lists.proofs.PlaceLaws.{head_same, tail_same}
+use Rattle.lists.proofs.PlaceLaws.{head_same, tail_same, cons_same}
 use Rattle.meaning.specs.Subsets.{elements}
 use Rattle.meaning.proofs.TextLaws.{letters_same, set_texts_same}
 use Rattle.verdicts.specs.Numbers.{number_text, value_after}
@@ -32,9 +32,7 @@ use Rattle.verdicts.specs.Texts.{value_text, literal_text}
 use Rattle.verdicts.specs.Lines.{name_at}
 use Rattle.verdicts.proofs.NumberLaws.{value_of_text, number_digits}
 use Rattle.verdicts.proofs.WordLaws.{lacks, split_joined}
-
-cons_same : (x y : List ℕ) (xs ys : List (List ℕ)) → x ∷ xs ≡ y ∷ ys → (x ≡ y) × (xs ≡ ys)
-cons_same x y xs ys e = let h : x ≡ y = cc in let t : xs ≡ ys = cc in (h, t)
+use Rattle.lists.proofs.TestLaws.{all_weaker}
 
 -- lists of words that are joined to one text are one
 joins_same : (ws vs : List (List ℕ)) → list_all (lacks 124) ws ≡ true → list_all (lacks 124) vs ≡ true → 0 < length ws → 0 < length vs → join_with_byte 124 ws ≡ join_with_byte 124 vs → ws ≡ vs
@@ -60,15 +58,11 @@ pub word_lacks : (c : ℕ) (w : List ℕ) → c ≤ 32 → is_word w ≡ true �
 word_lacks c [] h e = refl
 word_lacks c (b ∷ w) h e = let p = and_parts (nat_lt 32 b) (is_word w) e in and_from _ _ (not_below c b h p.0) (word_lacks c w h p.1)
 
-all_from : (s t : ℕ → Bool) → ((b : ℕ) → s b ≡ true → t b ≡ true) → (w : List ℕ) → list_all s w ≡ true → list_all t w ≡ true
-all_from s t h [] e = refl
-all_from s t h (b ∷ w) e = let p = and_parts (s b) (list_all s w) e in and_from _ _ (h b p.0) (all_from s t h w p.1)
-
 digit_word : (b : ℕ) → is_digit b ≡ true → nat_lt 32 b ≡ true
 digit_word b e = let p = and_parts (nat_le 48 b) (nat_le b 57) e in lt-ltb 32 b (omega (arith, leb-true 48 b p.0))
 
 pub number_word : (n : ℕ) → is_word (number_text n) ≡ true
-number_word n = all_from is_digit (λ b. nat_lt 32 b) digit_word (number_text n) (number_digits n)
+number_word n = all_weaker is_digit (λ b. nat_lt 32 b) digit_word (number_text n) (number_digits n)
 
 lower_word : (b : ℕ) → is_lower b ≡ true → nat_lt 32 b ≡ true
 lower_word b e = let p = and_parts (nat_le 97 b) (nat_le b 122) e in lt-ltb 32 b (omega (arith, leb-true 97 b p.0))
@@ -258,7 +252,7 @@ name_word [] e = refl
 name_word (c ∷ cs) e =
     let p = and_parts (is_lower c && list_all is_name_byte cs) (nat_le (length (c ∷ cs)) 32) e in
     let q = and_parts (is_lower c) (list_all is_name_byte cs) p.0 in
-    and_from _ _ (lower_word c q.0) (all_from is_name_byte (λ b. nat_lt 32 b) name_byte_word cs q.1)
+    and_from _ _ (lower_word c q.0) (all_weaker is_name_byte (λ b. nat_lt 32 b) name_byte_word cs q.1)
 
 -- axioms with names of their own
 own_head : (a : Titled) (axioms : List Titled) (k : ℕ) → k < length axioms → list_any (λ b. pointwise nat_eq a.name b.name) axioms ≡ false → a.name ≡ name_at axioms k → ⊥

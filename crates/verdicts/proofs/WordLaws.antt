@@ -10,6 +10,7 @@ use Rattle.std.proofs.lemmas.Bool.Decides.{Decides-eqb}
 use Rattle.meaning.specs.Space.{up_from, below}
 use Rattle.verdicts.specs.Texts.{named_by}
 use Rattle.lists.proofs.TextLaws.{same_from_test}
+use Rattle.lists.proofs.Members.{IsIn}
 
 -- no byte of the text is c
 abbrev pub lacks : ℕ → List ℕ → Bool
@@ -41,11 +42,6 @@ module _ (c : ℕ) where
       let p = and_parts (lacks c line) (list_all (lacks c) lines) h in
       ap (slice_split (λ b. b == c)) (append_assoc (line ++ c ∷ []) (flat_map (λ line. line ++ c ∷ []) lines) rest ∙ append_assoc line (c ∷ []) (flat_map (λ line. line ++ c ∷ []) lines ++ rest))
       ∙ split_at line (flat_map (λ line. line ++ c ∷ []) lines ++ rest) p.0 ∙ ap (λ ws. line ∷ ws) (split_ended lines rest p.1)
-
--- an item stands in a list
-abbrev pub IsIn : {A : Type 0} → List A → A → Type 0
-IsIn [] a = ⊥
-IsIn (b ∷ items) a = (b ≡ a) ⊎ IsIn items a
 
 module _ {A : Type 0} (text_of : A → List ℕ) where
   named_by_case : (b : A) (items : List A) (text : List ℕ) (a : A) (r : Bool) → (bytes_eq (text_of b) text ≡ r) → (named_by text_of items text ≡ Some a → text ≡ text_of a) → cond r (Some b) (named_by text_of items text) ≡ Some a → text ≡ text_of a

@@ -3,8 +3,10 @@ use Rattle.std.specs.Prelude.{◌==◌}
 use Rattle.std.specs.Vec.{vec_len}
 use Rattle.report_files.specs.Lines.{CheckerState, StandsForLines}
 use Rattle.report_files.specs.Pieces.{head_of}
-use Rattle.report_files.proofs.ReaderLemmas.{end_stands, no_items, on_ok, whole_stands}
+use Rattle.report_files.proofs.ReaderLemmas.{end_stands, on_ok, whole_stands}
 use Rattle.report_files.proofs.reader.Reader.end_line.Goals as goal
+use Rattle.std.proofs.lemmas.List.{nil_from_length}
+use Rattle.std.proofs.lemmas.Bool.{eqb-true}
 
 pub returns-clause-taken : goal.returns-clause-taken
 returns-clause-taken g c = λ lines rest stands held.
@@ -21,5 +23,5 @@ pub returns-then-is_empty-clause-taken : goal.returns-then-is_empty-clause-taken
 returns-then-is_empty-clause-taken g c =
     let held = c.self.inside.held in
     let counted : vec_len held ≡ length held.items = search rules in
-    let empty : held.items ≡ [] = no_items held.items (ap (λ n. n == 0) (sym counted) ∙ sym c.is_empty.ensures ∙ c.if-is_empty.true) in
+    let empty : held.items ≡ [] = nil_from_length held.items (eqb-true _ _ (ap (λ n. n == 0) (sym counted) ∙ sym c.is_empty.ensures ∙ c.if-is_empty.true)) in
     rw (← c.self.view_is) (on_ok c.take.result c.take.ensures.taken (λ taken. whole_stands c.self.inside.checker c.take.new.self c.args.piece.now held.items empty taken))

@@ -1,8 +1,13 @@
 -- What is in a list.
 use Rattle.std.proofs.Common.{◌≡◌, refl, sym, ◌∙◌, ap, subst, ℕ, zero, suc, ◌⊎◌, inl, inr, List, [], ◌∷◌, ◌++◌, map, filter, Bool, true, false, true≢false, Some}
 use Rattle.std.specs.Prelude.{if◌then◌else◌, slice_get}
-use Rattle.std.specs.List.{flat_map}
-use Rattle.verdicts.proofs.WordLaws.{IsIn}
+use Rattle.std.specs.List.{flat_map, list_all}
+use Rattle.std.proofs.lemmas.Bool.{and_from}
+
+-- an item stands in a list
+abbrev pub IsIn : {A : Type 0} → List A → A → Type 0
+IsIn [] a = ⊥
+IsIn (b ∷ items) a = (b ≡ a) ⊎ IsIn items a
 
 pub in_append : {A : Type 0} (xs ys : List A) (a : A) → IsIn (xs ++ ys) a → IsIn xs a ⊎ IsIn ys a
 in_append [] ys a i = inr i
@@ -69,3 +74,8 @@ filter_in t (x ∷ xs) a i h = by (t x) refl i (λ j. filter_in t xs a j h)
     by true e (inr j) ih = inr (ih j)
     by false e (inl same) ih = absurd (true≢false (sym (ap t same ∙ h) ∙ e))
     by false e (inr j) ih = ih j
+
+-- what each item passes, all pass
+pub all_in : {A : Type 0} (t : A → Bool) (xs : List A) → ((x : A) → IsIn xs x → t x ≡ true) → list_all t xs ≡ true
+all_in t [] h = refl
+all_in t (x ∷ xs) h = and_from _ _ (h x (inl refl)) (all_in t xs (λ y i. h y (inr i)))
