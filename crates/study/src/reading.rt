@@ -73,7 +73,7 @@ pub fn listing_in(alloc: Global, bytes: &[u8]) -> Result<Listing, StudyFault>
 ///
 /// | Key | Value |
 /// |---|---|
-/// | `kind` | the string `choice` or `ranking` |
+/// | `kind` | the string `choice`, `ranking` or `sets` |
 /// | `voters`, `alternatives` | integers, from 1 to 8 and from 1 to 5, that make at most 20,000 profiles |
 /// | `ballots` | an array of strings: the rankings that may be cast, each once; or missing, which stands for all |
 /// | `absent` | a truth value: whether voters may be absent; or missing, which stands for `false` |
