@@ -6,6 +6,8 @@
 # The log tells no times, so the processes of the run are looked at ten times in a second. What one spent after the last look is
 # taken from the seconds of ended processes that the system keeps for the run, in equal parts for those that ended since; what no
 # process of a crate accounts for (the gate's own work, formatting) is the row `others`. So the last line, `sum S`, is what the run spent.
+# Seconds compare within one machine alone, so a line before it says what part of the seconds in the table of docs/PROOFS.md the proofs of
+# those crates took that have as many functions as there: what that is above 1 is mostly the machine's.
 set -eu
 . "$(dirname -- "$(readlink -f -- "${BASH_SOURCE[0]}")")/setup.sh"
 log=${1:?measure/gate.sh LOG [TIMES [WORD..]]}
@@ -80,9 +82,9 @@ print("others others %.2f" % max(0.0, usage.ru_utime + usage.ru_stime - settled)
 sys.exit(status if status >= 0 else 1)
 PY
 fi
-python3 - "$log" "$times" <<'PY'
+python3 - "$log" "$times" "$root/docs/PROOFS.md" <<'PY'
 import re, sys
-log, times = (open(name).read().splitlines() for name in sys.argv[1:])
+log, times, page = (open(name).read().splitlines() for name in sys.argv[1:])
 parts, rows, functions, edits = ("proof", "tests", "edits"), {}, {}, {}
 for line in times:
     name, part, seconds = line.split(" ")
@@ -105,6 +107,12 @@ for name, row in sorted(rows.items(), key=lambda it: -sum(it[1].values())):
     told = ["%.1f" % row[part] if name != "others" else "" for part in parts]
     print("%-18s %9s %6s %9s %9s %9s %9.1f" % (name, functions.get(name, ""), edits.get(name, ""), *told, sum(row.values())))
 print(", ".join("%s %.1f" % (part, sums[part]) for part in parts))
+there = here = alike = 0
+for line in page:
+    found = re.match(r"\| `(\w+)` \| *(\d+) \| *\d* \| *(\d+) \|", line)
+    if found and found[1] in rows and functions.get(found[1]) == found[2]:
+        there, here, alike = there + int(found[3]), here + rows[found[1]]["proof"], alike + 1
+if there: print("%.2f of the seconds in docs/PROOFS.md, for the proofs of its %d crates that have as many functions now" % (here / there, alike))
 print(*[line.removeprefix("rt: ") for line in log if re.match(r"\d+ passed, ", line)], sep="\n")
 print("sum %.1f" % total)
 PY

@@ -9,7 +9,8 @@ use Rattle.cnf.specs.Fresh.{AreOver, added_by, is_over}
 use Rattle.cnf.specs.declared.derivations.Line.{Line}
 use Rattle.cnf.specs.declared.derivations.Step.{Step}
 use Rattle.cnf.specs.declared.derivations.Step.TheVariants.{Add, Drop}
-use Rattle.simpler_proofs.specs.Made.{ArePaired, EachPasses, AreSimpler, HasHintsOf, AreReordered, NamesEach, all_added, is_single, is_pair, is_part_of}
+use Rattle.line_hints.specs.Ids.{all_added}
+use Rattle.simpler_proofs.specs.Made.{ArePaired, EachPasses, AreSimpler, HasHintsOf, AreReordered, NamesEach, is_single, is_pair, is_part_of}
 use Rattle.simpler_proofs.proofs.Named.{named_reordered}
 
 -- a step has its own hints

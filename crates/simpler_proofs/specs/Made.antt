@@ -1,5 +1,5 @@
 -- Derivations that are made in place of a given one.
-use Rattle.std.specs.Prelude.{◌≡◌, ℕ, zero, suc, ◌-◌, ◌<◌, ◌^◌, nat_le, ◌&&◌, ◌||◌, Bool, List, [], ◌++◌, map, length, get_or, slice_index_or, All, ⊤, IsPermutation, IsTrue, ◌⊎◌}
+use Rattle.std.specs.Prelude.{◌≡◌, ℕ, ◌-◌, ◌<◌, ◌^◌, nat_le, ◌&&◌, ◌||◌, Bool, List, ◌++◌, length, get_or, All, ⊤, IsPermutation, IsTrue, ◌⊎◌}
 use Rattle.std.specs.List.{list_all, list_any, Contains}
 use Rattle.cnf.specs.Signed.{Signed}
 use Rattle.cnf.specs.Sat.{Clause, contains_clause}
@@ -10,6 +10,7 @@ use Rattle.cnf.specs.declared.derivations.Line.{Line}
 use Rattle.cnf.specs.declared.derivations.Step.{Step}
 use Rattle.cnf.specs.declared.derivations.Step.TheVariants.{Add, Drop}
 use Rattle.lrat_check.specs.Ranges.{has_next}
+use Rattle.line_hints.specs.Ids.{all_added, clause_of_id}
 
 -- each clause that the lines add passes a test
 abbrev pub EachPasses : (Clause → Bool) → List Line → Type 0
@@ -34,15 +35,6 @@ is_part whole clause = contains_clause whole clause && nat_le (length clause) (l
 -- a clause is empty, or part of one that the given lines add
 abbrev pub is_part_of : List Line → Clause → Bool
 is_part_of given clause = is_empty_clause clause || list_any (λ g. is_part (added_by g.step) clause) given
-
--- the clauses that lines add
-abbrev pub all_added : List Line → List Clause
-all_added lines = map (λ l. added_by l.step) lines
-
--- the clause under an id, where ids are 1, 2, 3 ..
-abbrev pub clause_of_id : List Clause → ℕ → Clause
-clause_of_id all zero = []
-clause_of_id all (suc k) = slice_index_or all k []
 
 -- a literal stands in the clause of a hint
 pub record IsNamed (all : List Clause) (hints : List ℕ) (l : Signed) : Type 0 where

@@ -4,9 +4,9 @@ ghost use Rattle.std.specs.Prelude.{◌⊎◌, ◌≡◌, Some};
 
 use crate::failed_literals::by_literals;
 use crate::formula::Cnf;
-use crate::literal_sets::{add_clause, clause_at};
 use crate::rebuilding::supposed_of;
 use cnf::{Clauses, Derivation, Lits, Step};
+use line_hints::{add_clause, clause_at};
 use lists::{Items, NoMemory};
 use std::alloc::Global;
 

@@ -5,7 +5,6 @@
 mod failed_literals;
 mod formula;
 mod leaving_out;
-mod literal_sets;
 mod made;
 mod needed;
 mod ordering;
@@ -15,10 +14,7 @@ mod reasons;
 mod rebuilding;
 mod search;
 mod simplifying;
-mod thinning;
-mod turns;
 mod vivification;
-mod ways;
 
 pub use failed_literals::by_failed_literals;
 pub use ordering::ordered;

@@ -2,10 +2,11 @@
 
 ghost use Rattle.std.specs.Prelude.{◌++◌, All, IsTrue};
 ghost use Rattle.std.specs.List.{Contains};
-ghost use Rattle.simpler_proofs.specs.Made.{IsNamed, NamesEach, all_added, clause_of_id};
+ghost use Rattle.line_hints.specs.Ids.{all_added, clause_of_id};
+ghost use Rattle.simpler_proofs.specs.Made.{IsNamed, NamesEach};
 
-use crate::rebuilding::clause_of;
 use cnf::{Clauses, Derivation, Ids, Line, Lit, Lits, Step};
+use line_hints::clause_of;
 
 /// Whether a literal stands in a clause.
 fn stands_in(clause: &[Lit], lit: Lit) -> bool

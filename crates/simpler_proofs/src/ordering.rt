@@ -4,9 +4,9 @@ ghost use Rattle.std.specs.Prelude.{◌≡◌, IfOk, IsTrue, IsPermutation};
 ghost use Rattle.simpler_proofs.specs.Made.{HasHintsOf, AreReordered, IsProof};
 
 use crate::made::{FewLines, MOST_LINES, Numbered, finish};
-use crate::rebuilding::{add_line, clause_of_line};
-use crate::turns::{Sources, hints_in_turn};
+use crate::rebuilding::add_line;
 use cnf::{Clauses, Derivation, Line, Step};
+use line_hints::{Sources, clause_of_line, hints_in_turn};
 use lists::{Items, NoMemory};
 use renumbering::are_same;
 use std::alloc::Global;

@@ -9,9 +9,9 @@ use crate::failed_literals::{by_literals, literals_in_turn};
 use crate::formula::{Cnf, Given};
 use crate::leaving_out::shorter;
 use crate::needed::are_needed;
-use crate::rebuilding::clause_of_line;
 use crate::vivification::by_vivification;
 use cnf::{Clauses, Derivation, Ids, Line, Step};
+use line_hints::clause_of_line;
 use lists::{Items, NoMemory};
 use std::alloc::Global;
 

@@ -1,6 +1,7 @@
 use Rattle.std.proofs.Common.{◌≡◌, ◌<◌, ◌++◌, ℕ, length, get_or}
 use Rattle.cnf.specs.Signed.{Signed}
-use Rattle.simpler_proofs.specs.Made.{IsNamed, all_added}
+use Rattle.line_hints.specs.Ids.{all_added}
+use Rattle.simpler_proofs.specs.Made.{IsNamed}
 use Rattle.simpler_proofs.proofs.needed.are_named.Given as goal
 
 -- the literals before the place stand in clauses of hints

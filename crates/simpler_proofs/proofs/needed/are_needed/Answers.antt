@@ -1,5 +1,5 @@
 use Rattle.std.proofs.Common.{◌++◌}
-use Rattle.simpler_proofs.specs.Made.{all_added}
+use Rattle.line_hints.specs.Ids.{all_added}
 use Rattle.simpler_proofs.proofs.Named.{named_more}
 use Rattle.simpler_proofs.proofs.needed.are_needed.Goals as goal
 

@@ -1,6 +1,7 @@
 use Rattle.std.proofs.Common.{◌≡◌, ◌<◌, ◌++◌, ℕ, length, get_or}
 use Rattle.cnf.specs.declared.derivations.Line.{Line}
-use Rattle.simpler_proofs.specs.Made.{NamesEach, all_added}
+use Rattle.line_hints.specs.Ids.{all_added}
+use Rattle.simpler_proofs.specs.Made.{NamesEach}
 use Rattle.simpler_proofs.proofs.needed.are_needed.Given as goal
 
 -- the lines before the place need each literal

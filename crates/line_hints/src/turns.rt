@@ -1,7 +1,7 @@
 //! The hints of a line in an order in which those of one axiom stand together.
 
+use crate::lines::{clause_of, clause_of_line, hints_of_line};
 use crate::literal_sets::origin_at;
-use crate::rebuilding::{clause_of, clause_of_line, hints_of_line};
 use cnf::{Clauses, Ids, Line, Lit};
 use lists::{Items, NoMemory};
 use std::alloc::Global;

@@ -1,7 +1,7 @@
 use Rattle.std.proofs.Common.{arith, sym, ◌∙◌}
-use Rattle.simpler_proofs.specs.Made.{all_added}
-use Rattle.simpler_proofs.proofs.Named.{of_line, of_list, of_none}
-use Rattle.simpler_proofs.proofs.rebuilding.clause_of.Goals as goal
+use Rattle.line_hints.specs.Ids.{all_added}
+use Rattle.line_hints.proofs.UnderIds.{of_line, of_list, of_none}
+use Rattle.line_hints.proofs.lines.clause_of.Goals as goal
 
 pub returns-then-id-count : goal.returns-then-id-count
 returns-then-id-count c =
