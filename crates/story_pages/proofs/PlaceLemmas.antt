@@ -1,5 +1,5 @@
 -- Where lemmas stand in a story.
-use Rattle.std.proofs.Common.{◌≡◌, refl, sym, ap, ◌∙◌, subst, ℕ, zero, suc, ◌+◌, ◌<◌, ◌≤◌, nat_lt, inl, inr, true, List, [], ◌++◌, ◌&&◌, codes, length, take, arith, Option, Some, None, slice_get, eq-eqb, true≢false, append_assoc, append-nil}
+use Rattle.std.proofs.Common.{◌≡◌, ◌==◌, refl, sym, ap, ◌∙◌, subst, ℕ, zero, suc, ◌+◌, ◌<◌, ◌≤◌, nat_lt, inl, inr, true, List, [], ◌++◌, ◌&&◌, codes, length, take, arith, Option, Some, None, slice_get, eq-eqb, true≢false, append_assoc, append-nil}
 use Rattle.std.specs.List.{flat_map}
 use Rattle.std.proofs.lemmas.Bool.{and_parts}
 use Rattle.std.proofs.lemmas.Option.{slice_get_within}
@@ -171,7 +171,7 @@ module _ (size : Extent) (axioms : List Titled) (story : List Lemma) (told : Sto
     inner_body = body_framed (claim ++ supposed) (codes ". This cannot be.</div>\n") (codes "</div>\n")
 
     abbrev headline : List ℕ
-    headline = title_html size (j + 1) lemma.suppose
+    headline = title_html size (j + 1 == length told.lemmas) (j + 1) lemma.suppose
 
     abbrev title : List ℕ
     title = codes "<section>\n<h3>" ++ headline ++ codes "</h3>\n" ++ columns_of size lemma.suppose

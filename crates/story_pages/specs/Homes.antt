@@ -72,7 +72,7 @@ module _ (size : Extent) (axioms : List Titled) (told : StoryTelling) (inner : �
   -- by itself
   abbrev pub outer_html : ℕ → Lemma → Telling → List ℕ
   outer_html place lemma telling =
-      codes "<section>\n<h3>" ++ title_html size (place + 1) lemma.suppose ++ codes "</h3>\n" ++ columns_of size lemma.suppose ++ suppose_html size lemma.suppose
+      codes "<section>\n<h3>" ++ title_html size (place + 1 == length told.lemmas) (place + 1) lemma.suppose ++ codes "</h3>\n" ++ columns_of size lemma.suppose ++ suppose_html size lemma.suppose
       ++ body_html place lemma telling ++ codes ".</div>\n" ++ table_html size told.forced.steps lemma telling ++ codes "</section>\n"
 
   abbrev pub outer_of : ℕ → Option Lemma → Option Telling → List ℕ

@@ -1,5 +1,5 @@
 -- Parts of a lemma on the page: what it claims, what it supposes, and what is known at its end.
-use Rattle.std.specs.Prelude.{ℕ, ◌==◌, List, [], ◌++◌, codes, length, slice_get, Option, Some, None, if◌then◌else◌}
+use Rattle.std.specs.Prelude.{ℕ, ◌==◌, Bool, List, [], ◌++◌, codes, length, slice_get, Option, Some, None, if◌then◌else◌}
 use Rattle.std.specs.Fmt.{decimal}
 use Rattle.std.specs.List.{flat_map}
 use Rattle.vocab.specs.declared.literals.Literal.{Literal}
@@ -34,9 +34,13 @@ module _ (size : Extent) where
   abbrev pub claimed_html : ℕ → List Literal → List ℕ
   claimed_html number suppose = codes "Claim " ++ decimal number ++ claims_words (length suppose) ++ flat_map opposite_html suppose
 
-  -- by itself, one that supposes nothing is the conclusion
-  abbrev pub title_html : ℕ → List Literal → List ℕ
-  title_html number suppose = if length suppose == 0 then codes "Conclusion" else claimed_html number suppose
+  -- one that supposes nothing: the last is the conclusion
+  abbrev pub ending_html : Bool → ℕ → List Literal → List ℕ
+  ending_html is_last number suppose = if is_last then codes "Conclusion" else claimed_html number suppose
+
+  -- by itself
+  abbrev pub title_html : Bool → ℕ → List Literal → List ℕ
+  title_html is_last number suppose = if length suppose == 0 then ending_html is_last number suppose else claimed_html number suppose
 
   -- what it supposes
   abbrev pub supposed_html : List Literal → List ℕ

@@ -1,6 +1,6 @@
 //! Lemmas where they stand: by themselves, or within another.
 
-ghost use Rattle.std.specs.Prelude.{◌≡◌, ◌++◌, ◌<◌, length, slice_get, OnOk};
+ghost use Rattle.std.specs.Prelude.{◌≡◌, ◌==◌, ◌++◌, ◌<◌, length, slice_get, OnOk};
 ghost use Rattle.std.specs.List.{flat_map};
 ghost use Rattle.vocab.specs.Range.{below};
 ghost use Rattle.tellings.specs.Tellings.{home_of, stands_in};
@@ -287,6 +287,13 @@ fn put_held(
     }
 }
 
+/// Whether a lemma of a number is the last.
+fn is_last(told: &StoryTelling, number: u64) -> bool
+    ensures { result ≡ (number == length told.now.lemmas) }
+{
+    number == told.lemmas.len() as u64
+}
+
 /// Adds a lemma that stands by itself, with lemmas so deep within it.
 fn put_outer(
     out: &mut Html,
@@ -305,7 +312,8 @@ fn put_outer(
         place lemma.now telling.now) }
 {
     out.append(b"<section>\n<h3>")?;
-    put_title(out, space, place as u64 + 1, lemma)?;
+    let number = place as u64 + 1;
+    put_title(out, space, is_last(told, number), number, lemma)?;
     out.append(b"</h3>\n")?;
     put_columns_of(out, space, lemma)?;
     put_suppose(out, space, lemma)?;

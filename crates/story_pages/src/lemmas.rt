@@ -2,7 +2,7 @@
 
 ghost use Rattle.std.specs.Prelude.{◌≡◌, ◌++◌, length, OnOk};
 ghost use Rattle.std.specs.List.{flat_map};
-ghost use Rattle.story_pages.specs.Lemmas.{many_claims, claims_words, fact_item, opposite_html, claimed_html, title_html, supposed_html, suppose_html, columns_of, folded_table_html, wide_html, fitted_html, table_html};
+ghost use Rattle.story_pages.specs.Lemmas.{many_claims, claims_words, fact_item, opposite_html, claimed_html, ending_html, title_html, supposed_html, suppose_html, columns_of, folded_table_html, wide_html, fitted_html, table_html};
 
 use crate::known::KnownCells;
 use html::{
@@ -99,18 +99,35 @@ pub(crate) fn put_claimed_by(
     put_claimed(out, space, number, lemma.suppose.as_slice())
 }
 
-/// Adds what a lemma of a number claims; one that supposes nothing is the conclusion.
+/// Adds what a lemma of a number claims that supposes nothing: the last is the conclusion.
+fn put_ending(
+    out: &mut Html,
+    space: &Space,
+    is_last: bool,
+    number: u64,
+    suppose: &[Literal],
+) -> Result<(), NoMemory>
+    ensures { OnOk result (out.new ≡ out.old ++ ending_html space.now is_last number suppose.now) }
+{
+    if is_last {
+        return out.append(b"Conclusion");
+    }
+    put_claimed(out, space, number, suppose)
+}
+
+/// Adds what a lemma of a number claims, which stands by itself.
 pub(crate) fn put_title(
     out: &mut Html,
     space: &Space,
+    is_last: bool,
     number: u64,
     lemma: &Lemma,
 ) -> Result<(), NoMemory>
-    ensures { OnOk result (out.new ≡ out.old ++ title_html space.now number lemma.now.suppose) }
+    ensures { OnOk result (out.new ≡ out.old ++ title_html space.now is_last number lemma.now.suppose) }
 {
     let suppose = lemma.suppose.as_slice();
     if suppose.len() == 0 {
-        return out.append(b"Conclusion");
+        return put_ending(out, space, is_last, number, suppose);
     }
     put_claimed(out, space, number, suppose)
 }
